@@ -1,5 +1,5 @@
 //! A book that is full answers no call but questions that ask for no line, and goes on once it is drained.
-use hull_book::{Book, Call, JournalFull, LongBook, Reply, Room, gather_long};
+use hull_book::{Book, Call, LongBook, Reply, Room, Then, gather};
 use hull_plain::PlainSet;
 use lattice::Point;
 use std::test::Fail;
@@ -16,20 +16,21 @@ fn a_full_book_goes_on(rt: HostRuntime) -> Result<(), Fail> {
         panic!(rt; "there is memory for the spare line")
     };
     assert_eq!(rt; ledgers.len(), 1);
-    let added = book.serve(0, Call::Add(p), &mut ledgers[0]);
-    let again = book.serve(0, Call::Add(p), &mut ledgers[0]);
-    let refused = book.serve(0, Call::Count, &mut ledgers[0]);
+    let added = book.serve(0, Call::Add(p), &mut ledgers[0], Then::Keep);
+    let again = book.serve(0, Call::Add(p), &mut ledgers[0], Then::Keep);
+    let refused = book.serve(0, Call::Count, &mut ledgers[0], Then::Keep);
     let asked = book.answer(Call::Count);
     let before = (book.held(), book.line_number(), book.turn());
-    let drained = book.drain(0, Call::Count, &mut ledgers[0], room);
-    let left = book.serve(0, Call::Remove(p), &mut ledgers[0]);
+    let drained = book.serve(0, Call::Count, &mut ledgers[0], Then::TakeOut(room));
+    let left = book.serve(0, Call::Remove(p), &mut ledgers[0], Then::Keep);
     let after = (book.held(), book.line_number(), book.turn());
-    let sum = gather_long(&book, ledgers);
-    assert!(rt; added == Ok(Reply::Added) && again == Ok(Reply::Again(2)));
-    assert!(rt; refused == Err(JournalFull) && asked == Reply::PointCount(1));
-    assert!(rt; left == Ok(Reply::Left(1)));
+    let sum = gather(&book, ledgers);
+    assert!(rt; matches!(added, Ok((Reply::Added, None))));
+    assert!(rt; matches!(again, Ok((Reply::Again(2), None))));
+    assert!(rt; matches!(refused, Err(Then::Keep)) && asked == Reply::PointCount(1));
+    assert!(rt; matches!(left, Ok((Reply::Left(1), None))));
     assert_eq!(rt; (before, after, sum), ((2, 9, 11), (1, 11, 13), 4));
-    let Ok((counted, part)) = drained else {
+    let Ok((counted, Some(part))) = drained else {
         panic!(rt; "a line is spare for a drain")
     };
     assert!(rt; counted == Reply::PointCount(1));

@@ -1,7 +1,10 @@
 -- What calls were answered.
-use Rattle.std.specs.Prelude.{List, map, Vec, Result}
+use Rattle.std.specs.Prelude.{◌≡◌, ◌≤◌, ℕ, Bool, false, true, List, map, Vec, Option, Some, None, Result, Ok, Err}
 use Rattle.hull_set.specs.declared.reply.Reply.{Reply}
+use Rattle.hull_book.specs.Journals.{JournalValue}
 use Rattle.hull_book.specs.declared.report.JournalFull.{JournalFull}
+use Rattle.hull_book.specs.declared.then.Then.{Then}
+use Rattle.hull_book.specs.declared.then.Then.TheVariants.{Keep, LetGo, TakeOut}
 
 -- a reply, or that the journal is full
 abbrev pub Answer : Type 0
@@ -10,3 +13,28 @@ Answer = Result Reply JournalFull
 -- the answers in these vectors
 abbrev pub answers_in : {A : Type 0} → List (Vec Answer A) → List (List Answer)
 answers_in vectors = map (λ v. v.items) vectors
+
+-- whether a call takes the lines out that are held, or lets them go
+abbrev pub drains : Then → Bool
+drains Keep = false
+drains LetGo = true
+drains (TakeOut room) = true
+
+-- where lines are taken out, there is room for so many
+abbrev pub HasRoom : Then → ℕ → Type 0
+HasRoom (TakeOut room) n = n ≤ room
+HasRoom _ n = Unit {0}
+
+-- where lines are taken out, this is handed out, and else nothing
+abbrev pub HandsOut : {A : Type 0} → Then → A → Option A → Type 0
+HandsOut (TakeOut room) part out = out ≡ Some part
+HandsOut _ part out = out ≡ None
+
+-- on a book that may be drained: a reply and the part, if lines were taken out, or what was to become of them
+abbrev pub LongAnswer : Type 0
+LongAnswer = Result (Reply × Option JournalValue) Then
+
+-- the answer to the call alone
+abbrev pub answer_of : LongAnswer → Answer
+answer_of (Ok (reply, part)) = Ok reply
+answer_of (Err then) = Err (record {})

@@ -5,31 +5,31 @@ ghost use mathlib.Core.List.{IsPrefix};
 ghost use Rattle.ticket_lock.specs.Tokens.{seat_count, opening_book, IsSeatOf, AreNumbered, seat_number, seat_seen};
 ghost use Rattle.hull_book.specs.Books.{IsLawful};
 ghost use Rattle.hull_book.specs.Ledgers.{IsLedgerOf};
-ghost use Rattle.hull_pool.specs.Crews.{book_head};
 ghost use Rattle.hull_pool.specs.Work.{lines_of, workers_of};
 
-use super::call::{BookLock, BookSeat};
-use hull_book::{Book, Ledger, gather};
-use hull_set::HullSet;
+use hull_book::{Journalled, Ledger, gather};
+use ticket_lock::{Seat, TicketLock};
 
-/// Closes the lock and gathers the ledgers: the book, and how many calls have their line in its journal. It asks for
-/// all seats of the lock in the order of their numbers, and for the ledger of each, in the same order. The journal
-/// begins with what each seat has seen, and holds in its name just the lines that it has seen in its name.
-pub fn close_book<S: HullSet + Drop>(
-    lock: BookLock<S>,
-    seats: Vec<BookSeat<S>>,
+/// Closes the lock and gathers the ledgers: the book, and how many calls have their line in its whole journal, those
+/// lines counted that were taken out. It asks for all seats of the lock in the order of their numbers, and for the
+/// ledger of each, in the same order. The journal begins with what each seat has seen, and holds in its name just the
+/// lines that it has seen in its name.
+pub fn close_book<B: Journalled>(
+    lock: TicketLock<Box<B>>,
+    seats: Vec<Seat<Box<B>>>,
     ledgers: Vec<Ledger>,
-) -> (Book<S>, u64)
-    requires all { (vec_len seats ≡ seat_count lock) × (seat_count lock ≡ workers_of (box_value (opening_book lock))) }
-    requires own { All (IsSeatOf book_head lock) seats.items }
+) -> (B, u64)
+    requires all { (vec_len seats ≡ seat_count lock)
+        × (seat_count lock ≡ workers_of (B.whole (box_value (opening_book lock)))) }
+    requires own { All (IsSeatOf (λ b. B.head (box_value b)) lock) seats.items }
     requires numbered { AreNumbered seats.items }
-    requires ledgers { AllZip (λ s l. IsLedgerOf (seat_number s) (seat_seen s) l) seats.items ledgers.items }
-    ensures lawful { IsLawful S.HullSet result.0 }
-    ensures head { result.0.head ≡ book_head (opening_book lock) }
-    ensures sum { result.1 ≡ length result.0.lines }
-    ensures seen { All (λ s. IsPrefix (seat_seen s) result.0.lines) seats.items }
-    ensures own_lines { All (λ s. lines_of (seat_number s) result.0.lines ≡ lines_of (seat_number s) (seat_seen s))
-        seats.items }
+    requires ledgers { AllZip (λ s l. IsLedgerOf (seat_number s) (B.plain (seat_seen s)) l) seats.items ledgers.items }
+    ensures lawful { IsLawful B.Set.HullSet (B.whole result.0) }
+    ensures head { B.head result.0 ≡ B.head (box_value (opening_book lock)) }
+    ensures sum { result.1 ≡ length (B.lines result.0) }
+    ensures seen { All (λ s. IsPrefix (seat_seen s) (B.lines result.0)) seats.items }
+    ensures own_lines { All (λ s. lines_of (seat_number s) (B.plain (B.lines result.0))
+        ≡ lines_of (seat_number s) (B.plain (seat_seen s))) seats.items }
 {
     let book = Box::into_inner(lock.close(seats));
     let sum = gather(&book, ledgers);

@@ -21,11 +21,10 @@
 //!
 //! # A book that lives for long
 //!
-//! A `LongBook` of `hull_book` is shared in the same way, by [`make_long_call`] and [`close_long_book`]. One of its
-//! seats takes the lines out, by [`make_drain`]: under the lock only the lists change hands. Where as many are held as may be,
-//! other calls are refused until then.
-//! Where nobody wants a journal, all seats make their calls by [`make_call_and_let_go`]. [`two_seats_share`] is the whole
-//! flow for two seats, to copy.
+//! A `LongBook` of `hull_book` is shared in the same way, by [`make_long_call`] and [`close_book`]. One of its seats
+//! takes the lines out, by a call with `Then::TakeOut`: under the lock only the lists change hands. Where as many are
+//! held as may be, calls with `Then::Keep` are refused until then. Where nobody wants a journal, all seats make their
+//! calls with `Then::LetGo`. [`two_seats_share`] is the whole flow for two seats, to copy.
 //!
 //! # A whole script
 //!
@@ -41,7 +40,6 @@ mod crew;
 mod gate;
 mod law;
 mod long_call;
-mod long_close;
 mod phase;
 mod two_seats;
 mod worker;
@@ -51,11 +49,7 @@ pub use call::{BookGuard, BookLock, BookSeat, make_call, serve_and_hand_on};
 pub use close::close_book;
 pub use gate::{Gate, NoGate};
 pub use law::{answers_are_of_lines, long_answers_are_of_lines};
-pub use long_call::{
-    Drained, LongGuard, LongLock, LongSeat, drain_and_hand_on, make_call_and_let_go, make_drain,
-    make_long_call, serve_let_go_and_hand_on, serve_long_and_hand_on,
-};
-pub use long_close::close_long_book;
+pub use long_call::{LongGuard, LongLock, LongSeat, make_long_call, serve_long_and_hand_on};
 pub use phase::{PhaseEnd, PoolFault, run_phase, run_phases};
 pub use two_seats::{Member, two_seats_share};
 pub use workers::Workers;

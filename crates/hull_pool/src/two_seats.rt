@@ -8,11 +8,9 @@ ghost use Rattle.hull_pool.specs.Handing.{MayCall};
 ghost use Rattle.hull_pool.specs.Long.{long_book_head, whole_of};
 ghost use Rattle.hull_pool.specs.Work.{workers_of};
 
-use super::long_call::{
-    Drained, LongLock, LongSeat, make_call_and_let_go, make_drain, make_long_call,
-};
-use super::long_close::close_long_book;
-use hull_book::{Call, Ledger, LongBook, Room};
+use super::close::close_book;
+use super::long_call::{LongLock, LongSeat, make_long_call};
+use hull_book::{Call, Ledger, LongAnswer, LongBook, Room, Then};
 use hull_set::HullSet;
 use std::sync::Wait;
 
@@ -36,7 +34,7 @@ pub fn two_seats_share<R: Wait, S: HullSet + Drop>(
     mut seats: Vec<LongSeat<S>>,
     mut ledgers: Vec<Ledger>,
     call: Call,
-) -> (LongBook<S>, Drained, u64)
+) -> (LongBook<S>, LongAnswer, u64)
     requires two { (seat_count lock ≡ 2) × (workers_of (whole_of (opening_book lock)) ≡ 2) }
     requires zero { MayCall (drained S.HullSet) lock 0 zero.seat zero.ledger }
     requires one { MayCall (drained S.HullSet) lock 1 one.seat one.ledger }
@@ -54,13 +52,14 @@ pub fn two_seats_share<R: Wait, S: HullSet + Drop>(
         seat: one,
         ledger: mut ones,
     } = one;
-    let (zero, _answer) = make_long_call(rt, &lock, zero, 0, call, &mut zeros);
-    let (one, part) = make_drain(rt, &lock, one, 1, Call::Count, &mut ones, room);
-    let (zero, _count) = make_call_and_let_go(rt, &lock, zero, 0, Call::Count, &mut zeros);
+    let (zero, _answer) = make_long_call(rt, &lock, zero, 0, call, &mut zeros, Then::Keep);
+    let take = Then::TakeOut(room);
+    let (one, part) = make_long_call(rt, &lock, one, 1, Call::Count, &mut ones, take);
+    let (zero, _count) = make_long_call(rt, &lock, zero, 0, Call::Count, &mut zeros, Then::LetGo);
     seats.push_reserved(zero);
     seats.push_reserved(one);
     ledgers.push_reserved(zeros);
     ledgers.push_reserved(ones);
-    let (book, sum) = close_long_book(lock, seats, ledgers);
+    let (book, sum) = close_book(lock, seats, ledgers);
     (book, part, sum)
 }

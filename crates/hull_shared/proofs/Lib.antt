@@ -3,7 +3,6 @@ mod Makes
 mod SeatReplies
 pub mod Books
 pub mod Changes
-pub mod Told
 mod JournalViews
 pub mod Fronts
 pub mod Homes

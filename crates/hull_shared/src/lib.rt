@@ -50,7 +50,6 @@ mod closing;
 mod desk;
 mod draining;
 mod gate;
-mod gathering;
 mod law;
 mod lending;
 mod limits;

@@ -12,10 +12,10 @@ ghost use Rattle.hull_shared.specs.declared.place.Place.{Place as PlaceValue};
 ghost use Rattle.ticket_lock.specs.Tokens.{AreNumbered, IsSeatOf, seat_count, seat_seen};
 
 use crate::book::DeskBook;
-use crate::gathering::gather_seats;
 use crate::lock::{DeskLock, DeskSeat};
 use crate::place::{Place, Places};
 use hull_book::Ledger;
+use hull_pool::close_book;
 
 /// Lays all seats of a lock that was just opened out at a desk, each with its ledger.
 pub(crate) fn lay_out(
@@ -71,5 +71,5 @@ pub(crate) fn close_lock(lock: DeskLock, places: Places) -> DeskBook
         ledgers.push_reserved(ledger);
     }
     list.destroy_empty();
-    gather_seats(lock, seats, ledgers)
+    close_book(lock, seats, ledgers).0
 }

@@ -16,7 +16,7 @@ use crate::lock::{DeskLock, DeskSeat};
 use crate::place::Places;
 use crate::places::{close_lock, lay_out};
 use core::mem::ManuallyDrop;
-use hull_book::Ledger;
+use hull_book::{Ledger, gather};
 use hull_set::NoMemory;
 use std::alloc::{AllocFailed, Global};
 use std::sync::Arc;
@@ -42,7 +42,7 @@ fn boxed(
     match Box::new(alloc, book) {
         Ok(boxed) => Ok((boxed, ledgers)),
         Err(AllocFailed { value }) => {
-            let _none = value.gather(ledgers);
+            let _none = gather(&value, ledgers);
             Err(NoMemory)
         }
     }
@@ -71,7 +71,7 @@ fn new_lock(
             ledgers,
         }),
         Err((_, book)) => {
-            let _none = book.gather(ledgers);
+            let _none = gather(&*book, ledgers);
             Err(NoMemory)
         }
     }
@@ -128,7 +128,7 @@ pub(crate) fn set_up(
 {
     let (book, ledgers) = boxed(alloc, book, ledgers)?;
     let Ok(list) = Vec::with_capacity(alloc, usize::from(seats)) else {
-        let _none = book.gather(ledgers);
+        let _none = gather(&*book, ledgers);
         return Err(NoMemory);
     };
     let made = match new_lock(alloc, book, ledgers, seats) {

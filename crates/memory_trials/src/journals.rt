@@ -1,6 +1,7 @@
 //! A journal is gone on with, made short, drained, and judged in parts.
 ghost use Rattle.std.specs.Prelude.{◌≡◌, ◌≤◌, IfSome, length};
 ghost use Rattle.hull_set.specs.Held.{nothing_held};
+ghost use Rattle.hull_book.specs.Answers.{HasRoom};
 ghost use Rattle.hull_book.specs.Books.{IsGoneOnFrom, IsLawful};
 ghost use Rattle.hull_book.specs.declared.limits.TheConstants.{SEAT_LIMIT};
 ghost use Rattle.hull_book.specs.Ledgers.{AreLedgers};
@@ -11,8 +12,8 @@ use crate::findings::Findings;
 use crate::stage::Stage;
 use crate::texts::is_memory;
 use hull_book::{
-    Answer, Book, BookFault, CompactRefusal, Journal, Ledger, LongBook, PartsChecker, ReplayFault,
-    Room, gather, gather_long, replay,
+    Book, BookFault, CompactRefusal, Journal, Ledger, LongAnswer, LongBook, PartsChecker,
+    ReplayFault, Room, Then, gather, replay,
 };
 use hull_set::{Call, HullSet, Reply, Rules};
 use hull_text::{CompactFault, compact, read_journal};
@@ -118,8 +119,10 @@ fn serve_long<S: HullSet + Drop>(
     book: &mut LongBook<S>,
     ledgers: &mut Vec<Ledger>,
     call: Call,
-) -> Answer
+    then: Then,
+) -> LongAnswer
     requires lawful { IsLawful S.HullSet (whole book.old) }
+    requires room { HasRoom then book.old.head.journal.capacity }
     requires ledgers { AreLedgers (whole book.old) ledgers.old.items }
     requires some { 1 ≤ length ledgers.old.items }
     ensures lawful { IsLawful S.HullSet (whole book.new) }
@@ -127,7 +130,7 @@ fn serve_long<S: HullSet + Drop>(
     ensures number { length ledgers.new.items ≡ length ledgers.old.items }
     ensures room { book.new.head.journal.capacity ≡ book.old.head.journal.capacity }
 {
-    book.serve(0, call, &mut ledgers[0])
+    book.serve(0, call, &mut ledgers[0], then)
 }
 
 /// Drains a book by a call of seat 0; `None` where it is full.
@@ -136,7 +139,7 @@ fn drain<S: HullSet + Drop>(
     ledgers: &mut Vec<Ledger>,
     call: Call,
     room: Room,
-) -> Option<(Reply, Journal)>
+) -> Option<(Reply, Option<Journal>)>
     requires lawful { IsLawful S.HullSet (whole book.old) }
     requires ledgers { AreLedgers (whole book.old) ledgers.old.items }
     requires some { 1 ≤ length ledgers.old.items }
@@ -144,7 +147,7 @@ fn drain<S: HullSet + Drop>(
     ensures lawful { IsLawful S.HullSet (whole book.new) }
     ensures ledgers { AreLedgers (whole book.new) ledgers.new.items }
 {
-    match book.drain(0, call, &mut ledgers[0], room) {
+    match serve_long(book, ledgers, call, Then::TakeOut(room)) {
         Ok(drained) => Some(drained),
         Err(_) => None,
     }
@@ -182,7 +185,7 @@ fn give_up_long<S: HullSet + Drop>(
     findings.expect(seen == (2, 9, 0), "the book goes on behind the part");
     let part = part.map(|part| (part.first(), part.lines().len()));
     findings.expect(part == Some((7, 2)), "the part has all lines");
-    let sum = gather_long(&book, ledgers);
+    let sum = gather(&book, ledgers);
     findings.expect(sum == 2, "the ledgers sum to the lines");
     drop(book);
 }
@@ -203,19 +206,19 @@ pub fn try_drain<S: HullSet + Drop>(alloc: Global, set: S, p: Point) -> Result<S
             return Ok(Stage::SetUp);
         }
     };
-    let added = serve_long(&mut book, &mut ledgers, Call::Add(p));
+    let added = serve_long(&mut book, &mut ledgers, Call::Add(p), Then::Keep);
     let (stage, room) = reserve(alloc, &book, &mut findings);
     let drained = match room {
         Some(room) => drain(&mut book, &mut ledgers, Call::Vertices, room),
         None => None,
     };
     let (listed, part) = match drained {
-        Some((reply, part)) => (reply == Reply::NoMemory, Some(part)),
+        Some((reply, part)) => (reply == Reply::NoMemory, part),
         None => (false, None),
     };
     give_up_long(book, ledgers, part, &mut findings);
     let stage = match added {
-        Ok(Reply::NoMemory) => Stage::SetUp,
+        Ok((Reply::NoMemory, _)) => Stage::SetUp,
         _ if listed => Stage::Vertices,
         _ => stage,
     };

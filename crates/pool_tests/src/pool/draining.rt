@@ -2,6 +2,7 @@
 ghost use Rattle.std.specs.Prelude.{◌≡◌, ◌+◌, ◌<◌, ◌≤◌, [], All, length, vec_len, vec_capacity};
 ghost use Rattle.std.specs.List.{AllZip};
 ghost use Rattle.ticket_lock.specs.Tokens.{AreNumbered, IsSeatOf, opening_book, seat_count, seat_number, seat_seen};
+ghost use Rattle.hull_book.specs.Answers.{HasRoom};
 ghost use Rattle.hull_book.specs.Books.{IsLawful};
 ghost use Rattle.hull_book.specs.Ledgers.{IsLedgerOf};
 ghost use Rattle.hull_book.specs.Marks.{plain};
@@ -9,9 +10,9 @@ ghost use Rattle.hull_plain.specs.Sets.{plain_set};
 ghost use Rattle.hull_pool.specs.Long.{IsSeatedLong, long_book_head};
 
 use super::{at, opened};
-use hull_book::{Call, Journal, Ledger, LongBook, PartsChecker, ReplayFault, Room};
+use hull_book::{Call, Journal, Ledger, LongBook, PartsChecker, ReplayFault, Room, Then};
 use hull_plain::PlainSet;
-use hull_pool::{LongLock, LongSeat, close_long_book, make_drain, make_long_call};
+use hull_pool::{LongLock, LongSeat, close_book, make_long_call};
 use std::alloc::Global;
 use std::process::Abort;
 use std::sync::Wait;
@@ -52,17 +53,27 @@ fn nth_call(rt: &impl Abort, number: u8, i: u32) -> Call {
     }
 }
 
-// Makes the member's call.
-fn calls<R: Wait>(rt: &R, lock: &LongLock<PlainSet>, member: &mut Member, call: Call)
+// Makes the member's call, after which this becomes of the lines that are held; it keeps the part.
+fn calls<R: Wait + Abort>(
+    rt: &R,
+    lock: &LongLock<PlainSet>,
+    member: &mut Member,
+    call: Call,
+    then: Then,
+)
+    requires room { HasRoom then (long_book_head (opening_book lock.now)).journal.capacity }
     requires ready { IsSeatedLong lock.now member.old.number member.old.ledger member.old.seat }
     ensures ready { IsSeatedLong lock.now member.new.number member.new.ledger member.new.seat }
 {
     let seat = member.seat.take().unwrap();
-    let (seat, answer) = make_long_call(rt, lock, seat, member.number, call, &mut member.ledger);
+    let ledger = &mut member.ledger;
+    let (seat, answer) = make_long_call(rt, lock, seat, member.number, call, ledger, then);
     let none = member.seat.replace(seat);
     let None = none else { unreachable!() };
-    if answer.is_err() {
-        member.refused = member.refused.wrapping_add(1);
+    match answer {
+        Ok((_reply, Some(part))) => assert!(rt; member.parts.push(part).is_ok()),
+        Ok((_reply, None)) => {}
+        Err(_then) => member.refused = member.refused.wrapping_add(1),
     }
 }
 
@@ -81,22 +92,7 @@ fn drains<R: Wait + Abort>(
     let Ok(room) = Room::reserve(alloc, CAPACITY) else {
         panic!(rt; "there is memory for the lines")
     };
-    let seat = member.seat.take().unwrap();
-    let (seat, drained) = make_drain(
-        rt,
-        lock,
-        seat,
-        member.number,
-        call,
-        &mut member.ledger,
-        room,
-    );
-    let none = member.seat.replace(seat);
-    let None = none else { unreachable!() };
-    match drained {
-        Ok((_reply, part)) => assert!(rt; member.parts.push(part).is_ok()),
-        Err(_room) => member.refused = member.refused.wrapping_add(1),
-    }
+    calls(rt, lock, member, call, Then::TakeOut(room));
 }
 
 // Makes all calls of the member.
@@ -110,7 +106,7 @@ fn works<R: Wait + Abort>(rt: &R, alloc: Global, lock: &LongLock<PlainSet>, memb
         if member.number == 0 && i % EVERY == EVERY - 1 {
             drains(rt, alloc, lock, member, call);
         } else {
-            calls(rt, lock, member, call);
+            calls(rt, lock, member, call, Then::Keep);
         }
     }
 }
@@ -257,7 +253,7 @@ fn all_share<R: Threads + Wait + Abort + Sync>(rt: &R, alloc: Global) -> (Vec<Jo
         &mut parts,
     );
     members.destroy_empty();
-    let (book, sum) = close_long_book(lock, seats, ledgers);
+    let (book, sum) = close_book(lock, seats, ledgers);
     assert!(rt; parts.push(book.into_part()).is_ok());
     (parts, sum)
 }

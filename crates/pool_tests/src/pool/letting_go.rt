@@ -1,10 +1,9 @@
 //! Two seats on a book whose lines are let go, which has room for one and is never full; and the whole flow of two seats.
 use super::{at, opened};
-use hull_book::{Answer, Call, Journal, Ledger, LongBook, Reply, Room};
+use hull_book::{Call, Journal, Ledger, LongAnswer, LongBook, Reply, Room, Then};
 use hull_plain::PlainSet;
 use hull_pool::{
-    LongLock, LongSeat, Member, close_long_book, make_call_and_let_go, serve_let_go_and_hand_on,
-    two_seats_share,
+    LongLock, LongSeat, Member, close_book, make_long_call, serve_long_and_hand_on, two_seats_share,
 };
 use std::alloc::Global;
 use std::process::Abort;
@@ -19,15 +18,15 @@ fn looks(
     seat: LongSeat<PlainSet>,
     call: Call,
     ledger: &mut Ledger,
-) -> (LongSeat<PlainSet>, Answer) {
+) -> (LongSeat<PlainSet>, LongAnswer) {
     match lock.look(lock.take(seat)) {
-        Look::Entered(guard) => serve_let_go_and_hand_on(guard, 0, call, ledger),
+        Look::Entered(guard) => serve_long_and_hand_on(guard, 0, call, ledger, Then::LetGo),
         Look::NotYet(_ticket) => panic!(rt; "the number is served"),
     }
 }
 
 // Three calls of two seats: their answers, what is held then as a part, and how many have their line.
-fn all_let_go<R: Wait + Abort>(rt: &R, alloc: Global) -> (Vec<Answer>, Journal, u64) {
+fn all_let_go<R: Wait + Abort>(rt: &R, alloc: Global) -> (Vec<LongAnswer>, Journal, u64) {
     let (book, mut ledgers) = opened(rt, alloc, 7, 1, 2);
     let Ok(book) = LongBook::new(book) else {
         panic!(rt; "there is memory for the spare line")
@@ -41,8 +40,10 @@ fn all_let_go<R: Wait + Abort>(rt: &R, alloc: Global) -> (Vec<Answer>, Journal, 
     let one = seats.pop().unwrap();
     let zero = seats.pop().unwrap();
     let p = at(rt, 3, 4);
-    let (zero, added) = make_call_and_let_go(rt, &lock, zero, 0, Call::Add(p), &mut ledgers[0]);
-    let (one, counted) = make_call_and_let_go(rt, &lock, one, 1, Call::Count, &mut ledgers[1]);
+    let (ledger, add) = (&mut ledgers[0], Call::Add(p));
+    let (zero, added) = make_long_call(rt, &lock, zero, 0, add, ledger, Then::LetGo);
+    let ledger = &mut ledgers[1];
+    let (one, counted) = make_long_call(rt, &lock, one, 1, Call::Count, ledger, Then::LetGo);
     let (zero, removed) = looks(rt, &lock, zero, Call::Remove(p), &mut ledgers[0]);
     seats.push_reserved(zero);
     seats.push_reserved(one);
@@ -50,7 +51,7 @@ fn all_let_go<R: Wait + Abort>(rt: &R, alloc: Global) -> (Vec<Answer>, Journal, 
     for answer in [added, counted, removed] {
         assert!(rt; answers.push(answer).is_ok());
     }
-    let (book, sum) = close_long_book(lock, seats, ledgers);
+    let (book, sum) = close_book(lock, seats, ledgers);
     assert_eq!(rt; book.drained(), 3);
     (answers, book.into_part(), sum)
 }
@@ -60,9 +61,9 @@ fn lines_that_are_let_go_make_room(rt: HostRuntime) {
     let (answers, part, sum) = all_let_go(&rt, rt.alloc());
     let told = match &*answers {
         [
-            Ok(Reply::Added),
-            Ok(Reply::PointCount(1)),
-            Ok(Reply::Removed),
+            Ok((Reply::Added, None)),
+            Ok((Reply::PointCount(1), None)),
+            Ok((Reply::Removed, None)),
         ] => true,
         _ => false,
     };
@@ -101,8 +102,8 @@ fn both_share<R: Wait + Abort>(rt: &R, alloc: Global) -> (Option<Journal>, u64, 
     let held = book.lines().len();
     drop(book);
     match drained {
-        Ok((_reply, part)) => (Some(part), sum, held),
-        Err(_room) => (None, sum, held),
+        Ok((_reply, part)) => (part, sum, held),
+        Err(_then) => (None, sum, held),
     }
 }
 

@@ -5,9 +5,9 @@ use Rattle.hull_book.specs.Marks.{plain}
 use Rattle.ticket_lock.specs.Tokens.{seat_seen}
 use Rattle.hull_pool.proofs.two_seats.two_seats_share.Goals as goal
 
-pub close_long_book-book-requires-clause-ledgers : goal.close_long_book-book-requires-clause-ledgers
-close_long_book-book-requires-clause-ledgers g c =
-    let zero = c.make_call_and_let_go-zero in let one = c.make_drain-one in
+pub close_book-book-requires-clause-ledgers : goal.close_book-book-requires-clause-ledgers
+close_book-book-requires-clause-ledgers g c =
+    let zero = c.make_long_call-zero-2 in let one = c.make_long_call-one in
     let seats : c.push_reserved-2.new.self.items ≡ zero.result.0 ∷ one.result.0 ∷ [] =
     c.push_reserved-2.ensures.items ∙ ap (λ (ss : List _). ss ++ one.result.0 ∷ [])
     (c.push_reserved.ensures.items ∙ ap (λ (ss : List _). ss ++ zero.result.0 ∷ []) c.requires.empty.0) in

@@ -77,8 +77,8 @@ returns-clause-seen c = λ j p at.
     let none : length c.loop-place.list.items ≡ 0 =
     omega (arith, c.in_default.ensures.cases.0, c.loop-place.list.ok.0) in
     let back : (n - 1 - j) + j + 1 ≡ n = omega (arith, each, within, c.args.places.list.ok.0) in
-    at_place (λ s. IsPrefix (seat_seen s) c.gather_seats.result.book.lines) c.loop-place.seats.items
-    (n - 1 - j) p.seat c.gather_seats.ensures.seen
+    at_place (λ s. IsPrefix (seat_seen s) c.close_book.result.0.book.lines) c.loop-place.seats.items
+    (n - 1 - j) p.seat c.close_book.ensures.seen
     (inv.gathered (n - 1 - j) j p at (omega (arith, none)) back)
 
 pub returns-clause-own_lines : goal.returns-clause-own_lines
@@ -89,6 +89,6 @@ returns-clause-own_lines c = λ j p at.
     let none : length c.loop-place.list.items ≡ 0 =
     omega (arith, c.in_default.ensures.cases.0, c.loop-place.list.ok.0) in
     let back : (n - 1 - j) + j + 1 ≡ n = omega (arith, each, within, c.args.places.list.ok.0) in
-    at_place (λ s. lines_of (seat_number s) (plain c.gather_seats.result.book.lines) ≡ lines_of (seat_number s) (plain (seat_seen s)))
-    c.loop-place.seats.items (n - 1 - j) p.seat c.gather_seats.ensures.own_lines
+    at_place (λ s. lines_of (seat_number s) (plain c.close_book.result.0.book.lines) ≡ lines_of (seat_number s) (plain (seat_seen s)))
+    c.loop-place.seats.items (n - 1 - j) p.seat c.close_book.ensures.own_lines
     (inv.gathered (n - 1 - j) j p at (omega (arith, none)) back)

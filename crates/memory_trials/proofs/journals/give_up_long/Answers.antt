@@ -3,5 +3,5 @@ use Rattle.std.proofs.Common.{rules}
 use Rattle.hull_book.proofs.Counts.{all_in_order}
 use Rattle.memory_trials.proofs.journals.give_up_long.Goals as goal
 
-pub gather_long-sum-requires-clause-ledgers : goal.gather_long-sum-requires-clause-ledgers
-gather_long-sum-requires-clause-ledgers g c = all_in_order _ _ (search rules)
+pub gather-sum-requires-clause-ledgers : goal.gather-sum-requires-clause-ledgers
+gather-sum-requires-clause-ledgers g c = all_in_order _ _ (search rules)
