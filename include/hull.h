@@ -472,12 +472,14 @@ static inline hull_reply hull_outline_contains_or_null(const hull_point *corners
 
 /* How the hull of the first stands to that of the second. */
 typedef enum hull_relation {
+    /* written by tools/table.py: relations */
     HULL_RELATION_APART = 0,       /* they have no point in common */
     HULL_RELATION_TOUCHING = 1,    /* they have, and a line has them on its two sides: nothing inside the one is covered by the other */
     HULL_RELATION_OVERLAPPING = 2, /* they have, and no line has them on its two sides */
     HULL_RELATION_WITHIN = 3,      /* the second covers whatever the first covers, and not the other way */
     HULL_RELATION_COVERS = 4,      /* the first covers whatever the second covers, and not the other way */
     HULL_RELATION_EQUAL = 5        /* each covers the other */
+    /* end of what tools/table.py writes */
 } hull_relation;
 
 /* Which of these is so: HULL_NUMBER with it. Of no corners an outline is within each other one. Where they meet it takes a question

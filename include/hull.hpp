@@ -188,12 +188,14 @@ struct Strip {
 // How one outline stands to another: apart; touching, with a point in common and a line that has them on its two sides; overlapping;
 // within the other; covering it; or equal to it.
 enum class Relation : std::uint32_t {
+    // written by tools/table.py: relations
     apart = HULL_RELATION_APART,
     touching = HULL_RELATION_TOUCHING,
     overlapping = HULL_RELATION_OVERLAPPING,
     within = HULL_RELATION_WITHIN,
     covers = HULL_RELATION_COVERS,
     equal = HULL_RELATION_EQUAL
+    // end of what tools/table.py writes
 };
 
 // Where two outlines are nearest to one another. Of two corners the squared distance is that of the two; of a corner and an edge it is

@@ -19,6 +19,7 @@
 
 /* What a call asks for, with what it may be answered. The numbers will not change. */
 typedef enum hull_kind {
+    /* written by tools/table.py: kinds */
     HULL_KIND_ADD = 1,         /* holds the point once more: ADDED, AGAIN, TOO_MANY, NO_MEMORY */
     HULL_KIND_REMOVE = 2,      /* holds the point once less: REMOVED, LEFT, ABSENT */
     HULL_KIND_PLACE = 3,       /* where the point lies: INSIDE, ON, OUTSIDE */
@@ -27,17 +28,19 @@ typedef enum hull_kind {
     HULL_KIND_VERTICES = 6,    /* how many corners there are: CORNERS, NO_MEMORY; `x` and `y` are not read */
     HULL_KIND_AREA = 7,        /* the doubled area: NUMBER; `x` and `y` are not read */
     HULL_KIND_COUNT = 8,       /* how many different points there are: NUMBER; `x` and `y` are not read */
-    HULL_KIND_MULTIPLICITY = 9 /* how often the point is held, 0 where it is not there: NUMBER. A seat can't ask for it */
+    HULL_KIND_MULTIPLICITY = 9 /* how often the point is held, 0 where it is not there: NUMBER; a seat can't ask for it */
+    /* end of what tools/table.py writes */
 } hull_kind;
 
 /* What a call was answered. The numbers will not change. Where nothing else is said, nothing changed. */
 typedef enum hull_code {
+    /* written by tools/table.py: codes */
     HULL_OK = 0,             /* an empty hull lies in the room; or the hull was ended */
-    HULL_OUT_OF_RANGE = 1,   /* a coordinate is out of range */
+    HULL_OUT_OF_RANGE = 1,   /* a coordinate is larger than 2^40 in size, or a double is not finite */
     HULL_ZERO_DIRECTION = 2, /* both components of the direction are 0 */
     HULL_ADDED = 3,          /* the point is new, and is there now */
     HULL_AGAIN = 4,          /* the point was there, and is now held `number` times, at least 2 */
-    HULL_TOO_MANY = 5,       /* the point is new and there are as many as the limit, or it is held as often as may be */
+    HULL_TOO_MANY = 5,       /* the point is new and there are as many as the limit, or it is held 65,535 times */
     HULL_NO_MEMORY = 6,      /* malloc refused; the call may be made again */
     HULL_REMOVED = 7,        /* the point was held once, and is no more */
     HULL_LEFT = 8,           /* the point is still held `number` times, at least once */
@@ -83,8 +86,8 @@ typedef enum hull_code {
     HULL_TAKEN = 43,         /* the seat has a number now */
     HULL_NOT_YET = 44,       /* another number is served: look again */
     HULL_NO_NUMBER = 45,     /* the seat has no number to look for */
-    HULL_FULL = 46,          /* as many lines are held as may be, until they are drained: the call was not made, and the seat has no
-                              * number any more */
+    HULL_FULL = 46,          /* as many lines are held as may be, until they are drained: the call was not made, and the seat has no number
+                              * any more */
     HULL_SEATS_OUT = 47,     /* a seat is out: the desk stays open */
     HULL_CLOSED = 48,        /* the desk is closed, and has its journal */
     HULL_NOT_CLOSED = 49,    /* the desk is not closed */
@@ -95,13 +98,14 @@ typedef enum hull_code {
     HULL_PART_IN_USE = 54,   /* the part has room or lines already */
     HULL_NO_ROOM = 55,       /* the part has no room for as many lines as the desk holds at most: no look was made */
     HULL_NO_LINES = 56,      /* the part has no lines */
-    HULL_NO_JOURNAL = 57,    /* the text is none of a journal: line `number` of it, from 1, has the first fault, `high`: 1 its form,
-                              * 2 a number, 3 a coordinate, 4 a seat, 5 a word, 6 the text ends before its end line, 7 no header */
+    HULL_NO_JOURNAL = 57,    /* the text is none of a journal: line `number` of it, from 1, has the first fault, `high`: 1 its form, 2 a
+                              * number, 3 a coordinate, 4 a seat, 5 a word, 6 the text ends before its end line, 7 no header */
     HULL_OLD_RULES = 58,     /* the journal is of version 1 or 2, in which points are not counted: it can't be gone on with */
     HULL_ILLEGAL = 59,       /* the journal is no legal history: line `number` of its text, from 1, is the first that is not right */
     HULL_TOO_FEW_SEATS = 60, /* the journal has lines by `number` seats (0 to `number` - 1), more than were asked for */
 
-    HULL_NO_OUTLINE = 61,    /* the array is no outline; told in a checked build alone (HULL_CHECKED in hull.h) */
+    /* of checked builds alone */
+    HULL_NO_OUTLINE = 61,    /* the array is no outline (where HULL_CHECKED is defined) */
 
     /* of lines, in which calls of seats wait, alone */
     HULL_BUSY = 62,          /* the door did not open in time: no number was taken, and no call made */
@@ -116,6 +120,7 @@ typedef enum hull_code {
     HULL_ADMITTED = 67,      /* the desk is opened for so many readers */
     HULL_VIEWED = 68,        /* the reader holds this view, and had the newest */
     HULL_OLD = 69            /* it holds the view that it held before: others were in the way of a newer one */
+    /* end of what tools/table.py writes */
 } hull_code;
 
 /* What a call was answered: a code (hull_code), and what belongs to it (told above); all else is 0. */
@@ -150,6 +155,7 @@ static inline const char *hull_version(void) {
  * number. */
 static inline const char *hull_code_name(uint32_t code) {
     switch (code) {
+    /* written by tools/table.py: names */
     case HULL_OK: return "HULL_OK";
     case HULL_OUT_OF_RANGE: return "HULL_OUT_OF_RANGE";
     case HULL_ZERO_DIRECTION: return "HULL_ZERO_DIRECTION";
@@ -220,6 +226,7 @@ static inline const char *hull_code_name(uint32_t code) {
     case HULL_ADMITTED: return "HULL_ADMITTED";
     case HULL_VIEWED: return "HULL_VIEWED";
     case HULL_OLD: return "HULL_OLD";
+    /* end of what tools/table.py writes */
     default: return "no code";
     }
 }

@@ -130,59 +130,98 @@ class JournalFault(ValueError):
     """
 
 
-class Place(enum.IntEnum):
-    """Where a point lies."""
-
-    #: The hull covers the point, which is not on its boundary.
-    INSIDE = 12
-    #: The point is on the boundary: a corner, on an edge, or on a hull of one point or one line.
-    ON = 13
-    #: The hull does not cover the point.
-    OUTSIDE = 14
-
-
 class _Code(enum.IntEnum):
-    """The other codes of the header that are told apart here."""
+    """What a call was answered, by the numbers of the headers."""
 
+    # written by tools/table.py: codes
+    OK = 0
     OUT_OF_RANGE = 1
     ZERO_DIRECTION = 2
     ADDED = 3
+    AGAIN = 4
     TOO_MANY = 5
     NO_MEMORY = 6
     REMOVED = 7
+    LEFT = 8
     ABSENT = 9
+    POINT = 10
     EMPTY = 11
+    INSIDE = 12
+    ON = 13
+    OUTSIDE = 14
+    TANGENTS = 15
     NO_TANGENT = 16
+    NUMBER = 17
+    CORNERS = 18
     TOO_SMALL = 19
+    CLEARED = 20
     OUT_OF_ORDER = 21
+    UNKNOWN_KIND = 22
+    MEETING = 23
     APART = 24
+    COVERED = 25
     CORNER = 26
     EDGE = 27
     BOX = 28
+    WITHIN = 29
+    CROSSING = 30
     POINTS = 31
     OPEN = 32
     OUT_OF_LIMITS = 33
+    WAS_OPENED = 34
+    LENT = 35
     NO_SEAT = 36
+    ROOM_IN_USE = 37
     NOT_OPEN = 38
+    RETURNED = 39
     VACANT = 40
+    WAITING = 41
+    PLACE_IN_USE = 42
+    TAKEN = 43
+    NOT_YET = 44
+    NO_NUMBER = 45
     FULL = 46
     SEATS_OUT = 47
+    CLOSED = 48
+    NOT_CLOSED = 49
     TEXT = 50
     ENDED = 51
     IN_USE = 52
+    RESERVED = 53
+    PART_IN_USE = 54
+    NO_ROOM = 55
+    NO_LINES = 56
     NO_JOURNAL = 57
     OLD_RULES = 58
     ILLEGAL = 59
     TOO_FEW_SEATS = 60
+    NO_OUTLINE = 61
     BUSY = 62
+    OTHER_LINE = 63
     NO_FILE = 64
     DAMAGED = 65
+    SAFE = 66
     ADMITTED = 67
+    VIEWED = 68
+    OLD = 69
+    # end of what tools/table.py writes
+
+
+class Place(enum.IntEnum):
+    """Where a point lies."""
+
+    #: The hull covers the point, which is not on its boundary.
+    INSIDE = _Code.INSIDE
+    #: The point is on the boundary: a corner, on an edge, or on a hull of one point or one line.
+    ON = _Code.ON
+    #: The hull does not cover the point.
+    OUTSIDE = _Code.OUTSIDE
 
 
 class _Kind(enum.IntEnum):
     """The kinds of calls; a seat can't ask for the last."""
 
+    # written by tools/table.py: kinds
     ADD = 1
     REMOVE = 2
     PLACE = 3
@@ -192,6 +231,7 @@ class _Kind(enum.IntEnum):
     AREA = 7
     COUNT = 8
     MULTIPLICITY = 9
+    # end of what tools/table.py writes
 
 
 class _Reply(ctypes.Structure):
@@ -511,18 +551,20 @@ class Motion(NamedTuple):
 class Relation(enum.IntEnum):
     """How one outline stands to another."""
 
+    # written by tools/table.py: relations
     #: They have no point in common.
     APART = 0
     #: They have, and a line has them on its two sides: nothing inside the one is covered by the other.
     TOUCHING = 1
     #: They have, and no line has them on its two sides.
     OVERLAPPING = 2
-    #: The other one covers whatever this one covers, and not the other way.
+    #: The second covers whatever the first covers, and not the other way.
     WITHIN = 3
-    #: This one covers whatever the other one covers, and not the other way.
+    #: The first covers whatever the second covers, and not the other way.
     COVERS = 4
     #: Each covers the other.
     EQUAL = 5
+    # end of what tools/table.py writes
 
 
 class Shows(enum.IntEnum):
@@ -530,13 +572,13 @@ class Shows(enum.IntEnum):
 
     #: No corner of the first has a greater product with the direction points[1] than its corner points[0]; those of the
     #: second have.
-    APART = 24
+    APART = _Code.APART
     #: The first covers points[0], a corner of the second.
-    COVERED = 25
+    COVERED = _Code.COVERED
     #: The second covers points[0], a corner of the first.
-    WITHIN = 29
+    WITHIN = _Code.WITHIN
     #: The segment of points[0:2], corners of the first, crosses that of points[2:4], corners of the second.
-    CROSSING = 30
+    CROSSING = _Code.CROSSING
 
 
 class Witness(NamedTuple):

@@ -24,7 +24,7 @@ import kit  # noqa: E402 (the path comes first)
 TOP = os.path.dirname(os.path.dirname(os.path.abspath(__file__)))
 # the parts that run beside one another stand in one row
 ROWS = (
-    {"layout": ["tools/layout.py"], "version": ["tools/version.py"], "reference": ["tools/reference.py"]},
+    {"layout": ["tools/layout.py"], "table": ["tools/table.py"], "reference": ["tools/reference.py"]},
     {"tests": ["bin/test", "crates"]},
     {"tools": ["tests/tools/run.py"]},
     {"proofs": ["tools/proofs.py"]},

@@ -171,7 +171,10 @@ export interface Outline extends Questions {
 
 /** How one hull stands to another: `within` where the other one covers all of it and more, `covers` the other way, `equal` where each
  * covers the other; else `touching` where they meet and a line has them on its two sides, `overlapping` where they meet and none has. */
-export type Relation = "apart" | "touching" | "overlapping" | "within" | "covers" | "equal";
+export type Relation =
+    // written by tools/table.py: relations
+    | "apart" | "touching" | "overlapping" | "within" | "covers" | "equal";
+    // end of what tools/table.py writes
 
 /** What shows how two hulls stand: `apart`, a corner of the first and a direction; `covered`, a corner of the second that the first
  * covers; `within`, a corner of the first that the second covers; `crossing`, two corners of each whose segments cross. */

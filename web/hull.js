@@ -20,11 +20,18 @@ export class NoOutline extends HullError {}
 export class Trapped extends HullError {}
 export class Unsupported extends HullError {}
 
-const ADD = 1, REMOVE = 2, PLACE = 3, TANGENTS = 4, EXTREME = 5, AREA = 7, COUNT = 8, MULTIPLICITY = 9;
+const KIND = {
+    // written by tools/table.py: kinds
+    add: 1, remove: 2, place: 3, tangents: 4, extreme: 5, vertices: 6, area: 7, count: 8, multiplicity: 9,
+    // end of what tools/table.py writes
+};
 const CODE = {
-    outOfRange: 1, zeroDirection: 2, added: 3, tooMany: 5, noMemory: 6, absent: 9, point: 10, empty: 11, inside: 12, on: 13, outside: 14,
-    tangents: 15, tooSmall: 19, outOfOrder: 21, apart: 24, covered: 25, corner: 26, edge: 27, box: 28, within: 29, crossing: 30,
+    // written by tools/table.py: codes
+    ok: 0, outOfRange: 1, zeroDirection: 2, added: 3, again: 4, tooMany: 5, noMemory: 6, removed: 7, left: 8, absent: 9, point: 10,
+    empty: 11, inside: 12, on: 13, outside: 14, tangents: 15, noTangent: 16, number: 17, corners: 18, tooSmall: 19, cleared: 20,
+    outOfOrder: 21, unknownKind: 22, meeting: 23, apart: 24, covered: 25, corner: 26, edge: 27, box: 28, within: 29, crossing: 30,
     points: 31,
+    // end of what tools/table.py writes
 };
 const FAULTS = {
     [CODE.outOfRange]: () => new OutOfRange("a coordinate is out of range"),
@@ -48,7 +55,11 @@ const SHOWN = {
     [CODE.apart]: ["apart", 2], [CODE.covered]: ["covered", 1], [CODE.within]: ["within", 1], [CODE.crossing]: ["crossing", 4],
 };
 // how one outline stands to another, by its number
-const RELATIONS = ["apart", "touching", "overlapping", "within", "covers", "equal"];
+const RELATIONS = [
+    // written by tools/table.py: relations
+    "apart", "touching", "overlapping", "within", "covers", "equal",
+    // end of what tools/table.py writes
+];
 // how many points of a distance are the place on this outline, and on the other
 const PLACES_OF = { [CODE.points]: [1, 1], [CODE.corner]: [1, 2], [CODE.edge]: [2, 1] };
 const REQUESTS_AT_ONCE = 1024;
@@ -291,29 +302,29 @@ class Questions {
     }
 
     place(x, y) {
-        return PLACES[this._ask(PLACE, checked(x), checked(y))];
+        return PLACES[this._ask(KIND.place, checked(x), checked(y))];
     }
 
     tangents(x, y) {
-        if (this._ask(TANGENTS, checked(x), checked(y)) !== CODE.tangents) return null;
+        if (this._ask(KIND.tangents, checked(x), checked(y)) !== CODE.tangents) return null;
         const [left, right] = this.#instance.pair();
         return { left, right };
     }
 
     extreme(x, y) {
-        if (this._ask(EXTREME, checked(x), checked(y)) !== CODE.point) return null;
+        if (this._ask(KIND.extreme, checked(x), checked(y)) !== CODE.point) return null;
         return [this.#instance.whole(REPLY.x), this.#instance.whole(REPLY.y)];
     }
 
     placeAll(points) {
         const places = [];
-        this._serve(PLACE, flat(points), (_, code) => places.push(PLACES[code]));
+        this._serve(KIND.place, flat(points), (_, code) => places.push(PLACES[code]));
         return places;
     }
 
     tangentsAll(points) {
         const found = [];
-        this._serve(TANGENTS, flat(points), (_, code, number, [left, right]) => found.push(code === CODE.tangents ? { left, right } : null));
+        this._serve(KIND.tangents, flat(points), (_, code, number, [left, right]) => found.push(code === CODE.tangents ? { left, right } : null));
         return found;
     }
 
@@ -322,7 +333,7 @@ class Questions {
         for (let i = 0; i < coordinates.length; i += 2) {
             if (coordinates[i] === 0 && coordinates[i + 1] === 0) throw FAULTS[CODE.zeroDirection]();
         }
-        this._serve(EXTREME, coordinates, (_, code, number, [point]) => found.push(code === CODE.point ? point : null));
+        this._serve(KIND.extreme, coordinates, (_, code, number, [point]) => found.push(code === CODE.point ? point : null));
         return found;
     }
 
@@ -344,13 +355,13 @@ class Questions {
         const { view } = instance.heap;
         for (let i = 0; i < count; i++) {
             const at = reply + i * REPLY.size;
-            const points = kind === TANGENTS || kind === EXTREME ? [instance.point(at + REPLY.x), instance.point(at + REPLY.otherX)] : [];
+            const points = kind === KIND.tangents || kind === KIND.extreme ? [instance.point(at + REPLY.x), instance.point(at + REPLY.otherX)] : [];
             tell(from + i, view.getUint32(at, true), view.getUint32(at + REPLY.number, true), points);
         }
     }
 
     doubledArea() {
-        this._ask(AREA, 0, 0);
+        this._ask(KIND.area, 0, 0);
         return this.#instance.wide();
     }
 
@@ -388,20 +399,20 @@ class HullOfInstance extends Questions {
     }
 
     add(x, y) {
-        return this._ask(ADD, checked(x), checked(y)) === CODE.added ? 1 : this._live().number();
+        return this._ask(KIND.add, checked(x), checked(y)) === CODE.added ? 1 : this._live().number();
     }
 
     remove(x, y) {
-        return this._ask(REMOVE, checked(x), checked(y)) === CODE.absent ? null : this._live().number();
+        return this._ask(KIND.remove, checked(x), checked(y)) === CODE.absent ? null : this._live().number();
     }
 
     multiplicity(x, y) {
-        this._ask(MULTIPLICITY, checked(x), checked(y));
+        this._ask(KIND.multiplicity, checked(x), checked(y));
         return this._live().number();
     }
 
     count() {
-        this._ask(COUNT, 0, 0);
+        this._ask(KIND.count, 0, 0);
         return this._live().number();
     }
 
@@ -472,7 +483,7 @@ class HullOfInstance extends Questions {
 
     addAll(points) {
         const coordinates = flat(points), times = new Uint32Array(coordinates.length / 2), refused = [CODE.tooMany, CODE.noMemory];
-        this._serve(ADD, coordinates, (i, code, number) => {
+        this._serve(KIND.add, coordinates, (i, code, number) => {
             times[i] = code === CODE.added ? 1 : refused.includes(code) ? 0 : number;
         });
         return times;
@@ -480,7 +491,7 @@ class HullOfInstance extends Questions {
 
     removeAll(points) {
         let there = 0;
-        this._serve(REMOVE, flat(points), (_, code) => (there += code === CODE.absent ? 0 : 1));
+        this._serve(KIND.remove, flat(points), (_, code) => (there += code === CODE.absent ? 0 : 1));
         return there;
     }
 

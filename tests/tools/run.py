@@ -1,6 +1,7 @@
 #!/usr/bin/env python3
 """Tries the gate's own tools on a small repository with bugs in what they judge: a wrong body that is none, one that the compiler refuses,
-one that only a proof's names refuse, a crate that is not proved, a count that differs, work that is stale, bytes that changed.
+one that only a proof's names refuse, a crate that is not proved, a count that differs, work that is stale, bytes that changed, a number
+that is not the table's.
 
 Each must be told for what it is, beside one that a goal refuses: a tool that takes whatever fails for a refusal fails here. The last
 line is 'N passed, M failed'.
@@ -48,6 +49,15 @@ EDITS = {
 }
 # what has to be told of each, tried together
 WANTED = {"adds-two": "refused: ", "a-comment": "NOT REFUSED: the crate is still proved", "no-such-name": "NOT TRIED: BAD EDIT: "}
+# what may be wrong with the places that repeat the table of codes: a file, a text that stands there, what stands in its place, what is told
+PLACES = (
+    ("a changed number", "python/hull.py", "    NO_SEAT = 36\n", "    NO_SEAT = 37\n", "python/hull.py: FAILED, codes: it says 'NO_SEAT = 37'"),
+    ("a missing line", "include/hull_common.h", '    case HULL_EDGE: return "HULL_EDGE";\n', "", "include/hull_common.h: FAILED, names: it says"),
+    ("a line too many", "rust/hull/src/raw.rs", "OLD: u32 = 69;\n", "OLD: u32 = 69;\n    pub const ONE: u32 = 1;\n", "raw.rs: FAILED, codes: it says"),
+    ("a mark that is gone", "web/hull.js", "written by tools/table.py: codes", "", "web/hull.js: FAILED, codes stands there 0 times"),
+    ("another version", "rust/hull/Cargo.toml", 'version = "', 'version = "9', "Cargo.toml: FAILED, the version: it says '9"),
+    ("a number left out", "tables/calls.txt", "code 9 ABSENT", "code 90 ABSENT", "tables/calls.txt: FAILED, the numbers of each code"),
+)
 # what a check can tell of a function whose proof names what a change took away, and of one with an open goal
 BY_A_NAME = """proofs/small/Answers.antt:3:5: error: `step` has no field `moved`
 fn small::successor: no proof
@@ -120,8 +130,28 @@ def judge(tries):
     tries.see("a killed check refuses nothing", wrong_bodies.outcome_of(Told(-9, "checked 1 of 3\n"), {})[0] is wrong_bodies.Kind.UNSURE)
 
 
+def compare(tries, top, kept):
+    """What is told of places that differ from the table, one after the other, in a copy of them."""
+    shutil.copytree(f"{TOP}/tools", f"{top}/tools", ignore=shutil.ignore_patterns("__pycache__"))
+    marked = subprocess.run(["git", "grep", "-lI", "written by tools/table.py"], cwd=TOP, capture_output=True, text=True, check=True).stdout
+    for path in ("VERSION", "CHANGELOG.md", "tables/calls.txt", "rust/hull/Cargo.toml", "web/package.json", *marked.split()):
+        os.makedirs(os.path.dirname(f"{top}/{path}"), exist_ok=True)
+        shutil.copy(f"{TOP}/{path}", f"{top}/{path}")
+    told, last = command(top, "tools/table.py", kept=kept)
+    tries.see("places that are as the table says", last.endswith(" passed, 0 failed"), told)
+    for what, path, old, new, wanted in PLACES:
+        with open(f"{TOP}/{path}", encoding="utf-8") as file:
+            text = file.read()
+        write(f"{top}/{path}", text.replace(old, new, 1))
+        told, last = command(top, "tools/table.py", kept=kept)
+        tries.see(f"{what} fails the table", wanted in told and not last.endswith(" 0 failed"), told)
+        write(f"{top}/{path}", text)
+
+
 def main():
     tries = Tries()
+    with tempfile.TemporaryDirectory() as top, tempfile.TemporaryDirectory() as kept:
+        compare(tries, top, kept)
     with tempfile.TemporaryDirectory() as top, tempfile.TemporaryDirectory() as kept:
         lay(top)
         sys.path.insert(0, f"{top}/tools")

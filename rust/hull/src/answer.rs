@@ -111,12 +111,15 @@ pub(crate) fn clearance(told: ClearanceTold) -> Result<Option<Clearance>, Fault>
 
 pub(crate) fn relation(number: u64) -> Relation {
     match number {
+        // written by tools/table.py: relations
         0 => Relation::Apart,
         1 => Relation::Touching,
         2 => Relation::Overlapping,
         3 => Relation::Within,
         4 => Relation::Covers,
-        _ => Relation::Equal,
+        5 => Relation::Equal,
+        // end of what tools/table.py writes
+        other => unreachable!("the library answered {other}"),
     }
 }
 

@@ -65,18 +65,20 @@ pub enum Nearest {
 /// How one outline stands to another.
 #[derive(Clone, Copy, Debug, PartialEq, Eq)]
 pub enum Relation {
+    // written by tools/table.py: relations
     /// They have no point in common.
     Apart,
     /// They have, and a line has them on its two sides: nothing inside the one is covered by the other.
     Touching,
     /// They have, and no line has them on its two sides.
     Overlapping,
-    /// The other one covers whatever this one covers, and not the other way.
+    /// The second covers whatever the first covers, and not the other way.
     Within,
-    /// This one covers whatever the other one covers, and not the other way.
+    /// The first covers whatever the second covers, and not the other way.
     Covers,
     /// Each covers the other.
     Equal,
+    // end of what tools/table.py writes
 }
 
 /// A strip that holds an outline, between the line of an edge and its parallel through a corner farthest from it. Its width is the

@@ -194,7 +194,10 @@ pub(crate) struct MotionTold {
 }
 
 /// The numbers of the codes.
+#[allow(dead_code)]
 pub(crate) mod code {
+    // written by tools/table.py: codes
+    pub const OK: u32 = 0;
     pub const OUT_OF_RANGE: u32 = 1;
     pub const ZERO_DIRECTION: u32 = 2;
     pub const ADDED: u32 = 3;
@@ -214,7 +217,9 @@ pub(crate) mod code {
     pub const NUMBER: u32 = 17;
     pub const CORNERS: u32 = 18;
     pub const TOO_SMALL: u32 = 19;
+    pub const CLEARED: u32 = 20;
     pub const OUT_OF_ORDER: u32 = 21;
+    pub const UNKNOWN_KIND: u32 = 22;
     pub const MEETING: u32 = 23;
     pub const APART: u32 = 24;
     pub const COVERED: u32 = 25;
@@ -226,28 +231,48 @@ pub(crate) mod code {
     pub const POINTS: u32 = 31;
     pub const OPEN: u32 = 32;
     pub const OUT_OF_LIMITS: u32 = 33;
+    pub const WAS_OPENED: u32 = 34;
     pub const LENT: u32 = 35;
     pub const NO_SEAT: u32 = 36;
+    pub const ROOM_IN_USE: u32 = 37;
     pub const NOT_OPEN: u32 = 38;
+    pub const RETURNED: u32 = 39;
+    pub const VACANT: u32 = 40;
+    pub const WAITING: u32 = 41;
+    pub const PLACE_IN_USE: u32 = 42;
+    pub const TAKEN: u32 = 43;
+    pub const NOT_YET: u32 = 44;
+    pub const NO_NUMBER: u32 = 45;
     pub const FULL: u32 = 46;
     pub const SEATS_OUT: u32 = 47;
     pub const CLOSED: u32 = 48;
+    pub const NOT_CLOSED: u32 = 49;
     pub const TEXT: u32 = 50;
+    pub const ENDED: u32 = 51;
+    pub const IN_USE: u32 = 52;
     pub const RESERVED: u32 = 53;
+    pub const PART_IN_USE: u32 = 54;
+    pub const NO_ROOM: u32 = 55;
+    pub const NO_LINES: u32 = 56;
     pub const NO_JOURNAL: u32 = 57;
     pub const OLD_RULES: u32 = 58;
     pub const ILLEGAL: u32 = 59;
     pub const TOO_FEW_SEATS: u32 = 60;
+    pub const NO_OUTLINE: u32 = 61;
     pub const BUSY: u32 = 62;
+    pub const OTHER_LINE: u32 = 63;
     pub const NO_FILE: u32 = 64;
     pub const DAMAGED: u32 = 65;
     pub const SAFE: u32 = 66;
     pub const ADMITTED: u32 = 67;
     pub const VIEWED: u32 = 68;
+    pub const OLD: u32 = 69;
+    // end of what tools/table.py writes
 }
 
 /// The numbers of the kinds.
 pub(crate) mod kind {
+    // written by tools/table.py: kinds
     pub const ADD: u32 = 1;
     pub const REMOVE: u32 = 2;
     pub const PLACE: u32 = 3;
@@ -257,6 +282,7 @@ pub(crate) mod kind {
     pub const AREA: u32 = 7;
     pub const COUNT: u32 = 8;
     pub const MULTIPLICITY: u32 = 9;
+    // end of what tools/table.py writes
 }
 
 #[link(name = "hull", kind = "static")]

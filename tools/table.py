@@ -1,0 +1,189 @@
+#!/usr/bin/env python3
+"""Writes what repeats the numbers, names and words of tables/calls.txt, and the version of the file VERSION, into each place that says it.
+
+    tools/table.py [--write]
+
+Such a place is a marked stretch of a file, from a line 'written by tools/table.py: WHAT' to one 'end of what tools/table.py writes', each
+a comment there; or the version in a line. Without --write it tells what would change. Each file is counted, and the table too, in which
+numbers have to go on from one to the next; the last line is 'N passed, M failed'.
+"""
+import os
+import re
+import sys
+import textwrap
+from collections import namedtuple
+
+sys.path.insert(0, os.path.dirname(os.path.abspath(__file__)))
+import kit  # noqa: E402 (the path comes first)
+
+TABLE = "tables/calls.txt"
+LINE = re.compile(r"(\w+) (?:(\d+) )?(\w+)(?: \((.*?)\))?: (.*)")
+STRETCH = r"(?ms)^[^\n]*written by tools/table\.py: %s\b[^\n]*\n(.*?)^[^\n]*end of what tools/table\.py writes"
+FIELDS = {"x", "y", "other_x", "other_y", "number", "high"}
+# where the version stands, as the group of a pattern that is there once
+VERSIONS = {
+    "include/hull_common.h": r'(?m)^#define HULL_VERSION "(.*)"$',
+    "python/hull.py": r'(?m)^__version__ = "(.*)"$',
+    "rust/hull/Cargo.toml": r'(?m)^version = "(.*)"$',
+    "web/package.json": r'(?m)^ *"version": "(.*)",$',
+    "CHANGELOG.md": r"\A# Changes\n\n(?:## Coming\n(?:(?!## ).*\n)*)?## (.*)\n",
+}
+
+Row = namedtuple("Row", "number name mark said group")
+
+
+class Row(Row):
+    """A line of the table: its number, its name in capitals, its mark, its sentence, and the name and sentence of its group."""
+
+    def camel(self):
+        """The name as TooMany."""
+        return "".join(it.capitalize() for it in self.name.split("_"))
+
+    def small(self):
+        """The name as tooMany."""
+        return self.camel()[0].lower() + self.camel()[1:]
+
+    def words(self):
+        """The word of a call or reply, as the texts spell it, and what belongs to it."""
+        return self.said.partition(":")[0].split()
+
+    def in_set(self):
+        """The name of a call or reply in `hull_set`."""
+        return self.mark if self.mark and self.mark[0].isupper() else self.camel()
+
+
+def table():
+    """The rows of the table by the list that each is of."""
+    lists, group = {"group": []}, None
+    for line in re.sub(r"\n +", " ", kit.text_of(f"{kit.TOP}/{TABLE}")).splitlines():
+        if line and not line.startswith("#"):
+            kind, number, name, mark, said = LINE.fullmatch(line).groups()
+            group = Row(None, name, mark, said, None) if kind == "group" else group
+            lists.setdefault(kind, []).append(group if kind == "group" else Row(int(number), name, mark, said, group))
+    return lists
+
+
+def faults_in(lists):
+    """What is wrong with the table itself."""
+    for kind, rows in lists.items():
+        numbers, names = [it.number for it in rows], [it.name for it in rows]
+        if kind != "group" and numbers != list(range(numbers[0], numbers[0] + len(rows))):
+            yield f"the numbers of each {kind} don't go on from one to the next"
+        yield from (f"{it} is the name of two of a {kind}" for it in set(names) if names.count(it) > 1)
+    for row in lists["code"]:
+        yield from (f"code {row.name}: a reply has no field {it}" for it in re.findall("`(.*?)`", row.said) if it not in FIELDS)
+    for kind, others in (("kind", "code"), ("call", "reply")):
+        known = {it.name for it in lists[others]}
+        for row in lists[kind]:
+            yield from (f"{kind} {row.name}: {it} is no {others}" for it in answers(row) if it not in known)
+
+
+def answers(row):
+    """What a kind or call may be answered, by names."""
+    return row.said.rpartition(": ")[2].partition(";")[0].split(", ")
+
+
+def wrapped(text, width, first, others):
+    """A text in lines of at most that width, which begin so; none parts a field from its number, or begins with the end of a comment."""
+    text = re.sub(r"(?<=\w:) (?=\d+,)| (?=\*/$)", "\u00a0", text)
+    lines = textwrap.fill(text, width, initial_indent=first, subsequent_indent=others, break_long_words=False, break_on_hyphens=False)
+    return lines.replace("\u00a0", " ") + "\n"
+
+
+def header(rows, prefix):
+    """The rows of an enum of C, each with its comment."""
+    heads = [f"    HULL_{prefix}{it.name} = {it.number}{',' if it is not rows[-1] else ''}" for it in rows]
+    wide, text, group = max(map(len, heads)) + 1, "", rows[0].group
+    for row, head in zip(rows, heads):
+        text += "" if row.group == group else f"\n    /* {row.group.said} */\n"
+        text += wrapped(f"{row.said} */", 140, f"{head:{wide}}/* ", " " * wide + " * ")
+        group = row.group
+    return text
+
+
+def documented(rows, mark, width, variant):
+    """The variants of an enum, each below its sentence in comments that begin so."""
+    return "".join(f"{wrapped(f'{it.said[0].upper()}{it.said[1:]}.', width, mark, mark)}    {variant(it)}\n" for it in rows)
+
+
+def object_of(fields):
+    """The fields of an object of JavaScript."""
+    return wrapped(", ".join(fields) + ",", 140, "    ", "    ")
+
+
+def manual(rows):
+    """A list of codes in a manual."""
+    said = [re.sub("`(.*?)`", r"\\fI\1\\fR", it.said) for it in rows]
+    ends = [";\n"] * (len(rows) - 1) + [".\n"]
+    return "".join(f".TP\n.B HULL_{it.name}\n{wrapped(text, 130, '', '')[:-1]}{end}" for it, text, end in zip(rows, said, ends))
+
+
+def words_table(lists):
+    """The table of calls and replies in docs/FORMATS.md."""
+    replies, text = {it.name: it for it in lists["reply"]}, "| Call | Spelled | | Reply | Spelled |\n|---|---|---|---|---|\n"
+    for call in lists["call"]:
+        told = [replies[it] for it in answers(call)]
+        names = ", ".join(dict.fromkeys(it.in_set() for it in told))
+        text += f"| {call.camel()} | `{call.said.partition(':')[0]}` | | {names} | {', '.join(f'`{it.said}`' for it in told)} |\n"
+    return text
+
+
+def stretches(lists):
+    """Each marked stretch: its file, what it is, and its text."""
+    kinds, codes, relations, calls = (lists[it] for it in ("kind", "code", "relation", "call"))
+    quoted = [f'"{it.small()}"' for it in relations]
+    yield "include/hull_common.h", "kinds", header(kinds, "KIND_")
+    yield "include/hull_common.h", "codes", header(codes, "")
+    yield "include/hull_common.h", "names", "".join(f'    case HULL_{it.name}: return "HULL_{it.name}";\n' for it in codes)
+    yield "include/hull.h", "relations", header(relations, "RELATION_")
+    yield "include/hull.hpp", "relations", ",\n".join(f"    {it.small()} = HULL_RELATION_{it.name}" for it in relations) + "\n"
+    for what, rows in (("codes", codes), ("kinds", kinds)):
+        yield "rust/hull/src/raw.rs", what, "".join(f"    pub const {it.name}: u32 = {it.number};\n" for it in rows)
+        yield "python/hull.py", what, "".join(f"    {it.name} = {it.number}\n" for it in rows)
+    yield "rust/hull/src/outline.rs", "relations", documented(relations, "    /// ", 135, lambda it: f"{it.camel()},")
+    yield "rust/hull/src/answer.rs", "relations", "".join(f"        {it.number} => Relation::{it.camel()},\n" for it in relations)
+    yield "python/hull.py", "relations", documented(relations, "    #: ", 135, lambda it: f"{it.name} = {it.number}")
+    yield "web/hull.js", "relations", f"    {', '.join(quoted)},\n"
+    yield "web/hull.d.ts", "relations", f"    | {' | '.join(quoted)};\n"
+    yield "web/journal.js", "operands", object_of(f"{it.words()[0]}: {len(it.words()) - 1}" for it in calls)
+    yield "web/hull.js", "kinds", object_of(f"{it.small()}: {it.number}" for it in kinds)
+    yield "web/hull.js", "codes", object_of(f"{it.small()}: {it.number}" for it in codes if it.group.name in ("sets", "outlines"))
+    yield "man/hull.3", "refusals", manual([it for it in codes if it.mark == "refuses"])
+    yield "docs/FORMATS.md", "words", words_table(lists)
+
+
+def places(lists):
+    """Each place: its file, the pattern whose group it is, what it is, and what has to stand there."""
+    version = kit.text_of(f"{kit.TOP}/VERSION").strip()
+    yield from ((path, pattern, "the version", version) for path, pattern in VERSIONS.items())
+    yield from ((path, STRETCH % re.escape(what), what, text) for path, what, text in stretches(lists))
+
+
+def main(words):
+    if words not in ([], ["--write"]):
+        print(__doc__, file=sys.stderr)
+        return 2
+    lists = table()
+    files, faults = {TABLE: None}, {TABLE: [*faults_in(lists)]}
+    for path, pattern, what, wanted in places(lists):
+        text = files.setdefault(path, kit.text_of(f"{kit.TOP}/{path}"))
+        found = [*re.finditer(pattern, text)]
+        if len(found) != 1:
+            faults.setdefault(path, []).append(f"{what} stands there {len(found)} times")
+        elif found[0][1] != wanted and words and path != "CHANGELOG.md":
+            files[path] = text[: found[0].start(1)] + wanted + text[found[0].end(1) :]
+            with open(f"{kit.TOP}/{path}", "w", encoding="utf-8") as file:
+                file.write(files[path])
+        elif found[0][1] != wanted:
+            lines = zip([*found[0][1].splitlines(), ""], [*wanted.splitlines(), ""])
+            stands, should = next(((a, b) for a, b in lines if a != b), ("more", ""))
+            faults.setdefault(path, []).append(f"{what}: it says '{stands.strip()}' and not '{should.strip()}': tools/table.py --write")
+    for path, said in faults.items():
+        print(*(f"{path}: FAILED, {it}" for it in said), sep="\n", end="\n" if said else "")
+    failed = sum(bool(it) for it in faults.values())
+    print(f"{len(files) - failed} passed, {failed} failed")
+    return 1 if failed else 0
+
+
+if __name__ == "__main__":
+    sys.exit(main(sys.argv[1:]))
