@@ -4,8 +4,10 @@
     tools/table.py [--write]
 
 Such a place is a marked stretch of a file, from a line 'written by tools/table.py: WHAT' to one 'end of what tools/table.py writes', each
-a comment there; or the version in a line. Without --write it tells what would change. Each file is counted, and the table too, in which
-numbers have to go on from one to the next; the last line is 'N passed, M failed'.
+a comment there; or the version in a line. In a stretch 'a case for each call' (or kind, or reply) of any file of Rattle, calls with the
+same numbers behind their word have cases that differ by their names: each is written as that of the first of them, and where that has none,
+none has. Without --write it tells what would change. Each file is counted, and the table too, in which numbers have to go on from one to
+the next; the last line is 'N passed, M failed'.
 """
 import os
 import re
@@ -19,6 +21,7 @@ import kit  # noqa: E402 (the path comes first)
 TABLE = "tables/calls.txt"
 LINE = re.compile(r"(\w+) (?:(\d+) )?(\w+)(?: \((.*?)\))?: (.*)")
 STRETCH = r"(?ms)^[^\n]*written by tools/table\.py: %s\b[^\n]*\n(.*?)^[^\n]*end of what tools/table\.py writes"
+CASES = re.compile(r"written by tools/table\.py: (a case for each (call|kind|reply)( word)?\b.*)")
 FIELDS = {"x", "y", "other_x", "other_y", "number", "high"}
 # where the version stands, as the group of a pattern that is there once
 VERSIONS = {
@@ -42,6 +45,10 @@ class Row(Row):
     def small(self):
         """The name as tooMany."""
         return self.camel()[0].lower() + self.camel()[1:]
+
+    def is_in_c(self):
+        """Whether no proved call tells it."""
+        return "in C" in (self.mark, self.group.mark)
 
     def words(self):
         """The word of a call or reply, as the texts spell it, and what belongs to it."""
@@ -106,6 +113,11 @@ def documented(rows, mark, width, variant):
     return "".join(f"{wrapped(f'{it.said[0].upper()}{it.said[1:]}.', width, mark, mark)}    {variant(it)}\n" for it in rows)
 
 
+def numbered(it):
+    """A variant of Rattle with its number."""
+    return f"{it.camel()} = {it.number},"
+
+
 def object_of(fields):
     """The fields of an object of JavaScript."""
     return wrapped(", ".join(fields) + ",", 140, "    ", "    ")
@@ -116,6 +128,51 @@ def manual(rows):
     said = [re.sub("`(.*?)`", r"\\fI\1\\fR", it.said) for it in rows]
     ends = [";\n"] * (len(rows) - 1) + [".\n"]
     return "".join(f".TP\n.B HULL_{it.name}\n{wrapped(text, 130, '', '')[:-1]}{end}" for it, text, end in zip(rows, said, ends))
+
+
+def spelled(rows, kind):
+    """How words are spelled, as rows of a `match` of Rattle."""
+    return "".join(f'            {kind}::{it.camel()} => b"{it.words()[0]}",\n' for it in rows)
+
+
+def chosen(rows, kind, depth, otherwise):
+    """The word that a field spells, as a chain of Rattle."""
+    inner, outer = " " * depth, " " * (depth + 4)
+    tests = (f"if field == {kind}::{it.camel()}.text() {{\n{outer}Some({kind}::{it.camel()})\n{inner}}} else " for it in rows)
+    return f"{inner}{''.join(tests)}{{\n{outer}{otherwise}\n{inner}}}\n"
+
+
+def equations(rows, function, value, module):
+    """A function of a definition, a line for each row."""
+    return "".join(f"{function} {module}.{it.camel()} = {value(it)}\n" for it in rows)
+
+
+def list_of(name, rows, module, end="[]"):
+    """A list of a definition."""
+    text = wrapped(f"{name} = {' ∷ '.join([*(f'{module}.{it.camel()}' for it in rows), end])}", 121, "", "    ")
+    return text.replace(" ∷\n    ", "\n    ∷ ")
+
+
+def definitions(calls, changes, answered):
+    """The words as definitions."""
+    spell = lambda kind, rows: equations(rows, f"{kind}_word_text", lambda it: f'codes "{it.words()[0]}"', kind)
+    return f"""
+-- how a call word is spelled
+abbrev pub call_word_text : CallWord → List ℕ
+{spell("call", calls)}
+-- all call words
+abbrev pub call_words : List CallWord
+{list_of("call_words", calls, "call")}
+-- how a reply word is spelled
+abbrev pub reply_word_text : ReplyWord → List ℕ
+{spell("reply", changes + answered)}
+-- the reply words that answer a question
+abbrev pub answer_words : List ReplyWord
+{list_of("answer_words", answered, "reply")}
+-- all reply words: first those that tell what a change did
+abbrev pub reply_words : List ReplyWord
+{list_of("reply_words", changes, "reply", "answer_words")}
+"""
 
 
 def words_table(lists):
@@ -130,8 +187,10 @@ def words_table(lists):
 
 def stretches(lists):
     """Each marked stretch: its file, what it is, and its text."""
-    kinds, codes, relations, calls = (lists[it] for it in ("kind", "code", "relation", "call"))
+    kinds, codes, relations, calls, replies = (lists[it] for it in ("kind", "code", "relation", "call", "reply"))
+    proved = [it for it in codes if not it.is_in_c()]
     quoted = [f'"{it.small()}"' for it in relations]
+    asked = [it._replace(said=it.said.partition(":")[0]) for it in kinds]
     yield "include/hull_common.h", "kinds", header(kinds, "KIND_")
     yield "include/hull_common.h", "codes", header(codes, "")
     yield "include/hull_common.h", "names", "".join(f'    case HULL_{it.name}: return "HULL_{it.name}";\n' for it in codes)
@@ -150,13 +209,67 @@ def stretches(lists):
     yield "web/hull.js", "codes", object_of(f"{it.small()}: {it.number}" for it in codes if it.group.name in ("sets", "outlines"))
     yield "man/hull.3", "refusals", manual([it for it in codes if it.mark == "refuses"])
     yield "docs/FORMATS.md", "words", words_table(lists)
+    for path, what, rows, module in (
+        ("hull_reply/specs/Told", "code", proved, "code"),
+        ("hull_reply/specs/Requests", "kind", kinds, "kind"),
+        ("hull_c/specs/Pairs", "relation", relations, "relation"),
+    ):  # (behind a definition `rt fmt` leaves a line free)
+        yield f"crates/{path}.antt", f"{what}s", equations(rows, f"{what}_number", lambda it: it.number, module) + "\n"
+    yield "crates/hull_reply/src/code.rt", "codes", documented(proved, "    /// ", 120, numbered)
+    yield "crates/hull_reply/src/kind.rt", "kinds", documented(asked, "    /// ", 120, numbered)
+    yield "crates/hull_reply/src/kind.rt", "numbers", "".join(f"            {it.number} => Some(Kind::{it.camel()}),\n" for it in kinds)
+    yield "crates/hull_c/src/pairs.rt", "relations", "".join(f"        Relation::{it.camel()} => {it.number},\n" for it in relations)
+    changes, answered = ([it for it in replies if it.group.name == name] for name in ("changes", "answers"))
+    for kind, rows in (("CallWord", calls), ("ReplyWord", replies)):
+        yield "crates/hull_text/src/words.rt", f"each {kind}", "".join(f"    {it.camel()},\n" for it in rows)
+        yield "crates/hull_text/src/words.rt", f"text of {kind}", spelled(rows, kind)
+    yield "crates/hull_text/src/words.rt", "call of a field", chosen(calls, "CallWord", 8, "None")
+    yield "crates/hull_text/src/words.rt", "answer of a field", chosen(answered, "ReplyWord", 4, "None")
+    yield "crates/hull_text/src/words.rt", "reply of a field", chosen(changes, "ReplyWord", 8, "answer_word(field)")
+    yield "crates/hull_text/specs/Words.antt", "words", definitions(calls, changes, answered)
+
+
+def form(row, lists):
+    """What belongs to a call, kind or reply: the numbers behind its word, and its mark where others have the same, or it is no name."""
+    like = next((it for it in lists["call"] if it.name == row.name), row) if row in lists["kind"] else row
+    marked = [it.mark for it in lists["reply"]].count(row.mark) > 1 or row.in_set() != row.mark
+    return (*like.words()[1:], row.mark if marked else None)
+
+
+def cases(text, rows, name, lists):
+    """A stretch with a case for each row, those that stand there first: each as that of the first row of its form, but for the layout."""
+    bare = lambda case: re.sub(r",(?=[)}])|\s", "", case)
+    indent = " " * min(len(it) - len(it.lstrip()) for it in text.splitlines() if it)
+    known, stand, first, found = {name(it): it for it in reversed(rows)}, {}, {}, ""
+    for case in re.split(rf"(?m)^(?={indent}[^\s}}])", text.rstrip("\n") + "\n")[1:]:
+        key = next((it for it in re.findall(r"(?:\.|::)(\w+)", case) if it in known), "")
+        stand[key] = stand.get(key, "") + case
+    for key in [name(it) for it in rows]:
+        first.setdefault(form(known[key], lists), known[key])
+    for key in dict.fromkeys([*(it for it in stand if it), *map(name, rows)]):
+        row, alike = known[key], first[form(known[key], lists)]
+        names = {alike.in_set(): row.in_set(), alike.camel(): row.camel()}
+        wanted = re.sub(r"\b\w+\b", lambda it: names.get(it[0], it[0]), stand.get(name(alike), ""))
+        case = stand.get(key, "")
+        found += case if bare(case) == bare(wanted) else wanted
+    return found + text[len(text.rstrip("\n")) + 1 :]
+
+
+def stretches_of_cases(lists):
+    """Each stretch of cases: its file, what it is, and its text."""
+    for crate in kit.crates().values():
+        for path in (f"crates/{crate.name}/{part}/{it}" for part in kit.SOURCES for it in kit.files_below(f"{crate.folder}/{part}")):
+            text = kit.text_of(f"{kit.TOP}/{path}")
+            for what, kind, word in CASES.findall(text):
+                found = re.search(STRETCH % re.escape(what), text)
+                yield path, what, cases(found[1], lists[kind], Row.camel if word else Row.in_set, lists) if found else ""
 
 
 def places(lists):
     """Each place: its file, the pattern whose group it is, what it is, and what has to stand there."""
     version = kit.text_of(f"{kit.TOP}/VERSION").strip()
     yield from ((path, pattern, "the version", version) for path, pattern in VERSIONS.items())
-    yield from ((path, STRETCH % re.escape(what), what, text) for path, what, text in stretches(lists))
+    yield from ((path, STRETCH % re.escape(what), what, text) for path, what, text in [*stretches(lists), *stretches_of_cases(lists)])
 
 
 def main(words):

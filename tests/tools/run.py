@@ -56,6 +56,10 @@ PLACES = (
     ("a line too many", "rust/hull/src/raw.rs", "OLD: u32 = 69;\n", "OLD: u32 = 69;\n    pub const ONE: u32 = 1;\n", "raw.rs: FAILED, codes: it says"),
     ("a mark that is gone", "web/hull.js", "written by tools/table.py: codes", "", "web/hull.js: FAILED, codes stands there 0 times"),
     ("another version", "rust/hull/Cargo.toml", 'version = "', 'version = "9', "Cargo.toml: FAILED, the version: it says '9"),
+    ("a case unlike the others", "crates/hull_reply/src/request.rt", "Call::Place(point_of", "Call::Add(point_of",
+     "hull_reply/src/request.rt: FAILED, a case for each kind: it says 'Kind::Place"),
+    ("a case that is missing", "crates/hull_reply/specs/Told.antt", "Tells r reply.Absent = IsBare code.Absent r\n", "",
+     "hull_reply/specs/Told.antt: FAILED, a case for each reply: it says"),
     ("a number left out", "tables/calls.txt", "code 9 ABSENT", "code 90 ABSENT", "tables/calls.txt: FAILED, the numbers of each code"),
 )
 # what a check can tell of a function whose proof names what a change took away, and of one with an open goal
@@ -134,7 +138,7 @@ def compare(tries, top, kept):
     """What is told of places that differ from the table, one after the other, in a copy of them."""
     shutil.copytree(f"{TOP}/tools", f"{top}/tools", ignore=shutil.ignore_patterns("__pycache__"))
     marked = subprocess.run(["git", "grep", "-lI", "written by tools/table.py"], cwd=TOP, capture_output=True, text=True, check=True).stdout
-    for path in ("VERSION", "CHANGELOG.md", "tables/calls.txt", "rust/hull/Cargo.toml", "web/package.json", *marked.split()):
+    for path in ("VERSION", "CHANGELOG.md", "tables/calls.txt", "rust/hull/Cargo.toml", "web/package.json", "crates.txt", *marked.split()):
         os.makedirs(os.path.dirname(f"{top}/{path}"), exist_ok=True)
         shutil.copy(f"{TOP}/{path}", f"{top}/{path}")
     told, last = command(top, "tools/table.py", kept=kept)

@@ -13,14 +13,12 @@ use Rattle.hull_reply.specs.Coordinates.{IsDirectionOf, IsPointOf}
 use Rattle.hull_reply.specs.Told.{code_number}
 use Rattle.hull_reply.specs.declared.code.Code.{Code}
 use Rattle.hull_reply.specs.declared.code.Code.TheVariants as code
-use Rattle.hull_c.specs.Findings.{finding_number}
 use Rattle.hull_c.specs.declared.casts.HullHit.{HullHit}
-use Rattle.hull_c.specs.declared.findings.Finding.TheVariants as finding
 
--- a number of a code or a finding, with two points
-abbrev pub IsHitAt : ℕ → Pair → Pair → HullHit → Type 0
-IsHitAt n p q told =
-    (told.code ≡ n) × (told.x ≡ p.x) × (told.y ≡ p.y) × (told.other_x ≡ q.x) × (told.other_y ≡ q.y)
+-- a code, with two points
+abbrev pub IsHitAt : Code → Pair → Pair → HullHit → Type 0
+IsHitAt c p q told =
+    (told.code ≡ code_number c) × (told.x ≡ p.x) × (told.y ≡ p.y) × (told.other_x ≡ q.x) × (told.other_y ≡ q.y)
 
 -- so far on the way, in two words above and two below
 abbrev pub IsPart : ℕ → ℕ → HullHit → Type 0
@@ -28,30 +26,30 @@ IsPart n d told = (told.high * 2 ^ 64 + told.low ≡ n) × (told.divisor_high * 
 
 -- at the start, across an edge, at a corner
 abbrev pub IsEntryTold : Entry → HullHit → Type 0
-IsEntryTold entry.Start told = IsHitAt (finding_number finding.Covered) origin origin told
-IsEntryTold (entry.Edge p q) told = IsHitAt (finding_number finding.Edge) p q told
-IsEntryTold (entry.Corner c) told = IsHitAt (finding_number finding.Corner) c origin told
+IsEntryTold entry.Start told = IsHitAt code.Covered origin origin told
+IsEntryTold (entry.Edge p q) told = IsHitAt code.Edge p q told
+IsEntryTold (entry.Corner c) told = IsHitAt code.Corner c origin told
 
--- a number of a code or a finding, and nothing with it
-abbrev pub IsNoHit : ℕ → HullHit → Type 0
-IsNoHit n told = IsHitAt n origin origin told × IsPart 0 0 told
+-- a code, and nothing with it
+abbrev pub IsNoHit : Code → HullHit → Type 0
+IsNoHit c told = IsHitAt c origin origin told × IsPart 0 0 told
 
 -- where the way comes in and how far on it that is; or that it misses
 abbrev pub IsHitTold : Option Hit → HullHit → Type 0
-IsHitTold None told = IsNoHit (finding_number finding.Apart) told
+IsHitTold None told = IsNoHit code.Apart told
 IsHitTold (Some found) told = IsEntryTold found.place told × IsPart found.numerator found.denominator told
 
 -- that is so of the ray from a in the direction d and each set with these corners, of which there are some
 abbrev pub TellsRay : List Pair → Pair → Pair → HullHit → Type 0
 TellsRay corners a d told =
-    ((corners ≡ []) × IsNoHit (code_number code.Empty) told)
+    ((corners ≡ []) × IsNoHit code.Empty told)
     ⊎ ((found : Option Hit) × IsHitTold found told
     × HoldsOfSetsOf corners (λ S. MatchOption found (MissesRay S a (moved a d)) (λ hit. IsHit S a (moved a d) hit)))
 
 -- and of the last point of it there
 abbrev pub TellsLastOnRay : List Pair → Pair → Pair → HullHit → Type 0
 TellsLastOnRay corners a d told =
-    ((corners ≡ []) × IsNoHit (code_number code.Empty) told)
+    ((corners ≡ []) × IsNoHit code.Empty told)
     ⊎ ((found : Option Hit) × IsHitTold found told
     × HoldsOfSetsOf corners (λ S. MatchOption found (MissesRay S a (moved a d))
     (λ hit. IsLast S a (moved a (backward d)) hit)))
@@ -59,7 +57,7 @@ TellsLastOnRay corners a d told =
 -- of the segment from a to b
 abbrev pub TellsSegmentHit : List Pair → Pair → Pair → HullHit → Type 0
 TellsSegmentHit corners a b told =
-    ((corners ≡ []) × IsNoHit (code_number code.Empty) told)
+    ((corners ≡ []) × IsNoHit code.Empty told)
     ⊎ ((found : Option Hit) × IsHitTold found told
     × HoldsOfSetsOf corners (λ S. MatchOption found (IsApart S (segment a b))
     (λ hit. IsHit S a b hit × (hit.numerator ≤ hit.denominator))))
@@ -68,10 +66,10 @@ TellsSegmentHit corners a b told =
 abbrev pub IsHitOf : ℤ → ℤ → (Pair → HullHit → Type 0) → HullHit → Type 0
 IsHitOf x y P told =
     (asked : Result Pair Code) × IsPointOf x y asked
-    × MatchResult asked (λ p. P p told) (λ fault. IsNoHit (code_number fault) told)
+    × MatchResult asked (λ p. P p told) (λ fault. IsNoHit fault told)
 
 -- the two numbers are a direction and it was answered, or it was told why they are none
 abbrev pub IsHitAlong : ℤ → ℤ → (Pair → HullHit → Type 0) → HullHit → Type 0
 IsHitAlong x y P told =
     (asked : Result Pair Code) × IsDirectionOf x y asked
-    × MatchResult asked (λ d. P d told) (λ fault. IsNoHit (code_number fault) told)
+    × MatchResult asked (λ d. P d told) (λ fault. IsNoHit fault told)

@@ -2,7 +2,6 @@
 use Rattle.std.specs.Prelude.{◌≡◌, ◌⊎◌, ℕ, ℤ, pos, List, [], Bool, cond, Option, Some, None, MatchOption, Result}
 use Rattle.std.specs.Prelude.{MatchResult}
 use Rattle.lattice.specs.Plane.{Pair}
-use Rattle.hull_geometry.specs.Positions.{origin}
 use Rattle.hull_outline.specs.Boxes.{IsBox}
 use Rattle.hull_outline.specs.Extents.{IsDiameter, IsExtent}
 use Rattle.hull_outline.specs.Meetings.{Meets, TellsMeeting, segment}
@@ -13,29 +12,10 @@ use Rattle.hull_outline.specs.declared.nearest.Nearest.{Nearest}
 use Rattle.hull_outline.specs.declared.nearest.Nearest.TheVariants as nearest
 use Rattle.hull_outline.specs.declared.separations.Separation.{Separation}
 use Rattle.hull_reply.specs.Coordinates.{IsDirectionOf, IsPointOf}
-use Rattle.hull_reply.specs.Told.{IsBare, IsNumber, IsWide}
+use Rattle.hull_reply.specs.Told.{ArePoints, IsBare, IsNumber, IsPoint, IsWide}
 use Rattle.hull_reply.specs.declared.code.Code.{Code}
 use Rattle.hull_reply.specs.declared.code.Code.TheVariants as code
 use Rattle.hull_reply.specs.declared.reply.HullReply.{HullReply}
-use Rattle.hull_c.specs.declared.findings.Finding.{Finding}
-use Rattle.hull_c.specs.declared.findings.Finding.TheVariants as finding
-
--- the number of a finding in the header, among those of the codes
-abbrev pub finding_number : Finding → ℕ
-finding_number finding.Meeting = 23
-finding_number finding.Apart = 24
-finding_number finding.Covered = 25
-finding_number finding.Corner = 26
-finding_number finding.Edge = 27
-finding_number finding.Bounds = 28
-finding_number finding.Within = 29
-finding_number finding.Crossing = 30
-finding_number finding.Points = 31
-
--- a finding with two points, or with a point and a direction
-abbrev pub IsFound : Finding → Pair → Pair → HullReply → Type 0
-IsFound f p q r = r
-    ≡ record { code = finding_number f; x = p.x; y = p.y; other_x = q.x; other_y = q.y; number = 0; high = 0 }
 
 -- the two numbers are a point and it was answered, or it was told why they are none
 abbrev pub IsToldOf : ℤ → ℤ → (Pair → HullReply → Type 0) → HullReply → Type 0
@@ -58,16 +38,16 @@ TellsWhether corners a b told =
 abbrev pub TellsParting : List Pair → Pair → Pair → HullReply → Type 0
 TellsParting corners a b told =
     ((corners ≡ []) × IsBare code.Empty told)
-    ⊎ ((IsFound finding.Meeting origin origin told × HoldsOfSetsOf corners (λ S. Meets S (segment a b)))
-    ⊎ ((w : Separation) × IsFound finding.Apart w.farthest w.direction told
+    ⊎ ((IsBare code.Meeting told × HoldsOfSetsOf corners (λ S. Meets S (segment a b)))
+    ⊎ ((w : Separation) × ArePoints code.Apart w.farthest w.direction told
     × HoldsOfSetsOf corners (λ S. IsSeparation S (segment a b) w)))
 
 -- where the nearest point is
 abbrev pub IsNearestTold : Option Nearest → HullReply → Type 0
 IsNearestTold None told = IsBare code.Empty told
-IsNearestTold (Some nearest.Covered) told = IsFound finding.Covered origin origin told
-IsNearestTold (Some (nearest.Corner c)) told = IsFound finding.Corner c origin told
-IsNearestTold (Some (nearest.Edge a b)) told = IsFound finding.Edge a b told
+IsNearestTold (Some nearest.Covered) told = IsBare code.Covered told
+IsNearestTold (Some (nearest.Corner c)) told = IsPoint code.Corner c told
+IsNearestTold (Some (nearest.Edge a b)) told = ArePoints code.Edge a b told
 
 -- that is so of each set with these corners
 abbrev pub TellsNearest : List Pair → Pair → HullReply → Type 0
@@ -76,20 +56,20 @@ TellsNearest corners q told =
     × HoldsOfSetsOf corners (λ S. MatchOption place (S ≡ []) (λ found. IsNearest S q found))
 
 -- two points, if there are any
-abbrev pub AreEndsTold : Finding → Option (Pair × Pair) → HullReply → Type 0
-AreEndsTold f None told = IsBare code.Empty told
-AreEndsTold f (Some ends) told = IsFound f ends.0 ends.1 told
+abbrev pub AreEndsTold : Code → Option (Pair × Pair) → HullReply → Type 0
+AreEndsTold c None told = IsBare code.Empty told
+AreEndsTold c (Some ends) told = ArePoints c ends.0 ends.1 told
 
 -- those between which the box of each set with these corners lies
 abbrev pub TellsBox : List Pair → HullReply → Type 0
 TellsBox corners told =
-    (ends : Option (Pair × Pair)) × AreEndsTold finding.Bounds ends told
+    (ends : Option (Pair × Pair)) × AreEndsTold code.Box ends told
     × HoldsOfSetsOf corners (λ S. MatchOption ends (S ≡ []) (λ found. IsBox S found.0 found.1))
 
 -- those of each set that are farthest from one another
 abbrev pub TellsDiameter : List Pair → HullReply → Type 0
 TellsDiameter corners told =
-    (ends : Option (Pair × Pair)) × AreEndsTold finding.Points ends told
+    (ends : Option (Pair × Pair)) × AreEndsTold code.Points ends told
     × HoldsOfSetsOf corners (λ S. MatchOption ends (S ≡ []) (λ found. IsDiameter S found.0 found.1))
 
 -- a number of 128 bits, if there is one

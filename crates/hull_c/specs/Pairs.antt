@@ -20,10 +20,9 @@ use Rattle.hull_outline.specs.declared.strips.Strip.{Strip}
 use Rattle.hull_outline.specs.declared.witnesses.Witness.{Witness}
 use Rattle.hull_outline.specs.declared.witnesses.Witness.TheVariants as witness
 use Rattle.hull_reply.specs.Told.{code_number, IsNumber}
+use Rattle.hull_reply.specs.declared.code.Code.{Code}
 use Rattle.hull_reply.specs.declared.code.Code.TheVariants as code
 use Rattle.hull_reply.specs.declared.reply.HullReply.{HullReply}
-use Rattle.hull_c.specs.Findings.{finding_number}
-use Rattle.hull_c.specs.declared.findings.Finding.TheVariants as finding
 use Rattle.hull_c.specs.declared.pairs.HullWitness.{HullWitness}
 
 -- whether they meet: 1 or 0
@@ -40,12 +39,15 @@ TellsContains corners others told =
 
 -- the number of a relation
 abbrev pub relation_number : Relation → ℕ
+-- written by tools/table.py: relations
 relation_number relation.Apart = 0
 relation_number relation.Touching = 1
 relation_number relation.Overlapping = 2
 relation_number relation.Within = 3
 relation_number relation.Covers = 4
 relation_number relation.Equal = 5
+
+-- end of what tools/table.py writes
 
 -- how the first stands to the second, by its number
 abbrev pub TellsRelation : List Pair → List Pair → HullReply → Type 0
@@ -65,10 +67,10 @@ TellsWhetherWithin corners others length told =
     (is_within : Bool) × IsNumber code.Number (cond is_within 1 0) told
     × HoldsOfBoth corners others (λ S T. TellsWithin is_within length S T)
 
--- a number of a code or a finding, with four points
-abbrev pub IsShown : ℕ → Pair → Pair → Pair → Pair → HullWitness → Type 0
-IsShown n a b c d w = w ≡ record {
-  code = n;
+-- a code, with four points
+abbrev pub IsShown : Code → Pair → Pair → Pair → Pair → HullWitness → Type 0
+IsShown e a b c d w = w ≡ record {
+  code = code_number e;
   x = a.x;
   y = a.y;
   other_x = b.x;
@@ -81,15 +83,15 @@ IsShown n a b c d w = w ≡ record {
 
 -- what shows how they stand to each other
 abbrev pub IsWitnessTold : Option Witness → HullWitness → Type 0
-IsWitnessTold None told = IsShown (code_number code.Empty) origin origin origin origin told
+IsWitnessTold None told = IsShown code.Empty origin origin origin origin told
 IsWitnessTold (Some (witness.Meets (meeting.OfOther t))) told =
-    IsShown (finding_number finding.Covered) t origin origin origin told
+    IsShown code.Covered t origin origin origin told
 IsWitnessTold (Some (witness.Meets (meeting.OfThis s))) told =
-    IsShown (finding_number finding.Within) s origin origin origin told
+    IsShown code.Within s origin origin origin told
 IsWitnessTold (Some (witness.Meets (meeting.Crossing a b c d))) told =
-    IsShown (finding_number finding.Crossing) a b c d told
+    IsShown code.Crossing a b c d told
 IsWitnessTold (Some (witness.Apart w)) told =
-    IsShown (finding_number finding.Apart) w.farthest w.direction origin origin told
+    IsShown code.Apart w.farthest w.direction origin origin told
 
 -- that is so of each two sets with these corners
 abbrev pub TellsWitness : List Pair → List Pair → HullWitness → Type 0
@@ -99,8 +101,8 @@ TellsWitness corners others told =
 
 -- an edge and the point farthest from it, if there is an edge
 abbrev pub IsStripTold : Option Strip → HullWitness → Type 0
-IsStripTold None told = IsShown (code_number code.Empty) origin origin origin origin told
-IsStripTold (Some w) told = IsShown (finding_number finding.Edge) w.from w.to w.farthest origin told
+IsStripTold None told = IsShown code.Empty origin origin origin origin told
+IsStripTold (Some w) told = IsShown code.Edge w.from w.to w.farthest origin told
 
 -- that is where each set with these corners is least wide
 abbrev pub TellsLeastWidth : List Pair → HullWitness → Type 0
@@ -110,12 +112,12 @@ TellsLeastWidth corners told =
 
 -- where they are nearest: they meet, or a corner of each, or a corner of the one and an edge of the other
 abbrev pub IsDistanceTold : Option Distance → HullWitness → Type 0
-IsDistanceTold None told = IsShown (code_number code.Empty) origin origin origin origin told
+IsDistanceTold None told = IsShown code.Empty origin origin origin origin told
 IsDistanceTold (Some distance.Zero) told =
-    IsShown (finding_number finding.Meeting) origin origin origin origin told
-IsDistanceTold (Some (distance.Corners c d)) told = IsShown (finding_number finding.Points) c d origin origin told
-IsDistanceTold (Some (distance.CornerAndEdge c a b)) told = IsShown (finding_number finding.Corner) c a b origin told
-IsDistanceTold (Some (distance.EdgeAndCorner a b d)) told = IsShown (finding_number finding.Edge) a b d origin told
+    IsShown code.Meeting origin origin origin origin told
+IsDistanceTold (Some (distance.Corners c d)) told = IsShown code.Points c d origin origin told
+IsDistanceTold (Some (distance.CornerAndEdge c a b)) told = IsShown code.Corner c a b origin told
+IsDistanceTold (Some (distance.EdgeAndCorner a b d)) told = IsShown code.Edge a b d origin told
 
 -- that is so of each two sets with these corners
 abbrev pub TellsDistance : List Pair → List Pair → HullWitness → Type 0

@@ -4,9 +4,7 @@ ghost use Rattle.hull_geometry.specs.Positions.{origin};
 ghost use Rattle.hull_outline.specs.Outlines.{IsShortOutline};
 ghost use Rattle.hull_c.specs.Casts.{IsEntryTold, IsHitAlong, IsHitAt, IsHitOf, IsHitTold, IsNoHit, IsPart, TellsLastOnRay};
 ghost use Rattle.hull_c.specs.Casts.{TellsRay, TellsSegmentHit};
-ghost use Rattle.hull_c.specs.Findings.{finding_number};
 
-use super::findings::Finding;
 use hull_outline::{Entry, Hit, Outline};
 use hull_reply::{Code, direction_of, point_of};
 use lattice::{Direction, Point};
@@ -14,7 +12,7 @@ use lattice::{Direction, Point};
 /// The base of words, 2^64.
 const WORD: u128 = 18446744073709551616;
 
-/// Where a way first comes into an outline: the number of a code or a finding, with an edge or a corner, and how far on the way that
+/// Where a way first comes into an outline: the number of a code, with an edge or a corner, and how far on the way that
 /// is; all else is 0.
 #[repr(C)]
 #[derive(Clone, Copy)]
@@ -39,12 +37,12 @@ pub struct HullHit {
     pub divisor_low: u64,
 }
 
-/// A number alone.
-fn bare(number: u32) -> HullHit
-    ensures { IsNoHit number result }
+/// A code alone.
+fn bare(code: Code) -> HullHit
+    ensures { IsNoHit code result }
 {
     HullHit {
-        code: number,
+        code: code.number(),
         x: 0,
         y: 0,
         other_x: 0,
@@ -56,11 +54,11 @@ fn bare(number: u32) -> HullHit
     }
 }
 
-/// A finding with two points.
-fn at(finding: Finding, p: Point, q: Point) -> HullHit
-    ensures { IsHitAt (finding_number finding) p q result }
+/// A code with two points.
+fn at(code: Code, p: Point, q: Point) -> HullHit
+    ensures { IsHitAt code p q result }
 {
-    let mut hit = bare(finding.number());
+    let mut hit = bare(code);
     hit.x = p.x();
     hit.y = p.y();
     hit.other_x = q.x();
@@ -68,11 +66,11 @@ fn at(finding: Finding, p: Point, q: Point) -> HullHit
     hit
 }
 
-/// A finding with a corner.
+/// A code with a corner.
 fn at_corner(c: Point) -> HullHit
-    ensures { IsHitAt (finding_number Finding.Corner) c origin result }
+    ensures { IsHitAt Code.Corner c origin result }
 {
-    let mut hit = bare(Finding::Corner.number());
+    let mut hit = bare(Code::Corner);
     hit.x = c.x();
     hit.y = c.y();
     hit
@@ -83,8 +81,8 @@ fn place(entry: Entry) -> HullHit
     ensures { IsEntryTold entry result }
 {
     match entry {
-        Entry::Start => bare(Finding::Covered.number()),
-        Entry::Edge(p, q) => at(Finding::Edge, p, q),
+        Entry::Start => bare(Code::Covered),
+        Entry::Edge(p, q) => at(Code::Edge, p, q),
         Entry::Corner(c) => at_corner(c),
     }
 }
@@ -116,7 +114,7 @@ fn hit_of(found: Option<Hit>) -> HullHit
     ensures { IsHitTold found result }
 {
     match found {
-        None => bare(Finding::Apart.number()),
+        None => bare(Code::Apart),
         Some(told) => way_in(told),
     }
 }
@@ -127,7 +125,7 @@ fn ray(corners: &[Point], start: Point, direction: Direction) -> HullHit
     ensures { TellsRay corners.now start direction result }
 {
     if corners.is_empty() {
-        return bare(Code::Empty.number());
+        return bare(Code::Empty);
     }
     hit_of(Outline::of_vertices(corners).cast_ray(start, direction))
 }
@@ -138,7 +136,7 @@ fn last(corners: &[Point], start: Point, direction: Direction) -> HullHit
     ensures { TellsLastOnRay corners.now start direction result }
 {
     if corners.is_empty() {
-        return bare(Code::Empty.number());
+        return bare(Code::Empty);
     }
     hit_of(Outline::of_vertices(corners).last_on_ray(start, direction))
 }
@@ -149,7 +147,7 @@ fn segment(corners: &[Point], a: Point, b: Point) -> HullHit
     ensures { TellsSegmentHit corners.now a b result }
 {
     if corners.is_empty() {
-        return bare(Code::Empty.number());
+        return bare(Code::Empty);
     }
     hit_of(Outline::of_vertices(corners).cast_segment(a, b))
 }
@@ -161,7 +159,7 @@ fn ray_along(corners: &[Point], start: Point, dx: i64, dy: i64) -> HullHit
 {
     match direction_of(dx, dy) {
         Ok(direction) => ray(corners, start, direction),
-        Err(fault) => bare(fault.number()),
+        Err(fault) => bare(fault),
     }
 }
 
@@ -172,7 +170,7 @@ fn last_along(corners: &[Point], start: Point, dx: i64, dy: i64) -> HullHit
 {
     match direction_of(dx, dy) {
         Ok(direction) => last(corners, start, direction),
-        Err(fault) => bare(fault.number()),
+        Err(fault) => bare(fault),
     }
 }
 
@@ -183,7 +181,7 @@ fn segment_to(corners: &[Point], a: Point, x: i64, y: i64) -> HullHit
 {
     match point_of(x, y) {
         Ok(b) => segment(corners, a, b),
-        Err(fault) => bare(fault.number()),
+        Err(fault) => bare(fault),
     }
 }
 
@@ -194,7 +192,7 @@ pub(crate) fn cast_ray(corners: &[Point], x: i64, y: i64, dx: i64, dy: i64) -> H
 {
     match point_of(x, y) {
         Ok(start) => ray_along(corners, start, dx, dy),
-        Err(fault) => bare(fault.number()),
+        Err(fault) => bare(fault),
     }
 }
 
@@ -205,7 +203,7 @@ pub(crate) fn last_on_ray(corners: &[Point], x: i64, y: i64, dx: i64, dy: i64) -
 {
     match point_of(x, y) {
         Ok(start) => last_along(corners, start, dx, dy),
-        Err(fault) => bare(fault.number()),
+        Err(fault) => bare(fault),
     }
 }
 
@@ -216,6 +214,6 @@ pub(crate) fn cast_segment(corners: &[Point], ax: i64, ay: i64, bx: i64, by: i64
 {
     match point_of(ax, ay) {
         Ok(a) => segment_to(corners, a, bx, by),
-        Err(fault) => bare(fault.number()),
+        Err(fault) => bare(fault),
     }
 }

@@ -1,9 +1,8 @@
 //! Segments, boxes, nearest points and extents of an array of corners.
-ghost use Rattle.std.specs.Prelude.{◌≡◌, Some};
-ghost use Rattle.lattice.specs.Plane.{Pair};
-ghost use Rattle.hull_geometry.specs.Positions.{origin};
+ghost use Rattle.std.specs.Prelude.{Some};
 ghost use Rattle.hull_outline.specs.Outlines.{IsShortOutline};
-ghost use Rattle.hull_c.specs.Findings.{finding_number, AreEndsTold, IsFound, IsNearestTold, IsToldAlong, IsToldOf};
+ghost use Rattle.hull_reply.specs.Told.{ArePoints};
+ghost use Rattle.hull_c.specs.Findings.{AreEndsTold, IsNearestTold, IsToldAlong, IsToldOf};
 ghost use Rattle.hull_c.specs.Findings.{IsWidthTold};
 ghost use Rattle.hull_c.specs.Findings.{TellsBox, TellsDiameter, TellsNearest, TellsParting, TellsWhether, TellsWidth};
 
@@ -11,72 +10,11 @@ use hull_outline::{Nearest, Outline, Separation};
 use hull_reply::{Code, HullReply, direction_of, point_of};
 use lattice::{Direction, Point};
 
-/// What was found. The header names each by its number, among those of [`Code`].
-#[derive(Clone, Copy)]
-pub(crate) enum Finding {
-    /// They have a point in common.
-    Meeting = 23,
-    /// They are parted: by a direction, with the farthest point in it.
-    Apart = 24,
-    /// The point is covered.
-    Covered = 25,
-    /// A corner.
-    Corner = 26,
-    /// An edge, from one corner to the next.
-    Edge = 27,
-    /// A box, from its least point to its greatest.
-    Bounds = 28,
-    /// The corner is covered by the other outline.
-    Within = 29,
-    /// Two segments cross.
-    Crossing = 30,
-    /// Two points.
-    Points = 31,
-}
-
-impl Finding {
-    /// The number of the header.
-    pub(crate) fn number(self) -> u32
-        ensures { result ≡ finding_number self }
-    {
-        self as u32
-    }
-}
-
-/// A finding alone.
-fn bare(finding: Finding) -> HullReply
-    ensures { IsFound finding origin origin result }
-{
-    let mut reply = HullReply::bare(Code::Empty);
-    reply.code = finding.number();
-    reply
-}
-
-/// A finding with a point.
-fn with_point(finding: Finding, p: Point) -> HullReply
-    ensures { IsFound finding p origin result }
-{
-    let mut reply = bare(finding);
-    reply.x = p.x();
-    reply.y = p.y();
-    reply
-}
-
-/// A finding with two points.
-fn with_points(finding: Finding, p: Point, q: Point) -> HullReply
-    ensures { IsFound finding p q result }
-{
-    let mut reply = with_point(finding, p);
-    reply.other_x = q.x();
-    reply.other_y = q.y();
-    reply
-}
-
 /// A direction that parts, with the farthest point in it.
 fn parted(found: Separation) -> HullReply
-    ensures { IsFound Finding.Apart found.farthest found.direction result }
+    ensures { ArePoints Code.Apart found.farthest found.direction result }
 {
-    let mut reply = with_point(Finding::Apart, found.farthest);
+    let mut reply = HullReply::with_point(Code::Apart, found.farthest);
     reply.other_x = found.direction.x();
     reply.other_y = found.direction.y();
     reply
@@ -101,7 +39,7 @@ fn parting(corners: &[Point], a: Point, b: Point) -> HullReply
     }
     match Outline::of_vertices(corners).apart_from_segment(a, b) {
         Some(found) => parted(found),
-        None => bare(Finding::Meeting),
+        None => HullReply::bare(Code::Meeting),
     }
 }
 
@@ -154,9 +92,9 @@ fn place_told(place: Nearest) -> HullReply
     ensures { IsNearestTold (Some place) result }
 {
     match place {
-        Nearest::Covered => bare(Finding::Covered),
-        Nearest::Corner(c) => with_point(Finding::Corner, c),
-        Nearest::Edge(a, b) => with_points(Finding::Edge, a, b),
+        Nearest::Covered => HullReply::bare(Code::Covered),
+        Nearest::Corner(c) => HullReply::with_point(Code::Corner, c),
+        Nearest::Edge(a, b) => HullReply::with_points(Code::Edge, a, b),
     }
 }
 
@@ -190,12 +128,12 @@ pub(crate) fn nearest(corners: &[Point], x: i64, y: i64) -> HullReply
 }
 
 /// Two points, if there are any.
-fn ends_told(finding: Finding, ends: Option<(Point, Point)>) -> HullReply
-    ensures { AreEndsTold finding ends result }
+fn ends_told(code: Code, ends: Option<(Point, Point)>) -> HullReply
+    ensures { AreEndsTold code ends result }
 {
     match ends {
         None => HullReply::bare(Code::Empty),
-        Some((p, q)) => with_points(finding, p, q),
+        Some((p, q)) => HullReply::with_points(code, p, q),
     }
 }
 
@@ -204,10 +142,7 @@ pub(crate) fn bounding_box(corners: &[Point]) -> HullReply
     requires { IsShortOutline corners.now }
     ensures { TellsBox corners.now result }
 {
-    ends_told(
-        Finding::Bounds,
-        Outline::of_vertices(corners).bounding_box(),
-    )
+    ends_told(Code::Box, Outline::of_vertices(corners).bounding_box())
 }
 
 /// The two corners that are farthest from one another.
@@ -215,7 +150,7 @@ pub(crate) fn diameter(corners: &[Point]) -> HullReply
     requires { IsShortOutline corners.now }
     ensures { TellsDiameter corners.now result }
 {
-    ends_told(Finding::Points, Outline::of_vertices(corners).diameter())
+    ends_told(Code::Points, Outline::of_vertices(corners).diameter())
 }
 
 /// How far a hull reaches, if it has points.

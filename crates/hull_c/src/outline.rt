@@ -51,7 +51,7 @@ fn answer(outline: &Outline, call: Call) -> HullReply
         Call::Extreme(d) => extreme(outline, d),
         Call::Area => area(outline),
         Call::Vertices => HullReply::numbered(Code::Corners, outline.corners().len() as u64),
-        Call::Add(_) | Call::Remove(_) | Call::Count => HullReply::bare(Code::UnknownKind),
+        _ => HullReply::bare(Code::UnknownKind),
     }
 }
 

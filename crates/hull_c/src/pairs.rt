@@ -3,17 +3,15 @@ ghost use Rattle.std.specs.Prelude.{◌≡◌, Some};
 ghost use Rattle.hull_geometry.specs.Positions.{origin};
 ghost use Rattle.hull_outline.specs.Outlines.{IsShortOutline};
 ghost use Rattle.hull_outline.specs.declared.witnesses.Witness.TheVariants as witness;
-ghost use Rattle.hull_c.specs.Findings.{finding_number};
 ghost use Rattle.hull_c.specs.Pairs.{IsDistanceTold, IsShown, IsStripTold, IsWitnessTold};
 ghost use Rattle.hull_c.specs.Pairs.{TellsContains, TellsContainsInside, TellsDistance, TellsLeastWidth, TellsMeets};
 ghost use Rattle.hull_c.specs.Pairs.{TellsRelation, TellsWhetherWithin, TellsWitness, relation_number};
 
-use super::findings::Finding;
 use hull_outline::{Distance, Length, Meeting, Outline, Relation, Separation, Strip, Witness};
 use hull_reply::{Code, HullReply};
 use lattice::Point;
 
-/// What shows that two outlines meet, or that they are apart: the number of a code or a finding, and up to four points,
+/// What shows that two outlines meet, or that they are apart: the number of a code, and up to four points,
 /// as the header says at its name; all else is 0.
 #[repr(C)]
 #[derive(Clone, Copy)]
@@ -38,12 +36,12 @@ pub struct HullWitness {
     pub fourth_y: i64,
 }
 
-/// A number alone.
-fn bare(number: u32) -> HullWitness
-    ensures { IsShown number origin origin origin origin result }
+/// A code alone.
+fn bare(code: Code) -> HullWitness
+    ensures { IsShown code origin origin origin origin result }
 {
     HullWitness {
-        code: number,
+        code: code.number(),
         x: 0,
         y: 0,
         other_x: 0,
@@ -55,11 +53,11 @@ fn bare(number: u32) -> HullWitness
     }
 }
 
-/// A finding with a point.
-fn at(finding: Finding, p: Point) -> HullWitness
-    ensures { IsShown (finding_number finding) p origin origin origin result }
+/// A code with a point.
+fn at(code: Code, p: Point) -> HullWitness
+    ensures { IsShown code p origin origin origin result }
 {
-    let mut shown = bare(finding.number());
+    let mut shown = bare(code);
     shown.x = p.x();
     shown.y = p.y();
     shown
@@ -67,9 +65,9 @@ fn at(finding: Finding, p: Point) -> HullWitness
 
 /// Two segments that cross.
 fn crossing(a: Point, b: Point, c: Point, d: Point) -> HullWitness
-    ensures { IsShown (finding_number Finding.Crossing) a b c d result }
+    ensures { IsShown Code.Crossing a b c d result }
 {
-    let mut shown = at(Finding::Crossing, a);
+    let mut shown = at(Code::Crossing, a);
     shown.other_x = b.x();
     shown.other_y = b.y();
     shown.third_x = c.x();
@@ -84,8 +82,8 @@ fn met(meeting: Meeting) -> HullWitness
     ensures { IsWitnessTold (Some (witness.Meets meeting)) result }
 {
     match meeting {
-        Meeting::OfOther(t) => at(Finding::Covered, t),
-        Meeting::OfThis(s) => at(Finding::Within, s),
+        Meeting::OfOther(t) => at(Code::Covered, t),
+        Meeting::OfThis(s) => at(Code::Within, s),
         Meeting::Crossing(a, b, c, d) => crossing(a, b, c, d),
     }
 }
@@ -94,7 +92,7 @@ fn met(meeting: Meeting) -> HullWitness
 fn parted(found: Separation) -> HullWitness
     ensures { IsWitnessTold (Some (witness.Apart found)) result }
 {
-    let mut shown = at(Finding::Apart, found.farthest);
+    let mut shown = at(Code::Apart, found.farthest);
     shown.other_x = found.direction.x();
     shown.other_y = found.direction.y();
     shown
@@ -115,7 +113,7 @@ fn shown_of(found: Option<Witness>) -> HullWitness
     ensures { IsWitnessTold found result }
 {
     match found {
-        None => bare(Code::Empty.number()),
+        None => bare(Code::Empty),
         Some(witness) => shown(witness),
     }
 }
@@ -154,12 +152,14 @@ pub(crate) fn number_of(relation: Relation) -> u64
     ensures { result ≡ relation_number relation }
 {
     match relation {
+        // written by tools/table.py: relations
         Relation::Apart => 0,
         Relation::Touching => 1,
         Relation::Overlapping => 2,
         Relation::Within => 3,
         Relation::Covers => 4,
         Relation::Equal => 5,
+        // end of what tools/table.py writes
     }
 }
 
@@ -193,21 +193,21 @@ pub(crate) fn is_within(corners: &[Point], others: &[Point], length: Length) -> 
     HullReply::numbered(Code::Number, u64::from(is_within))
 }
 
-/// A finding with two points.
-fn with_two(finding: Finding, a: Point, b: Point) -> HullWitness
-    ensures { IsShown (finding_number finding) a b origin origin result }
+/// A code with two points.
+fn with_two(code: Code, a: Point, b: Point) -> HullWitness
+    ensures { IsShown code a b origin origin result }
 {
-    let mut shown = at(finding, a);
+    let mut shown = at(code, a);
     shown.other_x = b.x();
     shown.other_y = b.y();
     shown
 }
 
-/// A finding with three points.
-fn with_three(finding: Finding, a: Point, b: Point, c: Point) -> HullWitness
-    ensures { IsShown (finding_number finding) a b c origin result }
+/// A code with three points.
+fn with_three(code: Code, a: Point, b: Point, c: Point) -> HullWitness
+    ensures { IsShown code a b c origin result }
 {
-    let mut shown = with_two(finding, a, b);
+    let mut shown = with_two(code, a, b);
     shown.third_x = c.x();
     shown.third_y = c.y();
     shown
@@ -217,7 +217,7 @@ fn with_three(finding: Finding, a: Point, b: Point, c: Point) -> HullWitness
 fn strip(found: Strip) -> HullWitness
     ensures { IsStripTold (Some found) result }
 {
-    with_three(Finding::Edge, found.from, found.to, found.farthest)
+    with_three(Code::Edge, found.from, found.to, found.farthest)
 }
 
 /// A strip, if there is one.
@@ -225,7 +225,7 @@ fn strip_of(found: Option<Strip>) -> HullWitness
     ensures { IsStripTold found result }
 {
     match found {
-        None => bare(Code::Empty.number()),
+        None => bare(Code::Empty),
         Some(thinnest) => strip(thinnest),
     }
 }
@@ -243,10 +243,10 @@ fn closest(found: Distance) -> HullWitness
     ensures { IsDistanceTold (Some found) result }
 {
     match found {
-        Distance::Zero => bare(Finding::Meeting.number()),
-        Distance::Corners(c, d) => with_two(Finding::Points, c, d),
-        Distance::CornerAndEdge(c, a, b) => with_three(Finding::Corner, c, a, b),
-        Distance::EdgeAndCorner(a, b, d) => with_three(Finding::Edge, a, b, d),
+        Distance::Zero => bare(Code::Meeting),
+        Distance::Corners(c, d) => with_two(Code::Points, c, d),
+        Distance::CornerAndEdge(c, a, b) => with_three(Code::Corner, c, a, b),
+        Distance::EdgeAndCorner(a, b, d) => with_three(Code::Edge, a, b, d),
     }
 }
 
@@ -255,7 +255,7 @@ fn closest_of(found: Option<Distance>) -> HullWitness
     ensures { IsDistanceTold found result }
 {
     match found {
-        None => bare(Code::Empty.number()),
+        None => bare(Code::Empty),
         Some(distance) => closest(distance),
     }
 }

@@ -18,12 +18,9 @@ use Rattle.hull_geometry.proofs.SetLaws.{members_with}
 use Rattle.hull_set.specs.Held.{Held, nothing_held}
 use Rattle.hull_set.specs.Replies.{Answers, after}
 use Rattle.hull_set.specs.declared.call.Call.{Call}
-use Rattle.hull_set.specs.declared.call.Call.TheVariants.{Add, Remove, Extreme, Place, Tangents, Vertices, Area}
-use Rattle.hull_set.specs.declared.call.Call.TheVariants.{Count}
+use Rattle.hull_set.specs.declared.call.Call.TheVariants.{Add, Remove, Extreme, Tangents}
 use Rattle.hull_set.specs.declared.reply.Reply.{Reply}
-use Rattle.hull_set.specs.declared.reply.Reply.TheVariants.{Added, Already, Again, TooMany, NoMemory, Removed, Left}
-use Rattle.hull_set.specs.declared.reply.Reply.TheVariants.{Absent, Farthest, Empty, Lies, TangentPoints, NoTangent}
-use Rattle.hull_set.specs.declared.reply.Reply.TheVariants.{VertexList, DoubledArea, PointCount}
+use Rattle.hull_set.specs.declared.reply.Reply.TheVariants.{Added, Removed, Farthest, TangentPoints}
 use Rattle.hull_set.specs.declared.rules.Rules.{Rules}
 use Rattle.hull_tree.specs.Roots.{held_by}
 use Rattle.hull_book.specs.History.{IsRight, AreRight, IsLegal, replay, held_after}
@@ -91,53 +88,20 @@ after_added held q Added p m = elim ((members_with q p held.points).0 m) [
   | inl e ↦ inr (subst (IsMarked (point_marks (Some q))) (sym e) (own_mark q))
   | inr h ↦ inl h
 ]
-after_added held q Already p m = inl m
-after_added held q (Again n) p m = inl m
-after_added held q TooMany p m = inl m
-after_added held q NoMemory p m = inl m
-after_added held q Removed p m = inl m
-after_added held q (Left n) p m = inl m
-after_added held q Absent p m = inl m
-after_added held q (Farthest t) p m = inl m
-after_added held q Empty p m = inl m
-after_added held q (Lies w) p m = inl m
-after_added held q (TangentPoints l r) p m = inl m
-after_added held q NoTangent p m = inl m
-after_added held q (VertexList v) p m = inl m
-after_added held q (DoubledArea n) p m = inl m
-after_added held q (PointCount n) p m = inl m
+after_added held q reply p m = inl m
 
 -- after `remove q` a point is live only where it was
 after_removed : (held : Held) (q : Pair) (reply : Reply) (p : Pair)
     → Contains (after held (Remove q) reply).points p → Contains held.points p
 after_removed held q Removed p m = in_whole q p held.points m
-after_removed held q Added p m = m
-after_removed held q Already p m = m
-after_removed held q (Again n) p m = m
-after_removed held q TooMany p m = m
-after_removed held q NoMemory p m = m
-after_removed held q (Left n) p m = m
-after_removed held q Absent p m = m
-after_removed held q (Farthest t) p m = m
-after_removed held q Empty p m = m
-after_removed held q (Lies w) p m = m
-after_removed held q (TangentPoints l r) p m = m
-after_removed held q NoTangent p m = m
-after_removed held q (VertexList v) p m = m
-after_removed held q (DoubledArea n) p m = m
-after_removed held q (PointCount n) p m = m
+after_removed held q reply p m = m
 
 -- after a call a point is live only where it was, or where the call names it
 after_called : (held : Held) (call : Call) (reply : Reply) (p : Pair) → Contains (after held call reply).points p
     → Contains held.points p ⊎ IsMarked (point_marks (call_point call)) p
 after_called held (Add q) reply p m = after_added held q reply p m
 after_called held (Remove q) reply p m = inl (after_removed held q reply p m)
-after_called held (Extreme d) reply p m = inl m
-after_called held (Place q) reply p m = inl m
-after_called held (Tangents q) reply p m = inl m
-after_called held Vertices reply p m = inl m
-after_called held Area reply p m = inl m
-after_called held Count reply p m = inl m
+after_called held call reply p m = inl m
 
 -- what is marked among the first is marked among all
 marked_first : (xs ys : List Mark) (p : Pair) → IsMarked xs p → IsMarked (xs ++ ys) p
@@ -236,26 +200,14 @@ no_marks (m ∷ ms) S e none =
 -- the farthest point that a right reply tells is live
 farthest_live : (rules : Rules) (held : Held) (limit : ℕ) (call : Call) (t : Pair)
     → Answers rules held limit call (Farthest t) → Contains held.points t
-farthest_live rules held limit (Add q) t h = absurd h
-farthest_live rules held limit (Remove q) t h = absurd h
 farthest_live rules held limit (Extreme d) t h = h.0
-farthest_live rules held limit (Place q) t h = absurd h
-farthest_live rules held limit (Tangents q) t h = absurd h
-farthest_live rules held limit Vertices t h = absurd h
-farthest_live rules held limit Area t h = absurd h
-farthest_live rules held limit Count t h = absurd h
+farthest_live rules held limit call t h = absurd h
 
 -- the tangent points that a right reply tells are live
 tangents_live : (rules : Rules) (held : Held) (limit : ℕ) (call : Call) (l r : Pair)
     → Answers rules held limit call (TangentPoints l r) → Contains held.points l × Contains held.points r
-tangents_live rules held limit (Add q) l r h = absurd h
-tangents_live rules held limit (Remove q) l r h = absurd h
-tangents_live rules held limit (Extreme d) l r h = absurd h
-tangents_live rules held limit (Place q) l r h = absurd h
 tangents_live rules held limit (Tangents q) l r h = (h.1.0, h.2.0)
-tangents_live rules held limit Vertices l r h = absurd h
-tangents_live rules held limit Area l r h = absurd h
-tangents_live rules held limit Count l r h = absurd h
+tangents_live rules held limit call l r h = absurd h
 
 -- the points that a right reply found are live
 found_live : (P : Pair → Type 0) (rules : Rules) (held : Held) (limit : ℕ) (call : Call) (reply : Reply)
@@ -265,20 +217,7 @@ found_live P rules held limit call (Farthest t) h all =
 found_live P rules held limit call (TangentPoints l r) h all =
     let both = tangents_live rules held limit call l r h in
     All-cons P l (r ∷ []) (all l both.0) (All-cons P r [] (all r both.1) (All-nil P))
-found_live P rules held limit call Added h all = All-nil P
-found_live P rules held limit call Already h all = All-nil P
-found_live P rules held limit call (Again n) h all = All-nil P
-found_live P rules held limit call TooMany h all = All-nil P
-found_live P rules held limit call NoMemory h all = All-nil P
-found_live P rules held limit call Removed h all = All-nil P
-found_live P rules held limit call (Left n) h all = All-nil P
-found_live P rules held limit call Absent h all = All-nil P
-found_live P rules held limit call Empty h all = All-nil P
-found_live P rules held limit call (Lies w) h all = All-nil P
-found_live P rules held limit call NoTangent h all = All-nil P
-found_live P rules held limit call (VertexList v) h all = All-nil P
-found_live P rules held limit call (DoubledArea n) h all = All-nil P
-found_live P rules held limit call (PointCount n) h all = All-nil P
+found_live P rules held limit call reply h all = All-nil P
 
 -- what is live after the first j calls, or before a wrong one of them, is named by the first n
 scene_called : (journal : JournalValue) (size j n : ℕ) (scene : SceneValue)

@@ -3,8 +3,7 @@ use Rattle.std.specs.Prelude.{◌≡◌, ◌≤◌, ◌⊎◌, ℕ, suc, List, [
 use Rattle.std.specs.List.{All}
 use Rattle.lattice.specs.Plane.{Pair}
 use Rattle.hull_set.specs.declared.call.Call.{Call}
-use Rattle.hull_set.specs.declared.call.Call.TheVariants.{Add, Remove, Extreme, Place, Tangents, Vertices, Area}
-use Rattle.hull_set.specs.declared.call.Call.TheVariants.{Count}
+use Rattle.hull_set.specs.declared.call.Call.TheVariants.{Add, Remove, Place, Tangents}
 use Rattle.hull_book.specs.declared.line.Line.{Line}
 use Rattle.hull_book.specs.Journals.{JournalValue}
 use Rattle.hull_draw.specs.declared.drawing.DrawOptions.{DrawOptions}
@@ -52,10 +51,7 @@ call_point (Add p) = Some p
 call_point (Remove p) = Some p
 call_point (Place p) = Some p
 call_point (Tangents p) = Some p
-call_point (Extreme d) = None
-call_point Vertices = None
-call_point Area = None
-call_point Count = None
+call_point _ = None
 
 -- its mark
 abbrev pub point_marks : Option Pair → List Mark

@@ -20,7 +20,7 @@ pub(crate) fn call_point(call: &Call) -> Option<Point>
         Call::Add(point) | Call::Remove(point) | Call::Place(point) | Call::Tangents(point) => {
             Some(point)
         }
-        Call::Extreme(_) | Call::Vertices | Call::Area | Call::Count => None,
+        _ => None,
     }
 }
 

@@ -12,6 +12,7 @@ use Rattle.hull_reply.specs.declared.request.Request.TheVariants.{Call, Multipli
 
 -- the number of a kind in the headers
 abbrev pub kind_number : Kind → ℕ
+-- written by tools/table.py: kinds
 kind_number kind.Add = 1
 kind_number kind.Remove = 2
 kind_number kind.Place = 3
@@ -22,6 +23,8 @@ kind_number kind.Area = 7
 kind_number kind.Count = 8
 kind_number kind.Multiplicity = 9
 
+-- end of what tools/table.py writes
+
 -- the request at the point of the two numbers, or why there is none
 abbrev pub IsPointRequest : (Pair → Request) → ℤ → ℤ → Result Request Code → Type 0
 IsPointRequest make x y r =
@@ -29,23 +32,26 @@ IsPointRequest make x y r =
     (λ fault. ¬ AreCoordinates x y × (fault ≡ OutOfRange))
 
 -- the question along the direction of the two numbers, or why there is none
-abbrev pub IsDirectionRequest : ℤ → ℤ → Result Request Code → Type 0
-IsDirectionRequest x y r = MatchResult r
-    (λ q. AreCoordinates x y × ¬ AreZero x y × (q ≡ Call (call.Extreme (record { x = x; y = y }))))
+abbrev pub IsDirectionRequest : (Pair → Request) → ℤ → ℤ → Result Request Code → Type 0
+IsDirectionRequest make x y r =
+    MatchResult r (λ q. AreCoordinates x y × ¬ AreZero x y × (q ≡ make (record { x = x; y = y })))
     (λ fault. (¬ AreCoordinates x y × (fault ≡ OutOfRange)) ⊎ (AreZero x y × (fault ≡ ZeroDirection)))
 
 -- the request of a kind, or why there is none; where the kind asks for no point and no direction, the two numbers are
 -- not read
 abbrev pub IsRequestAs : Kind → ℤ → ℤ → Result Request Code → Type 0
+-- written by tools/table.py: a case for each kind
 IsRequestAs kind.Add x y r = IsPointRequest (λ p. Call (call.Add p)) x y r
 IsRequestAs kind.Remove x y r = IsPointRequest (λ p. Call (call.Remove p)) x y r
 IsRequestAs kind.Place x y r = IsPointRequest (λ p. Call (call.Place p)) x y r
 IsRequestAs kind.Tangents x y r = IsPointRequest (λ p. Call (call.Tangents p)) x y r
-IsRequestAs kind.Extreme x y r = IsDirectionRequest x y r
+IsRequestAs kind.Extreme x y r = IsDirectionRequest (λ d. Call (call.Extreme d)) x y r
 IsRequestAs kind.Vertices x y r = r ≡ Ok (Call call.Vertices)
 IsRequestAs kind.Area x y r = r ≡ Ok (Call call.Area)
 IsRequestAs kind.Count x y r = r ≡ Ok (Call call.Count)
 IsRequestAs kind.Multiplicity x y r = IsPointRequest Multiplicity x y r
+
+-- end of what tools/table.py writes
 
 -- the request of the kind with this number, or why there is none
 abbrev pub IsRequestOf : ℕ → ℤ → ℤ → Result Request Code → Type 0

@@ -10,6 +10,7 @@ use Rattle.hull_reply.specs.declared.reply.HullReply.{HullReply}
 
 -- the number of a code in the header
 abbrev pub code_number : Code → ℕ
+-- written by tools/table.py: codes
 code_number code.OutOfRange = 1
 code_number code.ZeroDirection = 2
 code_number code.Added = 3
@@ -32,6 +33,15 @@ code_number code.TooSmall = 19
 code_number code.Cleared = 20
 code_number code.OutOfOrder = 21
 code_number code.UnknownKind = 22
+code_number code.Meeting = 23
+code_number code.Apart = 24
+code_number code.Covered = 25
+code_number code.Corner = 26
+code_number code.Edge = 27
+code_number code.Box = 28
+code_number code.Within = 29
+code_number code.Crossing = 30
+code_number code.Points = 31
 code_number code.Open = 32
 code_number code.OutOfLimits = 33
 code_number code.WasOpened = 34
@@ -65,6 +75,8 @@ code_number code.Admitted = 67
 code_number code.Viewed = 68
 code_number code.Old = 69
 
+-- end of what tools/table.py writes
+
 -- a code, and nothing beside it
 abbrev pub IsBare : Code → HullReply → Type 0
 IsBare c r = r ≡ record
@@ -80,15 +92,15 @@ abbrev pub AreNumbers : Code → ℕ → ℕ → HullReply → Type 0
 AreNumbers c n m r = r ≡ record
     { code = code_number c; x = pos 0; y = pos 0; other_x = pos 0; other_y = pos 0; number = n; high = m }
 
--- a point
-abbrev pub IsPoint : Pair → HullReply → Type 0
-IsPoint p r = r ≡ record
-    { code = code_number code.Point; x = p.x; y = p.y; other_x = pos 0; other_y = pos 0; number = 0; high = 0 }
+-- a code with a point
+abbrev pub IsPoint : Code → Pair → HullReply → Type 0
+IsPoint c p r = r ≡ record
+    { code = code_number c; x = p.x; y = p.y; other_x = pos 0; other_y = pos 0; number = 0; high = 0 }
 
--- two tangent points
-abbrev pub AreTangents : Pair → Pair → HullReply → Type 0
-AreTangents p q r = r
-    ≡ record { code = code_number code.Tangents; x = p.x; y = p.y; other_x = q.x; other_y = q.y; number = 0; high = 0 }
+-- a code with two points, or with a point and a direction
+abbrev pub ArePoints : Code → Pair → Pair → HullReply → Type 0
+ArePoints c p q r = r
+    ≡ record { code = code_number c; x = p.x; y = p.y; other_x = q.x; other_y = q.y; number = 0; high = 0 }
 
 -- a number of 128 bits in two words, and nothing beside it
 abbrev pub IsWide : ℕ → HullReply → Type 0
@@ -107,6 +119,7 @@ IsWide n r =
 
 -- the numbers tell the reply of a set
 abbrev pub Tells : HullReply → Reply → Type 0
+-- written by tools/table.py: a case for each reply
 Tells r reply.Added = IsBare code.Added r
 Tells r (reply.Again n) = IsNumber code.Again n r
 Tells r reply.TooMany = IsBare code.TooMany r
@@ -114,14 +127,15 @@ Tells r reply.NoMemory = IsBare code.NoMemory r
 Tells r reply.Removed = IsBare code.Removed r
 Tells r (reply.Left n) = IsNumber code.Left n r
 Tells r reply.Absent = IsBare code.Absent r
-Tells r (reply.Farthest p) = IsPoint p r
+Tells r (reply.Farthest p) = IsPoint code.Point p r
 Tells r reply.Empty = IsBare code.Empty r
 Tells r (reply.Lies place.Inside) = IsBare code.Inside r
 Tells r (reply.Lies place.On) = IsBare code.On r
 Tells r (reply.Lies place.Outside) = IsBare code.Outside r
-Tells r (reply.TangentPoints p q) = AreTangents p q r
+Tells r (reply.TangentPoints p q) = ArePoints code.Tangents p q r
 Tells r reply.NoTangent = IsBare code.NoTangent r
 Tells r (reply.VertexList ps) = IsNumber code.Corners (length ps) r
 Tells r (reply.DoubledArea n) = IsWide n r
 Tells r (reply.PointCount n) = IsNumber code.Number n r
+-- end of what tools/table.py writes
 Tells r _ = ⊥

@@ -4,24 +4,26 @@ ghost use Rattle.hull_reply.specs.Requests.{kind_number};
 /// What a call of a library for C asks for. The headers name each by its number, which is the discriminant here.
 #[derive(Clone, Copy, PartialEq, Eq, Debug)]
 pub enum Kind {
-    /// Holds a point once more.
+    // written by tools/table.py: kinds
+    /// Holds the point once more.
     Add = 1,
-    /// Holds a point once less.
+    /// Holds the point once less.
     Remove = 2,
-    /// Where a point lies.
+    /// Where the point lies.
     Place = 3,
-    /// The tangent points seen from a point.
+    /// The tangent points seen from the point.
     Tangents = 4,
-    /// The first of the farthest points in a direction.
+    /// The first of the farthest points in the direction.
     Extreme = 5,
     /// How many corners there are.
     Vertices = 6,
     /// The doubled area.
     Area = 7,
-    /// How many points there are.
+    /// How many different points there are.
     Count = 8,
-    /// How often a point is held.
+    /// How often the point is held, 0 where it is not there.
     Multiplicity = 9,
+    // end of what tools/table.py writes
 }
 
 impl Kind {
@@ -30,6 +32,7 @@ impl Kind {
         ensures { MatchOption result ((kind : Kind) → kind_number kind ≢ number) (λ kind. kind_number kind ≡ number) }
     {
         match number {
+            // written by tools/table.py: numbers
             1 => Some(Kind::Add),
             2 => Some(Kind::Remove),
             3 => Some(Kind::Place),
@@ -39,6 +42,7 @@ impl Kind {
             7 => Some(Kind::Area),
             8 => Some(Kind::Count),
             9 => Some(Kind::Multiplicity),
+            // end of what tools/table.py writes
             _ => None,
         }
     }

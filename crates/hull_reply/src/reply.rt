@@ -1,7 +1,7 @@
 //! What a call tells a caller in C: the number of a code, and numbers beside it.
 ghost use Rattle.std.specs.Prelude.{◌≢◌, ◌≡◌};
 ghost use Rattle.lattice.specs.Plane.{Pair};
-ghost use Rattle.hull_reply.specs.Told.{AreNumbers, AreTangents, IsBare, IsNumber, IsPoint, IsWide, Tells};
+ghost use Rattle.hull_reply.specs.Told.{AreNumbers, ArePoints, IsBare, IsNumber, IsPoint, IsWide, Tells};
 
 use crate::code::Code;
 use hull_set::{Place, Reply};
@@ -61,25 +61,23 @@ impl HullReply {
         reply
     }
 
-    /// A point.
-    pub fn point(point: Point) -> HullReply
-        ensures { IsPoint point result }
+    /// A code with a point.
+    pub fn with_point(code: Code, point: Point) -> HullReply
+        ensures { IsPoint code point result }
     {
-        let mut reply = HullReply::bare(Code::Point);
+        let mut reply = HullReply::bare(code);
         reply.x = point.x();
         reply.y = point.y();
         reply
     }
 
-    /// Two tangent points.
-    fn tangents(left: Point, right: Point) -> HullReply
-        ensures { AreTangents left right result }
+    /// A code with two points.
+    pub fn with_points(code: Code, point: Point, other: Point) -> HullReply
+        ensures { ArePoints code point other result }
     {
-        let mut reply = HullReply::bare(Code::Tangents);
-        reply.x = left.x();
-        reply.y = left.y();
-        reply.other_x = right.x();
-        reply.other_y = right.y();
+        let mut reply = HullReply::with_point(code, point);
+        reply.other_x = other.x();
+        reply.other_y = other.y();
         reply
     }
 
@@ -110,6 +108,7 @@ pub fn told(reply: Reply) -> HullReply
     ensures { Tells result reply }
 {
     match reply {
+        // written by tools/table.py: a case for each reply
         Reply::Added => HullReply::bare(Code::Added),
         Reply::Already => unreachable!(),
         Reply::Again(times) => HullReply::numbered(Code::Again, u64::from(times)),
@@ -118,13 +117,14 @@ pub fn told(reply: Reply) -> HullReply
         Reply::Removed => HullReply::bare(Code::Removed),
         Reply::Left(times) => HullReply::numbered(Code::Left, u64::from(times)),
         Reply::Absent => HullReply::bare(Code::Absent),
-        Reply::Farthest(point) => HullReply::point(point),
+        Reply::Farthest(point) => HullReply::with_point(Code::Point, point),
         Reply::Empty => HullReply::bare(Code::Empty),
         Reply::Lies(place) => HullReply::bare(code_of(place)),
-        Reply::TangentPoints(left, right) => HullReply::tangents(left, right),
+        Reply::TangentPoints(left, right) => HullReply::with_points(Code::Tangents, left, right),
         Reply::NoTangent => HullReply::bare(Code::NoTangent),
         Reply::VertexList(list) => HullReply::numbered(Code::Corners, list.as_slice().len() as u64),
         Reply::DoubledArea(area) => HullReply::wide(area),
         Reply::PointCount(count) => HullReply::numbered(Code::Number, u64::from(count)),
+        // end of what tools/table.py writes
     }
 }

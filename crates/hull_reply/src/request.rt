@@ -1,5 +1,5 @@
 //! Requests by numbers: a kind, and a point or a direction.
-ghost use Rattle.hull_reply.specs.Requests.{IsDirectionRequest, IsRequestAs, IsRequestOf};
+ghost use Rattle.hull_reply.specs.Requests.{IsRequestAs, IsRequestOf};
 
 use crate::code::Code;
 use crate::coordinates::{direction_of, point_of};
@@ -16,27 +16,22 @@ pub enum Request {
     Multiplicity(Point),
 }
 
-/// The question for the farthest point in the direction (x, y).
-fn along(x: i64, y: i64) -> Result<Request, Code>
-    ensures { IsDirectionRequest x y result }
-{
-    Ok(Request::Call(Call::Extreme(direction_of(x, y)?)))
-}
-
 /// The request of a kind.
 fn request_as(kind: Kind, x: i64, y: i64) -> Result<Request, Code>
     ensures { IsRequestAs kind x y result }
 {
     match kind {
+        // written by tools/table.py: a case for each kind
         Kind::Add => Ok(Request::Call(Call::Add(point_of(x, y)?))),
         Kind::Remove => Ok(Request::Call(Call::Remove(point_of(x, y)?))),
         Kind::Place => Ok(Request::Call(Call::Place(point_of(x, y)?))),
         Kind::Tangents => Ok(Request::Call(Call::Tangents(point_of(x, y)?))),
-        Kind::Extreme => along(x, y),
+        Kind::Extreme => Ok(Request::Call(Call::Extreme(direction_of(x, y)?))),
         Kind::Vertices => Ok(Request::Call(Call::Vertices)),
         Kind::Area => Ok(Request::Call(Call::Area)),
         Kind::Count => Ok(Request::Call(Call::Count)),
         Kind::Multiplicity => Ok(Request::Multiplicity(point_of(x, y)?)),
+        // end of what tools/table.py writes
     }
 }
 

@@ -1,7 +1,7 @@
 -- The calls that texts say.
 use Rattle.std.proofs.Common.{◌≡◌, List, [], ◌∷◌, ◌++◌, Some, Ok, true, refl, subst}
 use Rattle.hull_set.specs.declared.call.Call.{Call}
-use Rattle.hull_set.specs.declared.call.Call.TheVariants.{Add, Remove, Extreme, Place, Tangents}
+use Rattle.hull_set.specs.declared.call.Call.TheVariants as call
 use Rattle.hull_text.specs.declared.version.Version.{Version}
 use Rattle.hull_text.specs.declared.words.CallWord.{CallWord}
 use Rattle.hull_text.specs.declared.words.CallWord.TheVariants as word
@@ -22,11 +22,13 @@ Takes v fs c = (fs ≡ call_fields c.0 ++ c.1) × IsCall v c.0
 after_takes : (v : Version) (w : CallWord) (fs : List Field) (c : Call × List Field) → call_after v (Some w) fs ≡ Ok c
     → Takes v (call_word_text w ∷ fs) c
 unfolding call_after
-after_takes v word.Add fs c e = behind (points v) (IsCall v) call_fields _ Add (λ p h. (refl, h)) fs c e
-after_takes v word.Remove fs c e = behind (points v) (IsCall v) call_fields _ Remove (λ p h. (refl, h)) fs c e
-after_takes v word.Extreme fs c e = behind (directions v) (IsCall v) call_fields _ Extreme (λ d h. (refl, h)) fs c e
-after_takes v word.Place fs c e = behind (points v) (IsCall v) call_fields _ Place (λ p h. (refl, h)) fs c e
-after_takes v word.Tangents fs c e = behind (points v) (IsCall v) call_fields _ Tangents (λ p h. (refl, h)) fs c e
+-- written by tools/table.py: a case for each call word
+after_takes v word.Add fs c e = behind (points v) (IsCall v) call_fields _ call.Add (λ p h. (refl, h)) fs c e
+after_takes v word.Remove fs c e = behind (points v) (IsCall v) call_fields _ call.Remove (λ p h. (refl, h)) fs c e
+after_takes v word.Extreme fs c e = behind (directions v) (IsCall v) call_fields _ call.Extreme (λ d h. (refl, h)) fs c e
+after_takes v word.Place fs c e = behind (points v) (IsCall v) call_fields _ call.Place (λ p h. (refl, h)) fs c e
+after_takes v word.Tangents fs c e = behind (points v) (IsCall v) call_fields _ call.Tangents (λ p h. (refl, h)) fs c e
+-- end of what tools/table.py writes
 after_takes v w fs c e = subst (Takes v (_ ∷ fs)) (ok_is _ c e) (refl, tt)
 
 -- a call that is read is spelled there
@@ -39,20 +41,24 @@ call_takes v (f ∷ fs) c e =
 -- a call that is spelled is read
 call_again : (v : Version) (c : Call) (rest : List Field) → IsCall v c → call_at v (call_fields c ++ rest) ≡ Ok (c, rest)
 unfolding call_at call_after call_word_of
-call_again v (Add p) rest fits = rw ((points v).again p rest fits) refl
-call_again v (Remove p) rest fits = rw ((points v).again p rest fits) refl
-call_again v (Extreme d) rest fits = rw ((directions v).again d rest fits) refl
-call_again v (Place p) rest fits = rw ((points v).again p rest fits) refl
-call_again v (Tangents p) rest fits = rw ((points v).again p rest fits) refl
+-- written by tools/table.py: a case for each call, read again
+call_again v (call.Add p) rest fits = rw ((points v).again p rest fits) refl
+call_again v (call.Remove p) rest fits = rw ((points v).again p rest fits) refl
+call_again v (call.Extreme d) rest fits = rw ((directions v).again d rest fits) refl
+call_again v (call.Place p) rest fits = rw ((points v).again p rest fits) refl
+call_again v (call.Tangents p) rest fits = rw ((points v).again p rest fits) refl
+-- end of what tools/table.py writes
 call_again v c rest fits = refl
 
 -- what spells a call are fields
 call_are_fields : (v : Version) (c : Call) → IsCall v c → are_fields (call_fields c) ≡ true
-call_are_fields v (Add p) fits = (points v).fields p fits
-call_are_fields v (Remove p) fits = (points v).fields p fits
-call_are_fields v (Extreme d) fits = (directions v).fields d fits
-call_are_fields v (Place p) fits = (points v).fields p fits
-call_are_fields v (Tangents p) fits = (points v).fields p fits
+-- written by tools/table.py: a case for each call, of fields
+call_are_fields v (call.Add p) fits = (points v).fields p fits
+call_are_fields v (call.Remove p) fits = (points v).fields p fits
+call_are_fields v (call.Extreme d) fits = (directions v).fields d fits
+call_are_fields v (call.Place p) fits = (points v).fields p fits
+call_are_fields v (call.Tangents p) fits = (points v).fields p fits
+-- end of what tools/table.py writes
 call_are_fields v c fits = refl
 
 -- The calls of a version are a format.

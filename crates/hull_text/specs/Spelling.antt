@@ -1,21 +1,21 @@
 -- How values are spelled as fields.
-use Rattle.std.specs.Prelude.{◌≡◌, ◌<◌, ◌≤◌, ◌^◌, ℕ, ℤ, pos, negsuc, List, [], ◌∷◌, ◌++◌, length, codes, decimal}
+use Rattle.std.specs.Prelude.{◌≡◌, ◌<◌, ◌≤◌, ◌^◌, ℕ, ℤ, pos, negsuc, List, [], ◌∷◌, ◌++◌, length, decimal}
 use Rattle.std.specs.List.{join_with_byte}
 use Rattle.std.specs.Fmt.{signed_decimal}
 use Rattle.lattice.specs.Plane.{Pair}
 use Rattle.hull_set.specs.declared.TheConstants.{POINT_LIMIT}
 use Rattle.hull_set.specs.declared.call.Call.{Call}
-use Rattle.hull_set.specs.declared.call.Call.TheVariants.{Add, Remove, Extreme, Place, Tangents, Vertices, Area}
-use Rattle.hull_set.specs.declared.call.Call.TheVariants.{Count}
+use Rattle.hull_set.specs.declared.call.Call.TheVariants as call
 use Rattle.hull_set.specs.declared.reply.Reply.{Reply}
-use Rattle.hull_set.specs.declared.reply.Reply.TheVariants.{Added, Already, Again, TooMany, NoMemory, Removed, Left}
-use Rattle.hull_set.specs.declared.reply.Reply.TheVariants.{Absent, Farthest, Empty, Lies, TangentPoints, NoTangent}
-use Rattle.hull_set.specs.declared.reply.Reply.TheVariants.{VertexList, DoubledArea, PointCount}
+use Rattle.hull_set.specs.declared.reply.Reply.TheVariants as reply
 use Rattle.hull_set.specs.Replies.{IsReplyOf}
 use Rattle.hull_set.specs.declared.set.Place.{Place as Where}
 use Rattle.hull_set.specs.declared.set.Place.TheVariants.{Inside, On, Outside}
 use Rattle.hull_text.specs.declared.version.Version.{Version}
+use Rattle.hull_text.specs.declared.words.CallWord.TheVariants as word
+use Rattle.hull_text.specs.declared.words.ReplyWord.TheVariants as told
 use Rattle.hull_text.specs.Version.{coordinate_limit, version_rules}
+use Rattle.hull_text.specs.Words.{call_word_text, reply_word_text}
 
 -- at most the limit in size
 abbrev pub IsSized : ℕ → ℤ → Type 0
@@ -36,25 +36,31 @@ IsSomeDirection v d = IsPair v d × (d.x ≡ pos 0 → d.y ≡ pos 0 → ⊥)
 
 -- a call that the texts of a version can say
 abbrev pub IsCall : Version → Call → Type 0
-IsCall v (Add p) = IsPair v p
-IsCall v (Remove p) = IsPair v p
-IsCall v (Extreme d) = IsSomeDirection v d
-IsCall v (Place q) = IsPair v q
-IsCall v (Tangents q) = IsPair v q
-IsCall v Vertices = Unit {0}
-IsCall v Area = Unit {0}
-IsCall v Count = Unit {0}
+-- written by tools/table.py: a case for each call, said
+IsCall v (call.Add p) = IsPair v p
+IsCall v (call.Remove p) = IsPair v p
+IsCall v (call.Extreme d) = IsSomeDirection v d
+IsCall v (call.Place p) = IsPair v p
+IsCall v (call.Tangents p) = IsPair v p
+IsCall v call.Vertices = Unit {0}
+IsCall v call.Area = Unit {0}
+IsCall v call.Count = Unit {0}
+
+-- end of what tools/table.py writes
 
 -- a call is spelled by its word, and by what belongs to it
 abbrev pub call_fields : Call → List (List ℕ)
-call_fields (Add p) = codes "add" ∷ pair_fields p
-call_fields (Remove p) = codes "remove" ∷ pair_fields p
-call_fields (Extreme d) = codes "extreme" ∷ pair_fields d
-call_fields (Place q) = codes "place" ∷ pair_fields q
-call_fields (Tangents q) = codes "tangents" ∷ pair_fields q
-call_fields Vertices = codes "vertices" ∷ []
-call_fields Area = codes "area" ∷ []
-call_fields Count = codes "count" ∷ []
+-- written by tools/table.py: a case for each call, spelled
+call_fields (call.Add p) = call_word_text word.Add ∷ pair_fields p
+call_fields (call.Remove p) = call_word_text word.Remove ∷ pair_fields p
+call_fields (call.Extreme d) = call_word_text word.Extreme ∷ pair_fields d
+call_fields (call.Place p) = call_word_text word.Place ∷ pair_fields p
+call_fields (call.Tangents p) = call_word_text word.Tangents ∷ pair_fields p
+call_fields call.Vertices = call_word_text word.Vertices ∷ []
+call_fields call.Area = call_word_text word.Area ∷ []
+call_fields call.Count = call_word_text word.Count ∷ []
+
+-- end of what tools/table.py writes
 
 -- a point in a reply is spelled as in a call
 abbrev pub points_fields : List Pair → List (List ℕ)
@@ -68,41 +74,46 @@ ArePairs v (p ∷ ps) = IsPair v p × ArePairs v ps
 
 -- the points of a reply are ones of the version, and its numbers are within the limits of their places
 abbrev pub IsReplyInRange : Version → Reply → Type 0
-IsReplyInRange v (Farthest p) = IsPair v p
-IsReplyInRange v (TangentPoints l r) = IsPair v l × IsPair v r
-IsReplyInRange v (VertexList ps) = (length ps ≤ POINT_LIMIT) × ArePairs v ps
-IsReplyInRange v (DoubledArea n) = n < 2 ^ 128
-IsReplyInRange v (PointCount n) = n ≤ 4294967295
+-- written by tools/table.py: a case for each reply, said
+IsReplyInRange v (reply.Farthest p) = IsPair v p
+IsReplyInRange v (reply.TangentPoints l r) = IsPair v l × IsPair v r
+IsReplyInRange v (reply.VertexList ps) = (length ps ≤ POINT_LIMIT) × ArePairs v ps
+IsReplyInRange v (reply.DoubledArea n) = n < 2 ^ 128
+IsReplyInRange v (reply.PointCount n) = n ≤ 4294967295
+-- end of what tools/table.py writes
 IsReplyInRange v _ = Unit {0}
 
 -- a reply that the journals of a version can say: one of its rules, with such points and numbers
 abbrev pub IsReply : Version → Reply → Type 0
-IsReply v reply = IsReplyOf (version_rules v) reply × IsReplyInRange v reply
+IsReply v r = IsReplyOf (version_rules v) r × IsReplyInRange v r
 
 -- how it is spelled where a point lies
 abbrev pub place_fields : Where → List (List ℕ)
-place_fields Inside = codes "inside" ∷ []
-place_fields On = codes "on" ∷ []
-place_fields Outside = codes "outside" ∷ []
+place_fields Inside = reply_word_text told.Inside ∷ []
+place_fields On = reply_word_text told.On ∷ []
+place_fields Outside = reply_word_text told.Outside ∷ []
 
 -- a reply is spelled by its word, and by what belongs to it
 abbrev pub reply_fields : Reply → List (List ℕ)
-reply_fields Added = codes "added" ∷ []
-reply_fields Already = codes "already" ∷ []
-reply_fields (Again n) = codes "again" ∷ decimal n ∷ []
-reply_fields TooMany = codes "toomany" ∷ []
-reply_fields NoMemory = codes "nomemory" ∷ []
-reply_fields Removed = codes "removed" ∷ []
-reply_fields (Left n) = codes "left" ∷ decimal n ∷ []
-reply_fields Absent = codes "absent" ∷ []
-reply_fields (Farthest p) = codes "point" ∷ pair_fields p
-reply_fields Empty = codes "empty" ∷ []
-reply_fields (Lies place) = place_fields place
-reply_fields (TangentPoints l r) = codes "tangents" ∷ (pair_fields l ++ pair_fields r)
-reply_fields NoTangent = codes "notangent" ∷ []
-reply_fields (VertexList ps) = codes "list" ∷ decimal (length ps) ∷ points_fields ps
-reply_fields (DoubledArea n) = codes "area" ∷ decimal n ∷ []
-reply_fields (PointCount n) = codes "count" ∷ decimal n ∷ []
+-- written by tools/table.py: a case for each reply, spelled
+reply_fields reply.Added = reply_word_text told.Added ∷ []
+reply_fields reply.Already = reply_word_text told.Already ∷ []
+reply_fields (reply.Again n) = reply_word_text told.Again ∷ decimal n ∷ []
+reply_fields reply.TooMany = reply_word_text told.TooMany ∷ []
+reply_fields reply.NoMemory = reply_word_text told.NoMemory ∷ []
+reply_fields reply.Removed = reply_word_text told.Removed ∷ []
+reply_fields (reply.Left n) = reply_word_text told.Left ∷ decimal n ∷ []
+reply_fields reply.Absent = reply_word_text told.Absent ∷ []
+reply_fields (reply.Farthest p) = reply_word_text told.Point ∷ pair_fields p
+reply_fields reply.Empty = reply_word_text told.Empty ∷ []
+reply_fields (reply.Lies place) = place_fields place
+reply_fields (reply.TangentPoints l r) = reply_word_text told.Tangents ∷ (pair_fields l ++ pair_fields r)
+reply_fields reply.NoTangent = reply_word_text told.NoTangent ∷ []
+reply_fields (reply.VertexList ps) = reply_word_text told.List ∷ decimal (length ps) ∷ points_fields ps
+reply_fields (reply.DoubledArea n) = reply_word_text told.Area ∷ decimal n ∷ []
+reply_fields (reply.PointCount n) = reply_word_text told.Count ∷ decimal n ∷ []
+
+-- end of what tools/table.py writes
 
 -- a line of a text: its fields, with one space between each two, and a newline
 abbrev pub line_text : List (List ℕ) → List ℕ

@@ -11,6 +11,8 @@ abbrev pub word_in : {W : Type 0} → (W → List ℕ) → List W → List ℕ �
 word_in text [] field = None
 word_in text (w ∷ ws) field = if bytes_eq field (text w) then Some w else word_in text ws field
 
+-- written by tools/table.py: words
+
 -- how a call word is spelled
 abbrev pub call_word_text : CallWord → List ℕ
 call_word_text call.Add = codes "add"
@@ -27,10 +29,6 @@ abbrev pub call_words : List CallWord
 call_words = call.Add ∷ call.Remove ∷ call.Extreme ∷ call.Place ∷ call.Tangents ∷ call.Vertices ∷ call.Area ∷ call.Count
     ∷ []
 
--- the call word that a field spells
-unfoldable pub call_word_of : List ℕ → Option CallWord
-call_word_of field = word_in call_word_text call_words field
-
 -- how a reply word is spelled
 abbrev pub reply_word_text : ReplyWord → List ℕ
 reply_word_text reply.Added = codes "added"
@@ -41,6 +39,7 @@ reply_word_text reply.NoMemory = codes "nomemory"
 reply_word_text reply.Removed = codes "removed"
 reply_word_text reply.Left = codes "left"
 reply_word_text reply.Absent = codes "absent"
+reply_word_text reply.Count = codes "count"
 reply_word_text reply.Point = codes "point"
 reply_word_text reply.Empty = codes "empty"
 reply_word_text reply.Inside = codes "inside"
@@ -50,7 +49,6 @@ reply_word_text reply.Tangents = codes "tangents"
 reply_word_text reply.NoTangent = codes "notangent"
 reply_word_text reply.List = codes "list"
 reply_word_text reply.Area = codes "area"
-reply_word_text reply.Count = codes "count"
 
 -- the reply words that answer a question
 abbrev pub answer_words : List ReplyWord
@@ -61,6 +59,12 @@ answer_words = reply.Count ∷ reply.Point ∷ reply.Empty ∷ reply.Inside ∷ 
 abbrev pub reply_words : List ReplyWord
 reply_words = reply.Added ∷ reply.Already ∷ reply.Again ∷ reply.TooMany ∷ reply.NoMemory ∷ reply.Removed ∷ reply.Left
     ∷ reply.Absent ∷ answer_words
+
+-- end of what tools/table.py writes
+
+-- the call word that a field spells
+unfoldable pub call_word_of : List ℕ → Option CallWord
+call_word_of field = word_in call_word_text call_words field
 
 -- the reply word that a field spells
 unfoldable pub reply_word_of : List ℕ → Option ReplyWord

@@ -4,6 +4,7 @@ ghost use Rattle.hull_text.specs.Words.{answer_words, call_word_of, call_word_te
 /// The word of a call, the same in scripts and journals of each version.
 #[derive(Clone, Copy, Debug, PartialEq, Eq)]
 pub(crate) enum CallWord {
+    // written by tools/table.py: each CallWord
     Add,
     Remove,
     Extreme,
@@ -12,11 +13,13 @@ pub(crate) enum CallWord {
     Vertices,
     Area,
     Count,
+    // end of what tools/table.py writes
 }
 
 /// The word of a reply. Which of them a journal can say, the rules of its version tell.
 #[derive(Clone, Copy, Debug, PartialEq, Eq)]
 pub(crate) enum ReplyWord {
+    // written by tools/table.py: each ReplyWord
     Added,
     Already,
     Again,
@@ -25,6 +28,7 @@ pub(crate) enum ReplyWord {
     Removed,
     Left,
     Absent,
+    Count,
     Point,
     Empty,
     Inside,
@@ -34,7 +38,7 @@ pub(crate) enum ReplyWord {
     NoTangent,
     List,
     Area,
-    Count,
+    // end of what tools/table.py writes
 }
 
 impl CallWord {
@@ -43,6 +47,7 @@ impl CallWord {
         ensures { result.now ≡ call_word_text self }
     {
         match self {
+            // written by tools/table.py: text of CallWord
             CallWord::Add => b"add",
             CallWord::Remove => b"remove",
             CallWord::Extreme => b"extreme",
@@ -51,6 +56,7 @@ impl CallWord {
             CallWord::Vertices => b"vertices",
             CallWord::Area => b"area",
             CallWord::Count => b"count",
+            // end of what tools/table.py writes
         }
     }
 
@@ -59,25 +65,27 @@ impl CallWord {
     pub fn of(field: &[u8]) -> Option<CallWord>
         ensures { result ≡ call_word_of field.now }
     {
-        if field == b"add".as_slice() {
+        // written by tools/table.py: call of a field
+        if field == CallWord::Add.text() {
             Some(CallWord::Add)
-        } else if field == b"remove".as_slice() {
+        } else if field == CallWord::Remove.text() {
             Some(CallWord::Remove)
-        } else if field == b"extreme".as_slice() {
+        } else if field == CallWord::Extreme.text() {
             Some(CallWord::Extreme)
-        } else if field == b"place".as_slice() {
+        } else if field == CallWord::Place.text() {
             Some(CallWord::Place)
-        } else if field == b"tangents".as_slice() {
+        } else if field == CallWord::Tangents.text() {
             Some(CallWord::Tangents)
-        } else if field == b"vertices".as_slice() {
+        } else if field == CallWord::Vertices.text() {
             Some(CallWord::Vertices)
-        } else if field == b"area".as_slice() {
+        } else if field == CallWord::Area.text() {
             Some(CallWord::Area)
-        } else if field == b"count".as_slice() {
+        } else if field == CallWord::Count.text() {
             Some(CallWord::Count)
         } else {
             None
         }
+        // end of what tools/table.py writes
     }
 }
 
@@ -85,29 +93,31 @@ impl CallWord {
 fn answer_word(field: &[u8]) -> Option<ReplyWord>
     ensures { result ≡ word_in reply_word_text answer_words field.now }
 {
-    if field == b"count".as_slice() {
+    // written by tools/table.py: answer of a field
+    if field == ReplyWord::Count.text() {
         Some(ReplyWord::Count)
-    } else if field == b"point".as_slice() {
+    } else if field == ReplyWord::Point.text() {
         Some(ReplyWord::Point)
-    } else if field == b"empty".as_slice() {
+    } else if field == ReplyWord::Empty.text() {
         Some(ReplyWord::Empty)
-    } else if field == b"inside".as_slice() {
+    } else if field == ReplyWord::Inside.text() {
         Some(ReplyWord::Inside)
-    } else if field == b"on".as_slice() {
+    } else if field == ReplyWord::On.text() {
         Some(ReplyWord::On)
-    } else if field == b"outside".as_slice() {
+    } else if field == ReplyWord::Outside.text() {
         Some(ReplyWord::Outside)
-    } else if field == b"tangents".as_slice() {
+    } else if field == ReplyWord::Tangents.text() {
         Some(ReplyWord::Tangents)
-    } else if field == b"notangent".as_slice() {
+    } else if field == ReplyWord::NoTangent.text() {
         Some(ReplyWord::NoTangent)
-    } else if field == b"list".as_slice() {
+    } else if field == ReplyWord::List.text() {
         Some(ReplyWord::List)
-    } else if field == b"area".as_slice() {
+    } else if field == ReplyWord::Area.text() {
         Some(ReplyWord::Area)
     } else {
         None
     }
+    // end of what tools/table.py writes
 }
 
 impl ReplyWord {
@@ -116,6 +126,7 @@ impl ReplyWord {
         ensures { result.now ≡ reply_word_text self }
     {
         match self {
+            // written by tools/table.py: text of ReplyWord
             ReplyWord::Added => b"added",
             ReplyWord::Already => b"already",
             ReplyWord::Again => b"again",
@@ -124,6 +135,7 @@ impl ReplyWord {
             ReplyWord::Removed => b"removed",
             ReplyWord::Left => b"left",
             ReplyWord::Absent => b"absent",
+            ReplyWord::Count => b"count",
             ReplyWord::Point => b"point",
             ReplyWord::Empty => b"empty",
             ReplyWord::Inside => b"inside",
@@ -133,7 +145,7 @@ impl ReplyWord {
             ReplyWord::NoTangent => b"notangent",
             ReplyWord::List => b"list",
             ReplyWord::Area => b"area",
-            ReplyWord::Count => b"count",
+            // end of what tools/table.py writes
         }
     }
 
@@ -142,24 +154,26 @@ impl ReplyWord {
     pub fn of(field: &[u8]) -> Option<ReplyWord>
         ensures { result ≡ reply_word_of field.now }
     {
-        if field == b"added".as_slice() {
+        // written by tools/table.py: reply of a field
+        if field == ReplyWord::Added.text() {
             Some(ReplyWord::Added)
-        } else if field == b"already".as_slice() {
+        } else if field == ReplyWord::Already.text() {
             Some(ReplyWord::Already)
-        } else if field == b"again".as_slice() {
+        } else if field == ReplyWord::Again.text() {
             Some(ReplyWord::Again)
-        } else if field == b"toomany".as_slice() {
+        } else if field == ReplyWord::TooMany.text() {
             Some(ReplyWord::TooMany)
-        } else if field == b"nomemory".as_slice() {
+        } else if field == ReplyWord::NoMemory.text() {
             Some(ReplyWord::NoMemory)
-        } else if field == b"removed".as_slice() {
+        } else if field == ReplyWord::Removed.text() {
             Some(ReplyWord::Removed)
-        } else if field == b"left".as_slice() {
+        } else if field == ReplyWord::Left.text() {
             Some(ReplyWord::Left)
-        } else if field == b"absent".as_slice() {
+        } else if field == ReplyWord::Absent.text() {
             Some(ReplyWord::Absent)
         } else {
             answer_word(field)
         }
+        // end of what tools/table.py writes
     }
 }

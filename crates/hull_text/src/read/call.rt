@@ -20,6 +20,7 @@ fn call_behind(
     ensures { Gives (λ x. (x.0, fields_left x.1)) result (call_after version (Some word) (fields_left rest.entry)) }
 {
     match word {
+        // written by tools/table.py: a case for each call word
         CallWord::Add => match point_of(version, rest) {
             Ok((point, rest)) => Ok((Call::Add(point), rest)),
             Err(fault) => Err(fault),
@@ -43,6 +44,7 @@ fn call_behind(
         CallWord::Vertices => Ok((Call::Vertices, rest)),
         CallWord::Area => Ok((Call::Area, rest)),
         CallWord::Count => Ok((Call::Count, rest)),
+        // end of what tools/table.py writes
     }
 }
 
