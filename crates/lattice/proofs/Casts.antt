@@ -5,10 +5,8 @@ use lib.IntN.{ℤ, ◌+ℤ◌, ◌-ℤ◌, ◌*ℤ◌}
 use mir.Val.{to_z, of_z}
 use mir.Syntax.{w128, w64}
 use borrow.Author.Differences.{ints}
-use Rattle.lattice.specs.Plane.{Pair, IsWithin, widest, widest_side, nearest, IsCoordinate, orient}
+use Rattle.lattice.specs.Plane.{IsWithin, widest, widest_side, nearest, IsCoordinate}
 use Rattle.lattice.specs.Integers.{within_add, within_sub, within_mul, within_more}
-use Rattle.lattice.specs.Polynomials.{difference-eq, difference_rules}
-use Rattle.lattice.proofs.Vectors.{as_pair}
 
 -- a number of 64 bits that is no larger than a coordinate
 pub cast64 : (z : ℤ) → IsWithin widest z → to_z w64 (of_z w64 z) ≡ z
@@ -73,16 +71,45 @@ cast_wide z h = omega (arith, ints)
 pub pair_small : (u p : ℤ) → IsWithin (2 * widest) u → IsWithin (2 * widest) p → IsWithin (2 ^ 125) (u *ℤ p)
 pair_small u p h k = within_more _ (2 ^ 125) (u *ℤ p) (lit≤ tt) (within_mul (2 * widest) (2 * widest) u p h k)
 
--- a side, by the step back along y
-pub side_by_steps : (a b c : Pair)
-    → (b.x -ℤ a.x) *ℤ (c.y -ℤ a.y) +ℤ (a.y -ℤ b.y) *ℤ (c.x -ℤ a.x) ≡ orient a b c
-unfolding orient
-side_by_steps a b c = rw (as_pair a, as_pair b, as_pair c) (simp difference_rules (difference-eq _ _ _ _ (omega arith)))
+-- (u - v) * (p - q), of coordinates
+pub minor_within : (u v p q : ℤ) → IsWithin widest u → IsWithin widest v → IsWithin widest p → IsWithin widest q
+    → IsWithin (4 * (widest * widest)) ((u -ℤ v) *ℤ (p -ℤ q))
+minor_within u v p q hu hv hp hq =
+    within_mul (widest + widest) (widest + widest) (u -ℤ v) (p -ℤ q) (within_sub widest widest u v hu hv)
+    (within_sub widest widest p q hp hq)
+
+-- that is no larger than the widest product
+pub minor_small : (z : ℤ) → IsWithin (4 * (widest * widest)) z → IsWithin (2 ^ 125) z
+minor_small z h = within_more (4 * (widest * widest)) (2 ^ 125) z (lit≤ tt) h
 
 -- ---- near points
--- a difference of near coordinates
-pub cast_near : (z : ℤ) → IsWithin (2 * nearest) z → to_z w64 (of_z w64 z) ≡ z
-cast_near z h = omega (arith, ints)
+-- u - v of near coordinates
+pub cast_near_difference : (u v : ℤ) → IsWithin nearest u → IsWithin nearest v
+    → to_z w64 (of_z w64 (to_z w64 (of_z w64 u) -ℤ to_z w64 (of_z w64 v))) ≡ u -ℤ v
+cast_near_difference u v hu hv = omega (arith, ints)
+
+-- (u - v) * (p - q), of near coordinates
+pub near_within : (u v p q : ℤ) → IsWithin nearest u → IsWithin nearest v → IsWithin nearest p → IsWithin nearest q
+    → IsWithin (4 * (nearest * nearest)) ((u -ℤ v) *ℤ (p -ℤ q))
+near_within u v p q hu hv hp hq =
+    within_mul (nearest + nearest) (nearest + nearest) (u -ℤ v) (p -ℤ q) (within_sub nearest nearest u v hu hv)
+    (within_sub nearest nearest p q hp hq)
+
+-- a product of differences of near coordinates fits
+pub cast_near_product : (z : ℤ) → IsWithin (4 * (nearest * nearest)) z → to_z w64 (of_z w64 z) ≡ z
+cast_near_product z h = omega (arith, ints)
+
+-- the difference of two such products fits in 64 bits, and cast to 128 it is the same
+pub cast_near_side : (m n : ℤ) → IsWithin (4 * (nearest * nearest)) m → IsWithin (4 * (nearest * nearest)) n
+    → to_z w128 (of_z w128 (to_z w64 (of_z w64 (to_z w64 (of_z w64 m) -ℤ to_z w64 (of_z w64 n))))) ≡ m -ℤ n
+cast_near_side m n h k = omega (arith, ints)
+
+-- and it is a side
+pub near_side_within : (m n : ℤ) → IsWithin (4 * (nearest * nearest)) m → IsWithin (4 * (nearest * nearest)) n
+    → IsWithin widest_side (m -ℤ n)
+near_side_within m n h k =
+    within_more (4 * (nearest * nearest) + 4 * (nearest * nearest)) widest_side (m -ℤ n) (lit≤ tt)
+    (within_sub (4 * (nearest * nearest)) (4 * (nearest * nearest)) m n h k)
 
 -- the sum of two near products fits in 64 bits, and cast to 128 it is the same
 pub cast_near_sum : (m n : ℤ) → IsWithin (4 * (nearest * nearest)) m → IsWithin (4 * (nearest * nearest)) n

@@ -4,7 +4,7 @@ ghost use Rattle.lattice.specs.Plane.{IsBefore, IsWithin, widest_side};
 
 use super::direction::Direction;
 use super::point::Point;
-use super::wide::{difference, sum_of_products};
+use super::wide::{difference, product_of_differences, sum_of_products};
 
 /// On which side of the directed line from `a` to `b` the point `c` lies: positive left of it, zero on it, negative
 /// right of it. The value is the doubled signed area of the triangle (Preparata and Shamos, 1985).
@@ -13,12 +13,8 @@ pub fn orient(a: Point, b: Point, c: Point) -> i128
     ensures value { result ≡ plane.orient a b c }
     ensures size { IsWithin widest_side result }
 {
-    sum_of_products(
-        difference(b.x(), a.x()),
-        difference(c.y(), a.y()),
-        difference(a.y(), b.y()),
-        difference(c.x(), a.x()),
-    )
+    product_of_differences(b.x(), a.x(), c.y(), a.y())
+        - product_of_differences(b.y(), a.y(), c.x(), a.x())
 }
 
 /// How far `p` lies in the direction `d`: the sum of the products of their components.

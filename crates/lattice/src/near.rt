@@ -22,14 +22,16 @@ fn multiplied(a: i64, b: i64) -> i64
     a * b
 }
 
-/// The difference of two coordinates of near points.
-fn near_difference(a: i64, b: i64) -> i64
-    requires first { IsWithin nearest a }
-    requires second { IsWithin nearest b }
-    ensures value { result ≡ a -ℤ b }
-    ensures size { IsWithin (2 * nearest) result }
+/// (u - v) * (p - q), of four coordinates of near points.
+fn product_of_differences(u: i64, v: i64, p: i64, q: i64) -> i64
+    requires first { IsWithin nearest u }
+    requires second { IsWithin nearest v }
+    requires third { IsWithin nearest p }
+    requires fourth { IsWithin nearest q }
+    ensures value { result ≡ (u -ℤ v) *ℤ (p -ℤ q) }
+    ensures size { IsWithin (4 * (nearest * nearest)) result }
 {
-    a - b
+    multiplied(u - v, p - q)
 }
 
 /// u * p + v * q, of numbers whose products fit 64 bits.
@@ -52,10 +54,7 @@ pub fn orient_near(a: Point, b: Point, c: Point) -> i128
     ensures value { result ≡ plane.orient a b c }
     ensures size { IsWithin widest_side result }
 {
-    sum_of_near_products(
-        near_difference(b.x(), a.x()),
-        near_difference(c.y(), a.y()),
-        near_difference(a.y(), b.y()),
-        near_difference(c.x(), a.x()),
-    )
+    let side = product_of_differences(b.x(), a.x(), c.y(), a.y())
+        - product_of_differences(b.y(), a.y(), c.x(), a.x());
+    side as i128
 }

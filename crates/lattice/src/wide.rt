@@ -21,6 +21,18 @@ pub(crate) fn multiplied(a: i128, b: i128) -> i128
     a * b
 }
 
+/// (u - v) * (p - q), of four coordinates: two subtractions of 64 bits and one product of 128.
+pub(crate) fn product_of_differences(u: i64, v: i64, p: i64, q: i64) -> i128
+    requires first { IsWithin widest u }
+    requires second { IsWithin widest v }
+    requires third { IsWithin widest p }
+    requires fourth { IsWithin widest q }
+    ensures value { result ≡ (u -ℤ v) *ℤ (p -ℤ q) }
+    ensures size { IsWithin (4 * (widest * widest)) result }
+{
+    multiplied((u - v) as i128, (p - q) as i128)
+}
+
 /// u * p + v * q, of numbers no larger than differences of coordinates.
 pub fn sum_of_products(u: i64, p: i64, v: i64, q: i64) -> i128
     requires first { IsWithin (2 * widest) u }
