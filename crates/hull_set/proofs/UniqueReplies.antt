@@ -6,14 +6,14 @@ use Rattle.std.proofs.lemmas.Int.{ints}
 use Rattle.std.proofs.lemmas.List.Elements.{All-contains}
 use Rattle.lattice.specs.Covers.{Covers, Member, OnSegment}
 use Rattle.lattice.specs.Plane.{Pair, orient, product, distance_squared, IsBefore}
-use Rattle.lattice.specs.Vertices.{IsVertexList, IsDoubledArea}
+use Rattle.lattice.specs.Vertices.{IsVertexList}
 use Rattle.hull_set.specs.Held.{Held}
 use Rattle.hull_set.specs.Laws.{AgreesWith}
 use Rattle.hull_set.specs.declared.TheConstants.{MULTIPLICITY_LIMIT}
 use Rattle.hull_set.specs.declared.rules.Rules.{Rules}
 use Rattle.hull_set.specs.declared.rules.Rules.TheVariants.{Set, Counted}
-use Rattle.hull_set.specs.Replies.{AnswersAdd, AnswersRemove, AnswersExtreme, LiesAt, AnswersPlace, AnswersTangents}
-use Rattle.hull_set.specs.Replies.{AnswersVertices, AnswersArea, AnswersCount, Answers}
+use Rattle.hull_set.specs.Replies.{AnswersAdd, AnswersRemove, AnswersExtreme, LiesAt, AnswersTangents, AnswersVertices}
+use Rattle.hull_set.specs.Replies.{Answers}
 use Rattle.hull_geometry.specs.Tangents.{IsFirstFarthest, IsNoMore, IsTangent, IsLeftTangent, IsRightTangent}
 use Rattle.hull_geometry.specs.declared.hand.Hand.{Hand}
 use Rattle.hull_geometry.specs.declared.hand.Hand.TheVariants.{Left as LeftHand, Right as RightHand}
@@ -23,14 +23,11 @@ use Rattle.lattice.proofs.Order.{before_total, equal_by}
 use Rattle.hull_geometry.proofs.Orientation.{orient_swap}
 use Rattle.hull_geometry.proofs.UniqueVertices.{vertex_list_unique, doubled_area_unique}
 use Rattle.hull_set.specs.declared.call.Call.{Call}
-use Rattle.hull_set.specs.declared.call.Call.TheVariants.{Add, Remove, Extreme, Place, Tangents, Vertices, Area}
-use Rattle.hull_set.specs.declared.call.Call.TheVariants.{Count}
+use Rattle.hull_set.specs.declared.call.Call.TheVariants as call
 use Rattle.hull_set.specs.declared.set.Place.{Place as WherePlaced}
 use Rattle.hull_set.specs.declared.set.Place.TheVariants.{Inside, On, Outside}
 use Rattle.hull_set.specs.declared.reply.Reply.{Reply}
-use Rattle.hull_set.specs.declared.reply.Reply.TheVariants.{Added, Already, Again, TooMany, NoMemory, Removed, Left}
-use Rattle.hull_set.specs.declared.reply.Reply.TheVariants.{Absent, Farthest, Empty, Lies, TangentPoints, NoTangent}
-use Rattle.hull_set.specs.declared.reply.Reply.TheVariants.{VertexList, DoubledArea, PointCount}
+use Rattle.hull_set.specs.declared.reply.Reply.TheVariants as reply
 
 -- the first of the farthest points is one
 pub first_farthest_unique : (S : List Pair) (d t u : Pair) → IsFirstFarthest S d t → IsFirstFarthest S d u → t ≡ u
@@ -121,102 +118,102 @@ one_rule Counted a b = set_is_not_counted (sym a)
 
 -- `add p` where points are not counted and p is there
 already : (held : Held) (limit : ℕ) (rules : Rules) (p : Pair) (r : Reply) → rules ≡ Set → Contains held.points p
-    → AnswersAdd rules held limit p r → AgreesWith Already r
-already held limit rules p Added e a b = absurd (b.0 a)
-already held limit rules p NoMemory e a b = absurd (b.0 a)
-already held limit rules p Already e a b = inl refl
-already held limit rules p (Again n) e a b = absurd (one_rule rules e b.0)
-already held limit rules p TooMany e a (inl b) = absurd (b.0 a)
-already held limit rules p TooMany e a (inr b) = absurd (one_rule rules e b.0)
+    → AnswersAdd rules held limit p r → AgreesWith reply.Already r
+already held limit rules p reply.Added e a b = absurd (b.0 a)
+already held limit rules p reply.NoMemory e a b = absurd (b.0 a)
+already held limit rules p reply.Already e a b = inl refl
+already held limit rules p (reply.Again n) e a b = absurd (one_rule rules e b.0)
+already held limit rules p reply.TooMany e a (inl b) = absurd (b.0 a)
+already held limit rules p reply.TooMany e a (inr b) = absurd (one_rule rules e b.0)
 already held limit rules p _ e a b = absurd b
 
 -- `add p` where points are counted and p is held less often than a point may be
 again : (held : Held) (limit : ℕ) (rules : Rules) (p : Pair) (n : ℕ) (r : Reply) → rules ≡ Counted
     → Contains held.points p → n ≡ held.times p + 1 → n ≤ MULTIPLICITY_LIMIT → AnswersAdd rules held limit p r
-    → AgreesWith (Again n) r
-again held limit rules p n Added e a h l b = absurd (b.0 a)
-again held limit rules p n NoMemory e a h l b = absurd (b.0 a)
-again held limit rules p n Already e a h l b = absurd (one_rule rules b.0 e)
-again held limit rules p n (Again m) e a h l b = inl (ap Again (h ∙ sym b.2))
-again held limit rules p n TooMany e a h l (inl b) = absurd (b.0 a)
-again held limit rules p n TooMany e a h l (inr b) = absurd (omega (arith, h, l, b.2))
+    → AgreesWith (reply.Again n) r
+again held limit rules p n reply.Added e a h l b = absurd (b.0 a)
+again held limit rules p n reply.NoMemory e a h l b = absurd (b.0 a)
+again held limit rules p n reply.Already e a h l b = absurd (one_rule rules b.0 e)
+again held limit rules p n (reply.Again m) e a h l b = inl (ap reply.Again (h ∙ sym b.2))
+again held limit rules p n reply.TooMany e a h l (inl b) = absurd (b.0 a)
+again held limit rules p n reply.TooMany e a h l (inr b) = absurd (omega (arith, h, l, b.2))
 again held limit rules p n _ e a h l b = absurd b
 
 -- `add p` of a new point at the limit
 full : (held : Held) (limit : ℕ) (rules : Rules) (p : Pair) (r : Reply) → ¬ Contains held.points p
-    → length held.points ≡ limit → AnswersAdd rules held limit p r → AgreesWith TooMany r
-full held limit rules p Added n e b = absurd (omega (arith, e, b.1))
-full held limit rules p NoMemory n e b = inr (inr refl)
-full held limit rules p Already n e b = absurd (n b.1)
-full held limit rules p (Again m) n e b = absurd (n b.1)
-full held limit rules p TooMany n e b = inl refl
+    → length held.points ≡ limit → AnswersAdd rules held limit p r → AgreesWith reply.TooMany r
+full held limit rules p reply.Added n e b = absurd (omega (arith, e, b.1))
+full held limit rules p reply.NoMemory n e b = inr (inr refl)
+full held limit rules p reply.Already n e b = absurd (n b.1)
+full held limit rules p (reply.Again m) n e b = absurd (n b.1)
+full held limit rules p reply.TooMany n e b = inl refl
 full held limit rules p _ n e b = absurd b
 
 -- `add p` where points are counted and p is held as often as a point may be
 most : (held : Held) (limit : ℕ) (rules : Rules) (p : Pair) (r : Reply) → rules ≡ Counted → Contains held.points p
-    → held.times p ≡ MULTIPLICITY_LIMIT → AnswersAdd rules held limit p r → AgreesWith TooMany r
-most held limit rules p Added e a h b = absurd (b.0 a)
-most held limit rules p NoMemory e a h b = absurd (b.0 a)
-most held limit rules p Already e a h b = absurd (one_rule rules b.0 e)
-most held limit rules p (Again n) e a h b = absurd (omega (arith, h, b.2, b.4))
-most held limit rules p TooMany e a h b = inl refl
+    → held.times p ≡ MULTIPLICITY_LIMIT → AnswersAdd rules held limit p r → AgreesWith reply.TooMany r
+most held limit rules p reply.Added e a h b = absurd (b.0 a)
+most held limit rules p reply.NoMemory e a h b = absurd (b.0 a)
+most held limit rules p reply.Already e a h b = absurd (one_rule rules b.0 e)
+most held limit rules p (reply.Again n) e a h b = absurd (omega (arith, h, b.2, b.4))
+most held limit rules p reply.TooMany e a h b = inl refl
 most held limit rules p _ e a h b = absurd b
 
 -- `add p` of a new point below the limit
 added : (held : Held) (limit : ℕ) (rules : Rules) (p : Pair) (r : Reply) → ¬ Contains held.points p
-    → length held.points < limit → AnswersAdd rules held limit p r → AgreesWith Added r
-added held limit rules p Added n e b = inl refl
-added held limit rules p NoMemory n e b = inr (inr refl)
-added held limit rules p Already n e b = absurd (n b.1)
-added held limit rules p (Again m) n e b = absurd (n b.1)
-added held limit rules p TooMany n e (inl b) = absurd (omega (arith, e, b.1))
-added held limit rules p TooMany n e (inr b) = absurd (n b.1)
+    → length held.points < limit → AnswersAdd rules held limit p r → AgreesWith reply.Added r
+added held limit rules p reply.Added n e b = inl refl
+added held limit rules p reply.NoMemory n e b = inr (inr refl)
+added held limit rules p reply.Already n e b = absurd (n b.1)
+added held limit rules p (reply.Again m) n e b = absurd (n b.1)
+added held limit rules p reply.TooMany n e (inl b) = absurd (omega (arith, e, b.1))
+added held limit rules p reply.TooMany n e (inr b) = absurd (n b.1)
 added held limit rules p _ n e b = absurd b
 
 -- `add p`
 add_unique : (held : Held) (limit : ℕ) (rules : Rules) (p : Pair) (r s : Reply) → AnswersAdd rules held limit p r
     → AnswersAdd rules held limit p s → AgreesWith r s
-add_unique held limit rules p Added s a b = added held limit rules p s a.0 a.1 b
-add_unique held limit rules p NoMemory s a b = inr (inl refl)
-add_unique held limit rules p Already s a b = already held limit rules p s a.0 a.1 b
-add_unique held limit rules p (Again n) s a b = again held limit rules p n s a.0 a.1 a.2 a.4 b
-add_unique held limit rules p TooMany s (inl a) b = full held limit rules p s a.0 a.1 b
-add_unique held limit rules p TooMany s (inr a) b = most held limit rules p s a.0 a.1 a.2 b
+add_unique held limit rules p reply.Added s a b = added held limit rules p s a.0 a.1 b
+add_unique held limit rules p reply.NoMemory s a b = inr (inl refl)
+add_unique held limit rules p reply.Already s a b = already held limit rules p s a.0 a.1 b
+add_unique held limit rules p (reply.Again n) s a b = again held limit rules p n s a.0 a.1 a.2 a.4 b
+add_unique held limit rules p reply.TooMany s (inl a) b = full held limit rules p s a.0 a.1 b
+add_unique held limit rules p reply.TooMany s (inr a) b = most held limit rules p s a.0 a.1 a.2 b
 add_unique held limit rules p _ s a b = absurd a
 
 -- `remove p` of a point that is held once, or is not counted
 removed : (held : Held) (rules : Rules) (p : Pair) (r : Reply) → Contains held.points p
-    → (rules ≡ Counted → held.times p ≡ 1) → AnswersRemove rules held p r → AgreesWith Removed r
-removed held rules p Removed a h b = inl refl
-removed held rules p (Left n) a h b = let e : held.times p ≡ 1 = h b.0 in absurd (omega (arith, e, b.2, b.3))
-removed held rules p Absent a h b = absurd (b a)
+    → (rules ≡ Counted → held.times p ≡ 1) → AnswersRemove rules held p r → AgreesWith reply.Removed r
+removed held rules p reply.Removed a h b = inl refl
+removed held rules p (reply.Left n) a h b = let e : held.times p ≡ 1 = h b.0 in absurd (omega (arith, e, b.2, b.3))
+removed held rules p reply.Absent a h b = absurd (b a)
 removed held rules p _ a h b = absurd b
 
 -- `remove p` where points are counted and p is held more than once
 left : (held : Held) (rules : Rules) (p : Pair) (n : ℕ) (r : Reply) → rules ≡ Counted → Contains held.points p
-    → held.times p ≡ n + 1 → 1 ≤ n → AnswersRemove rules held p r → AgreesWith (Left n) r
-left held rules p n Removed e a h l b = let f : held.times p ≡ 1 = b.1 e in absurd (omega (arith, f, h, l))
-left held rules p n (Left m) e a h l b = inl (ap Left (same m b.2))
+    → held.times p ≡ n + 1 → 1 ≤ n → AnswersRemove rules held p r → AgreesWith (reply.Left n) r
+left held rules p n reply.Removed e a h l b = let f : held.times p ≡ 1 = b.1 e in absurd (omega (arith, f, h, l))
+left held rules p n (reply.Left m) e a h l b = inl (ap reply.Left (same m b.2))
   where
     same : (m : ℕ) → held.times p ≡ m + 1 → n ≡ m
     same m g = omega (arith, h, g)
-left held rules p n Absent e a h l b = absurd (b a)
+left held rules p n reply.Absent e a h l b = absurd (b a)
 left held rules p n _ e a h l b = absurd b
 
 -- `remove p` where p is not there
 absent : (held : Held) (rules : Rules) (p : Pair) (r : Reply) → ¬ Contains held.points p → AnswersRemove rules held p r
-    → AgreesWith Absent r
-absent held rules p Removed a b = absurd (a b.0)
-absent held rules p (Left n) a b = absurd (a b.1)
-absent held rules p Absent a b = inl refl
+    → AgreesWith reply.Absent r
+absent held rules p reply.Removed a b = absurd (a b.0)
+absent held rules p (reply.Left n) a b = absurd (a b.1)
+absent held rules p reply.Absent a b = inl refl
 absent held rules p _ a b = absurd b
 
 -- `remove p`
 remove_unique : (held : Held) (rules : Rules) (p : Pair) (r s : Reply) → AnswersRemove rules held p r
     → AnswersRemove rules held p s → AgreesWith r s
-remove_unique held rules p Removed s a b = removed held rules p s a.0 a.1 b
-remove_unique held rules p (Left n) s a b = left held rules p n s a.0 a.1 a.2 a.3 b
-remove_unique held rules p Absent s a b = absent held rules p s a b
+remove_unique held rules p reply.Removed s a b = removed held rules p s a.0 a.1 b
+remove_unique held rules p (reply.Left n) s a b = left held rules p n s a.0 a.1 a.2 a.3 b
+remove_unique held rules p reply.Absent s a b = absent held rules p s a b
 remove_unique held rules p _ s a b = absurd a
 
 -- the empty list has no member
@@ -225,33 +222,22 @@ no_member S t e m = let n : length S ≡ 0 = ap (λ (z : List Pair). length z) e
 
 -- `extreme d` of a set with points
 farthest_point : (S : List Pair) (d t : Pair) (r : Reply) → IsFirstFarthest S d t → AnswersExtreme S d r
-    → AgreesWith (Farthest t) r
-farthest_point S d t (Farthest u) a b = inl (ap Farthest (first_farthest_unique S d t u a b))
-farthest_point S d t Empty a b = absurd (no_member S t b a.0)
+    → AgreesWith (reply.Farthest t) r
+farthest_point S d t (reply.Farthest u) a b = inl (ap reply.Farthest (first_farthest_unique S d t u a b))
+farthest_point S d t reply.Empty a b = absurd (no_member S t b a.0)
 farthest_point S d t _ a b = absurd b
 
 -- `extreme d` of the empty set
-no_farthest : (S : List Pair) (d : Pair) (r : Reply) → S ≡ [] → AnswersExtreme S d r → AgreesWith Empty r
-no_farthest S d (Farthest u) a b = absurd (no_member S u a b.0)
-no_farthest S d Empty a b = inl refl
+no_farthest : (S : List Pair) (d : Pair) (r : Reply) → S ≡ [] → AnswersExtreme S d r → AgreesWith reply.Empty r
+no_farthest S d (reply.Farthest u) a b = absurd (no_member S u a b.0)
+no_farthest S d reply.Empty a b = inl refl
 no_farthest S d _ a b = absurd b
 
 -- `extreme d`
 extreme_unique : (S : List Pair) (d : Pair) (r s : Reply) → AnswersExtreme S d r → AnswersExtreme S d s → AgreesWith r s
-extreme_unique S d (Farthest t) s a b = farthest_point S d t s a b
-extreme_unique S d Empty s a b = no_farthest S d s a b
+extreme_unique S d (reply.Farthest t) s a b = farthest_point S d t s a b
+extreme_unique S d reply.Empty s a b = no_farthest S d s a b
 extreme_unique S d _ s a b = absurd a
-
--- `place q` where q lies somewhere
-lies : (S : List Pair) (q : Pair) (place : WherePlaced) (r : Reply) → LiesAt S q place → AnswersPlace S q r
-    → AgreesWith (Lies place) r
-lies S q place (Lies other) a b = inl (ap Lies (place_unique S q place other a b))
-lies S q place _ a b = absurd b
-
--- `place q`
-placed_unique : (S : List Pair) (q : Pair) (r s : Reply) → AnswersPlace S q r → AnswersPlace S q s → AgreesWith r s
-placed_unique S q (Lies place) s a b = lies S q place s a b
-placed_unique S q _ s a b = absurd a
 
 -- a set with a tangent point of q is not empty and does not cover q
 no_both : (S : List Pair) (q l : Pair) → ¬ Covers S q → Contains S l → ¬ ((S ≡ []) ⊎ Covers S q)
@@ -259,75 +245,63 @@ no_both S q l n m (inl e) = no_member S l e m
 no_both S q l n m (inr c) = n c
 
 -- `tangents q` from outside
-tangent_points : (S : List Pair) (q l r : Pair) (reply : Reply)
-    → ¬ Covers S q × IsLeftTangent S q l × IsRightTangent S q r → AnswersTangents S q reply
-    → AgreesWith (TangentPoints l r) reply
-tangent_points S q l r (TangentPoints m s) a b =
-    inl (ap (λ (z : Pair). TangentPoints z r) (tangent_unique LeftHand S q l m a.0 a.1 b.1)
-    ∙ ap (TangentPoints m) (tangent_unique RightHand S q r s a.0 a.2 b.2))
-tangent_points S q l r NoTangent a b = absurd (no_both S q l a.0 a.1.0 b)
+tangent_points : (S : List Pair) (q l r : Pair) (other : Reply)
+    → ¬ Covers S q × IsLeftTangent S q l × IsRightTangent S q r → AnswersTangents S q other
+    → AgreesWith (reply.TangentPoints l r) other
+tangent_points S q l r (reply.TangentPoints m s) a b =
+    inl (ap (λ (z : Pair). reply.TangentPoints z r) (tangent_unique LeftHand S q l m a.0 a.1 b.1)
+    ∙ ap (reply.TangentPoints m) (tangent_unique RightHand S q r s a.0 a.2 b.2))
+tangent_points S q l r reply.NoTangent a b = absurd (no_both S q l a.0 a.1.0 b)
 tangent_points S q l r _ a b = absurd b
 
 -- `tangents q` of an empty set, or from a point that is covered
-no_tangent : (S : List Pair) (q : Pair) (reply : Reply) → (S ≡ []) ⊎ Covers S q → AnswersTangents S q reply
-    → AgreesWith NoTangent reply
-no_tangent S q (TangentPoints l r) a b = absurd (no_both S q l b.0 b.1.0 a)
-no_tangent S q NoTangent a b = inl refl
+no_tangent : (S : List Pair) (q : Pair) (other : Reply) → (S ≡ []) ⊎ Covers S q → AnswersTangents S q other
+    → AgreesWith reply.NoTangent other
+no_tangent S q (reply.TangentPoints l r) a b = absurd (no_both S q l b.0 b.1.0 a)
+no_tangent S q reply.NoTangent a b = inl refl
 no_tangent S q _ a b = absurd b
 
 -- `tangents q`
 tangents_unique : (S : List Pair) (q : Pair) (r s : Reply) → AnswersTangents S q r → AnswersTangents S q s
     → AgreesWith r s
-tangents_unique S q (TangentPoints l r) s a b = tangent_points S q l r s a b
-tangents_unique S q NoTangent s a b = no_tangent S q s a b
+tangents_unique S q (reply.TangentPoints l r) s a b = tangent_points S q l r s a b
+tangents_unique S q reply.NoTangent s a b = no_tangent S q s a b
 tangents_unique S q _ s a b = absurd a
 
 -- `vertices`, answered with a list
 listed : (S vertices : List Pair) (r : Reply) → IsVertexList S vertices → AnswersVertices S r
-    → AgreesWith (VertexList vertices) r
-listed S vertices (VertexList others) a b = inl (ap VertexList (vertex_list_unique S vertices others a b))
-listed S vertices NoMemory a b = inr (inr refl)
+    → AgreesWith (reply.VertexList vertices) r
+listed S vertices (reply.VertexList others) a b = inl (ap reply.VertexList (vertex_list_unique S vertices others a b))
+listed S vertices reply.NoMemory a b = inr (inr refl)
 listed S vertices _ a b = absurd b
 
 -- `vertices`
 vertices_unique : (S : List Pair) (r s : Reply) → AnswersVertices S r → AnswersVertices S s → AgreesWith r s
-vertices_unique S (VertexList vertices) s a b = listed S vertices s a b
-vertices_unique S NoMemory s a b = inr (inl refl)
+vertices_unique S (reply.VertexList vertices) s a b = listed S vertices s a b
+vertices_unique S reply.NoMemory s a b = inr (inl refl)
 vertices_unique S _ s a b = absurd a
 
 -- naturals that are one as whole numbers are one
 same_natural : (m n : ℕ) → pos m ≡ pos n → m ≡ n
 same_natural m n e = omega (arith, ints)
 
--- `area`, answered with a number
-measured : (S : List Pair) (m : ℕ) (r : Reply) → IsDoubledArea S (pos m) → AnswersArea S r
-    → AgreesWith (DoubledArea m) r
-measured S m (DoubledArea n) a b = inl (ap DoubledArea (same_natural m n (doubled_area_unique S (pos m) (pos n) a b)))
-measured S m _ a b = absurd b
-
--- `area`
-area_unique : (S : List Pair) (r s : Reply) → AnswersArea S r → AnswersArea S s → AgreesWith r s
-area_unique S (DoubledArea n) s a b = measured S n s a b
-area_unique S _ s a b = absurd a
-
--- `count`, answered with a number
-counted : (S : List Pair) (m : ℕ) (r : Reply) → m ≡ length S → AnswersCount S r → AgreesWith (PointCount m) r
-counted S m (PointCount n) a b = inl (ap PointCount (a ∙ sym b))
-counted S m _ a b = absurd b
-
--- `count`
-count_unique : (S : List Pair) (r s : Reply) → AnswersCount S r → AnswersCount S s → AgreesWith r s
-count_unique S (PointCount n) s a b = counted S n s a b
-count_unique S _ s a b = absurd a
-
 -- a call has one reply, but for want of memory
-pub replies_unique : (rules : Rules) (held : Held) (limit : ℕ) (call : Call) (reply other : Reply)
-    → Answers rules held limit call reply → Answers rules held limit call other → AgreesWith reply other
-replies_unique rules held limit (Add p) r s a b = add_unique held limit rules p r s a b
-replies_unique rules held limit (Remove p) r s a b = remove_unique held rules p r s a b
-replies_unique rules held limit (Extreme d) r s a b = extreme_unique held.points d r s a b
-replies_unique rules held limit (Place q) r s a b = placed_unique held.points q r s a b
-replies_unique rules held limit (Tangents q) r s a b = tangents_unique held.points q r s a b
-replies_unique rules held limit Vertices r s a b = vertices_unique held.points r s a b
-replies_unique rules held limit Area r s a b = area_unique held.points r s a b
-replies_unique rules held limit Count r s a b = count_unique held.points r s a b
+pub replies_unique : (rules : Rules) (held : Held) (limit : ℕ) (asked : Call) (r s : Reply)
+    → Answers rules held limit asked r → Answers rules held limit asked s → AgreesWith r s
+replies_unique rules held limit (call.Add p) r s a b = add_unique held limit rules p r s a b
+replies_unique rules held limit (call.Remove p) r s a b = remove_unique held rules p r s a b
+replies_unique rules held limit (call.Extreme d) r s a b = extreme_unique held.points d r s a b
+replies_unique rules held limit (call.Tangents q) r s a b = tangents_unique held.points q r s a b
+replies_unique rules held limit call.Vertices r s a b = vertices_unique held.points r s a b
+replies_unique rules held limit (call.Place q) (reply.Lies m) (reply.Lies n) a b =
+    inl (ap reply.Lies (place_unique held.points q m n a b))
+replies_unique rules held limit (call.Place q) (reply.Lies m) _ a b = absurd b
+replies_unique rules held limit (call.Place q) _ s a b = absurd a
+replies_unique rules held limit call.Area (reply.DoubledArea m) (reply.DoubledArea n) a b =
+    inl (ap reply.DoubledArea (same_natural m n (doubled_area_unique held.points (pos m) (pos n) a b)))
+replies_unique rules held limit call.Area (reply.DoubledArea m) _ a b = absurd b
+replies_unique rules held limit call.Area _ s a b = absurd a
+replies_unique rules held limit call.Count (reply.PointCount m) (reply.PointCount n) a b =
+    inl (ap reply.PointCount (a ∙ sym b))
+replies_unique rules held limit call.Count (reply.PointCount m) _ a b = absurd b
+replies_unique rules held limit call.Count _ s a b = absurd a
