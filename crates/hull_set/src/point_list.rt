@@ -7,6 +7,7 @@ ghost use Rattle.hull_set.specs.declared.TheConstants.{POINT_LIMIT};
 
 use heap::Heap;
 use lattice::Point;
+use std::alloc::AllocError;
 use std::marker::Model;
 
 /// A list of at most [`POINT_LIMIT`](crate::POINT_LIMIT) points, as a reply has it.
@@ -25,6 +26,24 @@ impl Model for PointList {
     ghost view = { λ l. l.points.items };
 
     ghost invariant = { λ l. length l.points.items ≤ POINT_LIMIT };
+}
+
+impl Clone for PointList {
+    ghost use Rattle.std.specs.Prelude.{◌≡◌, []};
+
+    ghost is_clone = { λ points copy. copy ≡ points };
+
+    ghost is_infallible = { λ points. points ≡ [] };
+
+    /// The same points in memory of their own. Memory is asked for, and may be refused, only for a list with a point.
+    fn clone(&self) -> Result<PointList, AllocError> {
+        let points = self.as_slice();
+        let mut copy = Vec::with_capacity(*self.points.allocator(), points.len())?;
+        for point in points {
+            copy.push_reserved(*point);
+        }
+        Ok(PointList::new(copy))
+    }
 }
 
 impl PartialEq for PointList {
