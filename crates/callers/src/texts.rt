@@ -3,6 +3,7 @@ ghost use Rattle.std.specs.Prelude.{◌<◌, ◌^◌, ◌-◌, IfOk};
 
 use heap::Heap;
 use hull_book::{CheckResult, check};
+use hull_plain::PlainSet;
 use hull_text::{Source, TextFault, read_journal};
 
 /// Whether a text is that of a legal journal, and which line of it is the first wrong one; a fault where it is no journal.
@@ -10,5 +11,6 @@ pub fn verdict_on<R: Source>(alloc: Heap, source: &mut R) -> Result<CheckResult,
     requires { R.failed source.old < 2 ^ 64 - 1 }
 {
     let journal = read_journal(alloc, source)?;
-    Ok(check(alloc, &journal))
+    let set = PlainSet::new(alloc, journal.limit());
+    Ok(check(set, &journal))
 }

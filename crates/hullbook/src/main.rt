@@ -22,6 +22,7 @@ use after::run_after;
 use check::{check_text, check_whole_text};
 use explain::{Unexplained, explain};
 use fault::Fault;
+use hull_plain::PlainSet;
 use hull_program::{Refusal, block_writer, open_file, texts_of, words_given};
 use hull_text::{compact, upgrade};
 use options::{Options, Stated, Task, options};
@@ -158,7 +159,9 @@ fn compact_file<R: Files + Print + AllocGlobal, P: Progress>(
 ) -> Result<(), Fault> {
     let mut input = Counted::new(Watched::new(open_file(rt, path)?, progress));
     let mut output = Counted::new(block_writer(rt)?);
-    compact(rt.alloc(), &mut input, &mut output).map_err(Fault::from)
+    let alloc = rt.alloc();
+    let empty = |limit| PlainSet::new(alloc, limit);
+    compact(alloc, empty, &mut input, &mut output).map_err(Fault::from)
 }
 
 /// Does what the words after the program's name ask for. `false` for an illegal journal.

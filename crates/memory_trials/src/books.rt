@@ -9,6 +9,7 @@ use crate::stage::Stage;
 use hull_book::{
     Answer, Book, BookFault, CheckResult, Journal, JournalFull, Ledger, Line, check, gather,
 };
+use hull_plain::PlainSet;
 use hull_set::{Call, HullSet, PointList, Reply, Rules};
 use lattice::Point;
 use std::alloc::{AllocError, Global};
@@ -163,8 +164,9 @@ pub fn try_check(alloc: Global, p: Point) -> Result<Stage, &'static str> {
         return Err("the journal is within the limits");
     };
     let mut findings = Findings::new();
-    let (stage, found) = match check(alloc, &journal) {
-        CheckResult::NoMemory => (Stage::Refused, check(alloc, &journal)),
+    let empty = || PlainSet::new(alloc, 4);
+    let (stage, found) = match check(empty(), &journal) {
+        CheckResult::NoMemory => (Stage::Refused, check(empty(), &journal)),
         found => (Stage::Whole, found),
     };
     findings.expect(found == CheckResult::Legal, "the journal is legal");

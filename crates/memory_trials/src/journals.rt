@@ -15,8 +15,9 @@ use hull_book::{
     Book, BookFault, CompactRefusal, Journal, Ledger, LongAnswer, LongBook, PartsChecker,
     ReplayFault, Room, Then, gather, replay,
 };
+use hull_plain::PlainSet;
 use hull_set::{Call, HullSet, Reply, Rules};
-use hull_text::{CompactFault, compact, read_journal};
+use hull_text::{CompactFault, Sink, Source, compact, read_journal};
 use lattice::Point;
 use std::alloc::Global;
 use text_io::Counted;
@@ -227,7 +228,8 @@ pub fn try_drain<S: HullSet + Drop>(alloc: Global, set: S, p: Point) -> Result<S
 
 /// The number behind the two parts, where they are those of a legal journal.
 fn judged(alloc: Global, first: &Journal, second: &Journal) -> Result<u64, ReplayFault> {
-    let checker = PartsChecker::new(alloc, first).check_next(first)?;
+    let set = PlainSet::new(alloc, first.limit());
+    let checker = PartsChecker::new(set, first).check_next(first)?;
     Ok(checker.check_next(second)?.next())
 }
 
@@ -247,6 +249,18 @@ pub fn try_parts(alloc: Global) -> Result<Stage, &'static str> {
     findings.told(stage)
 }
 
+/// Makes a text short by a replay on a plain set.
+fn make_short<R: Source, W: Sink>(
+    alloc: Global,
+    source: &mut R,
+    out: &mut W,
+) -> Result<(), CompactFault>
+    requires reads { R.failed source.old < 2 ^ 64 - 1 }
+    requires writes { W.failed out.old < 2 ^ 64 - 1 }
+{
+    compact(alloc, |limit| PlainSet::new(alloc, limit), source, out)
+}
+
 /// Makes the text of a journal short, in pieces of that size.
 pub fn try_compact(alloc: Global, size: usize) -> Result<Stage, &'static str> {
     let mut findings = Findings::new();
@@ -255,13 +269,13 @@ pub fn try_compact(alloc: Global, size: usize) -> Result<Stage, &'static str> {
     };
     let mut out = Counted::new(device);
     let mut source = Counted::new(Pieces::new(LONG, size));
-    let (stage, done) = match compact(alloc, &mut source, &mut out) {
+    let (stage, done) = match make_short(alloc, &mut source, &mut out) {
         Ok(()) => (Stage::Whole, Ok(())),
         Err(fault) => {
             findings.expect(is_want(fault), "the fault is want of memory");
             findings.expect(out.get_ref().bytes().is_empty(), "nothing is written");
             let mut source = Counted::new(Pieces::new(LONG, size));
-            (Stage::Refused, compact(alloc, &mut source, &mut out))
+            (Stage::Refused, make_short(alloc, &mut source, &mut out))
         }
     };
     findings.expect(done.is_ok(), "the next attempt has its memory");

@@ -1,8 +1,12 @@
 //! Journals made short, as texts.
+ghost use Rattle.std.specs.Prelude.{◌<◌, ◌-◌, ◌^◌};
+
 use hull_book::{CompactRefusal, Journal, Line};
+use hull_plain::PlainSet;
 use hull_set::{Call, Reply, Rules};
 use hull_text::{
-    CompactFault, Counted, TextFault, WriteFault, compact, read_journal, write_journal,
+    CompactFault, Counted, Sink, Source, TextFault, WriteFault, compact, read_journal,
+    write_journal,
 };
 use lattice::Point;
 use std::alloc::Global;
@@ -17,6 +21,18 @@ const LONG: &[u8] =
 const SHORT: &[u8] =
     b"hullbook journal 3 first 9 limit 3 capacity 16\n9 0 add -1 -4 = added\n10 0 add -1 3 = added\n11 0 add 5 5 = added\n12 0 add 5 5 = again 2\nend 4\n";
 
+// Makes a text short by a replay on a plain set.
+fn make_short<R: Source, W: Sink>(
+    alloc: Global,
+    source: &mut R,
+    out: &mut W,
+) -> Result<(), CompactFault>
+    requires reads { R.failed source.old < 2 ^ 64 - 1 }
+    requires writes { W.failed out.old < 2 ^ 64 - 1 }
+{
+    compact(alloc, |limit| PlainSet::new(alloc, limit), source, out)
+}
+
 // What comes of making a text short, and what was written.
 fn compacted(
     alloc: Global,
@@ -25,7 +41,7 @@ fn compacted(
 ) -> Result<(Result<(), CompactFault>, Vec<u8>), Fail> {
     let mut source = Counted::new(Pieces::new(text, size));
     let mut out = Counted::new(Spout::new(alloc, 512, size)?);
-    let outcome = compact(alloc, &mut source, &mut out);
+    let outcome = make_short(alloc, &mut source, &mut out);
     let written = out.get_ref().bytes().to_vec(alloc)?;
     Ok((outcome, written))
 }
@@ -67,7 +83,7 @@ fn a_refused_journal_leaves_nothing_written(rt: HostRuntime) -> Result<(), Fail>
     for (text, fault) in rows {
         let mut source = Counted::new(Pieces::new(text, 3));
         let mut out = Counted::new(Spout::new(rt.alloc(), 256, 3)?);
-        assert_eq!(rt; compact(rt.alloc(), &mut source, &mut out), Err(fault));
+        assert_eq!(rt; make_short(rt.alloc(), &mut source, &mut out), Err(fault));
         assert_eq!(rt; out.get_ref().calls(), 0);
     }
     Ok(())
@@ -79,7 +95,7 @@ fn a_failing_read_uses_no_call_of_the_output(rt: HostRuntime) -> Result<(), Fail
     let mut out = Counted::new(Spout::new(rt.alloc(), 256, 1)?);
     let fault = TextFault { number: 8, line: 2 };
     assert_eq!(rt;
-        compact(rt.alloc(), &mut source, &mut out),
+        make_short(rt.alloc(), &mut source, &mut out),
         Err(CompactFault::Text(fault))
     );
     assert_eq!(rt; (source.failures(), out.get_ref().calls()), (1, 0));
@@ -92,7 +108,7 @@ fn each_failing_write_of_a_short_journal_leaves_a_beginning(rt: HostRuntime) -> 
         let mut source = Counted::new(Pieces::new(LONG, 4096));
         let mut out = Counted::new(Spout::new(rt.alloc(), 256, 1)?.failing_at(call));
         assert_eq!(rt;
-            compact(rt.alloc(), &mut source, &mut out),
+            make_short(rt.alloc(), &mut source, &mut out),
             Err(CompactFault::Write(WriteFault))
         );
         assert_eq!(rt; out.failures(), 1);
@@ -137,7 +153,11 @@ fn adds_a_row(short: &Journal) -> bool {
 #[test]
 fn thousands_of_additions_come_in_order(rt: HostRuntime) -> Result<(), Fail> {
     let long = row_journal(rt.alloc(), 300, 20)?;
-    let (head, all) = match hull_book::compact(rt.alloc(), &long) {
+    let (head, all) = match hull_book::compact(
+        rt.alloc(),
+        PlainSet::new(rt.alloc(), long.limit()),
+        &long,
+    ) {
         Ok(short) => (
             (short.first(), short.limit(), short.capacity()),
             adds_a_row(&short),
@@ -156,7 +176,8 @@ fn a_short_journal_is_made_short_again(rt: HostRuntime) -> Result<(), Fail> {
         Ok(journal) => journal,
         Err(_) => return Err(Fail::new("a journal")),
     };
-    let Ok(again) = hull_book::compact(rt.alloc(), &journal) else {
+    let set = PlainSet::new(rt.alloc(), journal.limit());
+    let Ok(again) = hull_book::compact(rt.alloc(), set, &journal) else {
         return Err(Fail::new("it is legal"));
     };
     assert_eq!(rt; again.first(), 13);

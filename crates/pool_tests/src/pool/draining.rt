@@ -265,7 +265,7 @@ fn checked(
     order: &[usize],
 ) -> Result<usize, (usize, ReplayFault)> {
     let [first, ..] = parts else { return Ok(0) };
-    let mut checker = PartsChecker::new(alloc, first);
+    let mut checker = PartsChecker::new(PlainSet::new(alloc, first.limit()), first);
     let mut lines = 0usize;
     for (i, place) in order.iter().enumerate() {
         let Some(part) = parts.get(*place) else {
