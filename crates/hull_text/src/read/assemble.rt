@@ -22,7 +22,6 @@ fn no_calls(alloc: Global, workers: u8) -> Result<Vec<Vec<Call>>, AllocError>
 }
 
 /// The calls of each worker of a phase, whose items are passed over once.
-#[tactic(auto, unfolding(crate::specs::ScriptValue::jobs_below, crate::specs::ScriptValue::calls_by))]
 fn phase_of(alloc: Global, items: &[Item], workers: u8) -> Result<Phase, AllocError>
     ensures { IfOk result (λ phase. phase ≡ jobs_below workers items.now) }
 {
