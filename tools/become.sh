@@ -15,7 +15,12 @@ fi
 name=$1
 shift
 program=$("$top/tools/release.py" --program "$name") || {
-    "$top/tools/prove.py" "$name" || exit
+    "$top/tools/prove.py" "$name" || {
+        status=$?
+        released=$(sed -n 's/^version //p' "$top/dist/SUMS")
+        echo "$name: dist/x86_64/$name is the program of release $released, which was made of other sources" >&2
+        exit "$status"
+    }
     program=$top/crates/$name/out/$name
 }
 if [ "$tells" ]; then

@@ -3,6 +3,7 @@ pub mod Lines
 pub mod Known
 pub mod Workers
 pub mod Parts
+pub mod Jobs
 pub mod FaultPlaces
 pub mod Results
 pub mod ScriptLines

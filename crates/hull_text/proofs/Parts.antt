@@ -30,7 +30,7 @@ part_last (None ∷ xs) none = absurd (none 0 (omega arith) refl)
 part_last (Some o ∷ xs) none = rw (part_last xs (λ k h. none (suc k) (omega arith))) refl
 
 -- A phase has a list for each worker.
-jobs_long : (n : ℕ) (items : List Item) → length (jobs_below n items) ≡ n
+pub jobs_long : (n : ℕ) (items : List Item) → length (jobs_below n items) ≡ n
 unfolding jobs_below
 jobs_long zero items = refl
 jobs_long (suc n) items = omega (arith, jobs_long n items, length-append (jobs_below n items) (calls_by n items ∷ []))

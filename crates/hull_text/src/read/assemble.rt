@@ -1,5 +1,5 @@
 ghost use Rattle.std.specs.Prelude.{◌≡◌, ◌≤◌, ◌<◌, ◌+◌, ◌++◌, [], ◌∷◌, ℕ, List, IfOk, length, map, MatchOption, Option};
-ghost use Rattle.std.specs.Prelude.{Some};
+ghost use Rattle.std.specs.Prelude.{Some, replicate};
 ghost use Rattle.hull_book.specs.Scripts.{IsScript, lists_of};
 ghost use Rattle.hull_book.specs.declared.limits.TheConstants.{TEXT_LINE_LIMIT};
 ghost use Rattle.hull_text.specs.ScriptValue.{calls_by, jobs_below, parts, parts_left, script_of, workers_from};
@@ -10,32 +10,28 @@ use hull_book::{Phase, Script};
 use hull_set::Call;
 use std::alloc::{AllocError, Global};
 
-/// The calls of one worker, in order.
-#[tactic(auto, unfolding(crate::specs::ScriptValue::calls_by))]
-fn calls_of_worker(alloc: Global, items: &[Item], worker: u8) -> Result<Vec<Call>, AllocError>
-    ensures { IfOk result (λ v. v.items ≡ calls_by worker items.now) }
+/// A list with no calls for each worker.
+fn no_calls(alloc: Global, workers: u8) -> Result<Vec<Vec<Call>>, AllocError>
+    ensures { IfOk result (λ v. lists_of v.items ≡ replicate workers []) }
 {
-    let mut calls = Vec::new(alloc);
-    let mut rest = items;
-    while let [item, after @ ..] = rest {
-        if let Some((w, call)) = item {
-            if *w == worker {
-                calls.push(*call)?;
-            }
-        }
-        rest = after;
+    let mut jobs = Vec::with_capacity(alloc, usize::from(workers))?;
+    for _ in 0..workers {
+        jobs.push(Vec::new(alloc))?;
     }
-    Ok(calls)
+    Ok(jobs)
 }
 
-/// The calls of each worker of a phase.
-#[tactic(auto, unfolding(crate::specs::ScriptValue::jobs_below))]
+/// The calls of each worker of a phase, whose items are passed over once.
 fn phase_of(alloc: Global, items: &[Item], workers: u8) -> Result<Phase, AllocError>
     ensures { IfOk result (λ phase. phase ≡ jobs_below workers items.now) }
 {
-    let mut jobs = Vec::new(alloc);
-    for worker in 0..workers {
-        jobs.push(calls_of_worker(alloc, items, worker)?)?;
+    let mut jobs = no_calls(alloc, workers)?;
+    for item in items {
+        if let Some((worker, call)) = item {
+            if let Some(calls) = jobs.get_mut(usize::from(*worker)) {
+                calls.push(*call)?;
+            }
+        }
     }
     Ok(Phase::new(jobs))
 }
