@@ -1,6 +1,7 @@
 -- The tickets of the lines, from the good worlds that every step leads through.
-use Rattle.std.proofs.Common.{◌≡◌, ◌∙◌, ◌+◌, ℕ, zero, suc, List, [], ◌∷◌, ◌++◌, ap, arith, inl, inr, length}
+use Rattle.std.proofs.Common.{◌≡◌, ◌∙◌, ◌+◌, ℕ, zero, suc, List, [], ◌∷◌, ◌++◌, ap, arith, length}
 use Rattle.std.proofs.Common.{length-append, subst, sym}
+use Rattle.std.proofs.lemmas.Grind.{common_steps}
 use Rattle.std.proofs.lemmas.List.{append_cancel_left}
 use mathlib.Core.Option.{some, some-injective, some-ne-none}
 use lib.ListN.{get_elem?}
@@ -34,10 +35,7 @@ module _ {B H L : Type 0} (K : Ghosts B H L) (F : Form) (laws : FormLaws F) (n :
   -- the line that a seat hands on with the number t has it as its ticket
   handed_ticket : (m : Memo H L) (t : ℕ) (c : B) (l : L) → HandsOn K m t c → K.lines c ≡ m.seen ++ l ∷ []
       → K.line_number l ≡ t
-  handed_ticket m t c l hands adds = elim hands.lines [
-    | inl one ↦ ap K.line_number (same_last m.seen l one.0 (sym adds ∙ one.1)) ∙ one.3
-    | inr none ↦ absurd (no_longer m.seen l (sym none.0 ∙ adds))
-  ]
+  handed_ticket m t c l hands adds = grind (arith, common_steps, no_longer, same_last)
 
   -- from a good world, the line that the step at r adds has the ticket that is served and as many more as calls end before
   ticket_from : (es : List (Event B)) (w u : World B H L) (q : List ℕ) (now : B) (r k : ℕ) (c : B) (l : L)
