@@ -10,5 +10,6 @@ pub mod LineByLine
 pub mod NextPart
 pub mod Parts
 pub mod Marks
+pub mod Served
 pub mod LongLaws
 pub mod Walks

@@ -11,4 +11,5 @@ pub mod Verdicts
 pub mod Parts
 pub mod Compacts
 pub mod Answers
+pub mod Served
 pub mod Laws

@@ -1,6 +1,8 @@
 -- The tickets of the lines, from the good worlds that every step leads through.
-use Rattle.std.proofs.Common.{◌≡◌, ◌∙◌, ◌+◌, ◌%◌, ◌^◌, ℕ, zero, suc, List, [], ◌∷◌, ◌++◌, ap, arith, inl, inr, length}
-use Rattle.std.proofs.Common.{length-append, refl, subst, sym}
+use Rattle.std.proofs.Common.{◌≡◌, ◌∙◌, ◌+◌, ℕ, zero, suc, List, [], ◌∷◌, ◌++◌, ap, arith, length}
+use Rattle.std.proofs.Common.{length-append, subst, sym}
+use Rattle.std.proofs.lemmas.Grind.{common_steps}
+use Rattle.std.proofs.lemmas.List.{append_cancel_left}
 use mathlib.Core.Option.{some, some-injective, some-ne-none}
 use lib.ListN.{get_elem?}
 use Rattle.hull_book.specs.Kinds.{Kind}
@@ -8,7 +10,7 @@ use Rattle.ticket_lock.specs.declared.chronicle.Chronicle.{Ghosts}
 use Rattle.ticket_lock.specs.declared.seat_state.Memo.{Memo}
 use Rattle.ticket_lock.specs.declared.seat_state.SeatState.TheVariants.{Holding}
 use Rattle.ticket_lock.specs.Forms.{partitioned_form}
-use Rattle.ticket_lock.specs.Linearizable.{book_after, journal_after}
+use Rattle.ticket_lock.specs.Linearizable.{journal_after}
 use Rattle.ticket_lock.specs.Schedule.{Runs}
 use Rattle.ticket_lock.specs.World.{Event, Form, Good, HandsOn, World, enters, hands_on, misses, takes, wrap}
 use Rattle.ticket_lock.proofs.FormsKept.{partitioned_laws}
@@ -17,19 +19,9 @@ use Rattle.ticket_lock.proofs.Schedules.{good_opened}
 use Rattle.ticket_lock.proofs.Sums.{wrap_small}
 use Rattle.hull_headline.specs.Headline.{TicketsCountTheCalls, ended_in}
 
--- the last of a list, or d
-last_or : {A : Type 0} → A → List A → A
-last_or d [] = d
-last_or d (x ∷ xs) = last_or x xs
-
-last_is : {A : Type 0} (d : A) (xs : List A) (x : A) → last_or d (xs ++ x ∷ []) ≡ x
-unfolding last_or
-last_is d [] x = refl
-last_is d (y ∷ xs) x = last_is y xs x
-
 -- two lists that are one and one more have the same last
 same_last : {A : Type 0} (xs : List A) (x y : A) → xs ++ x ∷ [] ≡ xs ++ y ∷ [] → x ≡ y
-same_last xs x y e = sym (last_is x xs x) ∙ ap (last_or x) e ∙ last_is x xs y
+same_last xs x y e = let last = append_cancel_left xs (x ∷ []) (y ∷ []) e in cc
 
 -- a list is not the same with one more
 no_longer : {A : Type 0} (xs : List A) (x : A) → xs ≡ xs ++ x ∷ [] → ⊥
@@ -43,10 +35,7 @@ module _ {B H L : Type 0} (K : Ghosts B H L) (F : Form) (laws : FormLaws F) (n :
   -- the line that a seat hands on with the number t has it as its ticket
   handed_ticket : (m : Memo H L) (t : ℕ) (c : B) (l : L) → HandsOn K m t c → K.lines c ≡ m.seen ++ l ∷ []
       → K.line_number l ≡ t
-  handed_ticket m t c l hands adds = elim hands.lines [
-    | inl one ↦ ap K.line_number (same_last m.seen l one.0 (sym adds ∙ one.1)) ∙ one.3
-    | inr none ↦ absurd (no_longer m.seen l (sym none.0 ∙ adds))
-  ]
+  handed_ticket m t c l hands adds = grind (arith, common_steps, no_longer, same_last)
 
   -- from a good world, the line that the step at r adds has the ticket that is served and as many more as calls end before
   ticket_from : (es : List (Event B)) (w u : World B H L) (q : List ℕ) (now : B) (r k : ℕ) (c : B) (l : L)

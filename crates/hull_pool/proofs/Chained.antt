@@ -1,5 +1,6 @@
 -- Phases one after the other.
 use Rattle.std.proofs.Common.{◌≡◌, ◌<◌, ◌≤◌, ◌+◌, ◌-◌, ℕ, suc, List, [], ◌∷◌, ◌++◌, length, refl, sym, ap, subst, ◌∙◌}
+use Rattle.std.proofs.lemmas.Grind.{common_steps}
 use Rattle.std.proofs.Common.{arith, append_assoc, append-nil, length-append, map, take, take_all, inl, inr, All, Ok}
 use Rattle.std.proofs.Common.{Err}
 use Rattle.std.proofs.lemmas.Bool.{cases_lt}
@@ -17,7 +18,7 @@ use Rattle.hull_pool.specs.Answers.{WorkersValue}
 use Rattle.hull_pool.specs.Runs.{job, answers_of, MayRunAll, HasRunAll}
 use Rattle.hull_pool.specs.Scripts.{HasRunPhases}
 use Rattle.hull_pool.specs.Work.{HasWorked, lines_of, capacity_of, workers_of, replies_of, fulls}
-use Rattle.hull_pool.proofs.Called.{begins_longer}
+use base.Growing.{prefix_trans}
 use Rattle.hull_pool.proofs.Worked.{not_begun}
 use Rattle.hull_set.specs.declared.set.HullSet.{Ghosts}
 
@@ -163,16 +164,7 @@ all_back P (phase ∷ front) back all = all_back P front back (All-tail P phase 
 module _ {S : Type 0} {K : Ghosts S} where
   -- no phase was run
   run_none : (b : BookValue S) (w : WorkersValue) → MayRunAll K b w [] → HasRunAll K b w [] b w
-  run_none b w may = record {
-    lawful = may.lawful;
-    head = refl;
-    begins = ([], append-nil b.lines);
-    as_many = omega (arith, (may.lawful).within);
-    each = λ k below. not_begun k (capacity_of b) [] b.lines (answers_of w k).answers;
-    ledgers = may.ledgers;
-    answers = may.answers;
-    room = λ k below. omega arith;
-  }
+  run_none b w may = grind (arith, common_steps, not_begun, append-nil)
 
   -- what some phases and the phases behind them come to
   run_on : (b m c : BookValue S) (w x v : WorkersValue) (front back : List PhaseValue)
@@ -184,7 +176,7 @@ module _ {S : Type 0} {K : Ghosts S} where
       rw (ap (λ (h : BookHead). h.journal.capacity) (rest.head ∙ one.head)) at (rest.lawful).within in record {
         lawful = rest.lawful;
         head = rest.head ∙ one.head;
-        begins = begins_longer b.lines m.lines c.lines one.begins rest.begins;
+        begins = prefix_trans b.lines m.lines c.lines one.begins rest.begins;
         as_many = omega (arith, one.as_many, rest.as_many, calls_both front back, heads);
         each = λ k below. subst (λ (calls : List Call). HasWorked k (capacity_of b) (length calls) calls b.lines
             c.lines (answers_of w k).answers (answers_of v k).answers) (sym (calls_of-append k front back))

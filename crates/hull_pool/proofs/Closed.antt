@@ -1,7 +1,8 @@
 -- The ledgers of seats that come back are those of the book that is closed.
-use Rattle.std.proofs.Common.{◌≡◌, ◌<◌, ℕ, zero, suc, List, [], ◌∷◌, length, refl, ap, subst, ◌∙◌, arith, Some, slice_get}
+use Rattle.std.proofs.Common.{◌≡◌, ◌<◌, ℕ, zero, suc, List, [], ◌∷◌, length, refl, subst, ◌∙◌, arith, Some, slice_get}
 use Rattle.std.specs.Prelude.{All, slice_index_or}
 use Rattle.std.specs.List.{AllZip}
+use Rattle.std.proofs.lemmas.Slice.Zip.{AllZip-long}
 use Rattle.hull_book.specs.Books.{BookValue}
 use Rattle.hull_book.specs.Ledgers.{AreAllLedgers, IsLedgerOf, LedgerValue}
 use Rattle.hull_book.specs.declared.line.Line.{Line}
@@ -17,13 +18,6 @@ module _ {B H L : Type 0} (plain : List L → List Line) where
   abbrev Counts : Seat B H L → LedgerValue → Type 0
   Counts s l = IsLedgerOf (seat_number s) (plain (seat_seen s)) l
 
-  -- there are as many ledgers as seats
-  as_many : (ss : List (Seat B H L)) (ls : List LedgerValue) → AllZip Counts ss ls → length ls ≡ length ss
-  as_many [] [] z = refl
-  as_many [] (l ∷ ls) z = absurd z
-  as_many (s ∷ ss) [] z = absurd z
-  as_many (s ∷ ss) (l ∷ ls) z = ap suc (as_many ss ls z.1)
-
   -- in the place of each ledger stands the seat whose lines it counts
   seat_at : (ss : List (Seat B H L)) (ls : List LedgerValue) → AllZip Counts ss ls → (k : ℕ) (d : LedgerValue)
       → k < length ls → (s : Seat B H L) × (slice_get ss k ≡ Some s) × Counts s (slice_index_or ls k d)
@@ -38,7 +32,7 @@ module _ {B H L : Type 0} (plain : List L → List Line) where
       → length ss ≡ workers_of b → AreNumbered ss
       → All (λ s. lines_of (seat_number s) b.lines ≡ lines_of (seat_number s) (plain (seat_seen s))) ss
       → AllZip Counts ss ls → AreAllLedgers b ls
-  closed_ledgers b ss ls all numbers own z = let many = as_many ss ls z in all_in_order b ls record {
+  closed_ledgers b ss ls all numbers own z = let many = AllZip-long Counts ss ls z in all_in_order b ls record {
     number = many ∙ all;
     each = λ k d lt.
         let at = seat_at ss ls z k d lt in let s = at.0 in

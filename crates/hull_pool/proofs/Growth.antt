@@ -1,9 +1,10 @@
 -- How many lines a phase adds: as many as it has calls, or as the journal had room.
-use Rattle.std.proofs.Common.{◌≡◌, ◌<◌, ◌≤◌, ◌+◌, ℕ, zero, suc, List, [], ◌∷◌, length, refl, ap, subst, ◌∙◌, arith, ◌⊎◌}
+use Rattle.std.proofs.Common.{◌≡◌, ◌<◌, ◌≤◌, ◌+◌, ℕ, zero, suc, List, length, ap, subst, arith, ◌⊎◌}
+use Rattle.std.proofs.lemmas.Grind.{common_steps}
 use Rattle.std.proofs.Common.{inl, inr, length-append, take}
 use Rattle.std.specs.Prelude.{min}
 use Rattle.std.proofs.lemmas.Bool.{cases_lt}
-use Rattle.std.proofs.lemmas.List.{take_more}
+use Rattle.std.proofs.lemmas.List.{take_all, take_more}
 use Rattle.std.proofs.lemmas.List.Sums.{sum_by-append, sum_by-cons}
 use Rattle.hull_set.specs.declared.call.Call.{Call}
 use Rattle.hull_book.specs.declared.line.Line.{Line}
@@ -33,19 +34,11 @@ count_grown k cap done calls before lines old new h =
 -- the calls of the first w + 1 workers
 first_jobs : (phase : PhaseValue) (w : ℕ) → w < length phase
     → calls_in (take (w + 1) phase) ≡ calls_in (take w phase) + length (job phase w)
-first_jobs phase w lt =
-    let last = sum_by-cons (λ (calls : List Call). length calls) (job phase w) [] in
-    ap (λ (xs : PhaseValue). calls_in xs) (take_more phase w [] lt)
-    ∙ sum_by-append (λ (calls : List Call). length calls) (take w phase) (job phase w ∷ [])
-    ∙ ap (λ (n : ℕ). calls_in (take w phase) + n) (last ∙ omega arith)
+first_jobs phase w lt = grind (arith, common_steps, take_more, sum_by-append, sum_by-cons)
 
 -- the calls of all workers
 all_jobs : (phase : PhaseValue) → calls_in (take (length phase) phase) ≡ calls_in phase
-all_jobs phase = ap (λ (xs : PhaseValue). calls_in xs) (take_all phase)
-  where
-    take_all : (xs : PhaseValue) → take (length xs) xs ≡ xs
-    take_all [] = refl
-    take_all (x ∷ xs) = ap (λ (ys : PhaseValue). x ∷ ys) (take_all xs)
+all_jobs phase = ap (λ (xs : PhaseValue). calls_in xs) (take_all (length phase) phase (omega arith))
 
 -- the lines of the first w workers: no more than their calls were added, and fewer only where the journal is full
 pub record Grows (cap : ℕ) (phase : PhaseValue) (before lines : List Line) (w : ℕ) : Type 0 where
@@ -57,10 +50,7 @@ grows : (cap : ℕ) (phase : PhaseValue) (before lines : List Line) (olds news :
     → w ≤ length phase → ((k : ℕ) → k < w
     → HasWorked k cap (length (job phase k)) (job phase k) before lines (olds k) (news k))
     → Grows cap phase before lines w
-grows cap phase before lines olds news zero le each = record {
-  most = omega (arith, below_none lines);
-  all = inr (omega (arith, below_none lines, below_none before));
-}
+grows cap phase before lines olds news zero le each = grind (arith, common_steps, below_none)
 grows cap phase before lines olds news (suc w) le each =
     let less = grows cap phase before lines olds news w (omega arith) (λ k lt. each k (omega arith)) in
     let h = each w (omega arith) in

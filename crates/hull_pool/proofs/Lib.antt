@@ -9,4 +9,3 @@ pub mod Chained
 pub mod Fronts
 pub mod Pushed
 pub mod Responses
-pub mod Drained

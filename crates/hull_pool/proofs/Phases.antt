@@ -1,5 +1,6 @@
 -- A phase: from the lists that its crew is made of to the lists that are left of it.
 use Rattle.std.proofs.Common.{◌≡◌, ◌<◌, ◌≤◌, ◌+◌, ◌-◌, ℕ, zero, suc, List, [], ◌∷◌, ◌++◌, length, refl, sym, ap, subst}
+use Rattle.std.proofs.lemmas.Grind.{common_steps}
 use Rattle.std.proofs.Common.{◌∙◌, arith, reverse, map, length-append, append-nil}
 use Rattle.std.specs.Prelude.{All, slice_index_or, slice_get, Option, Some, None, IfSome, Vec, vec_len, vec_capacity}
 use Rattle.std.specs.Global.{Global}
@@ -26,7 +27,8 @@ use Rattle.hull_pool.specs.Crews.{Boxed, book_head, team, worker_of, IsReady, Ha
 use Rattle.hull_pool.specs.Runs.{job, answers_of, MayRunAll, HasRunAll}
 use Rattle.hull_pool.proofs.Growth.{grown_to}
 use Rattle.hull_pool.specs.Work.{HasWorked, lines_of, capacity_of, workers_of, replies_of, fulls}
-use Rattle.hull_pool.proofs.Called.{same_count, begins_longer}
+use base.Growing.{prefix_trans}
+use Rattle.hull_pool.proofs.Called.{same_count}
 use Rattle.hull_set.specs.declared.set.HullSet.{Ghosts}
 
 -- a seat of a lock round a book on the heap
@@ -126,14 +128,7 @@ module _ {S : Type 0} where
 worked_on : (n cap done : ℕ) (calls : List Call) (before seen lines : List Line) (old new : List Answer)
     → IsPrefix seen lines → lines_of n lines ≡ lines_of n seen → HasWorked n cap done calls before seen old new
     → HasWorked n cap done calls before lines old new
-worked_on n cap done calls before seen lines old new begins own h = record {
-  served = h.served;
-  own_lines = own ∙ h.own_lines;
-  in_order = h.in_order;
-  few = h.few;
-  answers = h.answers;
-  full = λ lt. let longer = longer_by seen lines begins in let e : cap ≤ length seen = h.full lt in omega arith;
-}
+worked_on n cap done calls before seen lines old new begins own h = grind (arith, common_steps, longer_by)
   where
     longer_by : (xs ys : List Line) → IsPrefix xs ys → length xs ≤ length ys
     longer_by xs ys p = omega (arith, length-append xs p.0, ap length p.1)
@@ -149,7 +144,7 @@ module _ {S : Type 0} where
         worked = worked_on (seat_number t) _ _ _ _ (seat_seen t) c.lines _ _ seen.0 seen.1 run.own.4;
         ledger = (run.own.3.0, run.own.3.1 ∙ sym (same_count (seat_number t) c.lines (seat_seen t) seen.1));
         room = run.room;
-        begins = begins_longer b.lines (seat_seen t) c.lines run.own.2 seen.0;
+        begins = prefix_trans b.lines (seat_seen t) c.lines run.own.2 seen.0;
       })
 
   -- what came of each worker of a crew
@@ -367,11 +362,7 @@ module _ {S : Type 0} {K : Ghosts S} where
 
       ledger : (k : ℕ) (d : LedgerValue) (v w : AnswerVec) → k < workers_of b
           → Outcome b c phase k v w (slice_index_or ms k d) → IsLedger c k (slice_index_or ms k d)
-      ledger k d v w below o = record {
-        seat_is = o.ledger.0;
-        below = subst (λ (h : BookHead). k < h.workers) (sym head) below;
-        count_is = o.ledger.1;
-      }
+      ledger k d v w below o = grind (arith, common_steps)
 
 module _ {S : Type 0} where
   -- a worker that has run has its seat's number
@@ -403,17 +394,17 @@ module _ {S : Type 0} {K : Ghosts S} where
       (seats : Vec (BookSeat S) Global) (vs : List AnswerVec) (ls : List LedgerValue) (count : ℕ)
       → count ≡ workers_of b → vec_len seats ≡ count → MayRunAll K b (shown_workers vs ls) (phase ∷ [])
       → reverse crew ≡ team worker_of seats.items vs ls → IsCrew b crew seats.items vs ls
-  is_crew b phase crew seats vs ls count workers some may is =
-      let n : length seats.items ≡ workers_of b = omega (arith, workers, some, seats.ok.0) in
-      let answers : length vs ≡ length seats.items =
-      sym (length-map vs (λ (v : AnswerVec). shown v)) ∙ may.answers ∙ sym n in
-      let ledgers : length ls ≡ length seats.items = may.ledgers.number ∙ sym n in record {
-        long = record { seats = n; answers = answers; ledgers = ledgers };
-        many = sym (length-reverse crew) ∙ ap length is ∙ team-length worker_of seats.items vs ls answers ledgers ∙ n;
-      }
+  is_crew b phase crew seats vs ls count workers some may is = grind (arith, common_steps, length-map, length-reverse, team-length)
 
 -- what a crew left is as long as what it was made of
-pub as_long : {A B C : Type 0} → (left : Vec A Global) (crew ran : Vec B Global) (made : List C) (n : ℕ)
+as_long : {A B C : Type 0} → (left : Vec A Global) (crew ran : Vec B Global) (made : List C) (n : ℕ)
     → length crew.items ≡ n → length made ≡ n → vec_len ran ≡ vec_len crew → vec_len left ≡ vec_len ran
     → length left.items ≡ length made
 as_long left crew ran made n long many same back = omega (arith, long, many, same, back, left.ok.0, crew.ok.0)
+
+-- so are all three lists that it left
+pub all_long : {A B C D E : Type 0} → (ts : Vec A Global) (ws : Vec B Global) (ms : Vec C Global) (crew ran : Vec D Global)
+    (made : List E) (n : ℕ) → length crew.items ≡ n → length made ≡ n → vec_len ran ≡ vec_len crew
+    → (vec_len ts ≡ vec_len ran) × (vec_len ws ≡ vec_len ran) × (vec_len ms ≡ vec_len ran)
+    → (length ts.items ≡ length made) × (length ws.items ≡ length made) × (length ms.items ≡ length made)
+all_long ts ws ms crew ran made n long many same back = grind (arith, common_steps, as_long)

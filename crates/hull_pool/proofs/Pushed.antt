@@ -3,21 +3,14 @@ use Rattle.std.proofs.Common.{◌≡◌, ◌+◌, ℕ, zero, suc, List, [], ◌�
 use Rattle.std.proofs.Common.{slice_get}
 use Rattle.std.specs.Prelude.{Option, None}
 use Rattle.std.specs.List.{AllZip}
+use Rattle.std.proofs.lemmas.Slice.Zip.{all_zipped_more}
 
 -- two lists with one more each, side by side
-pub zipped_more : {A B : Type 0} (R : A → B → Type 0) (xs : List A) (ys : List B) (x : A) (y : B) → AllZip R xs ys
-    → R x y → AllZip R (xs ++ x ∷ []) (ys ++ y ∷ [])
-zipped_more R [] [] x y h r = (r, tt)
-zipped_more R [] (b ∷ ys) x y h r = absurd h
-zipped_more R (a ∷ xs) [] x y h r = absurd h
-zipped_more R (a ∷ xs) (b ∷ ys) x y h r = (h.0, zipped_more R xs ys x y h.1 r)
-
--- the same of lists that are known by equations
 pub zipped_push : {A B : Type 0} (R : A → B → Type 0) (xs more : List A) (ys longer : List B) (x : A) (y : B)
     → more ≡ xs ++ x ∷ [] → longer ≡ ys ++ y ∷ []
     → AllZip R xs ys → R x y → AllZip R more longer
 zipped_push R xs more ys longer x y left right h r = let P : List _ × List _ → Type 0 = λ z. AllZip R z.0 z.1 in
-    subst P (λ i. (sym left i, sym right i)) (zipped_more R xs ys x y h r)
+    subst P (λ i. (sym left i, sym right i)) (all_zipped_more R xs ys x y h r)
 
 -- the value, or d
 abbrev value_or : {A : Type 0} → A → Option A → A

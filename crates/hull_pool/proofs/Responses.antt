@@ -1,7 +1,8 @@
 -- Each call is answered by its line.
 use Rattle.std.proofs.Common.{◌≡◌, ℕ, zero, suc, List, [], ◌∷◌, ◌++◌, Ok, Err, sym, refl, ap, subst, ◌∙◌, arith}
+use Rattle.std.proofs.lemmas.Grind.{common_steps}
 use Rattle.std.proofs.Common.{Bool, length, length-append, box_value}
-use Rattle.std.proofs.lemmas.List.{map-append}
+use Rattle.std.proofs.lemmas.List.{append_cancel_left, map-append}
 use mathlib.Core.Option.{some, some-injective, some-ne-none}
 use lib.ListN.{get_elem?}
 use Rattle.hull_set.specs.declared.call.Call.{Call}
@@ -18,32 +19,18 @@ use Rattle.ticket_lock.specs.Forms.{partitioned_form}
 use Rattle.ticket_lock.specs.Linearizable as linear
 use Rattle.ticket_lock.specs.Linearizable.{book_after, journal_after, Linearizable}
 use Rattle.ticket_lock.specs.Schedule.{SchedulesHold}
-use Rattle.hull_pool.specs.Work.{HasServed}
+use Rattle.hull_book.specs.Served.{HasServed, HasServedLong}
 use Rattle.hull_book.specs.Kinds.{Kind}
-use Rattle.hull_book.specs.LongBooks.{head_for}
-use Rattle.hull_book.specs.Marks.{plain}
 use Rattle.hull_book.specs.declared.marked_line.MarkedLine.{MarkedLine}
-use Rattle.hull_pool.specs.Long.{HasServedLong, number_behind}
 use Rattle.hull_pool.specs.Responses.{Agree, AnswersAreOfLines, LongAnswersAreOfLines}
 
 -- a list is not the same with one more
 pub no_longer : {A : Type 0} (xs : List A) (x : A) → xs ≡ xs ++ x ∷ [] → ⊥
 no_longer xs x e = let long = ap length e in let one = length-append xs (x ∷ []) in omega arith
 
--- the first of a list, or d
-abbrev first_or : {A : Type 0} → A → List A → A
-first_or d [] = d
-first_or d (x ∷ xs) = x
-
--- all but the first
-abbrev others : {A : Type 0} → List A → List A
-others [] = []
-others (x ∷ xs) = xs
-
 -- two lists that are one and one more have the same last
 same_last : {A : Type 0} (xs : List A) (x y : A) → xs ++ x ∷ [] ≡ xs ++ y ∷ [] → x ≡ y
-same_last [] x y e = ap (first_or x) e
-same_last (z ∷ xs) x y e = same_last xs x y (ap others e)
+same_last xs x y e = let last = append_cancel_left xs (x ∷ []) (y ∷ []) e in cc
 
 -- the journal after a hand on is that of the book handed on
 pub after_hand_on : {B H L : Type 0} (K : lock.Ghosts B H L) (b : B) (es : List (Event B)) (r k : ℕ) (c : B)
@@ -57,13 +44,7 @@ after_hand_on K b (e ∷ es) (suc r) k c at = after_hand_on K (book_after e b) e
 replied : (head : Head) (t k : ℕ) (call : Call) (found after : List Line) (answer : Answer) (line : Line)
     → HasServed head t k call found after answer → after ≡ found ++ line ∷ []
     → (line.seat ≡ k) × (line.call ≡ call) × (answer ≡ Ok line.reply)
-replied head t k call found after (Ok reply) line served adds =
-    let mine : Line = record { number = t; seat = k; call = call; reply = reply } in
-    let same : mine ≡ line = same_last found mine line (sym served.1 ∙ adds) in (
-      ap (λ (l : Line). l.seat) (sym same),
-      ap (λ (l : Line). l.call) (sym same),
-      ap (λ (l : Line). Ok l.reply) same,
-    )
+replied head t k call found after (Ok reply) line served adds = grind (arith, common_steps, same_last)
 replied head t k call found after (Err f) line served adds = absurd (no_longer found line (sym served.1 ∙ adds))
 
 -- a call that added none was answered that the journal is full
@@ -77,15 +58,11 @@ refused head t k call found after (Err f) served same = refl
 pub long_replied : (head : Head) (drains : Bool) (t k : ℕ) (call : Call) (found after : List MarkedLine) (answer : Answer)
     (l : MarkedLine) → HasServedLong head drains t k call found after answer → after ≡ found ++ l ∷ []
     → (l.line.seat ≡ k) × (l.line.call ≡ call) × (answer ≡ Ok l.line.reply)
-long_replied head drains t k call found after answer l served adds =
-    replied (head_for drains head found) (number_behind head found) k call (plain found) (plain after) answer l.line served.served
-    (ap plain adds ∙ map-append (λ (m : MarkedLine). m.line) found (l ∷ []))
+long_replied head drains t k call found after answer l served adds = grind (arith, common_steps, replied, map-append)
 
 long_refused : (head : Head) (drains : Bool) (t k : ℕ) (call : Call) (found after : List MarkedLine) (answer : Answer)
     → HasServedLong head drains t k call found after answer → after ≡ found → answer ≡ Err (record {})
-long_refused head drains t k call found after answer served same =
-    refused (head_for drains head found) (number_behind head found) k call (plain found) (plain after) answer served.served
-    (ap plain same)
+long_refused head drains t k call found after answer served same = grind (arith, common_steps, refused)
 
 -- the answers of calls that were served agree with the lines that they added
 agreed : {B H L : Type 0} (says : lock.Ghosts B H L) (line_of : L → Line) (b : B) (es : List (Event B))

@@ -1,9 +1,9 @@
 -- Lists the other way round, and what holds of them place by place.
-use Rattle.std.proofs.Common.{◌≡◌, ◌<◌, ◌-◌, ℕ, zero, suc, List, [], ◌∷◌, ◌++◌, length, refl, sym, ap, subst, ◌∙◌}
-use Rattle.std.proofs.Common.{arith, reverse, take}
+use Rattle.std.proofs.Common.{◌≡◌, ◌<◌, ◌-◌, ℕ, suc, List, [], ◌∷◌, length, sym, ap, subst, ◌∙◌}
+use Rattle.std.proofs.Common.{arith, reverse}
 use Rattle.std.specs.Prelude.{All, slice_index_or}
 use Rattle.std.specs.List.{AllZip}
-use Rattle.std.proofs.lemmas.List.{get_or-reverse, length-reverse}
+use Rattle.std.proofs.lemmas.List.{get_or-reverse, get_or_default, length-reverse}
 
 -- what holds of all members holds the other way round
 pub all_unreverse : {A : Type 0} → (P : A → Type 0) (xs : List A) → All P (reverse xs) → All P xs
@@ -32,24 +32,11 @@ zip_reverse {A} R xs ys long each =
     zip_of R (reverse xs) (reverse ys) (length-reverse ys ∙ long ∙ sym (length-reverse xs))
     (λ i d e lt. at i d e (omega (arith, length-reverse xs)))
   where
-    free : (zs : List A) (i : ℕ) (d e : A) → i < length zs → slice_index_or zs i d ≡ slice_index_or zs i e
-    free [] i d e lt = absurd (omega arith)
-    free (z ∷ zs) zero d e lt = refl
-    free (z ∷ zs) (suc i) d e lt = free zs i d e (omega arith)
-
     at : (i : ℕ) (d e : A) → i < length xs → R (slice_index_or (reverse xs) i d) (slice_index_or (reverse ys) i e)
     at i d e lt =
         let there : slice_index_or ys (length xs - 1 - i) d ≡ slice_index_or (reverse ys) i e =
-        free ys (length xs - 1 - i) d e (omega arith) ∙ ap (λ (n : ℕ). slice_index_or ys (n - 1 - i) e) (sym long)
+        get_or_default ys (length xs - 1 - i) d e (omega arith) ∙ ap (λ (n : ℕ). slice_index_or ys (n - 1 - i) e) (sym long)
         ∙ sym (get_or-reverse ys i e (omega arith))
         in
         subst (λ (x : A). R x (slice_index_or (reverse ys) i e)) (sym (get_or-reverse xs i d lt))
         (subst (R (slice_index_or xs (length xs - 1 - i) d)) there (each (length xs - 1 - i) d (omega arith)))
-
--- a slice of the whole list, written back, is what was written
-pub written_back : {A : Type 0} → (n : ℕ) (ys zs : List A) → n ≡ length ys → take n (ys ++ zs) ≡ ys
-written_back {A} n ys zs e = ap (λ (m : ℕ). take m (ys ++ zs)) e ∙ front ys
-  where
-    front : (xs : List A) → take (length xs) (xs ++ zs) ≡ xs
-    front [] = refl
-    front (x ∷ xs) = ap (λ (ws : List A). x ∷ ws) (front xs)

@@ -1,5 +1,5 @@
 -- A call of a seat that enters a lock, and one of a seat that holds the book: of books of whatever kind.
-use Rattle.std.specs.Prelude.{◌≡◌, ◌<◌, ℕ}
+use Rattle.std.specs.Prelude.{◌≡◌, ◌<◌, ℕ, List}
 use mathlib.Core.List.{IsPrefix}
 use Rattle.ticket_lock.specs.declared.guard.Guard.{Guard}
 use Rattle.ticket_lock.specs.declared.lock.TicketLock.{TicketLock}
@@ -8,7 +8,8 @@ use Rattle.ticket_lock.specs.Tokens.{IsSeatOf, KeepsHead, guard_book, guard_lock
 use Rattle.ticket_lock.specs.Tokens.{opening_book, seat_number, seat_seen}
 use Rattle.hull_book.specs.Kinds.{Kind}
 use Rattle.hull_book.specs.Ledgers.{IsLedger, IsLedgerOf, LedgerValue}
-use Rattle.hull_pool.specs.Work.{workers_of}
+use Rattle.hull_book.specs.declared.line.Line.{Line}
+use Rattle.hull_pool.specs.Work.{lines_of, workers_of}
 
 module _ {S B H L : Type 0} (kind : Kind S B H L) where
   -- the seat k holds a lawful book just as it found it, whose turn is its own, and this is its ledger
@@ -21,12 +22,6 @@ module _ {S B H L : Type 0} (kind : Kind S B H L) where
     pub turn : kind.says.turn (guard_book guard) ≡ guard_number guard
     pub ledger : IsLedger (kind.whole (guard_book guard)) k counts
 
-  -- the seat k handed on the book that it held: what it is then, and its ledger
-  pub record HandedOn (guard : Guard B H L) (k : ℕ) (seat : Seat B H L) (counts : LedgerValue) : Type 0 where
-    pub own : IsSeatOf kind.says.head (guard_lock guard) seat
-    pub number : seat_number seat ≡ k
-    pub ledger : IsLedgerOf k (kind.plain (seat_seen seat)) counts
-
   module _ (lock : TicketLock B H L) (k : ℕ) where
     -- the seat is that of the worker k of the lock, and this is its ledger
     pub record MayCall (seat : Seat B H L) (counts : LedgerValue) : Type 0 where
@@ -35,9 +30,19 @@ module _ {S B H L : Type 0} (kind : Kind S B H L) where
       pub below : k < workers_of (kind.whole (opening_book lock))
       pub ledger : IsLedgerOf k (kind.plain (seat_seen seat)) counts
 
-    -- so is the seat that came back, which has seen what it had seen before and what came behind that
-    pub record HasCome (seat after : Seat B H L) (counts : LedgerValue) : Type 0 where
+    -- so is the seat that came back, which had seen these lines before, and what came behind them
+    pub record HasCome (before : List L) (after : Seat B H L) (counts : LedgerValue) : Type 0 where
       pub own : IsSeatOf kind.says.head lock after
       pub number : seat_number after ≡ k
       pub ledger : IsLedgerOf k (kind.plain (seat_seen after)) counts
-      pub begins : IsPrefix (seat_seen seat) (seat_seen after)
+      pub begins : IsPrefix before (seat_seen after)
+
+-- The seat k, which had seen the lines `before`, found by some ticket a whole journal that begins with those lines
+-- and has no other line in its name, and of both this is so.
+pub record Found {L : Type 0} (plain : List L → List Line) (k : ℕ) (before : List L) (so : ℕ → List L → Type 0)
+    : Type 0 where
+  pub number : ℕ
+  pub found : List L
+  pub begins : IsPrefix before found
+  pub own_lines : lines_of k (plain found) ≡ lines_of k (plain before)
+  pub is_so : so number found

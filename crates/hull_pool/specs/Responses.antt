@@ -19,8 +19,7 @@ use Rattle.ticket_lock.specs.Linearizable as lock
 use Rattle.ticket_lock.specs.Linearizable.{journal_after, FoundFull, IsSequentialHistory}
 use Rattle.hull_book.specs.Kinds.{Kind}
 use Rattle.hull_pool.specs.Crews.{Boxed}
-use Rattle.hull_pool.specs.Long.{HasServedLong}
-use Rattle.hull_pool.specs.Work.{HasServed}
+use Rattle.hull_book.specs.Served.{HasServed, HasServedLong}
 
 module _ {B H L : Type 0} (says : chronicle.Ghosts B H L) (line_of : L → Line) where
   -- The lines are a sequential history of the calls that the events made on a book of whatever kind: each call that has a

@@ -1,12 +1,11 @@
-//! One call of a worker: it enters the lock, has the call served, and hands the book on.
-ghost use Rattle.std.specs.Prelude.{◌≤◌, length, box_value, IsErr};
-ghost use Rattle.ticket_lock.specs.Tokens.{guard_book, guard_number, opening_book, seat_seen};
-ghost use Rattle.hull_book.specs.Kinds.{kept};
-ghost use Rattle.hull_pool.specs.Handing.{HandedOn, HasCome, HoldsBook, MayCall};
-ghost use Rattle.hull_pool.specs.Work.{HasCalled, HasServed, WasServed, capacity_of};
+//! One call of a seat: it enters the lock, has the call served, and hands the book on.
+ghost use Rattle.std.specs.Prelude.{box_value};
+ghost use Rattle.ticket_lock.specs.Tokens.{guard_book, guard_lock, guard_number, guard_seen, opening_book, seat_seen};
+ghost use Rattle.hull_book.specs.Kinds.{kind_of};
+ghost use Rattle.hull_pool.specs.Handing.{Found, HasCome, HoldsBook, MayCall};
 
-use hull_book::{Answer, Book, Ledger};
-use hull_set::{Call, HullSet};
+use hull_book::{Book, Journalled, Ledger, LongBook};
+use hull_set::Call;
 use std::sync::Wait;
 use ticket_lock::{Guard, Seat, TicketLock};
 
@@ -19,53 +18,71 @@ pub type BookSeat<S> = Seat<Box<Book<S>>>;
 /// A seat that holds the book of that lock.
 pub type BookGuard<'a, S> = Guard<'a, Box<Book<S>>>;
 
+/// The lock round a book on the heap that may be drained.
+pub type LongLock<S> = TicketLock<Box<LongBook<S>>>;
+
+/// A seat of that lock.
+pub type LongSeat<S> = Seat<Box<LongBook<S>>>;
+
+/// A seat that holds the book of that lock.
+pub type LongGuard<'a, S> = Guard<'a, Box<LongBook<S>>>;
+
 /// Has one call of the seat that holds the book served, and hands the book on. It asks for the book as the seat found
 /// it; who waits for the lock and who looks once both end with it. `number` is the seat's number, and `ledger` the
-/// ledger of that seat.
+/// ledger of that seat; `then` says what becomes of the lines that are held then.
 ///
-/// The answer is the reply, which is allowed at what the seat found and has its line behind the lines found, under the
-/// number that was served; or that the journal is full. The journal handed on is legal, and the seat that comes back
-/// has seen it.
-pub fn serve_and_hand_on<S: HullSet + Drop>(
-    guard: BookGuard<'_, S>,
+/// The answer is what the book's `served` says of the lines found and of those handed on, which the seat that comes back
+/// has seen. Of a [`Book`] it is the reply, which is allowed at what the seat found and has its line behind the lines
+/// found, under the number that was served; or that the journal is full. Of a [`LongBook`] it is the reply and the part
+/// that was taken out, which has the lines of the journal that were not taken out before, the call's own as the last of
+/// them; or that there was no room: for the call's own line one is spare where the lines do not stay, however many are
+/// held. Journal and capacity are those of the whole then, the lines counted that were taken out. The journal handed on
+/// is legal.
+pub fn serve_and_hand_on<B: Journalled>(
+    guard: Guard<'_, Box<B>>,
     number: u8,
     call: Call,
     ledger: &mut Ledger,
-) -> (BookSeat<S>, Answer)
-    requires { HoldsBook (kept S.HullSet) guard number ledger.old }
-    ensures back { HandedOn (kept S.HullSet) guard.entry number result.0 ledger.new }
+    then: B::Then,
+) -> (Seat<Box<B>>, B::Answer)
+    requires may { HoldsBook (kind_of B.Chronicle B.whole B.plain) guard number ledger.old }
+    requires room { B.room (B.head (box_value (guard_book guard))) then }
+    ensures back { HasCome (kind_of B.Chronicle B.whole B.plain) (guard_lock guard.entry) number (guard_seen guard.entry)
+        result.0 ledger.new }
     ensures served { let found = box_value (guard_book guard.entry) in
-        HasServed found.head.journal (guard_number guard.entry) number call found.lines (seat_seen result.0) result.1 }
+        B.served (B.head found) then (guard_number guard.entry) number call (B.lines found) (seat_seen result.0) result.1 }
 {
     let mut guard = guard;
-    let book = guard.book();
-    let answer = book.serve(number, call, ledger);
+    let book: &mut B = guard.book();
+    let answer = book.serve(number, call, ledger, then);
     let seat = guard.hand_on();
     (seat, answer)
 }
 
 /// Makes one call: it waits until the seat holds the book, has the call served, and hands the book on. `number` is the
-/// seat's number, and `ledger` the ledger of that seat.
+/// seat's number, and `ledger` the ledger of that seat; `then` says what becomes of the lines that are held then: of a
+/// book that may be drained they stay, are let go for who wants no journal, or are taken out into room for as many as
+/// are held at most.
 ///
-/// The answer is the reply, which is allowed at what the seat found and has its line in the journal, in this seat's
-/// name; or that the journal is full. The seat that comes back has seen the journal as it handed it on, which is a
-/// legal history and begins with what it had seen before.
-pub fn make_call<R: Wait, S: HullSet + Drop>(
+/// The answer is that of [`serve_and_hand_on`], at lines that begin with what the seat had seen before and have no other
+/// line in its name: the reply, whose line is in the journal, in this seat's name, and with it the part that was taken
+/// out; or that there was no room for the line, which leaves the journal as it was. The seat that comes back has seen
+/// the whole journal as it handed it on, which is a legal history and begins with what it had seen before.
+pub fn make_call<R: Wait, B: Journalled>(
     rt: &R,
-    lock: &BookLock<S>,
-    seat: BookSeat<S>,
+    lock: &TicketLock<Box<B>>,
+    seat: Seat<Box<B>>,
     number: u8,
     call: Call,
     ledger: &mut Ledger,
-) -> (BookSeat<S>, Answer)
-    requires { MayCall (kept S.HullSet) lock.now number seat ledger.old }
-    ensures back { HasCome (kept S.HullSet) lock.now number seat result.0 ledger.new }
-    ensures called { HasCalled number (capacity_of (box_value (opening_book lock.now))) call (seat_seen seat)
-        (seat_seen result.0) result.1 }
-    ensures served { WasServed (box_value (opening_book lock.now)).head.journal number call (seat_seen seat)
-        (seat_seen result.0) result.1 }
-    ensures stays_full { capacity_of (box_value (opening_book lock.now)) ≤ length (seat_seen seat) → IsErr result.1 }
+    then: B::Then,
+) -> (Seat<Box<B>>, B::Answer)
+    requires may { MayCall (kind_of B.Chronicle B.whole B.plain) lock.now number seat ledger.old }
+    requires room { B.room (B.head (box_value (opening_book lock.now))) then }
+    ensures back { HasCome (kind_of B.Chronicle B.whole B.plain) lock.now number (seat_seen seat) result.0 ledger.new }
+    ensures served { Found B.plain number (seat_seen seat) (λ t found.
+        B.served (B.head (box_value (opening_book lock.now))) then t number call found (seat_seen result.0) result.1) }
 {
     let guard = lock.enter(rt, seat);
-    serve_and_hand_on(guard, number, call, ledger)
+    serve_and_hand_on(guard, number, call, ledger, then)
 }

@@ -7,7 +7,7 @@
 //! let Ok((book, ledgers)) = Book::open(alloc, HullTree::new(alloc, 1000), 0, 64, 2) else { return refused };
 //! let Ok((lock, seats)) = TicketLock::open(alloc, Box::new(alloc, book)?, 2) else { return refused };
 //! // in the thread of worker 0, with seat 0 and ledger 0; the other thread does so with number 1
-//! let (seat, answer) = make_call(rt, &lock, seat, 0, Call::Add(point), &mut ledger);
+//! let (seat, answer) = make_call(rt, &lock, seat, 0, Call::Add(point), &mut ledger, ());
 //! // when both are joined, with the seats and the ledgers in the order of their numbers
 //! let (book, count) = close_book(lock, seats, ledgers);
 //! let journal = book.into_journal();
@@ -21,7 +21,7 @@
 //!
 //! # A book that lives for long
 //!
-//! A `LongBook` of `hull_book` is shared in the same way, by [`make_long_call`] and [`close_book`]. One of its seats
+//! A `LongBook` of `hull_book` is shared in the same way, by [`make_call`] and [`close_book`]. One of its seats
 //! takes the lines out, by a call with `Then::TakeOut`: under the lock only the lists change hands. Where as many are
 //! held as may be, calls with `Then::Keep` are refused until then. Where nobody wants a journal, all seats make their
 //! calls with `Then::LetGo`. [`two_seats_share`] is the whole flow for two seats, to copy.
@@ -39,17 +39,17 @@ mod close;
 mod crew;
 mod gate;
 mod law;
-mod long_call;
 mod phase;
 mod two_seats;
 mod worker;
 mod workers;
 
-pub use call::{BookGuard, BookLock, BookSeat, make_call, serve_and_hand_on};
+pub use call::{
+    BookGuard, BookLock, BookSeat, LongGuard, LongLock, LongSeat, make_call, serve_and_hand_on,
+};
 pub use close::close_book;
 pub use gate::{Gate, NoGate};
 pub use law::{answers_are_of_lines, long_answers_are_of_lines};
-pub use long_call::{LongGuard, LongLock, LongSeat, make_long_call, serve_long_and_hand_on};
 pub use phase::{PhaseEnd, PoolFault, run_phase, run_phases};
 pub use two_seats::{Member, two_seats_share};
 pub use workers::Workers;

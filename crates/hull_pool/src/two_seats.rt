@@ -8,8 +8,8 @@ ghost use Rattle.hull_pool.specs.Handing.{MayCall};
 ghost use Rattle.hull_pool.specs.Long.{long_book_head, whole_of};
 ghost use Rattle.hull_pool.specs.Work.{workers_of};
 
+use super::call::{LongLock, LongSeat, make_call};
 use super::close::close_book;
-use super::long_call::{LongLock, LongSeat, make_long_call};
 use hull_book::{Call, Ledger, LongAnswer, LongBook, Room, Then};
 use hull_set::HullSet;
 use std::sync::Wait;
@@ -52,10 +52,10 @@ pub fn two_seats_share<R: Wait, S: HullSet + Drop>(
         seat: one,
         ledger: mut ones,
     } = one;
-    let (zero, _answer) = make_long_call(rt, &lock, zero, 0, call, &mut zeros, Then::Keep);
+    let (zero, _answer) = make_call(rt, &lock, zero, 0, call, &mut zeros, Then::Keep);
     let take = Then::TakeOut(room);
-    let (one, part) = make_long_call(rt, &lock, one, 1, Call::Count, &mut ones, take);
-    let (zero, _count) = make_long_call(rt, &lock, zero, 0, Call::Count, &mut zeros, Then::LetGo);
+    let (one, part) = make_call(rt, &lock, one, 1, Call::Count, &mut ones, take);
+    let (zero, _count) = make_call(rt, &lock, zero, 0, Call::Count, &mut zeros, Then::LetGo);
     seats.push_reserved(zero);
     seats.push_reserved(one);
     ledgers.push_reserved(zeros);

@@ -40,7 +40,7 @@ pub(crate) fn work<R: Wait, S: HullSet + Drop, G: Gate>(
     let mut index = 0u32;
     for call in phase.calls(number) {
         gate.before_call(number, index);
-        let (next, answer) = make_call(rt, lock, seat, number, *call, &mut worker.ledger);
+        let (next, answer) = make_call(rt, lock, seat, number, *call, &mut worker.ledger, ());
         worker.answers.push_reserved(answer);
         seat = next;
         gate.after_call(number, index);

@@ -1,14 +1,11 @@
 -- What is held behind lines is what is held behind their changes.
-use Rattle.std.proofs.Common.{◌≡◌, ◌∙◌, List, [], ◌∷◌, ◌++◌, ap, refl, sym, subst}
-use Rattle.std.specs.Prelude.{map}
+use Rattle.std.proofs.Common.{◌≡◌, ◌∙◌, List, [], ◌∷◌, ap, refl, sym}
 use Rattle.hull_book.specs.History.{held_after, replay}
 use Rattle.hull_book.specs.Marks.{as_part, plain, unmarked}
 use Rattle.hull_book.proofs.Marks.{plain_mark_last, plain_unmarked}
 use Rattle.hull_book.specs.declared.line.Line.{Line}
-use Rattle.hull_book.specs.declared.marked_line.MarkedLine.{MarkedLine}
 use Rattle.hull_set.specs.Held.{Held, nothing_held}
 use Rattle.hull_views.specs.Changes.{change_of, changed, changed_by, held_behind}
-use Rattle.hull_views.specs.declared.change.Change.{Change}
 use Rattle.hull_views.proofs.Effects.{effect}
 use Rattle.hull_shared.specs.Tellings.{changes_of}
 
@@ -23,12 +20,6 @@ replay_changes (l ∷ lines) held =
 pub held_by_changes : (lines : List Line) → held_after lines ≡ held_behind (changes_of lines)
 held_by_changes lines = replay_changes lines nothing_held
 
--- the changes of one line more are one more
-pub one_more : (lines : List MarkedLine) (l : MarkedLine)
-    → changes_of (plain (lines ++ l ∷ [])) ≡ changes_of (plain lines) ++ change_of l.line.call l.line.reply ∷ []
-one_more [] l = refl
-one_more (m ∷ lines) l = ap (λ cs. change_of m.line.call m.line.reply ∷ cs) (one_more lines l)
-
--- and so of lines that stand as a part
+-- the changes of lines that stand as a part are theirs
 pub of_part : (lines : List Line) → changes_of (plain (as_part lines)) ≡ changes_of lines
 of_part lines = ap changes_of (plain_mark_last (unmarked lines) ∙ plain_unmarked lines)

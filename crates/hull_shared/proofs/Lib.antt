@@ -8,4 +8,5 @@ pub mod Fronts
 pub mod Homes
 pub mod Lists
 pub mod Served
+pub mod Found
 mod ViewReplies

@@ -1,5 +1,6 @@
 -- Lists place by place: a member more at the end, and another in a place.
 use Rattle.std.proofs.Common.{◌≡◌, ◌⊎◌, inl, inr, ◌<◌, ◌≤◌, ◌+◌, ℕ, zero, suc, List, [], ◌∷◌, ◌++◌, length, refl}
+use Rattle.std.proofs.lemmas.Grind.{common_steps}
 use Rattle.std.proofs.Common.{ap, arith, Some, slice_get}
 use Rattle.std.specs.Prelude.{slice_set}
 
@@ -8,9 +9,7 @@ pub same_or_more : (m j : ℕ) → m ≤ j → (j ≡ m) ⊎ (m + 1 ≤ j)
 same_or_more zero zero h = inl refl
 same_or_more zero (suc j) h = inr (omega arith)
 same_or_more (suc m) zero h = absurd (omega arith)
-same_or_more (suc m) (suc j) h =
-    elim (same_or_more m j (omega arith)) as (λ _. (suc j ≡ suc m) ⊎ (suc m + 1 ≤ suc j))
-    [ inl e ↦ inl (ap suc e) | inr more ↦ inr (omega arith) ]
+same_or_more (suc m) (suc j) h = grind (arith, common_steps)
 
 module _ {A : Type 0} where
   -- what stands in a place stands there with one member more
@@ -37,9 +36,7 @@ module _ {A : Type 0} where
   -- before the new member stands what stood there
   pub get_before : (xs : List A) (x : A) (i : ℕ) (a : A) → slice_get (xs ++ x ∷ []) i ≡ Some a → i < length xs
       → slice_get xs i ≡ Some a
-  get_before xs x i a at lt =
-      elim (get_pushed xs x i a at) as (λ _. slice_get xs i ≡ Some a)
-      [ inl old ↦ old | inr new ↦ absurd (let e : i ≡ length xs = new.0 in omega arith) ]
+  get_before xs x i a at lt = grind (arith, common_steps, get_pushed)
 
   -- with another member in one place, in each place stands what stood there, or there the new one
   pub get_set : (xs : List A) (j : ℕ) (v : A) (i : ℕ) (a : A) → slice_get (slice_set xs j v) i ≡ Some a

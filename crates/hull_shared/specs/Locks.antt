@@ -6,7 +6,7 @@ use Rattle.std.specs.Mem.{manually_drop_value}
 use Rattle.std.specs.declared.sync.Arc.{Arc}
 use Rattle.std.specs.declared.mem.ManuallyDrop.{ManuallyDrop}
 use Rattle.hull_book.specs.Books.{BookValue, IsLawful}
-use Rattle.hull_book.specs.Kinds.{Kind}
+use Rattle.hull_book.specs.Kinds.{Kind, kind_of}
 use Rattle.hull_book.specs.LongBooks.{whole}
 use Rattle.hull_book.specs.Marks.{plain}
 use Rattle.hull_book.specs.declared.marked_line.MarkedLine.{MarkedLine}
@@ -39,21 +39,21 @@ whole_of b = whole (box_value b).book
 abbrev pub lines_at : DeskBoxed → List MarkedLine
 lines_at b = (box_value b).book.lines
 
--- what the trait `Chronicle` of the lock says of it
-abbrev pub says_desk : chronicle.Ghosts DeskBoxed DeskHead MarkedLine
-says_desk = record {
-  head = boxed_head;
-  lines = lines_at;
-  capacity = λ b. (whole_of b).head.journal.capacity;
-  turn = λ b. (box_value b).book.turn;
-  lawful = λ b. IsLawful bucket_set (whole_of b);
-  line_seat = λ l. l.line.seat;
-  line_number = λ l. l.ticket;
-}
-
 -- the kind of such books
 abbrev pub desk : Kind LimitedTree DeskBoxed DeskHead MarkedLine
-desk = record { says = says_desk; whole = whole_of; plain = plain }
+desk = kind_of (record {
+  head = desk_head;
+  lines = λ b. b.book.lines;
+  capacity = λ b. (whole b.book).head.journal.capacity;
+  turn = λ b. b.book.turn;
+  lawful = λ b. IsLawful bucket_set (whole b.book);
+  line_seat = λ l. l.line.seat;
+  line_number = λ l. l.ticket;
+}) (λ b. whole b.book) plain
+
+-- what the trait `Chronicle` of the lock says of them
+abbrev pub says_desk : chronicle.Ghosts DeskBoxed DeskHead MarkedLine
+says_desk = desk.says
 
 -- Each bridge that a tree over buckets stores is that of the points below it, each bucket tells the corners of its own points,
 -- and all these are the points.

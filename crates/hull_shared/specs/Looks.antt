@@ -73,17 +73,21 @@ WaitsOn w v = (lock_of v.lock ≡ lock_of w.lock) × (v.number ≡ w.number) × 
     × (ticket_number v.ticket ≡ ticket_number w.ticket) × (ticket_seen v.ticket ≡ ticket_seen w.ticket)
     × (ticket_looks v.ticket ≡ ticket_looks w.ticket + 1) × (v.ledger ≡ w.ledger)
 
--- The seat's call was served, with this answer and this behind it, by the number that it had taken: it found a whole
--- journal that begins with what it had seen and has no other line in its name, and handed on the one that it has seen
--- now. It is the same seat of the same lock.
-pub record WasServed (w : WaitingSeat) (i : IdleSeat) (answer : DeskAnswer) (behind : Behind) : Type 0 where
+-- The seat's call was served: it found a whole journal that begins with what it had seen and has no other line in its
+-- name, and of that this is so. It is the same seat of the same lock.
+pub record HasFound (w : WaitingSeat) (i : IdleSeat) (so : List MarkedLine → Type 0) : Type 0 where
   pub same_lock : lock_of i.lock ≡ lock_of w.lock
   pub same_number : i.number ≡ w.number
   pub found : List MarkedLine
   pub begins : IsPrefix (ticket_seen w.ticket) found
   pub own_lines : lines_of w.number (plain found) ≡ lines_of w.number (plain (ticket_seen w.ticket))
-  pub served : HasServedAt (head_of (lock_of w.lock)) (ticket_number w.ticket) w.number w.call found (seat_seen i.seat)
-      answer behind
+  pub is_so : so found
+
+-- So it was served with this answer and this behind it, by the number that it had taken, and handed on the journal that it
+-- has seen now.
+abbrev pub WasServed : WaitingSeat → IdleSeat → DeskAnswer → Behind → Type 0
+WasServed w i answer behind = HasFound w i (λ found. HasServedAt (head_of (lock_of w.lock)) (ticket_number w.ticket) w.number
+    w.call found (seat_seen i.seat) answer behind)
 
 -- the seat waits on, or its call was served
 abbrev pub HasLooked : WaitingSeat → Looked → Type 0

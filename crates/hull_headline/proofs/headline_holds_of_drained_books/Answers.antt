@@ -6,31 +6,15 @@ use Rattle.hull_headline.specs.Headline.{StoresBridgesOf, drained}
 use Rattle.hull_tree.specs.Sets.{hull_tree}
 use Rattle.hull_headline.proofs.headline_holds_of_drained_books.Goals as goal
 
-pub returns-clause-first_come : goal.returns-clause-first_come
-returns-clause-first_come c = first_come hull_tree drained (λ b lawful. lawful) c.partitioned_schedules_hold.ensures
-
-pub returns-clause-one_holder : goal.returns-clause-one_holder
-returns-clause-one_holder c = one_holder hull_tree drained (λ b lawful. lawful) c.partitioned_schedules_hold.ensures
-
-pub returns-clause-bridges : goal.returns-clause-bridges
-returns-clause-bridges c = bridges hull_tree drained (λ b lawful. lawful) StoresBridgesOf (λ t sound. (sound.built, refl))
-    c.partitioned_schedules_hold.ensures
-
-pub returns-clause-multiplicities : goal.returns-clause-multiplicities
-returns-clause-multiplicities c = multiplicities hull_tree drained (λ b lawful. lawful) c.partitioned_schedules_hold.ensures
-
-pub returns-clause-legal : goal.returns-clause-legal
-returns-clause-legal c = legal hull_tree drained (λ b lawful. lawful) c.partitioned_schedules_hold.ensures
-
-pub returns-clause-in_order : goal.returns-clause-in_order
-returns-clause-in_order c = in_order hull_tree drained (λ b lawful. lawful) c.partitioned_schedules_hold.ensures
-
-pub returns-clause-tickets : goal.returns-clause-tickets
-returns-clause-tickets c = tickets drained
-
-pub returns-clause-ledgers : goal.returns-clause-ledgers
-returns-clause-ledgers c = ledgers hull_tree drained (λ b lawful. lawful) c.partitioned_schedules_hold.ensures
-
--- so it is of the lines of whatever book
-pub returns-clause-parts : goal.returns-clause-parts
-returns-clause-parts c = λ seats book opening now steps led free. c.parts_are_the_journal.ensures.journal _
+pub returns : goal.returns
+returns c = let law = c.partitioned_schedules_hold.ensures in record {
+  first_come = first_come hull_tree drained (λ b lawful. lawful) law;
+  one_holder = one_holder hull_tree drained (λ b lawful. lawful) law;
+  bridges = bridges hull_tree drained (λ b lawful. lawful) StoresBridgesOf (λ t sound. (sound.built, refl)) law;
+  multiplicities = multiplicities hull_tree drained (λ b lawful. lawful) law;
+  legal = legal hull_tree drained (λ b lawful. lawful) law;
+  in_order = in_order hull_tree drained (λ b lawful. lawful) law;
+  tickets = tickets drained;
+  ledgers = ledgers hull_tree drained (λ b lawful. lawful) law;
+  parts = λ seats book opening now steps led free. c.parts_are_the_journal.ensures.journal _;
+}

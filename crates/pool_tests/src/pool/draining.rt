@@ -12,7 +12,7 @@ ghost use Rattle.hull_pool.specs.Long.{IsSeatedLong, long_book_head};
 use super::{at, opened};
 use hull_book::{Call, Journal, Ledger, LongBook, PartsChecker, ReplayFault, Room, Then};
 use hull_plain::PlainSet;
-use hull_pool::{LongLock, LongSeat, close_book, make_long_call};
+use hull_pool::{LongLock, LongSeat, close_book, make_call};
 use std::alloc::Global;
 use std::process::Abort;
 use std::sync::Wait;
@@ -67,7 +67,7 @@ fn calls<R: Wait + Abort>(
 {
     let seat = member.seat.take().unwrap();
     let ledger = &mut member.ledger;
-    let (seat, answer) = make_long_call(rt, lock, seat, member.number, call, ledger, then);
+    let (seat, answer) = make_call(rt, lock, seat, member.number, call, ledger, then);
     let none = member.seat.replace(seat);
     let None = none else { unreachable!() };
     match answer {

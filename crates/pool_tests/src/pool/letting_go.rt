@@ -3,7 +3,7 @@ use super::{at, opened};
 use hull_book::{Call, Journal, Ledger, LongAnswer, LongBook, Reply, Room, Then};
 use hull_plain::PlainSet;
 use hull_pool::{
-    LongLock, LongSeat, Member, close_book, make_long_call, serve_long_and_hand_on, two_seats_share,
+    LongLock, LongSeat, Member, close_book, make_call, serve_and_hand_on, two_seats_share,
 };
 use std::alloc::Global;
 use std::process::Abort;
@@ -20,7 +20,7 @@ fn looks(
     ledger: &mut Ledger,
 ) -> (LongSeat<PlainSet>, LongAnswer) {
     match lock.look(lock.take(seat)) {
-        Look::Entered(guard) => serve_long_and_hand_on(guard, 0, call, ledger, Then::LetGo),
+        Look::Entered(guard) => serve_and_hand_on(guard, 0, call, ledger, Then::LetGo),
         Look::NotYet(_ticket) => panic!(rt; "the number is served"),
     }
 }
@@ -41,9 +41,9 @@ fn all_let_go<R: Wait + Abort>(rt: &R, alloc: Global) -> (Vec<LongAnswer>, Journ
     let zero = seats.pop().unwrap();
     let p = at(rt, 3, 4);
     let (ledger, add) = (&mut ledgers[0], Call::Add(p));
-    let (zero, added) = make_long_call(rt, &lock, zero, 0, add, ledger, Then::LetGo);
+    let (zero, added) = make_call(rt, &lock, zero, 0, add, ledger, Then::LetGo);
     let ledger = &mut ledgers[1];
-    let (one, counted) = make_long_call(rt, &lock, one, 1, Call::Count, ledger, Then::LetGo);
+    let (one, counted) = make_call(rt, &lock, one, 1, Call::Count, ledger, Then::LetGo);
     let (zero, removed) = looks(rt, &lock, zero, Call::Remove(p), &mut ledgers[0]);
     seats.push_reserved(zero);
     seats.push_reserved(one);

@@ -67,7 +67,7 @@ fn calls<R: Wait>(rt: &R, lock: &BookLock<PlainSet>, caller: &mut Caller, call: 
     ensures ready { IsSeated lock.now caller.new.number caller.new.ledger caller.new.seat }
 {
     let seat = caller.seat.take().unwrap();
-    let (seat, answer) = make_call(rt, lock, seat, caller.number, call, &mut caller.ledger);
+    let (seat, answer) = make_call(rt, lock, seat, caller.number, call, &mut caller.ledger, ());
     let none = caller.seat.replace(seat);
     let None = none else { unreachable!() };
     caller.answer = Some(answer);

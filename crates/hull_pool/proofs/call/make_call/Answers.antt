@@ -1,51 +1,31 @@
--- the book that the seat found has its own lines as it had seen them, and one call adds one of them at most
-use Rattle.std.proofs.Common.{◌<◌, ap, sym, subst, box_value, rules}
-use Rattle.hull_book.specs.declared.head.BookHead.{BookHead}
-use Rattle.ticket_lock.specs.Tokens.{seat_seen, guard_book, guard_number}
-use Rattle.hull_pool.specs.Work.{HasServed}
-use Rattle.hull_pool.proofs.Called.{found_ledger_of, same_own, served_called, served_longer, stays_full}
+-- the book that the seat found has its own lines as it had seen them, and the call was served at those
+use Rattle.std.proofs.Common.{◌<◌, ◌∙◌, ℕ, ap, subst, sym, rules, box_value}
+use Rattle.ticket_lock.specs.Tokens.{guard_book, guard_number, seat_number, seat_seen}
+use Rattle.hull_pool.specs.Work.{lines_of}
+use Rattle.hull_pool.proofs.Called.{found_ledger_of, same_own}
 use Rattle.hull_pool.proofs.call.make_call.Goals as goal
 
-pub serve_and_hand_on-requires : goal.serve_and_hand_on-requires
-serve_and_hand_on-requires g c =
-    let finds = c.enter-guard.ensures.finds in
-    let ledger = found_ledger_of (box_value (guard_book c.enter-guard.result)) c.args.number _ _
-    (subst (λ (h : BookHead). c.args.number < h.workers) (sym finds.same_head) c.requires.below)
-    (same_own c.args.number _ _ _ c.requires.number finds.own_lines) c.requires.ledger in
+pub serve_and_hand_on-requires-clause-may : goal.serve_and_hand_on-requires-clause-may
+serve_and_hand_on-requires-clause-may g c =
+    let law = g.met.B.Journalled in let finds = c.enter-guard.ensures.finds in
+    let book = box_value (guard_book c.enter-guard.result) in
+    let ledger = found_ledger_of (g.B.Journalled.whole book) c.args.number _ _
+    (subst (λ (n : ℕ). c.args.number < n) (sym (law.same_workers _ _ finds.same_head)) c.requires.may.below)
+    (ap (lines_of c.args.number) (law.has_lines book) ∙ same_own c.args.number _ _ _ c.requires.may.number
+    (law.same_own (seat_number c.args.seat) _ _ finds.own_lines)) c.requires.may.ledger in
     search rules
-
-pub returns-clause-back : goal.returns-clause-back
-returns-clause-back g c =
-    let begins = served_longer c.serve_and_hand_on.result.1 _ _ _ _ _ _ _ c.enter-guard.ensures.finds.begins
-    c.serve_and_hand_on.ensures.served in
-    search rules
-
-pub returns-clause-called : goal.returns-clause-called
-returns-clause-called g c =
-    let finds = c.enter-guard.ensures.finds in
-    let found = box_value (guard_book c.enter-guard.result) in
-    served_called c.serve_and_hand_on.result.1 found.head.journal
-    (guard_number c.enter-guard.result) c.args.number _ c.args.call found.lines _ _ c.serve_and_hand_on.ensures.served
-    (same_own c.args.number _ _ _ c.requires.number finds.own_lines)
-    (sym (ap (λ (h : BookHead). h.journal.capacity) finds.same_head))
 
 pub returns-clause-served : goal.returns-clause-served
 returns-clause-served g c =
     let finds = c.enter-guard.ensures.finds in
-    let found = box_value (guard_book c.enter-guard.result) in record {
-      number = guard_number c.enter-guard.result;
-      found = found.lines;
+    let book = box_value (guard_book c.enter-guard.result) in
+    let number = guard_number c.enter-guard.result in record {
+      number = number;
+      found = g.B.Chronicle.lines book;
       begins = finds.begins;
-      own_lines = same_own c.args.number _ _ _ c.requires.number finds.own_lines;
-      served = subst (λ (h : BookHead). HasServed h.journal (guard_number c.enter-guard.result) c.args.number c.args.call
-          found.lines (seat_seen c.serve_and_hand_on.result.0) c.serve_and_hand_on.result.1) finds.same_head
-          c.serve_and_hand_on.ensures.served;
+      own_lines = same_own c.args.number _ _ _ c.requires.may.number
+          (g.met.B.Journalled.same_own (seat_number c.args.seat) _ _ finds.own_lines);
+      is_so = subst (λ h. g.B.Journalled.served h c.args.then number c.args.number c.args.call
+          (g.B.Chronicle.lines book) (seat_seen c.serve_and_hand_on.result.0) c.serve_and_hand_on.result.1)
+          finds.same_head c.serve_and_hand_on.ensures.served;
     }
-
-pub returns-clause-stays_full : goal.returns-clause-stays_full
-returns-clause-stays_full g c = λ full.
-    let finds = c.enter-guard.ensures.finds in
-    let found = box_value (guard_book c.enter-guard.result) in
-    stays_full c.serve_and_hand_on.result.1 found.head.journal
-    (guard_number c.enter-guard.result) c.args.number _ c.args.call found.lines _ _ c.serve_and_hand_on.ensures.served
-    finds.begins (sym (ap (λ (h : BookHead). h.journal.capacity) finds.same_head)) full

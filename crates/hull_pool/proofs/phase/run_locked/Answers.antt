@@ -1,11 +1,12 @@
 -- every worker that was hired has run, came back with its parts, and stands in the closed journal
 use Rattle.std.proofs.Common.{arith, ◌≡◌, ◌∙◌, sym}
+use Rattle.std.proofs.lemmas.Grind.{common_steps}
 use Rattle.std.specs.Prelude.{box_value, IsSome, IfSome}
 use Rattle.hull_book.specs.Books.{BookValue}
 use Rattle.ticket_lock.specs.Tokens.{opening_book, seat_number}
 use Rattle.hull_pool.proofs.Reversed.{all_unreverse}
 use Rattle.hull_pool.proofs.Phases.{numbered_from, ready_from, fits_all, zip_all, seats_back, phase_ran}
-use Rattle.hull_pool.proofs.Phases.{numbered_worker, is_crew, as_long}
+use Rattle.hull_pool.proofs.Phases.{numbered_worker, all_long, is_crew}
 use Rattle.hull_pool.proofs.phase.run_locked.Goals as goal
 
 pub work_all-requires-clause-some : goal.work_all-requires-clause-some
@@ -92,33 +93,18 @@ close-requires-clause-all g c =
     )
 
 pub close-requires-clause-own : goal.close-requires-clause-own
-close-requires-clause-own g c =
-    let b : BookValue _ = box_value (opening_book c.args.lock) in
-    let made = is_crew b c.args.phase.now c.hire.new.crew.items c.args.seats _ _ _ c.requires.seats.0
-    c.requires.seats.1 c.requires.may c.hire.ensures.crew in
-    let ts = as_long c.dismiss.new.seats c.hire.new.crew c.work_all.new.crew c.args.seats.items _ made.many
-    made.long.seats c.work_all.ensures.many c.dismiss.ensures.long.0 in
-    let ws = as_long c.dismiss.new.answers c.hire.new.crew c.work_all.new.crew c.args.seats.items _ made.many
-    made.long.seats c.work_all.ensures.many c.dismiss.ensures.long.1 in
-    let ms = as_long c.dismiss.new.ledgers c.hire.new.crew c.work_all.new.crew c.args.seats.items _ made.many
-    made.long.seats c.work_all.ensures.many c.dismiss.ensures.long.2 in
-    let runs = rw (c.hire.ensures.crew, ← c.dismiss.ensures.team) at c.work_all.ensures.ran in
-    seats_back c.args.lock b c.args.phase.now _ _ _ _ (ws ∙ sym ts) (ms ∙ sym ts) runs
+close-requires-clause-own g c = grind (arith, common_steps, all_long, is_crew, seats_back)
 
 pub returns : goal.returns
 returns g c =
     let b : BookValue _ = box_value (opening_book c.args.lock) in
     let made = is_crew b c.args.phase.now c.hire.new.crew.items c.args.seats _ _ _ c.requires.seats.0
     c.requires.seats.1 c.requires.may c.hire.ensures.crew in
-    let ts = as_long c.dismiss.new.seats c.hire.new.crew c.work_all.new.crew c.args.seats.items _ made.many
-    made.long.seats c.work_all.ensures.many c.dismiss.ensures.long.0 in
-    let ws = as_long c.dismiss.new.answers c.hire.new.crew c.work_all.new.crew c.args.seats.items _ made.many
-    made.long.seats c.work_all.ensures.many c.dismiss.ensures.long.1 in
-    let ms = as_long c.dismiss.new.ledgers c.hire.new.crew c.work_all.new.crew c.args.seats.items _ made.many
-    made.long.seats c.work_all.ensures.many c.dismiss.ensures.long.2 in
+    let left = all_long c.dismiss.new.seats c.dismiss.new.answers c.dismiss.new.ledgers c.hire.new.crew c.work_all.new.crew
+    c.args.seats.items _ made.many made.long.seats c.work_all.ensures.many c.dismiss.ensures.long in
     let runs = rw (c.hire.ensures.crew, ← c.dismiss.ensures.team) at c.work_all.ensures.ran in
     phase_ran c.args.lock b (box_value c.close.result) c.args.phase.now _ _ _ _ _ _
-    (omega (arith, c.requires.some, c.args.seats.ok.0)) made.long.seats made.long.answers made.long.ledgers ts ws ms
+    (omega (arith, c.requires.some, c.args.seats.ok.0)) made.long.seats made.long.answers made.long.ledgers left.0 left.1 left.2
     c.requires.may
     (numbered_from 0 _ (λ i s e. c.requires.seats.4 i s e
     ∙ omega arith)) c.close.ensures.lawful c.close.ensures.head

@@ -1,11 +1,13 @@
 -- one phase more was run, or it was refused and those before it were run
 use Rattle.std.proofs.Common.{◌≡◌, ◌++◌, ◌∷◌, [], ◌∙◌, List, suc, sym, subst, take, take_all, drop}
+use Rattle.std.proofs.Common.{arith}
+use Rattle.std.proofs.lemmas.Grind.{common_steps}
 use Rattle.std.specs.Prelude.{slice_index_or}
 use Rattle.std.proofs.lemmas.List.{take_more}
 use Rattle.hull_book.specs.Books.{BookValue}
 use Rattle.hull_book.specs.Scripts.{PhaseValue}
 use Rattle.hull_pool.specs.Answers.{WorkersValue}
-use Rattle.hull_pool.specs.Runs.{MayRunAll, HasRunAll}
+use Rattle.hull_pool.specs.Runs.{MayRunAll}
 use Rattle.hull_pool.specs.Scripts.{HasRunPhases}
 use Rattle.hull_pool.proofs.Chained.{run_all, run_one_more, may_front, may_next}
 use Rattle.hull_pool.proofs.Fronts.{parted, of_ok}
@@ -51,23 +53,7 @@ returns-in-Err-clause-refused g c =
     )
 
 pub loop-phase-preserved : goal.loop-phase-preserved
-loop-phase-preserved g c =
-    let items : List PhaseValue = c.phases-phase-items.result.now in
-    let i = c.loop-phase.phase-index in
-    let ran = of_ok c.run_phase-end.result.ended _ c.in_default.not-Err c.run_phase-end.ensures.ran in
-    subst (λ (xs : List PhaseValue). HasRunPhases g.S.HullSet c.args.book c.args.workers xs
-    c.run_phase-end.result.book c.run_phase-end.result.workers)
-    (sym (take_more items i c.phase-item.result c.loop-phase-test.true))
-    (run_one_more c.args.book c.args.workers (take i items) c.loop-phase.book c.loop-phase.workers
-    (slice_index_or items i c.phase-item.result) c.run_phase-end.result.book c.run_phase-end.result.workers
-    c.loop-phase.invariant
-    (subst (λ (p : PhaseValue). HasRunAll g.S.HullSet c.loop-phase.book c.loop-phase.workers (p ∷ [])
-    c.run_phase-end.result.book c.run_phase-end.result.workers) c.phase-item.is ran))
+loop-phase-preserved g c = grind (arith, common_steps, take_more, of_ok, run_one_more)
 
 pub returns-clause-ran : goal.returns-clause-ran
-returns-clause-ran g c =
-    let whole = take_all c.loop-phase.phase-index c.phases-phase-items.result.now c.loop-phase-test.false
-    ∙ c.phases-phase-items.ensures.phases in
-    let chain = subst (λ (xs : List PhaseValue). HasRunPhases g.S.HullSet c.args.book c.args.workers xs
-    c.loop-phase.book c.loop-phase.workers) whole c.loop-phase.invariant in
-    (chain, run_all c.args.book c.args.workers c.args.script.now.phases _ _ c.requires chain)
+returns-clause-ran g c = grind (arith, common_steps, run_all, take_all)

@@ -7,7 +7,7 @@ use Rattle.hull_pool.proofs.two_seats.two_seats_share.Goals as goal
 
 pub close_book-book-requires-clause-ledgers : goal.close_book-book-requires-clause-ledgers
 close_book-book-requires-clause-ledgers g c =
-    let zero = c.make_long_call-zero-2 in let one = c.make_long_call-one in
+    let zero = c.make_call-zero-2 in let one = c.make_call-one in
     let seats : c.push_reserved-2.new.self.items ≡ zero.result.0 ∷ one.result.0 ∷ [] =
     c.push_reserved-2.ensures.items ∙ ap (λ (ss : List _). ss ++ one.result.0 ∷ [])
     (c.push_reserved.ensures.items ∙ ap (λ (ss : List _). ss ++ zero.result.0 ∷ []) c.requires.empty.0) in

@@ -1,28 +1,14 @@
 -- one call more is one more of the worker's calls, and at the end all are made
-use Rattle.std.proofs.Common.{rules, arith, ◌∙◌, ◌+◌, sym, ap, subst, refl, ℕ, length}
+use Rattle.std.proofs.Common.{append-nil, rules, arith, ◌∙◌, ◌+◌, sym, ap, subst, ℕ, box_value}
 use Rattle.std.proofs.lemmas.Grind.{common_steps}
 use Rattle.hull_book.specs.Ledgers.{IsLedgerOf}
-use Rattle.ticket_lock.specs.Tokens.{seat_seen}
-use Rattle.hull_pool.proofs.Called.{begins_longer, begins_same}
+use Rattle.ticket_lock.specs.Tokens.{opening_book, seat_seen}
+use base.Growing.{prefix_trans}
 use Rattle.hull_pool.proofs.Worked.{not_begun_at, one_more, finished}
 use Rattle.hull_pool.proofs.worker.work.Goals as goal
 
 pub loop-call-init : goal.loop-call-init
-loop-call-init g c =
-    let e = sym c.take.ensures.value ∙ c.unwrap-seat.ensures in
-    let mine = rw e at c.requires.own in record {
-      own = mine.0;
-      seat_is = mine.1;
-      number_is = refl;
-      same_number = refl;
-      away = search (rules, common_steps);
-      begins = begins_same _ _ mine.2;
-      ledger_is = mine.3;
-      worked = not_begun_at _ _ _ _ _ _ mine.2;
-      index_is = refl;
-      room = omega (arith, ap length c.calls-call-items.ensures, c.requires.room);
-      same_room = refl;
-    }
+loop-call-init g c = grind (arith, common_steps, not_begun_at, append-nil)
 
 pub loop-call-preserved : goal.loop-call-preserved
 loop-call-preserved g c =
@@ -32,11 +18,11 @@ loop-call-preserved g c =
       number_is = inv.number_is;
       same_number = inv.same_number;
       away = inv.away;
-      begins = begins_longer _ _ _ inv.begins c.make_call-next.ensures.back.begins;
+      begins = prefix_trans _ _ _ inv.begins c.make_call-next.ensures.back.begins;
       ledger_is = c.make_call-next.ensures.back.ledger;
-      worked = one_more _ _ _ _ _ _ _ _ _ _ _ c.make_call-next.result.1 inv.worked c.loop-call-test.true
-          (sym c.call-item.is) c.make_call-next.ensures.called
-          c.make_call-next.ensures.stays_full c.push_reserved.ensures.items;
+      worked = one_more (box_value (opening_book c.args.lock.now)).head.journal _ _ _ _ _ _ _ _ _ _
+          c.make_call-next.result.1 inv.worked c.loop-call-test.true (sym c.call-item.is)
+          c.make_call-next.ensures.served c.push_reserved.ensures.items;
       index_is = ap (λ (n : ℕ). n + 1) inv.index_is;
       room = omega (
         arith,

@@ -1,15 +1,12 @@
 -- the first phase's calls are counted, and there are no more calls than a text has lines
 use Rattle.std.proofs.Common.{◌<◌, arith, subst, All, length}
+use Rattle.std.proofs.lemmas.Grind.{common_steps}
 use Rattle.std.proofs.lemmas.List.Elements.{All-tail}
 use Rattle.hull_pool.proofs.Fronts.{calls_le, counted_more}
 use Rattle.hull_pool.proofs.workers.count_of.Goals as goal
 
 pub loop-phase-init : goal.loop-phase-init
-loop-phase-init c = record {
-  counted = omega arith;
-  jobs = c.requires.jobs;
-  few = omega (arith, calls_le c.args.phases.now c.args.worker, c.requires.few);
-}
+loop-phase-init c = grind (arith, common_steps, calls_le)
 
 pub loop-phase-preserved : goal.loop-phase-preserved
 loop-phase-preserved c =

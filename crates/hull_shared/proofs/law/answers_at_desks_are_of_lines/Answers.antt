@@ -1,5 +1,7 @@
 -- the law of the lock, at the book of a desk
-use Rattle.std.proofs.Common.{◌≡◌, ◌∙◌, ℕ, Bool, List, [], ◌∷◌, ◌++◌, Ok, sym}
+use Rattle.std.proofs.Common.{◌≡◌, ◌∙◌, ℕ, Bool, List, [], ◌∷◌, ◌++◌, sym}
+use Rattle.std.proofs.Common.{arith}
+use Rattle.std.proofs.lemmas.Grind.{common_steps}
 use Rattle.hull_book.specs.declared.marked_line.MarkedLine.{MarkedLine}
 use Rattle.hull_book.specs.Marks.{with_mark}
 use Rattle.hull_set.specs.declared.call.Call.{Call}
@@ -17,9 +19,7 @@ use Rattle.hull_shared.proofs.law.answers_at_desks_are_of_lines.Goals as goal
 replied : (head : DeskHead) (drains : Bool) (t k : ℕ) (call : Call) (found after : List MarkedLine) (answer : DeskAnswer)
     (l : MarkedLine) → IsServed head drains t k call found after answer → after ≡ found ++ l ∷ []
     → (l.line.seat ≡ k) × (l.line.call ≡ call) × (answer ≡ Written l.line.reply)
-replied head drains t k call found after (Written reply) l served adds =
-    let is = long_replied head.book.journal drains t k call found after (Ok reply) l served adds in
-    let same : Ok reply ≡ Ok l.line.reply = is.2 in (is.0, is.1, cc)
+replied head drains t k call found after (Written reply) l served adds = grind (arith, common_steps, long_replied)
 replied head drains t k call found after Full l served adds =
     absurd (no_longer found l (sym served.0.adds ∙ adds))
 replied head drains t k call found after (Unwritten reply) l served adds =

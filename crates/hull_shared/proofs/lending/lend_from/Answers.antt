@@ -1,6 +1,6 @@
 -- the seat that goes out was at home in its place
 use Rattle.std.proofs.Common.{◌≡◌, ◌<◌, ℕ, Some, slice_get, length, refl, sym, ap, subst, arith, ◌∙◌}
-use Rattle.std.specs.Prelude.{Option, slice_set}
+use Rattle.std.proofs.lemmas.Grind.{common_steps}
 use Rattle.std.specs.Mem.{manually_drop_value}
 use Rattle.std.specs.declared.mem.ManuallyDrop.{ManuallyDrop}
 use Rattle.std.proofs.lemmas.Option.{slice_get_read}
@@ -9,7 +9,6 @@ use Rattle.hull_book.specs.Marks.{plain}
 use Rattle.ticket_lock.specs.Tokens.{IsSeatOf, seat_number, seat_seen}
 use Rattle.hull_shared.specs.Locks.{HullLock, boxed_head, capacity_of, lock_of, seats_of}
 use Rattle.hull_shared.specs.Places.{HasAt, IsAtHome}
-use Rattle.hull_shared.specs.declared.place.Place.{Place}
 use Rattle.hull_shared.proofs.Homes.{home_without}
 use Rattle.hull_shared.proofs.lending.lend_from.Goals as goal
 
@@ -49,19 +48,4 @@ invariant_of-desk c = let d = c.args.desk in record {
 }
 
 pub returns : goal.returns
-returns c =
-    let d = c.args.desk in let j = c.in-Some.j in let p = c.unwrap-seat.result in
-    let stands : slice_get d.places.list.items j ≡ Some c.index_mut.result.now =
-    slice_get_read d.places.list.items (length d.places.list.items) j c.index_mut.result.now refl
-    (omega (arith, d.laid_out.each, d.places.list.ok.0, c.in-Some.ensures)) c.index_mut.ensures.value in
-    record {
-      same = (refl, refl, refl);
-      place = p;
-      j = j;
-      home = c.in-Some.ensures;
-      was_in = cc;
-      out = ap (λ (v : Option Place). slice_set d.places.list.items j v) c.take.ensures.after;
-      own_lock = ap (λ (m : ManuallyDrop HullLock). manually_drop_value m) c.in-Ok.ensures;
-      seat_is = refl;
-      ledger_is = refl;
-    }
+returns c = grind (arith, common_steps, slice_get_read)
