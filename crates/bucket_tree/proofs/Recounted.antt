@@ -1,5 +1,6 @@
 -- A point that is held more or less often.
-use Rattle.std.proofs.Common.{◌≡◌, ℕ, zero, suc, ◌+◌, ◌<◌, max, refl, sym, ap, ◌∙◌, subst, List, [], ◌∷◌, ◌++◌}
+use Rattle.std.proofs.Common.{true, false, ◌≡◌, ℕ, zero, suc, ◌+◌, ◌<◌, max, refl, sym, ap, ◌∙◌, subst, List, [], ◌∷◌}
+use Rattle.std.proofs.Common.{◌++◌}
 use Rattle.std.proofs.Common.{length, arith}
 use Rattle.std.proofs.Common.{Ok, get_or, Box}
 use Rattle.std.specs.List.{remove}
@@ -22,7 +23,8 @@ use Rattle.bucket_tree.specs.Nodes.{tree_of, tree_of_bucket, points_below, times
 use Rattle.bucket_tree.specs.Nodes.{IsWellBuilt}
 use Rattle.bucket_tree.proofs.BuiltLeaves.{leaf_built}
 use Rattle.bucket_tree.proofs.Gained.{held_row}
-use Rattle.bucket_tree.proofs.Lost.{counted_remove, count_at, count_left, count_right}
+use Rattle.bucket_tree.proofs.Lost.{counted_remove, count_at}
+use Rattle.bucket_tree.proofs.Parts.{count_in}
 use Rattle.bucket_tree.proofs.NodeRows.{halves_row}
 
 -- ---- a bucket
@@ -138,7 +140,7 @@ recounted_left times p n h f k e w b r =
           let a = held_row (Fork h (with_left_half f f.value k)) k f.value.right q r.built.buckets refl refl in
           let c = held_row n f.value.left f.value.right q row.left_built.buckets (ap points_below e) (ap times_below e)
           in
-          let d = ap (λ z. several z p q) (count_left n h f p e w b) in
+          let d = ap (λ z. several z p q) (count_in true n h f p e w b) in
           omega (arith, a, c, d, r.held q);
     }
 
@@ -191,7 +193,7 @@ recounted_right times p n h f k e w b r =
           let a = held_row (Fork h (with_right_half f f.value k)) f.value.left k q row.left_built.buckets refl refl in
           let c = held_row n f.value.left f.value.right q row.left_built.buckets (ap points_below e) (ap times_below e)
           in
-          let d = ap (λ z. several z p q) (count_right n h f p e w b) in
+          let d = ap (λ z. several z p q) (count_in false n h f p e w b) in
           omega (arith, a, c, d, r.held q);
     }
 
