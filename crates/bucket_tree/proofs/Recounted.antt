@@ -1,5 +1,5 @@
 -- A point that is held more or less often.
-use Rattle.std.proofs.Common.{Bool, true, false, cond, ◌≡◌, ℕ, zero, suc, ◌+◌, ◌<◌, max, refl, sym, ap, ◌∙◌, subst, List, [], ◌∷◌}
+use Rattle.std.proofs.Common.{Bool, true, false, cond, ◌≡◌, ℕ, zero, suc, ◌+◌, ◌<◌, refl, sym, ap, ◌∙◌, subst, List, [], ◌∷◌}
 use Rattle.std.proofs.Common.{◌++◌}
 use Rattle.std.proofs.Common.{length, arith}
 use Rattle.std.proofs.Common.{Ok, get_or, Box}
@@ -20,7 +20,7 @@ use Rattle.bucket_tree.specs.Counts.{counted, times_at, IsSameButTimes, IsRecoun
 use Rattle.leaf_trees.specs.Entries.{several}
 use Rattle.bucket_tree.specs.declared.node.Fork.{Fork as Below}
 use Rattle.bucket_tree.specs.declared.node.Node.{Node, Leaf, Fork}
-use Rattle.bucket_tree.specs.Nodes.{tree_of, tree_of_bucket, points_below, times_below, forks_above, AreNear}
+use Rattle.bucket_tree.specs.Nodes.{tree_of, tree_of_bucket, points_below, times_below, forks_above}
 use Rattle.bucket_tree.specs.Nodes.{AreInRow, IsWellBuilt}
 use Rattle.bucket_tree.proofs.BuiltLeaves.{leaf_built}
 use Rattle.bucket_tree.proofs.Gained.{held_row}
@@ -177,7 +177,7 @@ recounted_in left times p n h f v k u e w b r =
 
     counts : (left : Bool) → IsRecounted times p (cond left f.value.left f.value.right) k → (q : Pair)
         → (other : ℕ) × (times_at (Fork h (with_value f (with_part left f.value k))) q ≡ times_at k q + other)
-            × (times_at n q ≡ times_at (cond left f.value.left f.value.right) q + other)
+        × (times_at n q ≡ times_at (cond left f.value.left f.value.right) q + other)
     counts true s q = (
       times_at f.value.right q,
       held_row (Fork h (with_value f (with_part true f.value k))) k f.value.right q s.built.buckets refl refl,

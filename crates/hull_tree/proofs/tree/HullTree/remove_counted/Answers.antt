@@ -2,7 +2,6 @@
 use Rattle.std.proofs.Common.{arith, ◌≡◌, ◌≤◌, ◌-◌, ap, subst, sym, ◌∙◌, Some}
 use Rattle.std.proofs.lemmas.Grind.{common_steps}
 use Rattle.std.specs.Prelude.{length}
-use Rattle.std.specs.List.{Contains}
 use Rattle.hull_set.specs.Replies.{AnswersRemove}
 use Rattle.hull_set.specs.declared.reply.Reply.TheVariants.{Removed, Left, Absent}
 use Rattle.hull_set.specs.declared.rules.Rules.TheVariants.{Counted}
