@@ -1,8 +1,8 @@
 -- A point that comes to one of two nodes in a row.
-use Rattle.std.proofs.Common.{◌≡◌, ℕ, ◌+◌, ◌≤◌, ◌<◌, true, false, Bool, refl, sym, ap, ◌∙◌, subst, List, [], ◌∷◌, ◌++◌}
+use Rattle.std.proofs.Common.{◌≡◌, ℕ, ◌+◌, ◌<◌, true, false, Bool, refl, sym, ap, ◌∙◌, subst, List, [], ◌∷◌, ◌++◌}
 use Rattle.std.proofs.Common.{length, arith}
 use Rattle.std.proofs.Common.{inl, inr, length-append}
-use Rattle.std.specs.List.{All, Contains}
+use Rattle.std.specs.List.{All}
 use Rattle.std.proofs.lemmas.List.Elements.{All-cons}
 use Rattle.lattice.specs.Covers.{IsPointSet, with_point}
 use Rattle.lattice.specs.Plane.{Pair, IsBefore}
@@ -10,20 +10,15 @@ use Rattle.lattice.proofs.Order.{before_trans, before_total}
 use Rattle.hull_geometry.specs.Positions.{first_of}
 use Rattle.hull_geometry.proofs.PointLists.{AllPairs-head, all_of}
 use Rattle.hull_geometry.proofs.PointSets.{set_right, set_apart}
-use Rattle.hull_geometry.proofs.SetLaws.{ordered_with}
 use Rattle.std.proofs.lemmas.List.Elements.{All-weaker}
 use Rattle.hull_set.specs.Held.{once}
 use Rattle.hull_buckets.specs.Buckets.{BucketValue}
-use Rattle.bucket_tree.specs.Counts.{counted, times_at, HasGained}
+use Rattle.bucket_tree.specs.Counts.{counted, times_at}
 use Rattle.bucket_tree.specs.declared.node.Node.{Node, Leaf, Fork', Gap}
-use Rattle.bucket_tree.specs.Nodes.{points_below, times_below, HasBuckets, IsWellBuilt, AreInRow}
-use Rattle.hull_set.specs.declared.TheConstants.{POINT_LIMIT}
+use Rattle.bucket_tree.specs.Nodes.{points_below, times_below, HasBuckets}
 use Rattle.std.specs.Prelude.{IsTrue, get_or}
 use Rattle.hull_geometry.proofs.PointLists.{get_or_free}
-use Rattle.bucket_tree.proofs.NodePoints.{some_below}
-use Rattle.bucket_tree.proofs.NodeRows.{in_row}
 use Rattle.bucket_tree.proofs.Rows.{counted_row}
-use Rattle.leaf_trees.proofs.Rows.{with_left, with_right, with_length}
 
 -- ---- lists
 
@@ -61,78 +56,12 @@ counts_below (Fork' height i first_right left right last_left upper lower) h = o
 )
 counts_below Gap h = absurd h
 
--- where p came to a list of points, or did not
-abbrev pub Grew : Bool → Pair → List Pair → List Pair → Type 0
-Grew false p S T = T ≡ with_point p S
-Grew true p S T = T ≡ S
-
--- the points of a node that gained one
-pub grew : (refused : Bool) (p : Pair) (n m : Node) → HasGained refused p n m
-    → Grew refused p (points_below n) (points_below m)
-grew false p n m h = h.0
-grew true p n m h = h.0
-
--- they stay in order
-pub grew_set : (refused : Bool) (p : Pair) (S T : List Pair) → Grew refused p S T → IsPointSet S → IsPointSet T
-grew_set false p S T e s = subst IsPointSet (sym e) (ordered_with p S s)
-grew_set true p S T e s = subst IsPointSet (sym e) s
-
--- and are one more at most
-pub grew_length : (refused : Bool) (p : Pair) (S T : List Pair) → Grew refused p S T → ¬ Contains S p
-    → length T ≤ length S + 1
-grew_length false p S T e n = omega (arith, ap (λ (z : List Pair). length z) e, with_length p S n)
-grew_length true p S T e n = omega (arith, ap (λ (z : List Pair). length z) e)
-
--- the first of two lists grew
-pub grew_left : (refused : Bool) (p : Pair) (xs zs ys : List Pair) → IsPointSet (xs ++ ys) → IsBefore p (first_of ys)
-    → Grew refused p xs zs → Grew refused p (xs ++ ys) (zs ++ ys)
-grew_left false p xs zs ys s b e =
-    ap (λ z. z ++ ys) e ∙ sym (with_left p xs ys (all_after p xs ys s b))
-grew_left true p xs zs ys s b e = ap (λ z. z ++ ys) e
-
--- the second did
-pub grew_right : (refused : Bool) (p : Pair) (xs ys zs : List Pair) → IsPointSet (xs ++ ys) → 0 < length ys
-    → ¬ IsBefore p (first_of ys) → Grew refused p ys zs → Grew refused p (xs ++ ys) (xs ++ zs)
-grew_right false p xs ys zs s l b e =
-    ap (λ z. xs ++ z) e ∙ sym (with_right p xs ys (all_before p xs ys s l b))
-grew_right true p xs ys zs s l b e = ap (λ z. xs ++ z) e
-
 -- what a node holds, by two in whose row its points are
 pub held_row : (n l r : Node) (q : Pair) → HasBuckets l → points_below n ≡ points_below l ++ points_below r
     → times_below n ≡ times_below l ++ times_below r → times_at n q ≡ times_at l q + times_at r q
 held_row n l r q h e f =
     ap (λ z. counted z (times_below n) q) e ∙ ap (λ z. counted (points_below l ++ points_below r) z q) f
     ∙ counted_row (points_below l) (points_below r) (times_below l) (times_below r) q (counts_below l h)
-
--- the first of two nodes gained a point
-pub gained_left : (refused : Bool) (p : Pair) (n m l k r : Node) → IsPointSet (points_below l ++ points_below r)
-    → IsBefore p (first_of (points_below r)) → HasBuckets l → HasBuckets k
-    → points_below n ≡ points_below l ++ points_below r → times_below n ≡ times_below l ++ times_below r
-    → points_below m ≡ points_below k ++ points_below r → times_below m ≡ times_below k ++ times_below r
-    → HasGained refused p l k → HasGained refused p n m
-gained_left false p n m l k r s b hl hk e f g h w = (
-  g ∙ grew_left false p (points_below l) (points_below k) (points_below r) s b w.0 ∙ ap (with_point p) (sym e),
-  λ q. omega (arith, held_row n l r q hl e f, held_row m k r q hk g h, w.1 q),
-)
-gained_left true p n m l k r s b hl hk e f g h w = (
-  g ∙ ap (λ z. z ++ points_below r) w.0 ∙ sym e,
-  λ q. omega (arith, held_row n l r q hl e f, held_row m k r q hk g h, w.1 q),
-)
-
--- the second did
-pub gained_right : (refused : Bool) (p : Pair) (n m l r k : Node) → IsPointSet (points_below l ++ points_below r)
-    → 0 < length (points_below r) → ¬ IsBefore p (first_of (points_below r)) → HasBuckets l
-    → points_below n ≡ points_below l ++ points_below r → times_below n ≡ times_below l ++ times_below r
-    → points_below m ≡ points_below l ++ points_below k → times_below m ≡ times_below l ++ times_below k
-    → HasGained refused p r k → HasGained refused p n m
-gained_right false p n m l r k s i b hl e f g h w = (
-  g ∙ grew_right false p (points_below l) (points_below r) (points_below k) s i b w.0 ∙ ap (with_point p) (sym e),
-  λ q. omega (arith, held_row n l r q hl e f, held_row m l k q hl g h, w.1 q),
-)
-gained_right true p n m l r k s i b hl e f g h w = (
-  g ∙ ap (λ z. points_below l ++ z) w.0 ∙ sym e,
-  λ q. omega (arith, held_row n l r q hl e f, held_row m l k q hl g h, w.1 q),
-)
 
 -- ---- by the words of the code
 
@@ -151,42 +80,6 @@ passed b f e = f e
 -- a test that failed
 pub failed : {A : Type 0} (b : Bool) → (A → IsTrue b) → b ≡ false → ¬ A
 failed b f e a = true_is_no_false (sym (f a) ∙ e)
-
--- the first of two nodes in a row gained a point: they are in a row
-pub left_row : (refused : Bool) (p : Pair) (l r k : Node) → AreInRow l r → IsBefore p (first_of (points_below r))
-    → IsWellBuilt k → HasGained refused p l k → AreInRow k r
-left_row refused p l r k w b built g = in_row k r built w.right_built
-    (grew_set refused p (points_below l ++ points_below r) (points_below k ++ points_below r)
-    (grew_left refused p (points_below l) (points_below k) (points_below r) w.in_order b (grew refused p l k g))
-    w.in_order)
-
--- and no more than a set may have
-pub left_few : (refused : Bool) (p : Pair) (n l r k : Node) → AreInRow l r → IsBefore p (first_of (points_below r))
-    → HasGained refused p l k → points_below n ≡ points_below l ++ points_below r → ¬ Contains (points_below n) p
-    → length (points_below n) < POINT_LIMIT → length (points_below k ++ points_below r) ≤ POINT_LIMIT
-left_few refused p n l r k w b g e a f =
-    let m = grew_length refused p (points_below l ++ points_below r) (points_below k ++ points_below r)
-    (grew_left refused p (points_below l) (points_below k) (points_below r) w.in_order b (grew refused p l k g))
-    (λ i. a (subst (λ z. Contains z p) (sym e) i)) in
-    omega (arith, m, f, ap (λ (z : List Pair). length z) e)
-
--- the second did: the same
-pub right_row : (refused : Bool) (p : Pair) (l r k : Node) → AreInRow l r → ¬ IsBefore p (first_of (points_below r))
-    → IsWellBuilt k → HasGained refused p r k → AreInRow l k
-right_row refused p l r k w b built g = in_row l k w.left_built built
-    (grew_set refused p (points_below l ++ points_below r) (points_below l ++ points_below k)
-    (grew_right refused p (points_below l) (points_below r) (points_below k) w.in_order (some_below r
-    w.right_built.buckets) b (grew refused p r k g)) w.in_order)
-
-pub right_few : (refused : Bool) (p : Pair) (n l r k : Node) → AreInRow l r → ¬ IsBefore p (first_of (points_below r))
-    → HasGained refused p r k → points_below n ≡ points_below l ++ points_below r → ¬ Contains (points_below n) p
-    → length (points_below n) < POINT_LIMIT → length (points_below l ++ points_below k) ≤ POINT_LIMIT
-right_few refused p n l r k w b g e a f =
-    let m = grew_length refused p (points_below l ++ points_below r) (points_below l ++ points_below k)
-    (grew_right refused p (points_below l) (points_below r) (points_below k) w.in_order (some_below r
-    w.right_built.buckets) b (grew refused p r k g))
-    (λ i. a (subst (λ z. Contains z p) (sym e) i)) in
-    omega (arith, m, f, ap (λ (z : List Pair). length z) e)
 
 -- ---- a bucket that was parted
 

@@ -1,32 +1,35 @@
 -- A fork one of whose parts changed in place.
-use Rattle.std.proofs.Common.{◌≡◌, ℕ, ◌+◌, ◌*◌, ◌≤◌, ◌<◌, max, Bool, true, false, refl, sym, ap, ◌∙◌, subst, ◌++◌, length, arith}
+use Rattle.std.proofs.Common.{◌≡◌, ℕ, ◌+◌, ◌*◌, ◌≤◌, max, Bool, true, false, cond, refl, sym, ap, ◌∙◌, subst, ◌++◌}
+use Rattle.std.proofs.Common.{List, length, length-append, arith}
 use Rattle.std.proofs.Common.{Box, Some, Ok, Err}
 use Rattle.std.specs.Box.{with_value}
+use Rattle.std.specs.List.{Contains}
+use Rattle.std.proofs.lemmas.List.Elements.{Contains-append_left, Contains-append_right}
 use Rattle.std.specs.Prelude.{Result, IfOk, IfErr}
 use Rattle.lattice.specs.Covers.{with_point, without_point}
-use Rattle.lattice.specs.Plane.{Pair, IsBefore}
+use Rattle.lattice.specs.Plane.{Pair}
 use Rattle.lattice.specs.declared.side.Side.{Side}
 use Rattle.lattice.specs.declared.side.Side.TheVariants.{Lower, Upper}
 use Rattle.hull_geometry.specs.Positions.{first_of, last_of}
 use Rattle.hull_buckets.specs.Buckets.{BucketValue, IsBucket}
 use Rattle.hull_set.specs.Held.{once}
-use Rattle.hull_set.specs.declared.TheConstants.{POINT_LIMIT}
-use Rattle.bucket_tree.specs.Changes.{IsBridgeBetween, IsClearOf, IsClosedOver, ClosesBy, IsBehind, IsBehindLeft, IsBehindRight}
+use Rattle.bucket_tree.specs.Changes.{HasEdgesBehind, IsBridgeBetween, IsClosedOver, IsBehind}
 use Rattle.bucket_tree.specs.Changes.{IsRenewed, IsSameBut, edge_on}
-use Rattle.bucket_tree.specs.Counts.{counted, times_at}
-use Rattle.bucket_tree.specs.InPlace.{AreFewFor, HasChanged, HasChangedIn, HasPutIn, HasTakenOut, IsInPlace, IsUnsearched}
+use Rattle.bucket_tree.specs.Counts.{counted, times_at, Alters, Kind, Comes, Goes}
+use Rattle.bucket_tree.specs.InPlace.{AreFewFor, HasChanged, HasChangedIn, IsBehindPart, IsInPlace, IsRenewedAfter}
+use Rattle.bucket_tree.specs.InPlace.{IsToRenew, IsUnsearched}
 use Rattle.bucket_tree.specs.Nodes.{points_below, times_below, forks_above, AreNear, AreInRow, IsWellBuilt}
 use Rattle.bucket_tree.specs.declared.renewal.Changed.{Changed}
 use Rattle.bucket_tree.specs.declared.node.Fork.{Fork as Below}
 use Rattle.bucket_tree.specs.declared.node.Node.{Node, Leaf, Fork}
 use Rattle.bucket_tree.specs.declared.renewal.Open.{Open}
 use Rattle.bucket_tree.proofs.BuiltLeaves.{leaf_built}
-use Rattle.bucket_tree.proofs.Gained.{gained_left, gained_right, left_row, left_few, right_row, right_few}
-use Rattle.bucket_tree.proofs.Kept.{DiffersAt, differs_gained, differs_lost, differs_not, still, stored, closed_left}
-use Rattle.bucket_tree.proofs.Kept.{closed_right, closed_within_left, closed_within_right, first_stays, last_stays, same_edges}
-use Rattle.bucket_tree.proofs.Lost.{same_left, same_right, lost_left_row, lost_left_few, lost_left, lost_right_row, lost_right_few, lost_right}
-use Rattle.bucket_tree.proofs.MostTurns.{one_fork}
-use Rattle.bucket_tree.proofs.NodePoints.{some_below}
+use Rattle.bucket_tree.proofs.Kept.{DiffersAt, behind_as, closed_within, edges_as, first_kept, last_kept, same_edges}
+use Rattle.bucket_tree.proofs.Kept.{stored}
+use Rattle.bucket_tree.proofs.Parts.{BelongsTo, HasRoomFor, IsAt, alters_with, at, closed_with, differs, few_with}
+use Rattle.bucket_tree.proofs.Parts.{row_with}
+use Rattle.bucket_tree.proofs.Parts.{same_at, stands_with}
+use Rattle.bucket_tree.proofs.MostTurns.{few_turns, one_fork}
 use Rattle.bucket_tree.proofs.Rooted.{absent_below}
 use Rattle.bucket_tree.proofs.NodeRows.{corners_in_row, halves_row}
 
@@ -96,348 +99,225 @@ lower_moved f g s b =
     (subst (λ z. IsBridgeBetween Lower f.left z g.lower) (sym s.right)
     (subst (IsBridgeBetween Lower f.left f.right) (sym s.other) b))
 
--- ---- the left part
+-- ---- one part: the left one where the word is true, and else the right one
 
--- with another left part
-abbrev pub with_left : Below → Node → Below
-with_left f k = record {
+-- the fork with another one in its place
+abbrev pub with_part : Bool → Below → Node → Below
+with_part left f k = record {
   first_right = f.first_right;
-  left = k;
-  right = f.right;
+  left = cond left k f.left;
+  right = cond left f.right k;
   last_left = f.last_left;
   upper = f.upper;
   lower = f.lower;
 }
 
--- a fork whose left part changed at p is behind
-pub left_behind : (p : Pair) (n : Node) (h : ℕ) (f : Below) (k : Node) (sides : Open) → IsApart n h f → AreInRow k f.right
-    → DiffersAt p (points_below f.left) (points_below k) → IsClosedOver p sides (points_below k)
-    → IsBehindLeft p sides (with_left f k)
-left_behind p n h f k sides a row d c = record {
-  row = row;
-  edges = record {
-    closed = λ side o. moved side (closed_left p f.left k f.right sides f a.row a.edges d c side o);
-    clear = λ side z. moved side
-        (still side p (points_below f.left) (points_below f.right) (points_below k) (points_below f.right)
-        (edge_on side f) (a.edges side) d (differs_not p (points_below f.right))
-        (subst (λ e. IsClearOf side e p) (same side) z));
-  };
-  first = a.first;
-  kept = λ b. a.last ∙ last_stays p (points_below f.left) (points_below k) a.row.left_built.ordered row.left_built.ordered
-      (some_below f.left a.row.left_built.buckets) (some_below k row.left_built.buckets) d (subst (IsBefore p) a.last b);
-}
-  where
-    same : (side : Side) → edge_on side (with_left f k) ≡ edge_on side f
-    same Lower = refl
-    same Upper = refl
+-- a fork, and the part to which p belongs
+pub record IsForkAt (left : Bool) (p : Pair) (n : Node) (h : ℕ) (f : Below) : Type 0 where
+  pub apart : IsApart n h f
+  pub at : IsAt left p n f.left f.right
 
-    moved : (side : Side) → IsBridgeBetween side k f.right (edge_on side f)
-        → IsBridgeBetween side k f.right (edge_on side (with_left f k))
-    moved side b = subst (IsBridgeBetween side k f.right) (sym (same side)) b
-
--- with its last point on the left found anew it is behind as both parts are
-pub behind_of_left : (p : Pair) (sides : Open) (f g : Below) → IsBehindLeft p sides f → g.lower ≡ f.lower
-    → g.upper ≡ f.upper → g.first_right ≡ f.first_right → g.last_left ≡ last_of (points_below f.left)
-    → IsBehind p sides f.left f.right g
-behind_of_left p sides f g h l u first last = record {
-  last = last;
-  first = first ∙ h.first;
-  closed = λ side o. subst (IsBridgeBetween side f.left f.right) (sym (same_edges f g l u side)) (h.edges.closed side o);
-  clear = λ side z. subst (IsBridgeBetween side f.left f.right) (sym (same_edges f g l u side))
-      (h.edges.clear side (subst (λ e. IsClearOf side e p) (same_edges f g l u side) z));
-}
-
--- the fork g over a left part that changed is in place where that was, and its points are those of both parts
-module _ (p : Pair) (n : Node) (h : ℕ) (f : Below) (k : Node) (below above : Changed) (g : Box Below _) (a : IsApart n h f)
-    (part : IsInPlace p f.left k below) (r : IsRenewed g.value) (u : g.value.left ≡ k) (v : g.value.right ≡ f.right) where
-  left_points : points_below (Fork h g) ≡ points_below k ++ points_below f.right
-  left_points = ap (λ z. points_below z ++ points_below g.value.right) u ∙ ap (λ z. points_below k ++ points_below z) v
-
-  left_times : times_below (Fork h g) ≡ times_below k ++ times_below f.right
-  left_times = ap (λ z. times_below z ++ times_below g.value.right) u ∙ ap (λ z. times_below k ++ times_below z) v
-
-  left_in_place : above.turns ≤ below.turns + 4 * max (forks_above k) (forks_above f.right) + 24
-      → ClosesBy p below.sides above.sides (points_below k ++ points_below f.right) → IsInPlace p n (Fork h g) above
-  left_in_place t c =
-      let again = built_again n h f g a r (ap forks_above u ∙ part.height) (ap forks_above v) in
-      record {
-        built = again.0;
-        height = again.1;
-        turns = omega (
-          arith,
-          t,
-          one_fork (forks_above n) (forks_above f.left) below.turns (4 * max (forks_above k) (forks_above f.right) + 24)
-              (omega (arith, a.height)) part.turns (omega (arith, a.height, part.height)),
-        );
-        closed = subst (IsClosedOver p above.sides) (sym left_points)
-            (closed_within_left p below.sides above.sides (points_below k) (points_below f.right) part.closed c);
-      }
-
--- p came to the left part
-module _ (p : Pair) (n : Node) (h : ℕ) (f : Below) (k : Node) (below : Changed) (a : IsApart n h f)
-    (b : IsBefore p f.first_right) (put : HasPutIn p f.left k below) where
-  ahead : IsBefore p (first_of (points_below f.right))
-  ahead = subst (IsBefore p) a.first b
-
-  pub put_left_behind : IsBehindLeft p below.sides (with_left f k)
-  put_left_behind = left_behind p n h f k below.sides a
-      (left_row false p f.left f.right k a.row ahead put.in_place.built put.gained)
-      (differs_gained false p f.left k a.row.left_built.ordered put.gained) put.in_place.closed
-
-  left_absent : times_at n p ≡ 0
-  left_absent = same_left p n f.left f.right a.row a.points a.times ahead ∙ put.absent
-
-  pub put_left_few : length (points_below n) < POINT_LIMIT → length (points_below k ++ points_below f.right) ≤ POINT_LIMIT
-  put_left_few few = left_few false p n f.left f.right k a.row ahead put.gained a.points
-      (absent_below (Some n) n p refl a.built left_absent) few
-
-  pub put_left : (g : Box Below _) (above : Changed) → IsRenewed g.value → g.value.left ≡ k → g.value.right ≡ f.right
-      → above.turns ≤ below.turns + 4 * max (forks_above k) (forks_above f.right) + 24
-      → ClosesBy p below.sides above.sides (points_below k ++ points_below f.right) → HasPutIn p n (Fork h g) above
-  put_left g above r u v t c = record {
-    absent = left_absent;
-    in_place = left_in_place p n h f k below above g a put.in_place r u v t c;
-    gained = gained_left false p n (Fork h g) f.left k f.right a.row.in_order ahead a.row.left_built.buckets
-        put.in_place.built.buckets a.points a.times
-        (left_points p n h f k below above g a put.in_place r u v)
-        (left_times p n h f k below above g a put.in_place r u v) put.gained;
-  }
-
--- p went from the left part
-module _ (p : Pair) (n : Node) (h : ℕ) (f : Below) (k : Node) (below : Changed) (a : IsApart n h f)
-    (b : IsBefore p f.first_right) (taken : HasTakenOut p f.left k below) where
-  stood_ahead : IsBefore p (first_of (points_below f.right))
-  stood_ahead = subst (IsBefore p) a.first b
-
-  pub take_left_behind : IsBehindLeft p below.sides (with_left f k)
-  take_left_behind = left_behind p n h f k below.sides a
-      (lost_left_row p n f.left f.right a.row a.points a.times stood_ahead k taken.lost)
-      (differs_lost p f.left k a.row.left_built.ordered taken.lost) taken.in_place.closed
-
-  pub take_left_few : length (points_below n) ≤ POINT_LIMIT → length (points_below k ++ points_below f.right) ≤ POINT_LIMIT
-  take_left_few few =
-      omega (arith, few, lost_left_few p n f.left f.right a.row a.points a.times stood_ahead k taken.lost)
-
-  pub take_left : (g : Box Below _) (above : Changed) → IsRenewed g.value → g.value.left ≡ k → g.value.right ≡ f.right
-      → above.turns ≤ below.turns + 4 * max (forks_above k) (forks_above f.right) + 24
-      → ClosesBy p below.sides above.sides (points_below k ++ points_below f.right) → HasTakenOut p n (Fork h g) above
-  take_left g above r u v t c =
-      let same = left_in_place p n h f k below above g a taken.in_place r u v t c in
-      record {
-        once = same_left p n f.left f.right a.row a.points a.times stood_ahead ∙ taken.once;
-        in_place = same;
-        lost = lost_left p n f.left f.right a.row a.points a.times stood_ahead k (Fork h g) taken.lost same.built
-            (left_points p n h f k below above g a taken.in_place r u v)
-            (left_times p n h f k below above g a taken.in_place r u v)
-            (omega (arith, same.height), omega (arith, same.height));
-      }
-
--- ---- the right part
-
--- with another right part
-abbrev pub with_right : Below → Node → Below
-with_right f k = record {
-  first_right = f.first_right;
-  left = f.left;
-  right = k;
-  last_left = f.last_left;
-  upper = f.upper;
-  lower = f.lower;
-}
-
--- a fork whose right part changed at p is behind
-pub right_behind : (p : Pair) (n : Node) (h : ℕ) (f : Below) (k : Node) (sides : Open) → IsApart n h f → AreInRow f.left k
-    → DiffersAt p (points_below f.right) (points_below k) → IsClosedOver p sides (points_below k)
-    → IsBehindRight p sides (with_right f k)
-right_behind p n h f k sides a row d c = record {
-  row = row;
-  edges = record {
-    closed = λ side o. moved side (closed_right p f.left f.right k sides f a.row a.edges d c side o);
-    clear = λ side z. moved side
-        (still side p (points_below f.left) (points_below f.right) (points_below f.left) (points_below k)
-        (edge_on side f) (a.edges side) (differs_not p (points_below f.left)) d
-        (subst (λ e. IsClearOf side e p) (same side) z));
-  };
-  last = a.last;
-  kept = λ b. a.first ∙ first_stays p (points_below f.right) (points_below k) a.row.right_built.ordered
-      row.right_built.ordered (some_below f.right a.row.right_built.buckets) (some_below k row.right_built.buckets) d
-      (subst (λ z. IsBefore z p) a.first b);
-}
-  where
-    same : (side : Side) → edge_on side (with_right f k) ≡ edge_on side f
-    same Lower = refl
-    same Upper = refl
-
-    moved : (side : Side) → IsBridgeBetween side f.left k (edge_on side f)
-        → IsBridgeBetween side f.left k (edge_on side (with_right f k))
-    moved side b = subst (IsBridgeBetween side f.left k) (sym (same side)) b
-
--- with its first point on the right found anew it is behind as both parts are
-pub behind_of_right : (p : Pair) (sides : Open) (f g : Below) → IsBehindRight p sides f → g.lower ≡ f.lower
-    → g.upper ≡ f.upper → g.last_left ≡ f.last_left → g.first_right ≡ first_of (points_below f.right)
-    → IsBehind p sides f.left f.right g
-behind_of_right p sides f g h l u last first = record {
-  last = last ∙ h.last;
-  first = first;
-  closed = λ side o. subst (IsBridgeBetween side f.left f.right) (sym (same_edges f g l u side)) (h.edges.closed side o);
-  clear = λ side z. subst (IsBridgeBetween side f.left f.right) (sym (same_edges f g l u side))
-      (h.edges.clear side (subst (λ e. IsClearOf side e p) (same_edges f g l u side) z));
-}
-
--- a fork that is behind two parts is behind with these in it
-pub over_parts : (p : Pair) (sides : Open) (l r : Node) (f : Below) → IsBehind p sides l r f
-    → IsBehind p sides l r (with_right (with_left f l) r)
-over_parts p sides l r f h =
-    let g = with_right (with_left f l) r in
+-- by the fork as it is read at two places
+pub fork_at : (left : Bool) (p : Pair) (n : Node) (h : ℕ) (b : Box Below _) (f g : Below) → n ≡ Fork h b → f ≡ b.value
+    → g ≡ b.value → IsWellBuilt n → BelongsTo left p g.first_right → IsForkAt left p n h f
+fork_at left p n h b f g e v w built here =
+    let a = subst (IsApart n h) (sym v) (apart n h b e built) in
     record {
-      last = h.last;
-      first = h.first;
-      closed = λ side o. subst (IsBridgeBetween side l r) (sym (same_edges f g refl refl side)) (h.closed side o);
-      clear = λ side z. subst (IsBridgeBetween side l r) (sym (same_edges f g refl refl side))
-          (h.clear side (subst (λ e. IsClearOf side e p) (same_edges f g refl refl side) z));
+      apart = a;
+      at = at left p n f.left f.right g.first_right a.row a.points a.times
+          (ap (λ (z : Below). z.first_right) (w ∙ sym v) ∙ a.first) here;
     }
 
--- the fork g over a right part that changed is in place where that was, and its points are those of both parts
-module _ (p : Pair) (n : Node) (h : ℕ) (f : Below) (k : Node) (below above : Changed) (g : Box Below _) (a : IsApart n h f)
-    (part : IsInPlace p f.right k below) (r : IsRenewed g.value) (u : g.value.left ≡ f.left) (v : g.value.right ≡ k) where
-  right_points : points_below (Fork h g) ≡ points_below f.left ++ points_below k
-  right_points = ap (λ z. points_below z ++ points_below g.value.right) u ∙ ap (λ z. points_below f.left ++ points_below z) v
+-- p is held in the fork as often as in the part
+pub same_below : (left : Bool) (p : Pair) (n : Node) (h : ℕ) (f : Below) → IsForkAt left p n h f
+    → times_at n p ≡ times_at (cond left f.left f.right) p
+same_below left p n h f i = same_at left p n f.left f.right i.at
 
-  right_times : times_below (Fork h g) ≡ times_below f.left ++ times_below k
-  right_times = ap (λ z. times_below z ++ times_below g.value.right) u ∙ ap (λ z. times_below f.left ++ times_below z) v
+-- the part is well built, lower, and has no more points than it may have
+pub part_at : (left put : Bool) (n : Node) (h : ℕ) (f : Below) → IsApart n h f
+    → AreFewFor put (length (points_below n)) → forks_above n ≤ 28
+    → IsWellBuilt (cond left f.left f.right) × AreFewFor put (length (points_below (cond left f.left f.right)))
+    × (forks_above (cond left f.left f.right) ≤ 28) × (forks_above (cond left f.left f.right) + 1 ≤ forks_above n)
+part_at left put n h f a few low = (built left, fewer put few, omega (arith, low, lower left), lower left)
+  where
+    built : (left : Bool) → IsWellBuilt (cond left f.left f.right)
+    built true = a.row.left_built
+    built false = a.row.right_built
 
-  right_in_place : above.turns ≤ below.turns + 4 * max (forks_above f.left) (forks_above k) + 24
-      → ClosesBy p below.sides above.sides (points_below f.left ++ points_below k) → IsInPlace p n (Fork h g) above
-  right_in_place t c =
-      let again = built_again n h f g a r (ap forks_above u) (ap forks_above v ∙ part.height) in
-      record {
-        built = again.0;
-        height = again.1;
-        turns = omega (
-          arith,
-          t,
-          one_fork (forks_above n) (forks_above f.right) below.turns (4 * max (forks_above f.left) (forks_above k) + 24)
-              (omega (arith, a.height)) part.turns (omega (arith, a.height, part.height)),
-        );
-        closed = subst (IsClosedOver p above.sides) (sym right_points)
-            (closed_within_right p below.sides above.sides (points_below f.left) (points_below k) part.closed c);
-      }
+    lower : (left : Bool) → forks_above (cond left f.left f.right) + 1 ≤ forks_above n
+    lower true = omega (arith, a.height)
+    lower false = omega (arith, a.height)
 
--- p came to the right part
-module _ (p : Pair) (n : Node) (h : ℕ) (f : Below) (k : Node) (below : Changed) (a : IsApart n h f)
-    (b : ¬ IsBefore p f.first_right) (put : HasPutIn p f.right k below) where
-  behind : ¬ IsBefore p (first_of (points_below f.right))
-  behind = subst (λ z. ¬ IsBefore p z) a.first b
+    all : length (points_below n) ≡ length (points_below f.left) + length (points_below f.right)
+    all = ap (λ (z : List Pair). length z) a.points ∙ length-append (points_below f.left) (points_below f.right)
 
-  pub put_right_behind : IsBehindRight p below.sides (with_right f k)
-  put_right_behind = right_behind p n h f k below.sides a
-      (right_row false p f.left f.right k a.row behind put.in_place.built put.gained)
-      (differs_gained false p f.right k a.row.right_built.ordered put.gained) put.in_place.closed
+    short : (left : Bool) → length (points_below (cond left f.left f.right)) ≤ length (points_below n)
+    short true = omega (arith, all)
+    short false = omega (arith, all)
 
-  right_absent : times_at n p ≡ 0
-  right_absent = same_right p n f.left f.right a.row a.points a.times behind ∙ put.absent
+    fewer : (put : Bool) → AreFewFor put (length (points_below n))
+        → AreFewFor put (length (points_below (cond left f.left f.right)))
+    fewer true few = omega (arith, short left, few)
+    fewer false few = omega (arith, short left, few)
 
-  pub put_right_few : length (points_below n) < POINT_LIMIT → length (points_below f.left ++ points_below k) ≤ POINT_LIMIT
-  put_right_few few = right_few false p n f.left f.right k a.row behind put.gained a.points
-      (absent_below (Some n) n p refl a.built right_absent) few
+-- what the change is
+abbrev kind_of : Bool → Kind
+kind_of true = Comes false
+kind_of false = Goes
 
-  pub put_right : (g : Box Below _) (above : Changed) → IsRenewed g.value → g.value.left ≡ f.left → g.value.right ≡ k
-      → above.turns ≤ below.turns + 4 * max (forks_above f.left) (forks_above k) + 24
-      → ClosesBy p below.sides above.sides (points_below f.left ++ points_below k) → HasPutIn p n (Fork h g) above
-  put_right g above r u v t c = record {
-    absent = right_absent;
-    in_place = right_in_place p n h f k below above g a put.in_place r u v t c;
-    gained = gained_right false p n (Fork h g) f.left f.right k a.row.in_order
-        (some_below f.right a.row.right_built.buckets) behind a.row.left_built.buckets a.points a.times
-        (right_points p n h f k below above g a put.in_place r u v)
-        (right_times p n h f k below above g a put.in_place r u v) put.gained;
-  }
+-- so the node is altered
+altered_by : (put : Bool) (p : Pair) (n m : Node) (change : Changed) → HasChanged put p n m change
+    → Alters (kind_of put) p n m
+altered_by true p n m change d = d.gained
+altered_by false p n m change d = (d.lost.1, d.lost.2)
 
--- p went from the right part
-module _ (p : Pair) (n : Node) (h : ℕ) (f : Below) (k : Node) (below : Changed) (a : IsApart n h f)
-    (b : ¬ IsBefore p f.first_right) (taken : HasTakenOut p f.right k below) where
-  stood_behind : ¬ IsBefore p (first_of (points_below f.right))
-  stood_behind = subst (λ z. ¬ IsBefore p z) a.first b
-
-  pub take_right_behind : IsBehindRight p below.sides (with_right f k)
-  take_right_behind = right_behind p n h f k below.sides a
-      (lost_right_row p n f.left f.right a.row a.points a.times stood_behind k taken.lost)
-      (differs_lost p f.right k a.row.right_built.ordered taken.lost) taken.in_place.closed
-
-  pub take_right_few : length (points_below n) ≤ POINT_LIMIT → length (points_below f.left ++ points_below k) ≤ POINT_LIMIT
-  take_right_few few =
-      omega (arith, few, lost_right_few p n f.left f.right a.row a.points a.times stood_behind k taken.lost)
-
-  pub take_right : (g : Box Below _) (above : Changed) → IsRenewed g.value → g.value.left ≡ f.left → g.value.right ≡ k
-      → above.turns ≤ below.turns + 4 * max (forks_above f.left) (forks_above k) + 24
-      → ClosesBy p below.sides above.sides (points_below f.left ++ points_below k) → HasTakenOut p n (Fork h g) above
-  take_right g above r u v t c =
-      let same = right_in_place p n h f k below above g a taken.in_place r u v t c in
-      record {
-        once = same_right p n f.left f.right a.row a.points a.times stood_behind ∙ taken.once;
-        in_place = same;
-        lost = lost_right p n f.left f.right a.row a.points a.times stood_behind k (Fork h g) taken.lost same.built
-            (right_points p n h f k below above g a taken.in_place r u v)
-            (right_times p n h f k below above g a taken.in_place r u v)
-            (omega (arith, same.height), omega (arith, same.height));
-      }
-
--- ---- p came or went, as the first word says
-
--- either way the node is in place
+-- either way it is in place
 pub changed_in_place : (put : Bool) (p : Pair) (n m : Node) (change : Changed) → HasChanged put p n m change
     → IsInPlace p n m change
 changed_in_place true p n m change d = d.in_place
 changed_in_place false p n m change d = d.in_place
 
--- fewer points are few enough too
-pub fewer_for : (put : Bool) (m n : ℕ) → m ≤ n → AreFewFor put n → AreFewFor put m
-fewer_for true m n l few = omega (arith, l, few)
-fewer_for false m n l few = omega (arith, l, few)
+-- a fork has room for the change, by its part
+room_by : (left put : Bool) (p : Pair) (n : Node) (h : ℕ) (f : Below) (k : Node) (below : Changed)
+    → IsForkAt left p n h f → HasChanged put p (cond left f.left f.right) k below
+    → AreFewFor put (length (points_below n)) → HasRoomFor (kind_of put) p (points_below n)
+room_by left true p n h f k below i d few =
+    (absent_below (Some n) n p refl i.apart.built (same_below left p n h f i ∙ d.absent), few)
+room_by left false p n h f k below i d few = few
 
-module _ (p : Pair) (n : Node) (h : ℕ) (f : Below) (k : Node) (below : Changed) (a : IsApart n h f)
-    (b : IsBefore p f.first_right) where
-  -- a fork whose left part changed is behind
-  pub change_left_behind : (put : Bool) → HasChanged put p f.left k below → IsBehindLeft p below.sides (with_left f k)
-  change_left_behind true d = put_left_behind p n h f k below a b d
-  change_left_behind false d = take_left_behind p n h f k below a b d
+-- where the part is as high as it was both are
+heights_with : (left : Bool) (f : Below) (k : Node) → forks_above k ≡ forks_above (cond left f.left f.right)
+    → (forks_above (cond left k f.left) ≡ forks_above f.left)
+    × (forks_above (cond left f.right k) ≡ forks_above f.right)
+heights_with true f k e = (e, refl)
+heights_with false f k e = (refl, e)
 
-  -- its points are no more than a set may have
-  pub change_left_few : (put : Bool) → HasChanged put p f.left k below → AreFewFor put (length (points_below n))
-      → length (points_below k ++ points_below f.right) ≤ POINT_LIMIT
-  change_left_few true d few = put_left_few p n h f k below a b d few
-  change_left_few false d few = take_left_few p n h f k below a b d few
+-- a fork that is behind two parts is behind with these in it
+pub over_parts : (p : Pair) (sides : Open) (l r : Node) (f : Below) → IsBehind p sides l r f
+    → IsBehind p sides l r (with_part false (with_part true f l) r)
+over_parts p sides l r f h =
+    let g = with_part false (with_part true f l) r in
+    behind_as p sides l r f g h.closed h.clear (same_edges f g refl refl) h.last h.first
 
-  -- and renewed it has changed as the part
-  pub change_left : (put : Bool) → HasChanged put p f.left k below → (g : Box Below _) (above : Changed)
-      → IsRenewed g.value → g.value.left ≡ k → g.value.right ≡ f.right
-      → above.turns ≤ below.turns + 4 * max (forks_above k) (forks_above f.right) + 24
-      → ClosesBy p below.sides above.sides (points_below k ++ points_below f.right)
-      → HasChanged put p n (Fork h g) above
-  change_left true d = put_left p n h f k below a b d
-  change_left false d = take_left p n h f k below a b d
+-- the edges of a fork whose part changed at p are behind
+edges_with : (left put : Bool) (p : Pair) (f : Below) (k : Node) (sides : Open) → AreInRow f.left f.right
+    → ((side : Side) → IsBridgeBetween side f.left f.right (edge_on side f))
+    → Alters (kind_of put) p (cond left f.left f.right) k
+    → DiffersAt p (points_below (cond left f.left f.right)) (points_below k) → IsClosedOver p sides (points_below k)
+    → HasEdgesBehind p sides (with_part left f k)
+edges_with left put p f k sides row b h d c =
+    let g = with_part left f k in
+    let e = edges_as p sides g.left g.right f g
+    (closed_with left (kind_of put) p f.left f.right k sides f row b h d (λ _. c))
+    (λ side. stands_with left side p f.left f.right k (edge_on side f) (b side) d) (same_edges f g refl refl) in
+    record { closed = e.0; clear = e.1 }
 
-module _ (p : Pair) (n : Node) (h : ℕ) (f : Below) (k : Node) (below : Changed) (a : IsApart n h f)
-    (b : ¬ IsBefore p f.first_right) where
-  -- a fork whose right part changed is behind
-  pub change_right_behind : (put : Bool) → HasChanged put p f.right k below → IsBehindRight p below.sides (with_right f k)
-  change_right_behind true d = put_right_behind p n h f k below a b d
-  change_right_behind false d = take_right_behind p n h f k below a b d
+-- and so is the fork
+behind_with : (left put : Bool) (p : Pair) (n : Node) (h : ℕ) (f : Below) (k : Node) (sides : Open) → IsApart n h f
+    → IsWellBuilt k → AreInRow (cond left k f.left) (cond left f.right k)
+    → Alters (kind_of put) p (cond left f.left f.right) k
+    → DiffersAt p (points_below (cond left f.left f.right)) (points_below k) → IsClosedOver p sides (points_below k)
+    → IsBehindPart left p sides (with_part left f k)
+behind_with true put p n h f k sides a w row h' d c = record {
+  row = row;
+  edges = edges_with true put p f k sides a.row a.edges h' d c;
+  first = a.first;
+  kept = last_kept p f.left k f.last_left a.row.left_built w d a.last;
+}
+behind_with false put p n h f k sides a w row h' d c = record {
+  row = row;
+  edges = edges_with false put p f k sides a.row a.edges h' d c;
+  last = a.last;
+  kept = first_kept p f.right k f.first_right a.row.right_built w d a.first;
+}
 
-  -- its points are no more than a set may have
-  pub change_right_few : (put : Bool) → HasChanged put p f.right k below → AreFewFor put (length (points_below n))
-      → length (points_below f.left ++ points_below k) ≤ POINT_LIMIT
-  change_right_few true d few = put_right_few p n h f k below a b d few
-  change_right_few false d few = take_right_few p n h f k below a b d few
+-- a fork whose part changed is to be renewed
+pub to_renew : (left put : Bool) (p : Pair) (n : Node) (h : ℕ) (f g : Below) (k : Node) (below : Changed)
+    → IsForkAt left p n h f → HasChanged put p (cond left f.left f.right) k below
+    → AreFewFor put (length (points_below n)) → forks_above n ≤ 28 → g ≡ with_part left f k
+    → IsToRenew left p below g
+to_renew left put p n h f g k below i d few low e =
+    let kind = kind_of put in
+    let part = cond left f.left f.right in
+    let o = part_at left put n h f i.apart few low in
+    let s = changed_in_place put p part k below d in
+    let b = altered_by put p part k below d in
+    let high = heights_with left f k s.height in
+    subst (IsToRenew left p below) (sym e)
+    record {
+      behind = behind_with left put p n h f k below.sides i.apart s.built
+          (row_with left kind p n f.left f.right k i.at s.built b) b (differs kind p part k o.0.ordered b) s.closed;
+      few = few_with left kind p n f.left f.right k i.at b (room_by left put p n h f k below i d few);
+      low = omega (arith, low, i.apart.height, high.0, high.1);
+      turns = omega (arith, few_turns (forks_above part) o.2, s.turns);
+    }
 
-  -- and renewed it has changed as the part
-  pub change_right : (put : Bool) → HasChanged put p f.right k below → (g : Box Below _) (above : Changed)
-      → IsRenewed g.value → g.value.left ≡ f.left → g.value.right ≡ k
-      → above.turns ≤ below.turns + 4 * max (forks_above f.left) (forks_above k) + 24
-      → ClosesBy p below.sides above.sides (points_below f.left ++ points_below k)
-      → HasChanged put p n (Fork h g) above
-  change_right true d = put_right p n h f k below a b d
-  change_right false d = take_right p n h f k below a b d
+-- the points of the part are among those of both
+pub among_with : (left : Bool) (l r k : Node) (t : Pair) → Contains (points_below k) t
+    → Contains (points_below (cond left k l) ++ points_below (cond left r k)) t
+among_with true l r k t i = Contains-append_left (points_below k) (points_below r) t i
+among_with false l r k t i = Contains-append_right (points_below l) (points_below k) t i
+
+-- renewed it has changed in place as the part
+module _ (left : Bool) (p : Pair) (n : Node) (h : ℕ) (f : Below) (k : Node) (below above : Changed) (g : Box Below _)
+    (i : IsForkAt left p n h f) (part : IsInPlace p (cond left f.left f.right) k below)
+    (r : IsRenewedAfter p below (with_part left f k) g.value above) where
+  both_points : points_below (Fork h g) ≡ points_below (cond left k f.left) ++ points_below (cond left f.right k)
+  both_points = ap (λ z. points_below z ++ points_below g.value.right) r.left
+      ∙ ap (λ z. points_below (cond left k f.left) ++ points_below z) r.right
+
+  both_times : times_below (Fork h g) ≡ times_below (cond left k f.left) ++ times_below (cond left f.right k)
+  both_times = ap (λ z. times_below z ++ times_below g.value.right) r.left
+      ∙ ap (λ z. times_below (cond left k f.left) ++ times_below z) r.right
+
+  in_place_with : forks_above (cond left f.left f.right) + 1 ≤ forks_above n → IsInPlace p n (Fork h g) above
+  in_place_with lower =
+      let e = heights_with left f k part.height in
+      let again = built_again n h f g i.apart r.renewed (ap forks_above r.left ∙ e.0) (ap forks_above r.right ∙ e.1) in
+      record {
+        built = again.0;
+        height = again.1;
+        turns = omega (
+          arith,
+          r.turns,
+          one_fork (forks_above n) (forks_above (cond left f.left f.right)) below.turns
+              (4 * max (forks_above (cond left k f.left)) (forks_above (cond left f.right k)) + 24) lower part.turns
+              (omega (arith, i.apart.height, e.0, e.1)),
+        );
+        closed = subst (IsClosedOver p above.sides) (sym both_points)
+            (closed_within p below.sides above.sides (points_below k) _
+            (among_with left f.left f.right k) part.closed r.closes);
+      }
+
+-- so it has changed as the part
+pub changed_with : (left put : Bool) (p : Pair) (n : Node) (h : ℕ) (f g : Below) (k : Node) (below above : Changed)
+    (b : Box Below _) → IsForkAt left p n h f → HasChanged put p (cond left f.left f.right) k below
+    → AreFewFor put (length (points_below n)) → forks_above n ≤ 28 → g ≡ with_part left f k
+    → IsRenewedAfter p below g b.value above → HasChanged put p n (Fork h b) above
+changed_with left put p n h f g k below above b i d few low e r = go put d altered
+  where
+    s : IsRenewedAfter p below (with_part left f k) b.value above
+    s = subst (λ z. IsRenewedAfter p below z b.value above) e r
+
+    part : IsInPlace p (cond left f.left f.right) k below
+    part = changed_in_place put p (cond left f.left f.right) k below d
+
+    same : IsInPlace p n (Fork h b) above
+    same = in_place_with left p n h f k below above b i part s (part_at left put n h f i.apart few low).3
+
+    altered : Alters (kind_of put) p n (Fork h b)
+    altered = alters_with left (kind_of put) p n f.left f.right k (Fork h b) i.at part.built
+        (both_points left p n h f k below above b i part s) (both_times left p n h f k below above b i part s)
+        (altered_by put p (cond left f.left f.right) k below d)
+
+    go : (put : Bool) → HasChanged put p (cond left f.left f.right) k below → Alters (kind_of put) p n (Fork h b)
+        → HasChanged put p n (Fork h b) above
+    go true d a = record { absent = same_below left p n h f i ∙ d.absent; in_place = same; gained = a }
+    go false d a = record {
+      once = same_below left p n h f i ∙ d.once;
+      in_place = same;
+      lost = (same.built, a.0, a.1, (omega (arith, same.height), omega (arith, same.height)));
+    }
 
 -- ---- a bucket
 
@@ -488,7 +368,8 @@ changed_leaf false p b c v change f h d = record {
         (d.points, d.times)
 
 -- so a leaf changed, if its bucket did
-pub leaf_changed : (put : Bool) (p : Pair) (n : Node) (b c : Box BucketValue _) (w v : BucketValue) (r : Result Changed ℕ)
+pub leaf_changed : (put : Bool) (p : Pair) (n : Node) (b c : Box BucketValue _) (w v : BucketValue)
+    (r : Result Changed ℕ)
     → n ≡ Leaf b → w ≡ b.value → c.value ≡ v → IsBucket v → IfOk r (HasChangedIn put p w v)
     → IfOk r (HasChanged put p n (Leaf c))
 leaf_changed put p n b c w v (Err none) e d f h change = tt

@@ -1,6 +1,6 @@
 -- Bridges that stand as their sets change at one point.
-use Rattle.std.proofs.Common.{◌≡◌, ◌⊎◌, ℕ, ◌<◌, true, false, Bool, refl, sym, subst, inl, inr, List, ◌++◌, length}
-use Rattle.std.proofs.Common.{Some, Box}
+use Rattle.std.proofs.Common.{◌≡◌, ◌∙◌, ◌⊎◌, ℕ, ◌<◌, false, Bool, refl, sym, subst, inl, inr, List, ◌++◌, length}
+use Rattle.std.proofs.Common.{Box}
 use Rattle.std.specs.List.{Contains}
 use Rattle.std.proofs.lemmas.List.Elements.{Contains-append_left, Contains-append_right}
 use Rattle.lattice.specs.Bridges.{IsBridge}
@@ -23,8 +23,8 @@ use Rattle.bridge_search.specs.Trees.{On}
 use Rattle.hull_geometry.proofs.Fringed.{of_fringes}
 use Rattle.lattice.specs.declared.side.Side.TheVariants.{Lower, Upper}
 use Rattle.bucket_tree.proofs.NodeFringes.{node_fringe}
+use Rattle.bucket_tree.proofs.NodePoints.{some_below}
 use Rattle.bucket_tree.specs.Changes.{IsClearOf, IsBridgeBetween, IsBehind, IsClosedOver, ClosesBy, is_open, edge_on}
-use Rattle.bucket_tree.specs.Counts.{HasGained, HasLost}
 use Rattle.bucket_tree.specs.Nodes.{tree_of, points_below, AreInRow, IsWellBuilt}
 use Rattle.bucket_tree.specs.declared.node.Fork.{Fork}
 use Rattle.bucket_tree.specs.declared.node.Node.{Node}
@@ -53,17 +53,6 @@ differs_without p S s = record {
   had = λ t i. inl (((without_point_law S p s).1 t).0 i).0;
   has = λ t i n. ((without_point_law S p s).1 t).1 (i, n);
 }
-
--- p came, or did not where it was refused
-pub differs_gained : (refused : Bool) (p : Pair) (n m : Node) → IsPointSet (points_below n) → HasGained refused p n m
-    → DiffersAt p (points_below n) (points_below m)
-differs_gained false p n m s h = subst (DiffersAt p (points_below n)) (sym h.0) (differs_with p (points_below n) s)
-differs_gained true p n m s h = subst (DiffersAt p (points_below n)) (sym h.0) (differs_not p (points_below n))
-
--- p went from a node
-pub differs_lost : (p : Pair) (n m : Node) → IsPointSet (points_below n) → HasLost p n (Some m)
-    → DiffersAt p (points_below n) (points_below m)
-differs_lost p n m s h = subst (DiffersAt p (points_below n)) (sym h.1) (differs_without p (points_below n) s)
 
 -- a bridge of which p is clear stands
 pub still : (side : Side) (p : Pair) (l r m n : List Pair) (e : Pair × Pair)
@@ -158,78 +147,27 @@ pub same_edges : (f g : Fork) → g.lower ≡ f.lower → g.upper ≡ f.upper �
 same_edges f g l u Lower = l
 same_edges f g l u Upper = u
 
--- a fork whose left part changed at p
-pub behind_left : (p : Pair) (l k r : Node) (sides : Open) (f g : Fork) → AreInRow l r
-    → ((side : Side) → IsBridgeBetween side l r (edge_on side f)) → DiffersAt p (points_below l) (points_below k)
-    → ((side : Side) → is_open side sides ≡ false → IsBridgeBetween side k r (edge_on side f))
+-- a fork whose edges are those of another is behind as that
+pub edges_as : (p : Pair) (sides : Open) (l r : Node) (f g : Fork)
+    → ((side : Side) → is_open side sides ≡ false → IsBridgeBetween side l r (edge_on side f))
+    → ((side : Side) → IsClearOf side (edge_on side f) p → IsBridgeBetween side l r (edge_on side f))
     → ((side : Side) → edge_on side g ≡ edge_on side f)
-    → g.last_left ≡ last_of (points_below k) → g.first_right ≡ first_of (points_below r) → IsBehind p sides k r g
-behind_left p l k r sides f g row b d c same last first = record {
-  last = last;
-  first = first;
-  closed = λ side o. subst (IsBridgeBetween side k r) (sym (same side)) (c side o);
-  clear = λ side h. subst (IsBridgeBetween side k r) (sym (same side))
-      (still side p (points_below l) (points_below r) (points_below k) (points_below r) (edge_on side f) (b side) d
-      (differs_not p (points_below r)) (subst (λ z. IsClearOf side z p) (same side) h));
-}
+    → ((side : Side) → is_open side sides ≡ false → IsBridgeBetween side l r (edge_on side g))
+    × ((side : Side) → IsClearOf side (edge_on side g) p → IsBridgeBetween side l r (edge_on side g))
+edges_as p sides l r f g closed clear same = (
+  λ side o. subst (IsBridgeBetween side l r) (sym (same side)) (closed side o),
+  λ side z. subst (IsBridgeBetween side l r) (sym (same side))
+      (clear side (subst (λ e. IsClearOf side e p) (same side) z)),
+)
 
--- or whose right part did
-pub behind_right : (p : Pair) (l r k : Node) (sides : Open) (f g : Fork) → AreInRow l r
-    → ((side : Side) → IsBridgeBetween side l r (edge_on side f)) → DiffersAt p (points_below r) (points_below k)
-    → ((side : Side) → is_open side sides ≡ false → IsBridgeBetween side l k (edge_on side f))
-    → ((side : Side) → edge_on side g ≡ edge_on side f)
-    → g.last_left ≡ last_of (points_below l) → g.first_right ≡ first_of (points_below k) → IsBehind p sides l k g
-behind_right p l r k sides f g row b d c same last first = record {
-  last = last;
-  first = first;
-  closed = λ side o. subst (IsBridgeBetween side l k) (sym (same side)) (c side o);
-  clear = λ side h. subst (IsBridgeBetween side l k) (sym (same side))
-      (still side p (points_below l) (points_below r) (points_below l) (points_below k) (edge_on side f) (b side)
-      (differs_not p (points_below l)) d (subst (λ z. IsClearOf side z p) (same side) h));
-}
-
--- the bridge stands on a side that is closed, where the left part changed
-pub closed_left : (p : Pair) (l k r : Node) (sides : Open) (f : Fork) → AreInRow l r
-    → ((side : Side) → IsBridgeBetween side l r (edge_on side f)) → DiffersAt p (points_below l) (points_below k)
-    → IsClosedOver p sides (points_below k) → (side : Side) → is_open side sides ≡ false
-    → IsBridgeBetween side k r (edge_on side f)
-closed_left p l k r sides f row b d c side o =
-    still side p (points_below l) (points_below r) (points_below k) (points_below r) (edge_on side f) (b side) d
-    (differs_not p (points_below r))
-    (clear_left side p (points_below l) (points_below r) (points_below k) (edge_on side f) row.in_order (b side) d
-    (c side o))
-
--- and where the right one did
-pub closed_right : (p : Pair) (l r k : Node) (sides : Open) (f : Fork) → AreInRow l r
-    → ((side : Side) → IsBridgeBetween side l r (edge_on side f)) → DiffersAt p (points_below r) (points_below k)
-    → IsClosedOver p sides (points_below k) → (side : Side) → is_open side sides ≡ false
-    → IsBridgeBetween side l k (edge_on side f)
-closed_right p l r k sides f row b d c side o =
-    still side p (points_below l) (points_below r) (points_below l) (points_below k) (edge_on side f) (b side)
-    (differs_not p (points_below l)) d
-    (clear_right side p (points_below l) (points_below r) (points_below k) (edge_on side f) row.in_order (b side) d
-    (c side o))
-
--- the same where p may have been refused, which alters nothing
-pub gained_closed_left : (refused : Bool) (p : Pair) (l k r : Node) (sides : Open) (f : Fork) → AreInRow l r
-    → ((side : Side) → IsBridgeBetween side l r (edge_on side f)) → HasGained refused p l k
-    → (refused ≡ false → IsClosedOver p sides (points_below k)) → (side : Side) → is_open side sides ≡ false
-    → IsBridgeBetween side k r (edge_on side f)
-gained_closed_left false p l k r sides f row b h c side o =
-    closed_left p l k r sides f row b (differs_gained false p l k row.left_built.ordered h) (c refl) side o
-gained_closed_left true p l k r sides f row b h c side o =
-    subst (λ z. IsBridge side (Contains z) (Contains (points_below r)) (edge_on side f).0 (edge_on side f).1)
-    (sym h.0) (b side)
-
-pub gained_closed_right : (refused : Bool) (p : Pair) (l r k : Node) (sides : Open) (f : Fork) → AreInRow l r
-    → ((side : Side) → IsBridgeBetween side l r (edge_on side f)) → HasGained refused p r k
-    → (refused ≡ false → IsClosedOver p sides (points_below k)) → (side : Side) → is_open side sides ≡ false
-    → IsBridgeBetween side l k (edge_on side f)
-gained_closed_right false p l r k sides f row b h c side o =
-    closed_right p l r k sides f row b (differs_gained false p r k row.right_built.ordered h) (c refl) side o
-gained_closed_right true p l r k sides f row b h c side o =
-    subst (λ z. IsBridge side (Contains (points_below l)) (Contains z) (edge_on side f).0 (edge_on side f).1)
-    (sym h.0) (b side)
+pub behind_as : (p : Pair) (sides : Open) (l r : Node) (f g : Fork)
+    → ((side : Side) → is_open side sides ≡ false → IsBridgeBetween side l r (edge_on side f))
+    → ((side : Side) → IsClearOf side (edge_on side f) p → IsBridgeBetween side l r (edge_on side f))
+    → ((side : Side) → edge_on side g ≡ edge_on side f) → g.last_left ≡ last_of (points_below l)
+    → g.first_right ≡ first_of (points_below r) → IsBehind p sides l r g
+behind_as p sides l r f g closed clear same last first =
+    let e = edges_as p sides l r f g closed clear same in
+    record { last = last; first = first; closed = e.0; clear = e.1 }
 
 -- ---- sides
 
@@ -278,19 +216,10 @@ covered_at side p l r sides f h n (inl k) = inl k
 covered_at side p l r sides f h n (inr k) = inr (covered_by side p l r (edge_on side f) k (h.clear side))
 
 -- what covers p in a part covers it in both
-pub closed_within_left : (p : Pair) (before after : Open) (k r : List Pair) → IsClosedOver p before k
-    → ClosesBy p before after (k ++ r) → IsClosedOver p after (k ++ r)
-closed_within_left p before after k r c h side e = elim (h side e) [
-  | inl o ↦ let i = c side o in
-      (i.0, i.1, Contains-append_left k r i.0 i.2, Contains-append_left k r i.1 i.3, i.4)
-  | inr i ↦ i
-]
-
-pub closed_within_right : (p : Pair) (before after : Open) (l k : List Pair) → IsClosedOver p before k
-    → ClosesBy p before after (l ++ k) → IsClosedOver p after (l ++ k)
-closed_within_right p before after l k c h side e = elim (h side e) [
-  | inl o ↦ let i = c side o in
-      (i.0, i.1, Contains-append_right l k i.0 i.2, Contains-append_right l k i.1 i.3, i.4)
+pub closed_within : (p : Pair) (before after : Open) (S T : List Pair) → ((t : Pair) → Contains S t → Contains T t)
+    → IsClosedOver p before S → ClosesBy p before after T → IsClosedOver p after T
+closed_within p before after S T within c h side e = elim (h side e) [
+  | inl o ↦ let i = c side o in (i.0, i.1, within i.0 i.2, within i.1 i.3, i.4)
   | inr i ↦ i
 ]
 
@@ -339,7 +268,7 @@ of_corners side l r e w b = (of_fringes side (On (tree_of l)) (Contains (points_
 -- ---- the ends of a part
 
 -- the last point stays where p stands before it
-pub last_stays : (p : Pair) (S T : List Pair) → IsPointSet S → IsPointSet T → 0 < length S → 0 < length T
+last_stays : (p : Pair) (S T : List Pair) → IsPointSet S → IsPointSet T → 0 < length S → 0 < length T
     → DiffersAt p S T → IsBefore p (last_of S) → last_of S ≡ last_of T
 last_stays p S T s t l m d b =
     elim (by_last T (last_of S) t (d.has (last_of S) (last_among S l) (after_apart (last_of S) p b))) [
@@ -354,7 +283,7 @@ last_stays p S T s t l m d b =
     ]
 
 -- the first point stays where p stands behind it
-pub first_stays : (p : Pair) (S T : List Pair) → IsPointSet S → IsPointSet T → 0 < length S → 0 < length T
+first_stays : (p : Pair) (S T : List Pair) → IsPointSet S → IsPointSet T → 0 < length S → 0 < length T
     → DiffersAt p S T → IsBefore (first_of S) p → first_of S ≡ first_of T
 first_stays p S T s t l m d b =
     elim (by_first T (first_of S) t (d.has (first_of S) (first_among S l) (before_apart (first_of S) p b))) [
@@ -367,3 +296,16 @@ first_stays p S T s t l m d b =
         | inr q ↦ before_not (first_of T) (first_of S) k (subst (IsBefore (first_of S)) (sym q) b)
       ])
     ]
+
+-- so a part that changed keeps the point at the parting
+pub last_kept : (p : Pair) (n m : Node) (x : Pair) → IsWellBuilt n → IsWellBuilt m
+    → DiffersAt p (points_below n) (points_below m) → x ≡ last_of (points_below n) → IsBefore p x
+    → x ≡ last_of (points_below m)
+last_kept p n m x v w d e b = e ∙ last_stays p (points_below n) (points_below m) v.ordered w.ordered
+    (some_below n v.buckets) (some_below m w.buckets) d (subst (IsBefore p) e b)
+
+pub first_kept : (p : Pair) (n m : Node) (x : Pair) → IsWellBuilt n → IsWellBuilt m
+    → DiffersAt p (points_below n) (points_below m) → x ≡ first_of (points_below n) → IsBefore x p
+    → x ≡ first_of (points_below m)
+first_kept p n m x v w d e b = e ∙ first_stays p (points_below n) (points_below m) v.ordered w.ordered
+    (some_below n v.buckets) (some_below m w.buckets) d (subst (λ z. IsBefore z p) e b)

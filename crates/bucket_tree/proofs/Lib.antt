@@ -16,4 +16,5 @@ pub mod Rooted
 pub mod SetEnds
 pub mod ListedParts
 pub mod Kept
+pub mod Parts
 pub mod InPlace

@@ -1,11 +1,13 @@
 -- A point that is held more or less often.
-use Rattle.std.proofs.Common.{◌≡◌, ℕ, zero, suc, ◌+◌, ◌<◌, max, refl, sym, ap, ◌∙◌, subst, List, [], ◌∷◌, ◌++◌}
+use Rattle.std.proofs.Common.{Bool, true, false, cond, ◌≡◌, ℕ, zero, suc, ◌+◌, ◌<◌, refl, sym, ap, ◌∙◌, subst, List, [], ◌∷◌}
+use Rattle.std.proofs.Common.{◌++◌}
 use Rattle.std.proofs.Common.{length, arith}
 use Rattle.std.proofs.Common.{Ok, get_or, Box}
+use Rattle.std.specs.Box.{with_value}
 use Rattle.std.specs.List.{remove}
 use Rattle.std.specs.Prelude.{slice_set}
 use Rattle.lattice.specs.Covers.{IsPointSet}
-use Rattle.lattice.specs.Plane.{Pair, IsBefore}
+use Rattle.lattice.specs.Plane.{Pair}
 use Rattle.lattice.specs.declared.side.Side.{Side}
 use Rattle.lattice.specs.declared.side.Side.TheVariants.{Lower, Upper}
 use Rattle.bridge_search.specs.Trees.{IsBridged, Leaf as LeafTree, Fork as ForkTree}
@@ -14,15 +16,17 @@ use Rattle.hull_buckets.specs.Buckets.{BucketValue, mask_on}
 use Rattle.hull_buckets.specs.Runs.{width_of, left_run, right_run, end_of_run, start_of_run}
 use Rattle.hull_buckets.specs.Runs.{tree_by, tree_to, tree_of_run, all_of}
 use Rattle.hull_buckets.specs.Masks.{lowest_of}
-use Rattle.bucket_tree.specs.Counts.{counted, IsSameButTimes, IsRecounted}
+use Rattle.bucket_tree.specs.Counts.{counted, times_at, IsSameButTimes, IsRecounted}
 use Rattle.leaf_trees.specs.Entries.{several}
 use Rattle.bucket_tree.specs.declared.node.Fork.{Fork as Below}
 use Rattle.bucket_tree.specs.declared.node.Node.{Node, Leaf, Fork}
-use Rattle.bucket_tree.specs.Nodes.{tree_of, tree_of_bucket, points_below, times_below, forks_above, AreNear}
-use Rattle.bucket_tree.specs.Nodes.{IsWellBuilt}
+use Rattle.bucket_tree.specs.Nodes.{tree_of, tree_of_bucket, points_below, times_below, forks_above}
+use Rattle.bucket_tree.specs.Nodes.{AreInRow, IsWellBuilt}
 use Rattle.bucket_tree.proofs.BuiltLeaves.{leaf_built}
 use Rattle.bucket_tree.proofs.Gained.{held_row}
-use Rattle.bucket_tree.proofs.Lost.{counted_remove, count_at, count_left, count_right}
+use Rattle.bucket_tree.proofs.Lost.{counted_remove, count_at}
+use Rattle.bucket_tree.proofs.InPlace.{with_part}
+use Rattle.bucket_tree.proofs.Parts.{BelongsTo, count_in}
 use Rattle.bucket_tree.proofs.NodeRows.{halves_row}
 
 -- ---- a bucket
@@ -88,124 +92,97 @@ recounted_leaf times p n b c v e f h k = rw e (record {
 
 -- ---- a fork
 
--- with another left half
-abbrev pub with_left_half : {A : Type 0} (f : Box Below A) → Below → Node → Box Below A
-with_left_half f v k = record {
-  ptr = f.ptr;
-  alloc = f.alloc;
-  value = record {
-    first_right = v.first_right;
-    left = k;
-    right = v.right;
-    last_left = v.last_left;
-    upper = v.upper;
-    lower = v.lower;
-  };
-}
+-- a node is built as another over the same points
+record IsLike (n m : Node) : Type 0 where
+  built : IsWellBuilt m
+  tree : tree_of m ≡ tree_of n
+  points : points_below m ≡ points_below n
+  height : forks_above m ≡ forks_above n
 
--- a point of the left half
-pub recounted_left : (times : ℕ) (p : Pair) (n : Node) (h : ℕ) (f : Box Below _) (k : Node) → n ≡ Fork h f
-    → IsWellBuilt n → IsBefore p f.value.first_right → IsRecounted times p f.value.left k
-    → IsRecounted times p n (Fork h (with_left_half f f.value k))
-recounted_left times p n h f k e w b r =
+-- a part that was not changed
+like_itself : (n : Node) → IsWellBuilt n → IsLike n n
+like_itself n w = record { built = w; tree = refl; points = refl; height = refl }
+
+-- a part that was recounted
+like_recounted : (times : ℕ) (p : Pair) (n m : Node) → IsRecounted times p n m → IsLike n m
+like_recounted times p n m r =
+    record { built = r.built; tree = r.same_tree; points = r.same_points; height = r.same_height }
+
+-- so a fork over both is like the one that was
+fork_like : (n : Node) (h : ℕ) (f : Box Below _) (l r : Node) → n ≡ Fork h f → IsWellBuilt n → IsLike f.value.left l
+    → IsLike f.value.right r → IsLike n (Fork h (with_value f (with_part false (with_part true f.value l) r)))
+fork_like n h f l r e w u v =
     let g = subst IsWellBuilt e w in
-    let row = halves_row n h f e w in
-    let near = g.balanced.0 in
     record {
       built = record {
-        ordered = subst (λ z. IsPointSet (z ++ points_below f.value.right)) (sym r.same_points) g.ordered;
-        bridged = subst (λ z. IsBridged (ForkTree f.value.upper f.value.lower z (tree_of f.value.right)))
-            (sym r.same_tree) g.bridged;
+        ordered = subst IsPointSet (sym points) g.ordered;
+        bridged = subst IsBridged (sym tree) g.bridged;
         balanced = (
-          subst (λ z. AreNear z (forks_above f.value.right)) (sym r.same_height) g.balanced.0,
-          r.built.balanced,
-          g.balanced.2,
+          (omega (arith, g.balanced.0, u.height, v.height), omega (arith, g.balanced.0, u.height, v.height)),
+          u.built.balanced,
+          v.built.balanced,
         );
         labelled = (
-          g.labelled.0 ∙ ap last_of (sym r.same_points),
-          g.labelled.1,
-          g.labelled.2 ∙ ap (λ z. max z (forks_above f.value.right) + 1) (sym r.same_height),
-          r.built.labelled,
-          g.labelled.4,
+          g.labelled.0 ∙ ap last_of (sym u.points),
+          g.labelled.1 ∙ ap first_of (sym v.points),
+          omega (arith, g.labelled.2, u.height, v.height),
+          u.built.labelled,
+          v.built.labelled,
         );
-        buckets = (r.built.buckets, g.buckets.1);
+        buckets = (u.built.buckets, v.built.buckets);
       };
-      same_tree = ap (λ z. ForkTree f.value.upper f.value.lower z (tree_of f.value.right)) r.same_tree
-          ∙ sym (ap tree_of e);
-      same_points = ap (λ z. z ++ points_below f.value.right) r.same_points ∙ sym (ap points_below e);
-      same_height = ap (λ z. max z (forks_above f.value.right) + 1) r.same_height ∙ sym (ap forks_above e);
-      held = λ q.
-          let a = held_row (Fork h (with_left_half f f.value k)) k f.value.right q r.built.buckets refl refl in
-          let c = held_row n f.value.left f.value.right q row.left_built.buckets (ap points_below e) (ap times_below e)
-          in
-          let d = ap (λ z. several z p q) (count_left n h f p e w b) in
-          omega (arith, a, c, d, r.held q);
+      tree = tree ∙ sym (ap tree_of e);
+      points = points ∙ sym (ap points_below e);
+      height = omega (arith, ap forks_above e, u.height, v.height);
     }
+  where
+    points : points_below l ++ points_below r ≡ points_below f.value.left ++ points_below f.value.right
+    points = ap (λ z. z ++ points_below r) u.points ∙ ap (λ z. points_below f.value.left ++ z) v.points
 
--- with another right half
-abbrev pub with_right_half : {A : Type 0} (f : Box Below A) → Below → Node → Box Below A
-with_right_half f v k = record {
-  ptr = f.ptr;
-  alloc = f.alloc;
-  value = record {
-    first_right = v.first_right;
-    left = v.left;
-    right = k;
-    last_left = v.last_left;
-    upper = v.upper;
-    lower = v.lower;
-  };
-}
+    tree : ForkTree f.value.upper f.value.lower (tree_of l) (tree_of r)
+        ≡ ForkTree f.value.upper f.value.lower (tree_of f.value.left) (tree_of f.value.right)
+    tree = ap (λ z. ForkTree f.value.upper f.value.lower z (tree_of r)) u.tree
+        ∙ ap (λ z. ForkTree f.value.upper f.value.lower (tree_of f.value.left) z) v.tree
 
--- a point of the right half
-pub recounted_right : (times : ℕ) (p : Pair) (n : Node) (h : ℕ) (f : Box Below _) (k : Node) → n ≡ Fork h f
-    → IsWellBuilt n → ¬ IsBefore p f.value.first_right → IsRecounted times p f.value.right k
-    → IsRecounted times p n (Fork h (with_right_half f f.value k))
-recounted_right times p n h f k e w b r =
-    let g = subst IsWellBuilt e w in
-    let row = halves_row n h f e w in
+-- a point of one half, of a fork that is read through a reference
+pub recounted_in : (left : Bool) (times : ℕ) (p : Pair) (n : Node) (h : ℕ) (f : Box Below _) (v : Below) (k : Node)
+    → v ≡ f.value → n ≡ Fork h f → IsWellBuilt n → BelongsTo left p f.value.first_right
+    → IsRecounted times p (cond left v.left v.right) k
+    → IsRecounted times p n (Fork h (with_value f (with_part left v k)))
+recounted_in left times p n h f v k u e w b r =
+    subst (λ z. IsRecounted times p n (Fork h (with_value f (with_part left z k)))) (sym u)
+    (let s = subst (λ (z : Below). IsRecounted times p (cond left z.left z.right) k) u r in
+    let like = whole left s in
     record {
-      built = record {
-        ordered = subst (λ z. IsPointSet (points_below f.value.left ++ z)) (sym r.same_points) g.ordered;
-        bridged = subst (λ z. IsBridged (ForkTree f.value.upper f.value.lower (tree_of f.value.left) z))
-            (sym r.same_tree) g.bridged;
-        balanced = (
-          subst (λ z. AreNear (forks_above f.value.left) z) (sym r.same_height) g.balanced.0,
-          g.balanced.1,
-          r.built.balanced,
-        );
-        labelled = (
-          g.labelled.0,
-          g.labelled.1 ∙ ap first_of (sym r.same_points),
-          g.labelled.2 ∙ ap (λ z. max (forks_above f.value.left) z + 1) (sym r.same_height),
-          g.labelled.3,
-          r.built.labelled,
-        );
-        buckets = (g.buckets.0, r.built.buckets);
-      };
-      same_tree = ap (λ z. ForkTree f.value.upper f.value.lower (tree_of f.value.left) z) r.same_tree
-          ∙ sym (ap tree_of e);
-      same_points = ap (λ z. points_below f.value.left ++ z) r.same_points ∙ sym (ap points_below e);
-      same_height = ap (λ z. max (forks_above f.value.left) z + 1) r.same_height ∙ sym (ap forks_above e);
-      held = λ q.
-          let a = held_row (Fork h (with_right_half f f.value k)) f.value.left k q row.left_built.buckets refl refl in
-          let c = held_row n f.value.left f.value.right q row.left_built.buckets (ap points_below e) (ap times_below e)
-          in
-          let d = ap (λ z. several z p q) (count_right n h f p e w b) in
-          omega (arith, a, c, d, r.held q);
-    }
+      built = like.built;
+      same_tree = like.tree;
+      same_points = like.points;
+      same_height = like.height;
+      held = λ q. let c = counts left s q in
+          omega (arith, c.1, c.2, ap (λ z. several z p q) (count_in left n h f p e w b), s.held q);
+    })
+  where
+    row : AreInRow f.value.left f.value.right
+    row = halves_row n h f e w
 
--- the same where the fork is read through a reference
-pub recounted_left_of : (times : ℕ) (p : Pair) (n : Node) (h : ℕ) (f : Box Below _) (v : Below) (k : Node)
-    → v ≡ f.value → n ≡ Fork h f → IsWellBuilt n → IsBefore p f.value.first_right → IsRecounted times p v.left k
-    → IsRecounted times p n (Fork h (with_left_half f v k))
-recounted_left_of times p n h f v k u e w b r =
-    subst (λ z. IsRecounted times p n (Fork h (with_left_half f z k))) (sym u)
-    (recounted_left times p n h f k e w b (subst (λ z. IsRecounted times p z.left k) u r))
+    whole : (left : Bool) → IsRecounted times p (cond left f.value.left f.value.right) k
+        → IsLike n (Fork h (with_value f (with_part left f.value k)))
+    whole true s = fork_like n h f k f.value.right e w (like_recounted times p f.value.left k s)
+        (like_itself f.value.right row.right_built)
+    whole false s = fork_like n h f f.value.left k e w (like_itself f.value.left row.left_built)
+        (like_recounted times p f.value.right k s)
 
-pub recounted_right_of : (times : ℕ) (p : Pair) (n : Node) (h : ℕ) (f : Box Below _) (v : Below) (k : Node)
-    → v ≡ f.value → n ≡ Fork h f → IsWellBuilt n → ¬ IsBefore p f.value.first_right → IsRecounted times p v.right k
-    → IsRecounted times p n (Fork h (with_right_half f v k))
-recounted_right_of times p n h f v k u e w b r =
-    subst (λ z. IsRecounted times p n (Fork h (with_right_half f z k))) (sym u)
-    (recounted_right times p n h f k e w b (subst (λ z. IsRecounted times p z.right k) u r))
+    all : (q : Pair) → times_at n q ≡ times_at f.value.left q + times_at f.value.right q
+    all q = held_row n f.value.left f.value.right q row.left_built.buckets (ap points_below e) (ap times_below e)
+
+    counts : (left : Bool) → IsRecounted times p (cond left f.value.left f.value.right) k → (q : Pair)
+        → (other : ℕ) × (times_at (Fork h (with_value f (with_part left f.value k))) q ≡ times_at k q + other)
+        × (times_at n q ≡ times_at (cond left f.value.left f.value.right) q + other)
+    counts true s q = (
+      times_at f.value.right q,
+      held_row (Fork h (with_value f (with_part true f.value k))) k f.value.right q s.built.buckets refl refl,
+      all q,
+    )
+    counts false s q =
+        let b = held_row (Fork h (with_value f (with_part false f.value k))) f.value.left k q row.left_built.buckets refl refl in
+        (times_at f.value.left q, omega (arith, b), omega (arith, all q))

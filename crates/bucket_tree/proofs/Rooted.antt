@@ -14,7 +14,7 @@ use Rattle.bucket_tree.proofs.Lost.{without_only}
 use Rattle.leaf_trees.proofs.Rows.{with_length, without_length}
 use Rattle.bucket_tree.specs.Counts.{times_at, counted, HasLost}
 use Rattle.bucket_tree.specs.Lists.{entries_below, entries_of_root, numbers_listed}
-use Rattle.bucket_tree.specs.Nodes.{points_below, times_below, HasBuckets, IsWellBuilt}
+use Rattle.bucket_tree.specs.Nodes.{forks_above, points_below, times_below, HasBuckets, IsWellBuilt}
 use Rattle.bucket_tree.specs.Roots.{held_by, points_of_root, times_of_root, IsWellBuiltRoot}
 use Rattle.bucket_tree.specs.Sets.{IsLimited, IsSound}
 use Rattle.bucket_tree.specs.declared.node.Node.{Node, Leaf, Fork', Gap}
@@ -101,6 +101,16 @@ held_entries n es e f = same_held (points_below n) (points_listed es) (times_at 
 pub built_root : (root : Option Node) (n : Node) (count limit : ℕ) → IsLimited root count limit → root ≡ Some n
     → IsWellBuilt n
 built_root root n count limit h e = subst IsWellBuiltRoot e h.built
+
+-- it is a tree with that limit by itself
+pub limited_root : (root : Option Node) (n : Node) (count limit : ℕ) → IsLimited root count limit → root ≡ Some n
+    → IsLimited (Some n) count limit
+limited_root root n count limit h e = subst (λ (z : Option Node). IsLimited z count limit) e h
+
+-- and no higher than 28 forks
+pub low_root : (root : Option Node) (n : Node) (count limit : ℕ) → IsLimited root count limit → root ≡ Some n
+    → forks_above n ≤ 28
+low_root root n count limit h e = (sound (Some n) count limit (limited_root root n count limit h e)).low
 
 -- a point that is held once goes
 pub lost_limited : (n : Node) (rest : Option Node) (p : Pair) (count limit : ℕ) → IsLimited (Some n) count limit

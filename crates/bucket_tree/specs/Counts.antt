@@ -19,11 +19,31 @@ counted (p ∷ ps) (t ∷ ts) q = several t p q + counted ps ts q
 abbrev pub times_at : Node → Pair → ℕ
 times_at n q = counted (points_below n) (times_below n) q
 
+-- what a change at a point is: it comes, and where it is refused nothing changes; or it goes
+pub data Kind : Type 0 where
+  Comes : Bool → Kind
+  Goes : Kind
+
+-- what it makes of the points
+abbrev pub altered : Kind → Pair → List Pair → List Pair
+altered (Comes false) p S = with_point p S
+altered (Comes true) p S = S
+altered Goes p S = without_point p S
+
+-- how often a point q is held before it and after it
+abbrev pub IsCounted : Kind → Pair → Pair → ℕ → ℕ → Type 0
+IsCounted (Comes false) p q before after = after ≡ before + once p q
+IsCounted (Comes true) p q before after = after ≡ before
+IsCounted Goes p q before after = before ≡ after + once p q
+
+-- a node became another by it
+abbrev pub Alters : Kind → Pair → Node → Node → Type 0
+Alters kind p n m = (points_below m ≡ altered kind p (points_below n))
+    × ((q : Pair) → IsCounted kind p q (times_at n q) (times_at m q))
+
 -- p came to the points, or none did where it was refused
 abbrev pub HasGained : Bool → Pair → Node → Node → Type 0
-HasGained false p n m =
-    (points_below m ≡ with_point p (points_below n)) × ((q : Pair) → times_at m q ≡ times_at n q + once p q)
-HasGained true p n m = (points_below m ≡ points_below n) × ((q : Pair) → times_at m q ≡ times_at n q)
+HasGained refused = Alters (Comes refused)
 
 -- the node is as high as the other, or one higher
 abbrev pub IsNoMuchHigher : Node → Node → Type 0

@@ -1,5 +1,5 @@
 -- What a change in place comes to: no part moves.
-use Rattle.std.specs.Prelude.{◌≡◌, ◌≤◌, ◌<◌, ◌+◌, ℕ, Some, Bool, true, false}
+use Rattle.std.specs.Prelude.{◌≡◌, ◌≤◌, ◌<◌, ◌+◌, ◌*◌, ◌++◌, ℕ, Some, Bool, true, false, length, max}
 use Rattle.lattice.specs.Covers.{with_point, without_point}
 use Rattle.lattice.specs.Plane.{Pair}
 use Rattle.hull_buckets.specs.Buckets.{BucketValue}
@@ -7,13 +7,15 @@ use Rattle.hull_set.specs.Held.{once}
 use Rattle.hull_set.specs.declared.TheConstants.{POINT_LIMIT}
 use Rattle.bucket_tree.specs.declared.renewal.Changed.{Changed}
 use Rattle.bucket_tree.specs.declared.node.Node.{Node}
-use Rattle.bucket_tree.specs.Changes.{IsClosedOver}
+use Rattle.bucket_tree.specs.declared.node.Fork.{Fork}
+use Rattle.bucket_tree.specs.declared.renewal.Open.{Open}
+use Rattle.bucket_tree.specs.Changes.{ClosesBy, IsBehindLeft, IsBehindRight, IsClosedOver, IsRenewed}
 use Rattle.bucket_tree.specs.Counts.{counted, times_at, HasGained, HasLost}
 use Rattle.bucket_tree.specs.Nodes.{points_below, forks_above, IsWellBuilt}
 use Rattle.bucket_tree.specs.Turns.{most_turns}
 
--- a well-built node became one that is as high, in no more turns than a change takes; where a side is closed, p stands under an
--- edge of the points that are there now
+-- a well-built node became one that is as high, in no more turns than a change takes; where a side is closed, p stands
+-- under an edge of the points that are there now
 pub record IsInPlace (p : Pair) (n m : Node) (change : Changed) : Type 0 where
   pub built : IsWellBuilt m
   pub height : forks_above m ≡ forks_above n
@@ -65,3 +67,23 @@ pub record HasTakenFrom (p : Pair) (old new : BucketValue) (change : Changed) : 
 abbrev pub HasChangedIn : Bool → Pair → BucketValue → BucketValue → Changed → Type 0
 HasChangedIn true = HasPutInto
 HasChangedIn false = HasTakenFrom
+
+-- a fork of which one part, the left one or else the right one, changed at p since its edges were stored
+abbrev pub IsBehindPart : Bool → Pair → Open → Fork → Type 0
+IsBehindPart true = IsBehindLeft
+IsBehindPart false = IsBehindRight
+
+-- it is to be renewed, and can be
+pub record IsToRenew (left : Bool) (p : Pair) (below : Changed) (f : Fork) : Type 0 where
+  pub behind : IsBehindPart left p below.sides f
+  pub few : length (points_below f.left ++ points_below f.right) ≤ POINT_LIMIT
+  pub low : max (forks_above f.left) (forks_above f.right) ≤ 28
+  pub turns : below.turns ≤ 6912
+
+-- it became g, with its parts where they were; its searches are added to those below
+pub record IsRenewedAfter (p : Pair) (below : Changed) (f g : Fork) (above : Changed) : Type 0 where
+  pub renewed : IsRenewed g
+  pub left : g.left ≡ f.left
+  pub right : g.right ≡ f.right
+  pub turns : above.turns ≤ below.turns + 4 * max (forks_above f.left) (forks_above f.right) + 24
+  pub closes : ClosesBy p below.sides above.sides (points_below f.left ++ points_below f.right)

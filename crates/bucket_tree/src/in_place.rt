@@ -1,11 +1,11 @@
-//! Changes that move no part of a tree: a bucket with room takes a point, or one of several loses one. Most changes are such;
-//! they go down once, and write only what they alter. What is no such change tells how often the point is held.
-ghost use Rattle.std.specs.Prelude.{◌≡◌, ◌≤◌, ◌<◌, ◌+◌, ◌*◌, ◌++◌, Bool, true, false, IfOk, IfErr, max, length};
+//! Changes that move no part of a tree: a bucket with room takes a point, or one of several loses one. Most changes are
+//! such; they go down once, and write only what they alter. What is no such change tells how often the point is held.
+ghost use Rattle.std.specs.Prelude.{◌≡◌, ◌≤◌, ◌<◌, Bool, true, false, IfOk, IfErr, length};
 ghost use Rattle.hull_buckets.specs.Buckets.{IsBucket};
 ghost use Rattle.hull_set.specs.declared.TheConstants.{POINT_LIMIT};
-ghost use Rattle.bucket_tree.specs.Changes.{IsBehindLeft, IsBehindRight, ClosesBy, IsRenewed};
 ghost use Rattle.bucket_tree.specs.Counts.{counted, times_at};
-ghost use Rattle.bucket_tree.specs.InPlace.{AreFewFor, HasChanged, HasChangedIn, HasPutIn, HasTakenOut};
+ghost use Rattle.bucket_tree.specs.InPlace.{AreFewFor, HasChanged, HasChangedIn, HasPutIn, HasTakenOut, IsRenewedAfter};
+ghost use Rattle.bucket_tree.specs.InPlace.{IsToRenew};
 ghost use Rattle.bucket_tree.specs.Nodes.{points_below, forks_above, IsWellBuilt};
 
 use crate::find::times_of;
@@ -21,7 +21,8 @@ trait InPlace {
     // whether one comes
     ghost puts: { Bool };
 
-    /// Changes a bucket that can take the change. Else it stays as it was, and how often the point is held there is told.
+    /// Changes a bucket that can take the change. Else it stays as it was, and how often the point is held there is
+    /// told.
     fn change(bucket: &mut Bucket, p: Point) -> Result<Changed, u16>
         ensures same { IfErr result (λ _. bucket.new ≡ bucket.old) }
         ensures told { IfErr result (λ times. times ≡ counted bucket.old.points bucket.old.times p) }
@@ -90,15 +91,8 @@ impl InPlace for Going {
 
 /// Renews a fork whose left part changed at a point.
 fn after_left(fork: &mut Fork, p: Point, below: Changed) -> Changed
-    requires behind { IsBehindLeft p below.sides fork.old }
-    requires few { length (points_below fork.old.left ++ points_below fork.old.right) ≤ POINT_LIMIT }
-    requires low { max (forks_above fork.old.left) (forks_above fork.old.right) ≤ 28 }
-    requires turns { below.turns ≤ 6912 }
-    ensures renewed { IsRenewed fork.new }
-    ensures left { fork.new.left ≡ fork.old.left }
-    ensures right { fork.new.right ≡ fork.old.right }
-    ensures turns { result.turns ≤ below.turns + 4 * max (forks_above fork.old.left) (forks_above fork.old.right) + 24 }
-    ensures closes { ClosesBy p below.sides result.sides (points_below fork.old.left ++ points_below fork.old.right) }
+    requires { IsToRenew true p below fork.old }
+    ensures { IsRenewedAfter p below fork.old fork.new result }
 {
     fork.last_left = last_after(&fork.left, fork.last_left, p);
     let above = renew_edges(fork, p, below.sides);
@@ -110,15 +104,8 @@ fn after_left(fork: &mut Fork, p: Point, below: Changed) -> Changed
 
 /// Renews a fork whose right part changed at a point.
 fn after_right(fork: &mut Fork, p: Point, below: Changed) -> Changed
-    requires behind { IsBehindRight p below.sides fork.old }
-    requires few { length (points_below fork.old.left ++ points_below fork.old.right) ≤ POINT_LIMIT }
-    requires low { max (forks_above fork.old.left) (forks_above fork.old.right) ≤ 28 }
-    requires turns { below.turns ≤ 6912 }
-    ensures renewed { IsRenewed fork.new }
-    ensures left { fork.new.left ≡ fork.old.left }
-    ensures right { fork.new.right ≡ fork.old.right }
-    ensures turns { result.turns ≤ below.turns + 4 * max (forks_above fork.old.left) (forks_above fork.old.right) + 24 }
-    ensures closes { ClosesBy p below.sides result.sides (points_below fork.old.left ++ points_below fork.old.right) }
+    requires { IsToRenew false p below fork.old }
+    ensures { IsRenewedAfter p below fork.old fork.new result }
 {
     fork.first_right = first_after(&fork.right, fork.first_right, p);
     let above = renew_edges(fork, p, below.sides);
@@ -128,8 +115,8 @@ fn after_right(fork: &mut Fork, p: Point, below: Changed) -> Changed
     }
 }
 
-/// Changes the bucket below a node that a point belongs to, and renews the forks above it, where no part has to move. Else
-/// all stays as it was, and how often the point is held there is told.
+/// Changes the bucket below a node that a point belongs to, and renews the forks above it, where no part has to move.
+/// Else all stays as it was, and how often the point is held there is told.
 fn change_in_place<C: InPlace>(node: &mut Node, p: Point) -> Result<Changed, u16>
     requires built { IsWellBuilt node.old }
     requires few { AreFewFor C.puts (length (points_below node.old)) }
@@ -160,8 +147,8 @@ fn change_in_place<C: InPlace>(node: &mut Node, p: Point) -> Result<Changed, u16
     }
 }
 
-/// Puts a new point below a node, held once, where the bucket that it belongs to has room. Else all stays as it was, and how
-/// often the point is held there is told.
+/// Puts a new point below a node, held once, where the bucket that it belongs to has room. Else all stays as it was,
+/// and how often the point is held there is told.
 #[inline(always)]
 pub fn put_in_place(node: &mut Node, p: Point) -> Result<Changed, u16>
     requires built { IsWellBuilt node.old }
@@ -174,8 +161,8 @@ pub fn put_in_place(node: &mut Node, p: Point) -> Result<Changed, u16>
     change_in_place::<Coming>(node, p)
 }
 
-/// Takes a point that is held once out of what is below a node, where its bucket has others and is not to be merged with the
-/// one beside it. Else all stays as it was, and how often the point is held there is told.
+/// Takes a point that is held once out of what is below a node, where its bucket has others and is not to be merged
+/// with the one beside it. Else all stays as it was, and how often the point is held there is told.
 #[inline(always)]
 pub fn take_in_place(node: &mut Node, p: Point) -> Result<Changed, u16>
     requires built { IsWellBuilt node.old }

@@ -2,6 +2,7 @@ pub mod Words
 pub mod Halvings
 pub mod RunTrees
 pub mod RunBridges
+pub mod RunHalves
 pub mod Places
 pub mod Ends
 pub mod Steps

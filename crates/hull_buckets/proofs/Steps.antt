@@ -8,53 +8,69 @@ use Rattle.lattice.specs.Covers.{IsPointSet}
 use Rattle.hull_geometry.specs.Monotone.{IsPassed, IsTurning}
 use Rattle.hull_geometry.specs.Positions.{point_at}
 use Rattle.hull_geometry.proofs.Passes.{passed_through, passed_itself, turning_join, ends_right, ends_cut}
-use Rattle.hull_geometry.proofs.PointLists.{append_twice}
+use Rattle.hull_geometry.proofs.PointLists.{append_none, append_twice}
 use Rattle.hull_buckets.specs.Masks.{at_places, AreApart}
-use Rattle.hull_buckets.proofs.Places.{first_at, pushed, set_at, together}
+use Rattle.hull_buckets.proofs.Places.{first_at, none_at, pushed, set_at, together}
 use Rattle.hull_buckets.proofs.Words.{top_before, lowest_from, power_le, without_lowest, twice}
 
-module _ (S : List Pair) (kept left place : ℕ) (apart : AreApart kept left) (least : 2 ^ place ≤ left)
-    (there : left % 2 ^ (place + 1) ≡ 2 ^ place) (within : left < 2 ^ length S) where
+-- the chain so far, what is left, and the lowest place of that
+pub record IsStep (S : List Pair) (kept left place : ℕ) : Type 0 where
+  pub apart : AreApart kept left
+  pub least : 2 ^ place ≤ left
+  pub there : left % 2 ^ (place + 1) ≡ 2 ^ place
+  pub within : left < 2 ^ length S
+
+-- so a loop over them makes a step
+pub step : (S : List Pair) (kept left place : ℕ) → AreApart kept left → 2 ^ place ≤ left
+    → left % 2 ^ (place + 1) ≡ 2 ^ place → left < 2 ^ length S → IsStep S kept left place
+step S kept left place apart least there within =
+    record { apart = apart; least = least; there = there; within = within }
+
+module _ {S : List Pair} {kept left place : ℕ} (now : IsStep S kept left place) where
   -- the lowest place is one of the list
   pub place_within : place < length S
-  place_within = top_before left place (length S) least within
+  place_within = top_before left place (length S) now.least now.within
 
   -- all of the chain stand before it
   pub kept_before : kept < 2 ^ place
-  kept_before = let l = lowest_from left apart.0 place apart.2 there in
-      let p = power_le apart.0 place l in
-      let k = apart.1 in
+  kept_before = let l = lowest_from left now.apart.0 place now.apart.2 now.there in
+      let p = power_le now.apart.0 place l in
+      let k = now.apart.1 in
       omega (arith, p, k)
 
   -- the points at the places that were left
   pub first_left : at_places left S ≡ point_at S place ∷ at_places (left - 2 ^ place) S
-  first_left = first_at S left place there place_within
+  first_left = first_at S left place now.there place_within
 
   -- what is left stands behind the new chain
   pub still_apart : (next : ℕ) → next < 2 ^ (place + 1) → AreApart next (left - 2 ^ place)
   still_apart next l =
-      let w = without_lowest left place there in
+      let w = without_lowest left place now.there in
       let z : w.0 * 2 ^ (place + 1) ≡ w.0 * 2 ^ (place + 1) + 0 = omega arith in
       (place + 1, l, ap (λ (n : ℕ). n % 2 ^ (place + 1)) (w.1 ∙ z) ∙ mod_low w.0 (place + 1) 0 (pow_pos (place + 1)))
+
+  pub rest_apart : (next bit : ℕ) → next < 2 ^ (place + 1) → bit ≡ 2 ^ place → AreApart next (left - bit)
+  rest_apart next bit l e = subst (λ (b : ℕ). AreApart next (left - b)) (sym e) (still_apart next l)
 
   -- the places stay within a bound
   pub next_within : (next k : ℕ) → next < 2 ^ (place + 1) → kept < 2 ^ k → left < 2 ^ k → next < 2 ^ k
   next_within next k l m n =
-      let t = top_before left place k least n in
+      let t = top_before left place k now.least n in
       let p = power_le (place + 1) k (omega (arith, t)) in
       omega (arith, l, p)
 
   -- what a pass leaves of the new chain and the rest, it leaves of the chain and what was left
-  pub passed_on : (side : Side) (next : ℕ) (new : List Pair)
+  pub passed_on : (side : Side) (next bit : ℕ) (new : List Pair) → bit ≡ 2 ^ place
       → IsPassed side (at_places kept S ++ point_at S place ∷ []) (at_places next S)
-      → IsPassed side (at_places next S ++ at_places (left - 2 ^ place) S) new
+      → IsPassed side (at_places next S ++ at_places (left - bit) S) new
       → IsPassed side (at_places kept S ++ at_places left S) new
-  passed_on side next new h q =
+  passed_on side next bit new e h q =
       subst (λ (z : List Pair). IsPassed side z new)
       (append_twice (at_places kept S) (point_at S place ∷ []) (at_places (left - 2 ^ place) S)
       ∙ ap (λ (z : List Pair). at_places kept S ++ z) (sym first_left))
       (passed_through side (at_places kept S ++ point_at S place ∷ []) (at_places next S)
-      (at_places (left - 2 ^ place) S) new h q)
+      (at_places (left - 2 ^ place) S) new h
+      (subst (λ (b : ℕ). IsPassed side (at_places next S ++ at_places (left - b) S) new) e q))
 
   -- the chain ends with the new point
   pub ends_there : (side : Side) (next : ℕ)
@@ -89,7 +105,7 @@ module _ (S : List Pair) (kept left place : ℕ) (apart : AreApart kept left) (l
       stays = ap (λ (m : ℕ). at_places m S) e ∙ pushed S kept place kept_before place_within
 
       whole : at_places (next + (left - 2 ^ place)) S ≡ at_places next S ++ at_places (left - 2 ^ place) S
-      whole = together S next (left - 2 ^ place) (still_apart next low) (omega (arith, within)) l
+      whole = together S next (left - 2 ^ place) (still_apart next low) (omega (arith, now.within)) l
 
       same : at_places kept S ++ at_places left S ≡ at_places (next + (left - 2 ^ place)) S
       same = ap (λ (z : List Pair). at_places kept S ++ z) first_left
@@ -101,3 +117,11 @@ module _ (S : List Pair) (kept left place : ℕ) (apart : AreApart kept left) (l
       in_parts = sym same ∙ ap (λ (z : List Pair). z ++ at_places left S) f
           ∙ ap (λ (z : List Pair). (front ++ q ∷ []) ++ z) first_left
           ∙ append_twice front (q ∷ []) (point_at S place ∷ at_places (left - 2 ^ place) S)
+
+-- where nothing is left the chain is what the pass leaves
+pub none_left : (side : Side) (S : List Pair) (kept left : ℕ) → IsPointSet S → left ≡ 0
+    → IsTurning side (at_places kept S) → IsPassed side (at_places kept S ++ at_places left S) (at_places kept S)
+none_left side S kept left s e t = subst (λ (z : List Pair). IsPassed side z (at_places kept S))
+    (append_none (at_places kept S) ∙ ap (λ (z : List Pair). at_places kept S ++ z)
+    (sym (none_at S) ∙ ap (λ (m : ℕ). at_places m S) (sym e)))
+    (passed_itself side (at_places kept S) (record { ordered = set_at kept S s; turning = t }))

@@ -1,13 +1,20 @@
 -- What a change makes of a set, and of two lists in a row.
-use Rattle.std.proofs.Common.{◌≡◌, ◌+◌, ◌≤◌, refl, sym, ap, subst, List, [], ◌∷◌, ◌++◌, length, arith, inl, inr}
+use Rattle.std.proofs.Common.{Bool, true, false, cond, ◌≡◌, ◌+◌, ◌≤◌, refl, sym, ap, subst, List, [], ◌∷◌, ◌++◌, length, arith, inl, inr}
 use Rattle.std.specs.List.{All, Contains}
 use Rattle.std.proofs.lemmas.List.Elements.{All-contains, All-head, All-tail}
 use Rattle.std.proofs.lemmas.List.Elements.{Contains-append_right, Contains-append_cases}
-use Rattle.lattice.specs.Covers.{IsPointSet, with_point, without_point}
+use Rattle.lattice.specs.Covers.{IsPointSet, is_before, with_point, without_point}
 use Rattle.lattice.specs.Plane.{Pair, IsBefore}
 use Rattle.lattice.proofs.Order.{before_trans, before_irrefl, before_total, before_not, before_apart, after_apart}
 use Rattle.lattice.proofs.Order.{is_before-true, is_before-false}
 use Rattle.hull_geometry.proofs.PointLists.{AllPairs-head, AllPairs-tail, only_member}
+
+-- a list behind one of three
+both : (b c : Bool) (xs zs vs ws ys : List Pair) → ws ≡ xs ++ ys
+    → cond b ws (cond c (zs ++ ys) (vs ++ ys)) ≡ cond b xs (cond c zs vs) ++ ys
+both true c xs zs vs ws ys e = e
+both false true xs zs vs ws ys e = refl
+both false false xs zs vs ws ys e = refl
 
 -- p before all of the right list: it is added to the left one
 pub with_left : (p : Pair) (xs ys : List Pair) → All (IsBefore p) ys → with_point p (xs ++ ys) ≡ with_point p xs ++ ys
@@ -15,15 +22,8 @@ with_left p [] [] a = refl
 with_left p [] (y ∷ ys) a =
     let h : IsBefore p y = All-head (IsBefore p) y ys a in
     rw (is_before-false y p (before_not p y h), is_before-true p y h) refl
-with_left p (x ∷ xs) ys a =
-    elim (before_total x p) [
-      | inl h ↦ rw (is_before-true x p h) (ap (λ (z : List Pair). x ∷ z) (with_left p xs ys a))
-      | inr (inl e) ↦ rw (
-        is_before-false x p (λ k. before_apart x p k e),
-        is_before-false p x (λ k. after_apart x p k e),
-      ) refl
-      | inr (inr h) ↦ rw (is_before-false x p (before_not p x h), is_before-true p x h) refl
-    ]
+with_left p (x ∷ xs) ys a = both (is_before x p) (is_before p x) (x ∷ with_point p xs) (p ∷ x ∷ xs) (x ∷ xs)
+    (x ∷ with_point p (xs ++ ys)) ys (ap (λ (z : List Pair). x ∷ z) (with_left p xs ys a))
 
 -- p after all of the left list: it is added to the right one
 pub with_right : (p : Pair) (xs ys : List Pair) → All (λ t. IsBefore t p) xs
@@ -40,15 +40,8 @@ without_left p [] [] a = refl
 without_left p [] (y ∷ ys) a =
     let h : IsBefore p y = All-head (IsBefore p) y ys a in
     rw (is_before-false y p (before_not p y h), is_before-true p y h) refl
-without_left p (x ∷ xs) ys a =
-    elim (before_total x p) [
-      | inl h ↦ rw (is_before-true x p h) (ap (λ (z : List Pair). x ∷ z) (without_left p xs ys a))
-      | inr (inl e) ↦ rw (
-        is_before-false x p (λ k. before_apart x p k e),
-        is_before-false p x (λ k. after_apart x p k e),
-      ) refl
-      | inr (inr h) ↦ rw (is_before-false x p (before_not p x h), is_before-true p x h) refl
-    ]
+without_left p (x ∷ xs) ys a = both (is_before x p) (is_before p x) (x ∷ without_point p xs) (x ∷ xs) xs
+    (x ∷ without_point p (xs ++ ys)) ys (ap (λ (z : List Pair). x ∷ z) (without_left p xs ys a))
 
 -- p after all of the left list: it is taken from the right one
 pub without_right : (p : Pair) (xs ys : List Pair) → All (λ t. IsBefore t p) xs

@@ -1,12 +1,13 @@
 -- a point is looked for where it would stand
-use Rattle.std.proofs.Common.{◌≡◌, ◌+◌, max, ◌∙◌, ap, subst, sym, arith, get_or, Ok, Err}
+use Rattle.std.proofs.Common.{true, false, ◌≡◌, ◌+◌, max, ◌∙◌, ap, subst, sym, arith, get_or, Ok, Err}
 use Rattle.lattice.specs.Plane.{IsBefore}
 use Rattle.hull_buckets.specs.Buckets.{BucketValue, IsBucket}
 use Rattle.hull_geometry.specs.Positions.{IsPositionOf}
 use Rattle.bucket_tree.specs.Counts.{times_at}
 use Rattle.bucket_tree.specs.Nodes.{forks_above, IsWellBuilt}
 use Rattle.bucket_tree.proofs.Gained.{passed, failed}
-use Rattle.bucket_tree.proofs.Lost.{count_at, count_none, count_left, count_right}
+use Rattle.bucket_tree.proofs.Lost.{count_at, count_none}
+use Rattle.bucket_tree.proofs.Parts.{count_in}
 use Rattle.bucket_tree.proofs.NodeRows.{halves_row}
 use Rattle.bucket_tree.proofs.find.+times_of.Goals as goal
 
@@ -53,13 +54,13 @@ returns-in-Err t c =
 pub returns-then-before : goal.returns-then-before
 returns-then-before t c =
     c.times_of.ensures ∙ ap (λ z. times_at z.left c.args.p) c.deref-then-before.ensures
-    ∙ sym (count_left c.args.node.now c.in-Fork.field-0 c.in-Fork.fork c.args.p c.in-Fork.is c.requires
+    ∙ sym (count_in true c.args.node.now c.in-Fork.field-0 c.in-Fork.fork c.args.p c.in-Fork.is c.requires
     (subst (IsBefore c.args.p) (ap (λ z. z.first_right) c.deref-in-Fork.ensures)
     (passed c.before-in-Fork.result c.before-in-Fork.ensures.0 c.if-before.true)))
 
 pub returns-else-before : goal.returns-else-before
 returns-else-before t c =
     c.times_of-else-before.ensures ∙ ap (λ z. times_at z.right c.args.p) c.deref-else-before.ensures
-    ∙ sym (count_right c.args.node.now c.in-Fork.field-0 c.in-Fork.fork c.args.p c.in-Fork.is c.requires
+    ∙ sym (count_in false c.args.node.now c.in-Fork.field-0 c.in-Fork.fork c.args.p c.in-Fork.is c.requires
     (subst (λ z. ¬ IsBefore c.args.p z) (ap (λ z. z.first_right) c.deref-in-Fork.ensures)
     (failed c.before-in-Fork.result c.before-in-Fork.ensures.1 c.if-before.false)))

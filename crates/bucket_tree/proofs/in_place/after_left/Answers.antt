@@ -1,8 +1,11 @@
 -- the fork's edges are as they were, and it keeps the points at its parting
 use Rattle.std.proofs.Common.{refl}
-use Rattle.bucket_tree.proofs.InPlace.{behind_of_left}
+use Rattle.bucket_tree.proofs.Kept.{behind_as, same_edges}
 use Rattle.bucket_tree.proofs.in_place.after_left.Goals as goal
 
 pub renew_edges-above-requires-clause-behind : goal.renew_edges-above-requires-clause-behind
 renew_edges-above-requires-clause-behind c =
-    behind_of_left c.args.p c.args.below.sides c.args.fork.now _ c.requires.behind refl refl refl c.last_after-fork.ensures
+    let edges = c.requires.behind.edges in
+    let f = c.args.fork.now in
+    behind_as c.args.p c.args.below.sides f.left f.right f _ edges.closed edges.clear (same_edges f _ refl refl)
+    c.last_after-fork.ensures c.requires.behind.first

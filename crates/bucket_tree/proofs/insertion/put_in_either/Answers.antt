@@ -1,8 +1,10 @@
 -- the point comes to one of two buckets in a row
-use Rattle.std.proofs.Common.{subst, sym, arith, false}
+use Rattle.std.proofs.Common.{◌∙◌, ◌++◌, ap, subst, sym, arith, true, false}
 use Rattle.std.proofs.lemmas.List.Elements.{Contains-append_right}
 use Rattle.lattice.specs.Plane.{IsBefore}
-use Rattle.bucket_tree.proofs.Gained.{passed, failed, read_first, grew_left, grew_right}
+use Rattle.bucket_tree.proofs.Gained.{passed, failed, read_first}
+use Rattle.bucket_tree.proofs.Parts.{altered_in}
+use Rattle.bucket_tree.specs.Counts.{Comes}
 use Rattle.bucket_tree.proofs.Rows.{counted_row}
 use Rattle.bucket_tree.proofs.insertion.put_in_either.Goals as goal
 
@@ -12,11 +14,13 @@ put-requires-2-clause-absent c i =
 
 pub returns-then-before-clause-points : goal.returns-then-before-clause-points
 returns-then-before-clause-points c =
-    grew_left false c.args.p c.args.first.now.points c.put.new.bucket.points c.args.second.now.points c.requires.ordered
+    ap (λ z. z ++ c.args.second.now.points) c.put.ensures.points
+    ∙ altered_in true (Comes false) c.args.p c.args.first.now.points c.args.second.now.points c.requires.ordered
+    c.buckets_are_sound-2.ensures.some
     (subst (IsBefore c.args.p)
     (sym (read_first c.points.result.now c.args.second.now.points c.index-points-0.result c.points.ensures.points
     c.buckets_are_sound-2.ensures.some c.index-points-0.is))
-    (passed c.before-2.result c.before-2.ensures.0 c.if-before.true)) c.put.ensures.points
+    (passed c.before-2.result c.before-2.ensures.0 c.if-before.true))
 
 pub returns-then-before-clause-times : goal.returns-then-before-clause-times
 returns-then-before-clause-times c q = omega (
@@ -30,12 +34,13 @@ returns-then-before-clause-times c q = omega (
 
 pub returns-clause-points : goal.returns-clause-points
 returns-clause-points c =
-    grew_right false c.args.p c.args.first.now.points c.args.second.now.points c.put-2.new.bucket.points
-    c.requires.ordered c.buckets_are_sound-2.ensures.some
+    ap (λ z. c.args.first.now.points ++ z) c.put-2.ensures.points
+    ∙ altered_in false (Comes false) c.args.p c.args.first.now.points c.args.second.now.points c.requires.ordered
+    c.buckets_are_sound-2.ensures.some
     (subst (λ z. ¬ IsBefore c.args.p z)
     (sym (read_first c.points.result.now c.args.second.now.points c.index-points-0.result c.points.ensures.points
     c.buckets_are_sound-2.ensures.some c.index-points-0.is))
-    (failed c.before-2.result c.before-2.ensures.1 c.if-before.false)) c.put-2.ensures.points
+    (failed c.before-2.result c.before-2.ensures.1 c.if-before.false))
 
 pub returns-clause-times : goal.returns-clause-times
 returns-clause-times c q = omega (

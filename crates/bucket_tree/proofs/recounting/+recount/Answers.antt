@@ -1,14 +1,14 @@
 -- a point is looked for where it stands
-use Rattle.std.proofs.Common.{◌≡◌, ◌+◌, max, ap, subst, sym, arith, refl}
+use Rattle.std.proofs.Common.{true, false, ◌≡◌, ◌+◌, max, ap, subst, sym, arith, refl}
 use Rattle.lattice.specs.Plane.{IsBefore}
 use Rattle.hull_buckets.specs.Buckets.{BucketValue}
 use Rattle.bucket_tree.specs.Counts.{counted, times_at, IsSameButTimes}
 use Rattle.leaf_trees.specs.Entries.{several}
 use Rattle.bucket_tree.specs.Nodes.{forks_above, IsWellBuilt}
 use Rattle.bucket_tree.proofs.Gained.{passed, failed}
-use Rattle.bucket_tree.proofs.Lost.{count_left, count_right}
+use Rattle.bucket_tree.proofs.Parts.{count_in}
 use Rattle.bucket_tree.proofs.NodeRows.{halves_row}
-use Rattle.bucket_tree.proofs.Recounted.{recounted_leaf, recounted_left_of, recounted_right_of}
+use Rattle.bucket_tree.proofs.Recounted.{recounted_leaf, recounted_in}
 use Rattle.bucket_tree.proofs.recounting.+recount.Goals as goal
 
 pub recount-requires : goal.recount-requires
@@ -17,7 +17,7 @@ recount-requires t c =
     ≡ max (forks_above c.in-Fork.fork.value.left) (forks_above c.in-Fork.fork.value.right) + 1 =
     ap forks_above c.in-Fork.is in
     let k = ap (λ z. forks_above z.left) c.deref_mut-then-before.ensures.value in
-    let m = count_left c.args.node.now c.in-Fork.field-0 c.in-Fork.fork c.args.p c.in-Fork.is c.requires.built
+    let m = count_in true c.args.node.now c.in-Fork.field-0 c.in-Fork.fork c.args.p c.in-Fork.is c.requires.built
     (subst (IsBefore c.args.p) (ap (λ z. z.first_right) c.deref.ensures)
     (passed c.before-in-Fork.result c.before-in-Fork.ensures.0 c.if-before.true)) in
     let v = ap (λ z. times_at z.left c.args.p) c.deref_mut-then-before.ensures.value in (
@@ -35,7 +35,7 @@ recount-requires-else-before t c =
     ≡ max (forks_above c.in-Fork.fork.value.left) (forks_above c.in-Fork.fork.value.right) + 1 =
     ap forks_above c.in-Fork.is in
     let k = ap (λ z. forks_above z.right) c.deref_mut-else-before.ensures.value in
-    let m = count_right c.args.node.now c.in-Fork.field-0 c.in-Fork.fork c.args.p c.in-Fork.is c.requires.built
+    let m = count_in false c.args.node.now c.in-Fork.field-0 c.in-Fork.fork c.args.p c.in-Fork.is c.requires.built
     (subst (λ z. ¬ IsBefore c.args.p z) (ap (λ z. z.first_right) c.deref.ensures)
     (failed c.before-in-Fork.result c.before-in-Fork.ensures.1 c.if-before.false)) in
     let v = ap (λ z. times_at z.right c.args.p) c.deref_mut-else-before.ensures.value in (
@@ -59,7 +59,7 @@ returns-in-Leaf t c =
 
 pub returns-then-before : goal.returns-then-before
 returns-then-before t c =
-    recounted_left_of c.args.times c.args.p c.args.node.now c.in-Fork.field-0 c.in-Fork.fork
+    recounted_in true c.args.times c.args.p c.args.node.now c.in-Fork.field-0 c.in-Fork.fork
     c.deref_mut-then-before.result.now c.recount.new.node c.deref_mut-then-before.ensures.value c.in-Fork.is
     c.requires.built (subst (IsBefore c.args.p) (ap (λ z. z.first_right) c.deref.ensures)
     (passed c.before-in-Fork.result c.before-in-Fork.ensures.0 c.if-before.true))
@@ -67,7 +67,7 @@ returns-then-before t c =
 
 pub returns-else-before : goal.returns-else-before
 returns-else-before t c =
-    recounted_right_of c.args.times c.args.p c.args.node.now c.in-Fork.field-0 c.in-Fork.fork
+    recounted_in false c.args.times c.args.p c.args.node.now c.in-Fork.field-0 c.in-Fork.fork
     c.deref_mut-else-before.result.now c.recount-else-before.new.node c.deref_mut-else-before.ensures.value c.in-Fork.is
     c.requires.built (subst (λ z. ¬ IsBefore c.args.p z) (ap (λ z. z.first_right) c.deref.ensures)
     (failed c.before-in-Fork.result c.before-in-Fork.ensures.1 c.if-before.false))

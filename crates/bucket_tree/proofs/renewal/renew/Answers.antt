@@ -1,24 +1,24 @@
 -- with its parts in it the fork is behind as it was, and then renewed
-use Rattle.std.proofs.Common.{◌≡◌, ◌∙◌, ap, subst, sym, arith}
+use Rattle.std.proofs.Common.{true, false, ◌≡◌, ◌∙◌, ap, subst, sym, arith}
 use Rattle.bucket_tree.specs.Changes.{IsBehind}
 use Rattle.bucket_tree.specs.Nodes.{forks_above}
 use Rattle.bucket_tree.specs.declared.node.Fork.{Fork}
-use Rattle.bucket_tree.proofs.InPlace.{fork_built, over_parts, with_left, with_right}
+use Rattle.bucket_tree.proofs.InPlace.{fork_built, over_parts, with_part}
 use Rattle.bucket_tree.proofs.renewal.renew.Goals as goal
 
 pub renew_edges-change-requires-clause-behind : goal.renew_edges-change-requires-clause-behind
 renew_edges-change-requires-clause-behind c =
-    let e : c.deref_mut-3.result.now ≡ with_right (with_left c.args.place.value c.args.left) c.args.right =
-    c.deref_mut-3.ensures.value ∙ ap (λ (z : Fork). with_right z c.args.right) c.deref_mut-2.ensures.value
-    ∙ ap (λ (z : Fork). with_right (with_left z c.args.left) c.args.right) c.deref_mut.ensures.value in
+    let e : c.deref_mut-3.result.now ≡ with_part false (with_part true c.args.place.value c.args.left) c.args.right =
+    c.deref_mut-3.ensures.value ∙ ap (λ (z : Fork). with_part false z c.args.right) c.deref_mut-2.ensures.value
+    ∙ ap (λ (z : Fork). with_part false (with_part true z c.args.left) c.args.right) c.deref_mut.ensures.value in
     subst (λ (z : Fork). IsBehind c.args.p c.args.sides z.left z.right z) (sym e)
     (over_parts c.args.p c.args.sides c.args.left c.args.right c.args.place.value c.requires.behind)
 
 pub returns-clause-built : goal.returns-clause-built
 returns-clause-built c =
-    let e : c.deref_mut-3.result.now ≡ with_right (with_left c.args.place.value c.args.left) c.args.right =
-    c.deref_mut-3.ensures.value ∙ ap (λ (z : Fork). with_right z c.args.right) c.deref_mut-2.ensures.value
-    ∙ ap (λ (z : Fork). with_right (with_left z c.args.left) c.args.right) c.deref_mut.ensures.value in
+    let e : c.deref_mut-3.result.now ≡ with_part false (with_part true c.args.place.value c.args.left) c.args.right =
+    c.deref_mut-3.ensures.value ∙ ap (λ (z : Fork). with_part false z c.args.right) c.deref_mut-2.ensures.value
+    ∙ ap (λ (z : Fork). with_part false (with_part true z c.args.left) c.args.right) c.deref_mut.ensures.value in
     let l = ap forks_above (c.renew_edges-change.ensures.left ∙ ap (λ (z : Fork). z.left) e) in
     let r = ap forks_above (c.renew_edges-change.ensures.right ∙ ap (λ (z : Fork). z.right) e) in
     fork_built _ _ c.renew_edges-change.ensures.renewed

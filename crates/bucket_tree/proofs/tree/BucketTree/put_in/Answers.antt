@@ -7,7 +7,7 @@ use Rattle.bucket_tree.specs.Roots.{points_of_root}
 use Rattle.bucket_tree.specs.Sets.{LimitedTree, IsLimited}
 use Rattle.bucket_tree.specs.declared.node.Node.{Node}
 use Rattle.bucket_tree.proofs.MostTurns.{few_turns}
-use Rattle.bucket_tree.proofs.Rooted.{absent_below, built_root, limited_with, sound}
+use Rattle.bucket_tree.proofs.Rooted.{absent_below, built_root, limited_root, limited_with, low_root}
 use Rattle.bucket_tree.proofs.tree.BucketTree.put_in.Goals as goal
 
 pub insert-change-requires-clause-absent : goal.insert-change-requires-clause-absent
@@ -18,16 +18,11 @@ insert-change-requires-clause-absent c =
 
 pub insert-change-requires-clause-low : goal.insert-change-requires-clause-low
 insert-change-requires-clause-low c =
-    let r : c.self.inside.root ≡ Some c.in-Some.root = cc in
-    (sound _ _ _ (subst (λ (z : Option Node). IsLimited z c.self.inside.count c.self.inside.limit) r
-    c.self.invariant)).low
+    low_root c.self.inside.root c.in-Some.root _ _ c.self.invariant cc
 
 pub returns-then-change-clause-few : goal.returns-then-change-clause-few
 returns-then-change-clause-few c =
-    let r : c.self.inside.root ≡ Some c.in-Some.root = cc in
-    let h : forks_above c.in-Some.root ≤ 28 =
-    (sound _ _ _ (subst (λ (z : Option Node). IsLimited z c.self.inside.count c.self.inside.limit) r
-    c.self.invariant)).low in
+    let h = low_root c.self.inside.root c.in-Some.root _ _ c.self.invariant cc in
     omega (arith, few_turns (forks_above c.in-Some.root) h, c.insert-change.ensures.turns)
 
 pub invariant_of-self-2 : goal.invariant_of-self-2
@@ -35,7 +30,7 @@ invariant_of-self-2 c =
     let r : c.self.inside.root ≡ Some c.in-Some.root = cc in
     let v : c.args.self.now.root ≡ Some c.in-Some.root = sym (ap (λ (z : LimitedTree). z.root) c.self.view_is) ∙ r in
     limited_with c.in-Some.root c.insert-change.result.node c.args.p c.self.inside.count c.self.inside.limit
-    (subst (λ (z : Option Node). IsLimited z c.self.inside.count c.self.inside.limit) r c.self.invariant)
+    (limited_root _ _ _ _ c.self.invariant r)
     c.insert-change.ensures.built
     (subst (λ z. HasGained z c.args.p c.in-Some.root c.insert-change.result.node) c.if-change.false
     c.insert-change.ensures.gained).0
@@ -50,8 +45,5 @@ invariant_of-self-2 c =
 
 pub returns-clause-few : goal.returns-clause-few
 returns-clause-few c =
-    let r : c.self.inside.root ≡ Some c.in-Some.root = cc in
-    let h : forks_above c.in-Some.root ≤ 28 =
-    (sound _ _ _ (subst (λ (z : Option Node). IsLimited z c.self.inside.count c.self.inside.limit) r
-    c.self.invariant)).low in
+    let h = low_root c.self.inside.root c.in-Some.root _ _ c.self.invariant cc in
     omega (arith, few_turns (forks_above c.in-Some.root) h, c.insert-change.ensures.turns)

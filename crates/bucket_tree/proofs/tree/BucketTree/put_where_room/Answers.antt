@@ -6,20 +6,18 @@ use Rattle.bucket_tree.specs.Roots.{points_of_root}
 use Rattle.bucket_tree.specs.Sets.{LimitedTree, IsLimited}
 use Rattle.bucket_tree.specs.declared.node.Node.{Node}
 use Rattle.bucket_tree.proofs.MostTurns.{few_turns}
-use Rattle.bucket_tree.proofs.Rooted.{absent_below, built_root, limited_with, sound}
+use Rattle.bucket_tree.proofs.Rooted.{absent_below, built_root, limited_root, limited_with, low_root}
 use Rattle.bucket_tree.proofs.tree.BucketTree.put_where_room.Goals as goal
 
 pub put_in_place-requires-clause-low : goal.put_in_place-requires-clause-low
 put_in_place-requires-clause-low c =
-    let r : c.self.inside.root ≡ Some c.in-Some.root = cc in
-    (sound _ _ _ (subst (λ (z : Option Node). IsLimited z c.self.inside.count c.self.inside.limit) r
-    c.self.invariant)).low
+    low_root c.self.inside.root c.in-Some.root _ _ c.self.invariant cc
 
 pub invariant_of-self-in-Ok : goal.invariant_of-self-in-Ok
 invariant_of-self-in-Ok c =
     let r : c.self.inside.root ≡ Some c.in-Some.root = cc in
     limited_with c.in-Some.root c.put_in_place.new.node c.args.p c.self.inside.count c.self.inside.limit
-    (subst (λ (z : Option Node). IsLimited z c.self.inside.count c.self.inside.limit) r c.self.invariant)
+    (limited_root _ _ _ _ c.self.invariant r)
     c.in-Ok.ensures.put.in_place.built c.in-Ok.ensures.put.gained.0
     (absent_below (Some c.in-Some.root) c.in-Some.root c.args.p refl (built_root _ _ _ _ c.self.invariant r)
     c.in-Ok.ensures.put.absent)
@@ -33,8 +31,5 @@ invariant_of-self-in-Ok c =
 
 pub returns-in-Ok-clause-few : goal.returns-in-Ok-clause-few
 returns-in-Ok-clause-few c =
-    let r : c.self.inside.root ≡ Some c.in-Some.root = cc in
-    let h : forks_above c.in-Some.root ≤ 28 =
-    (sound _ _ _ (subst (λ (z : Option Node). IsLimited z c.self.inside.count c.self.inside.limit) r
-    c.self.invariant)).low in
+    let h = low_root c.self.inside.root c.in-Some.root _ _ c.self.invariant cc in
     omega (arith, few_turns (forks_above c.in-Some.root) h, c.in-Ok.ensures.put.in_place.turns)

@@ -2,7 +2,6 @@
 use Rattle.std.proofs.Common.{arith, ◌≡◌, ◌≤◌, ◌-◌, ap, subst, sym, ◌∙◌, Some}
 use Rattle.std.proofs.lemmas.Grind.{common_steps}
 use Rattle.std.specs.Prelude.{length}
-use Rattle.std.specs.List.{Contains}
 use Rattle.hull_set.specs.Replies.{AnswersRemove}
 use Rattle.hull_set.specs.declared.reply.Reply.TheVariants.{Removed, Left, Absent}
 use Rattle.hull_set.specs.declared.rules.Rules.TheVariants.{Counted}
@@ -20,65 +19,53 @@ use Rattle.hull_tree.proofs.tree.HullTree.remove_counted.Goals as goal
 
 pub returns-then-times-eq0-clause-reply : goal.returns-then-times-eq0-clause-reply
 returns-then-times-eq0-clause-reply c =
-    let k = counted c.self.invariant c.in-Some.is c.lower-times.ensures.was c.lower-times.ensures.built
-    c.lower-times.ensures.same_tree in
+    let w = c.lower-times.ensures in let k = counted c.self.invariant c.in-Some.is w.was w.built w.same_tree in
     subst (λ (z : LimitedTree). AnswersRemove Counted (held_by z.root) c.args.p Absent) c.self.view_is
     (dead k c.if-times-eq0.true)
 
 pub returns-then-times-eq0-clause-sound : goal.returns-then-times-eq0-clause-sound
 returns-then-times-eq0-clause-sound c =
-    sound_after (counted c.self.invariant c.in-Some.is c.lower-times.ensures.was c.lower-times.ensures.built
-    c.lower-times.ensures.same_tree)
+    let w = c.lower-times.ensures in sound_after (counted c.self.invariant c.in-Some.is w.was w.built w.same_tree)
 
 pub returns-then-times-gt1-clause-reply : goal.returns-then-times-gt1-clause-reply
 returns-then-times-gt1-clause-reply c =
-    let k = counted c.self.invariant c.in-Some.is c.lower-times.ensures.was c.lower-times.ensures.built
-    c.lower-times.ensures.same_tree in
+    let w = c.lower-times.ensures in let k = counted c.self.invariant c.in-Some.is w.was w.built w.same_tree in
     subst (λ (z : LimitedTree). AnswersRemove Counted (held_by z.root) c.args.p
     (Left (c.lower-times.result - 1))) c.self.view_is
     (answers_left k c.if-times-gt1.true)
 
 pub returns-then-times-gt1-clause-sound : goal.returns-then-times-gt1-clause-sound
 returns-then-times-gt1-clause-sound c =
-    sound_after (counted c.self.invariant c.in-Some.is c.lower-times.ensures.was c.lower-times.ensures.built
-    c.lower-times.ensures.same_tree)
+    let w = c.lower-times.ensures in sound_after (counted c.self.invariant c.in-Some.is w.was w.built w.same_tree)
 
 pub overflow_sub-self : goal.overflow_sub-self
 overflow_sub-self c =
-    let k = counted c.self.invariant c.in-Some.is c.lower-times.ensures.was c.lower-times.ensures.built
-    c.lower-times.ensures.same_tree in
-    let m : Contains (points_below c.lower-times.new.node) c.args.p =
-    live_after k (omega (arith, c.if-times-eq0.false)) in
+    let w = c.lower-times.ensures in let k = counted c.self.invariant c.in-Some.is w.was w.built w.same_tree in
+    let m = live_after k (omega (arith, c.if-times-eq0.false)) in
     let l : 1 ≤ length (points_below c.lower-times.new.node) = some_points _ _ m in
     omega (arith, l, (limited_after k).counted)
 
 pub remove-requires-clause-fork : goal.remove-requires-clause-fork
 remove-requires-clause-fork c =
-    let k = counted c.self.invariant c.in-Some.is c.lower-times.ensures.was c.lower-times.ensures.built
-    c.lower-times.ensures.same_tree in
-    let m : Contains (points_below c.lower-times.new.node) c.args.p =
-    live_after k (omega (arith, c.if-times-eq0.false)) in
+    let w = c.lower-times.ensures in let k = counted c.self.invariant c.in-Some.is w.was w.built w.same_tree in
+    let m = live_after k (omega (arith, c.if-times-eq0.false)) in
     fork_of _ _ (on_of_contains _ _ m) (failed _ _ c.if-is_leaf.false c.is_leaf.ensures)
 
 pub remove-requires-clause-low : goal.remove-requires-clause-low
 remove-requires-clause-low c =
-    let k = counted c.self.invariant c.in-Some.is c.lower-times.ensures.was c.lower-times.ensures.built
-    c.lower-times.ensures.same_tree in
+    let w = c.lower-times.ensures in let k = counted c.self.invariant c.in-Some.is w.was w.built w.same_tree in
     let h : height_at c.lower-times.new.node ≤ greatest_height = (sound_after k).low in
     omega (arith, h)
 
 pub invariant_of-self-2 : goal.invariant_of-self-2
 invariant_of-self-2 c =
-    let k = counted c.self.invariant c.in-Some.is c.lower-times.ensures.was c.lower-times.ensures.built
-    c.lower-times.ensures.same_tree in
-    let m : Contains (points_below c.lower-times.new.node) c.args.p =
-    live_after k (omega (arith, c.if-times-eq0.false)) in
+    let w = c.lower-times.ensures in let k = counted c.self.invariant c.in-Some.is w.was w.built w.same_tree in
+    let m = live_after k (omega (arith, c.if-times-eq0.false)) in
     limited_without _ _ _ _ _ (limited_after k) c.remove.ensures.built c.remove.ensures.points m
 
 pub returns-clause-reply : goal.returns-clause-reply
 returns-clause-reply c =
-    let k = counted c.self.invariant c.in-Some.is c.lower-times.ensures.was c.lower-times.ensures.built
-    c.lower-times.ensures.same_tree in
+    let w = c.lower-times.ensures in let k = counted c.self.invariant c.in-Some.is w.was w.built w.same_tree in
     let o : c.lower-times.result ≡ 1 = omega (arith, c.if-times-eq0.false, c.if-times-gt1.false) in
     subst (λ (z : LimitedTree). AnswersRemove Counted (held_by z.root) c.args.p Removed) c.self.view_is
     (answers_removed k o)
@@ -92,16 +79,13 @@ returns-clause-effect c =
 
 pub returns-clause-sound : goal.returns-clause-sound
 returns-clause-sound c =
-    let k = counted c.self.invariant c.in-Some.is c.lower-times.ensures.was c.lower-times.ensures.built
-    c.lower-times.ensures.same_tree in
-    let m : Contains (points_below c.lower-times.new.node) c.args.p =
-    live_after k (omega (arith, c.if-times-eq0.false)) in
+    let w = c.lower-times.ensures in let k = counted c.self.invariant c.in-Some.is w.was w.built w.same_tree in
+    let m = live_after k (omega (arith, c.if-times-eq0.false)) in
     sound _ _ _ (limited_without _ _ _ _ _ (limited_after k) c.remove.ensures.built c.remove.ensures.points m)
 
 pub returns-clause-few : goal.returns-clause-few
 returns-clause-few c =
-    let k = counted c.self.invariant c.in-Some.is c.lower-times.ensures.was c.lower-times.ensures.built
-    c.lower-times.ensures.same_tree in
+    let w = c.lower-times.ensures in let k = counted c.self.invariant c.in-Some.is w.was w.built w.same_tree in
     let h : height_at c.lower-times.new.node ≤ greatest_height = (sound_after k).low in
     omega (arith, h, c.remove.ensures.few)
 
