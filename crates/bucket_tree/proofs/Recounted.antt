@@ -1,5 +1,6 @@
 -- A point that is held more or less often.
-use Rattle.std.proofs.Common.{Bool, true, false, cond, ◌≡◌, ℕ, zero, suc, ◌+◌, ◌<◌, refl, sym, ap, ◌∙◌, subst, List, [], ◌∷◌}
+use Rattle.std.proofs.Common.{Bool, true, false, cond, ◌≡◌, ℕ, zero, suc, ◌+◌, ◌<◌, refl, sym, ap, ◌∙◌, subst, List, []}
+use Rattle.std.proofs.Common.{◌∷◌}
 use Rattle.std.proofs.Common.{◌++◌}
 use Rattle.std.proofs.Common.{length, arith}
 use Rattle.std.proofs.Common.{Ok, get_or, Box}
@@ -184,5 +185,6 @@ recounted_in left times p n h f v k u e w b r =
       all q,
     )
     counts false s q =
-        let b = held_row (Fork h (with_value f (with_part false f.value k))) f.value.left k q row.left_built.buckets refl refl in
+        let b = held_row (Fork h (with_value f (with_part false f.value k))) f.value.left k q
+        row.left_built.buckets refl refl in
         (times_at f.value.left q, omega (arith, b), omega (arith, all q))

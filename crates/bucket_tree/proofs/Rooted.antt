@@ -1,5 +1,6 @@
 -- What a tree with a limit keeps, and that a change keeps it.
-use Rattle.std.proofs.Common.{◌≡◌, ℕ, ◌+◌, ◌-◌, ◌<◌, ◌≤◌, ap, refl, sym, ◌∙◌, List, [], length, arith, Some, None, subst}
+use Rattle.std.proofs.Common.{◌≡◌, ℕ, ◌+◌, ◌-◌, ◌<◌, ◌≤◌, ap, refl, sym, ◌∙◌, List, [], length, arith, Some, None}
+use Rattle.std.proofs.Common.{subst}
 use Rattle.std.specs.Prelude.{Option, ◌≢◌}
 use Rattle.std.specs.List.{All, Contains}
 use Rattle.std.proofs.lemmas.List.Elements.{All-append}
@@ -30,7 +31,8 @@ use Rattle.bucket_tree.proofs.NodeHeights.{no_higher}
 pub multiplicities : (n : Node) → HasBuckets n → All IsMultiplicity (times_below n)
 multiplicities (Leaf b) h = h.held
 multiplicities (Fork' height i first_right left right last_left upper lower) h =
-    All-append IsMultiplicity (times_below left) (times_below right) (multiplicities left h.0) (multiplicities right h.1)
+    All-append IsMultiplicity (times_below left) (times_below right) (multiplicities left h.0)
+    (multiplicities right h.1)
 multiplicities Gap h = absurd h
 
 -- what is below a node is listed by entries
@@ -55,7 +57,8 @@ root_entries_hold (Some n) w = entries_hold n w
 
 -- what a well-built root holds is its points
 pub root_held : (root : Option Node) → IsWellBuiltRoot root → IsTrueHeld (held_by root)
-root_held root w = subst IsTrueHeld (root_entries_hold root w) (entries_held (entries_of_root root) (root_entries root w))
+root_held root w = subst IsTrueHeld (root_entries_hold root w)
+    (entries_held (entries_of_root root) (root_entries root w))
 
 -- a tree with a limit is sound
 pub sound : (root : Option Node) (count limit : ℕ) → IsLimited root count limit → IsSound root

@@ -25,11 +25,14 @@ loop-left-preserved c =
     (c.loop-left.invariant.within (length c.args.points.now) c.requires.chain_within c.requires.rest_within).1 in
     record {
       apart = rest_apart s c.pushed-kept.result c.bit-left.result c.pushed-kept.ensures.within c.bit-left.ensures;
-      within = λ k l m. let w = c.loop-left.invariant.within k l m in
-          (next_within s c.pushed-kept.result k c.pushed-kept.ensures.within w.0 w.1, (let n = w.1 in omega (arith, n)));
+      within = λ k l m. let w = c.loop-left.invariant.within k l m in (
+        next_within s c.pushed-kept.result k c.pushed-kept.ensures.within w.0 w.1,
+        (let n = w.1 in omega (arith, n)),
+      );
       turning = c.pushed-kept.ensures.passed.strict.turning;
       passed = λ new h. c.loop-left.invariant.passed new
-          (passed_on s c.args.side c.pushed-kept.result c.bit-left.result new c.bit-left.ensures c.pushed-kept.ensures.passed h);
+          (passed_on s c.args.side c.pushed-kept.result c.bit-left.result new c.bit-left.ensures
+          c.pushed-kept.ensures.passed h);
     }
 
 pub returns-clause-passed : goal.returns-clause-passed

@@ -94,14 +94,17 @@ loop-left-preserved c =
     let ends = ends_there s c.args.side c.pushed-next.result c.pushed-next.ensures.passed in
     record {
       apart = rest_apart s c.pushed-next.result c.bit-left.result c.pushed-next.ensures.within c.bit-left.ensures;
-      within = λ k l m. let w = c.loop-left.invariant.within k l m in
-          (next_within s c.pushed-next.result k c.pushed-next.ensures.within w.0 w.1, (let n = w.1 in omega (arith, n)));
+      within = λ k l m. let w = c.loop-left.invariant.within k l m in (
+        next_within s c.pushed-next.result k c.pushed-next.ensures.within w.0 w.1,
+        (let n = w.1 in omega (arith, n)),
+      );
       turning = c.pushed-next.ensures.passed.strict.turning;
       rest_turning = turning_right c.args.side (point_at S c.lowest-place.result ∷ [])
           (at_places (c.loop-left.left - c.bit-left.result) S) turning;
       behind = λ e. (ends.0, point_at S c.lowest-place.result, ends.1, turning);
       passed = λ new h. c.loop-left.invariant.passed new
-          (passed_on s c.args.side c.pushed-next.result c.bit-left.result new c.bit-left.ensures c.pushed-next.ensures.passed h);
+          (passed_on s c.args.side c.pushed-next.result c.bit-left.result new c.bit-left.ensures
+          c.pushed-next.ensures.passed h);
     }
 
 pub returns-clause-passed : goal.returns-clause-passed

@@ -57,10 +57,12 @@ returns c =
     let r = c.args.self in
     let s = several_told r.bucket.now r.mask c.lowest.result c.highest.result r.some r.within r.few
     c.lowest.ensures.value c.highest.ensures.value c.if-lowest-highest.false in
-    let a = (end_read true r.bucket.now c.args.side r.mask c.corners-chain.result c.halves_of-left.result.0 c.end_of.result
+    let a = (end_read true r.bucket.now c.args.side r.mask c.corners-chain.result c.halves_of-left.result.0
+    c.end_of.result
     c.points-points.result.now s c.corners-chain.ensures.mask c.halves_of-left.ensures.left c.end_of.ensures
     c.points-points.ensures.points).point c.index-points-end_of.result c.index-points-end_of.is in
-    let b = (end_read false r.bucket.now c.args.side r.mask c.corners-chain.result c.halves_of-left.result.1 c.start_of.result
+    let b = (end_read false r.bucket.now c.args.side r.mask c.corners-chain.result c.halves_of-left.result.1
+    c.start_of.result
     c.points-points.result.now s c.corners-chain.ensures.mask c.halves_of-left.ensures.right c.start_of.ensures
     c.points-points.ensures.points).point c.index-points-start_of.result c.index-points-start_of.is in
     ap (λ (z : Pair). Some (z, c.index-points-start_of.result)) a

@@ -11,15 +11,19 @@ pub bounds-points-highest : goal.bounds-points-highest
 bounds-points-highest c =
     let r = c.args.self in
     let f = mask_fits r.mask (length r.bucket.now.points) r.within r.few in
-    let t = read_there r.bucket.now.points c.points.result.now (highest_of r.mask) c.highest.result c.points.ensures.points
-    c.highest.ensures.value (place_within r.mask (length r.bucket.now.points) (highest_of r.mask) r.within (highest_set r.mask r.some f)) in
+    let t = read_there r.bucket.now.points c.points.result.now
+    (highest_of r.mask) c.highest.result c.points.ensures.points
+    c.highest.ensures.value
+    (place_within r.mask (length r.bucket.now.points) (highest_of r.mask) r.within (highest_set r.mask r.some f)) in
     t.within
 
 pub returns : goal.returns
 returns c =
     let r = c.args.self in
     let f = mask_fits r.mask (length r.bucket.now.points) r.within r.few in
-    let t = read_there r.bucket.now.points c.points.result.now (highest_of r.mask) c.highest.result c.points.ensures.points
-    c.highest.ensures.value (place_within r.mask (length r.bucket.now.points) (highest_of r.mask) r.within (highest_set r.mask r.some f)) in
+    let t = read_there r.bucket.now.points c.points.result.now
+    (highest_of r.mask) c.highest.result c.points.ensures.points
+    c.highest.ensures.value
+    (place_within r.mask (length r.bucket.now.points) (highest_of r.mask) r.within (highest_set r.mask r.some f)) in
     t.point c.index-points-highest.result c.index-points-highest.is
     ∙ sym (last_is (width_of r.mask) r.bucket.now r.mask r.some f (omega arith))
