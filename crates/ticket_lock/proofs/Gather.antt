@@ -3,7 +3,7 @@ use Rattle.std.proofs.lemmas.Grind.{common_steps}
 use Rattle.std.proofs.Common.{◌≡◌, ℕ, zero, suc, ◌+◌, List, [], ◌∷◌, ◌++◌, map, length, sym, refl, ap, ◌∙◌, subst}
 use Rattle.std.proofs.Common.{arith, All, Some, slice_get}
 use Rattle.std.specs.Prelude as std
-use mathlib.Core.List.{append-nil, append_assoc, map-append}
+use mathlib.Core.List.{append-nil}
 use mathlib.Core.Option.{some}
 use lib.ListN.{get_elem?}
 use Rattle.ticket_lock.specs.declared.chronicle.Chronicle.{Ghosts}

@@ -4,7 +4,6 @@ use Rattle.std.proofs.Common.{◌≡◌, ℕ, zero, suc, ◌+◌, ◌-◌, ◌^�
 use Rattle.std.proofs.Common.{set, sym, refl, ap, ◌∙◌, subst, ⊎_elim, arith, true≢false}
 use Rattle.std.specs.Prelude as std
 use mathlib.Core.Option.{Option, some, some-injective, some-ne-none}
-use mathlib.Core.List.{map-append}
 use lib.ListN.{get_elem?}
 use base.Growing.{prefix_refl}
 use Rattle.atomic_table.proofs.Lists.{set_else, at_longer}

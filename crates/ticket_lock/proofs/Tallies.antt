@@ -1,7 +1,6 @@
 -- Two lists side by side, with the same numbers.
 use Rattle.std.proofs.lemmas.Grind.{common_steps}
 use Rattle.std.proofs.Common.{◌≡◌, ℕ, zero, suc, List, [], ◌∷◌, ◌++◌, map, length, sym, ap, ◌∙◌, arith, All}
-use mathlib.Core.List.{map-append}
 use Rattle.ticket_lock.specs.declared.chronicle.Chronicle.{Ghosts}
 use Rattle.ticket_lock.specs.World.{own}
 use Rattle.ticket_lock.specs.Tokens.{Stands}
