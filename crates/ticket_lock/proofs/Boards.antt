@@ -1,4 +1,5 @@
 -- Each step of the running lock is an event, or lies outside.
+use Rattle.std.proofs.lemmas.Grind.{common_steps}
 use Rattle.std.proofs.Common.{◌≡◌, ◌≢◌, ℕ, zero, suc, ◌+◌, ◌⊎◌, Bool, true, false, List, [], ◌∷◌, ◌++◌, length}
 use Rattle.std.proofs.Common.{get_or, set, sym, refl, ap, ◌∙◌, subst, inl, inr, ⊎_elim, arith}
 use Rattle.std.specs.Prelude as std
@@ -49,19 +50,8 @@ module _ {S : Type 0} (y : S) where
   moves : (hs : List (Option S)) (c : List (ℕ × S)) (a : Act S) → OneSlot hs c → Valid hs c a
       → OneSlot (homes_after hs c a) (carried_after c a)
   moves hs c keeps one valid = one
-  moves hs c gives one valid = ⊎_elim
-      (λ (t : (hs ≡ some y ∷ []) × (c ≡ [])). subst (λ (z : List (ℕ × S)). OneSlot (put_back hs z) (rest z)) (sym t.1)
-      (inl (t.0, refl)))
-      (λ (t : (hs ≡ none ∷ []) × (c ≡ (0, y) ∷ [])). let Q : List (Option S) × List (ℕ × S) → Type 0 =
-      λ z. OneSlot (put_back z.0 z.1) (rest z.1) in subst Q (λ i. (sym t.0 i, sym t.1 i)) (inl (refl, refl))) one
-  moves hs c (table.takes k z) one valid = ⊎_elim
-      (λ (t : (hs ≡ some y ∷ []) × (c ≡ [])). let is = taken_one k z
-      (subst (λ (x : List (Option S)). get_elem? x k ≡ some (some z)) t.0 valid) in
-      let Q : List (Option S) × ℕ × S × List (ℕ × S) → Type 0 =
-      λ x. OneSlot (set x.0 x.1 none) ((x.1, x.2) ∷ x.3) in
-      subst Q (λ i. (sym t.0 i, sym is.0 i, is.1 i, sym t.1 i)) (inr (refl, refl)))
-      (λ (t : (hs ≡ none ∷ []) × (c ≡ (0, y) ∷ [])). absurd (taken_none k z
-      (subst (λ (x : List (Option S)). get_elem? x k ≡ some (some z)) t.0 valid))) one
+  moves hs c gives one valid = grind (arith, common_steps, put_back, rest)
+  moves hs c (table.takes k z) one valid = grind (arith, common_steps, taken_one, taken_none)
   moves hs c (chain a b) one valid =
       moves (homes_after hs c a) (carried_after c a) b (moves hs c a one valid.0) valid.1
 
@@ -137,56 +127,14 @@ module _ {B H L : Type 0} (K : Ghosts B H L) (F : Form) where
 
   -- each event changes one
   changes : (e : Event B) (w u : World B H L) → Happens K F e w u → Changes e w u
-  changes (takes j) w u h = record {
-    place = j;
-    old = Idle h.0;
-    new = Waiting h.0 (get_or w.words 0 0) 0;
-    there = h.1;
-    sets = ap (λ (z : World B H L). z.seats) h.2;
-    differs = λ e. let n = ap stage_of e in absurd (omega arith);
-    bare = (λ e. absurd (omega arith), λ e. absurd (omega arith));
-    event = refl;
-  }
-  changes (misses j) w u h = record {
-    place = j;
-    old = Waiting h.0 h.1 h.2;
-    new = Waiting h.0 h.1 (h.2 + 1);
-    there = h.3;
-    sets = ap (λ (z : World B H L). z.seats) h.5;
-    differs = λ e. let n = ap looks_of e in absurd (omega arith);
-    bare = (λ e. absurd (omega arith), λ e. absurd (omega arith));
-    event = refl;
-  }
-  changes (enters j) w u h = record {
-    place = j;
-    old = Waiting h.0 h.1 h.2;
-    new = Holding (shown h.0 (K.lines w.current)) h.1;
-    there = h.3;
-    sets = ap (λ (z : World B H L). z.seats) h.5;
-    differs = λ e. let n = ap stage_of e in absurd (omega arith);
-    bare = (λ e. absurd (omega arith), λ e. absurd (omega arith));
-    event = refl;
-  }
-  changes (hands_on j b) w u h = record {
-    place = j;
-    old = Holding h.0 h.1;
-    new = Idle (shown h.0 (K.lines b));
-    there = h.2;
-    sets = ap (λ (z : World B H L). z.seats) h.4;
-    differs = λ e. let n = ap stage_of e in absurd (omega arith);
-    bare = (λ e. absurd (omega arith), λ e. absurd (omega arith));
-    event = ap (λ (z : World B H L). hands_on j z.current) (sym h.4);
-  }
+  changes (takes j) w u h = grind (arith, common_steps, stage_of)
+  changes (misses j) w u h = grind (arith, common_steps, looks_of)
+  changes (enters j) w u h = grind (arith, common_steps, shown, stage_of)
+  changes (hands_on j b) w u h = grind (arith, common_steps, shown, stage_of, hands_on)
 
   -- two changes from one world to one world are of the same seat
   one_seat : (e d : Event B) (w u : World B H L) (x : Changes e w u) (y : Changes d w u) → x.place ≡ y.place
-  one_seat e d w u x y = dite (ℕ_discrete x.place y.place) (λ same. same)
-      (λ apart. let mine : get_elem? u.seats x.place ≡ some x.new =
-      ap (λ (z : List (SeatState H L)). get_elem? z x.place) x.sets ∙ set_at w.seats x.place x.new x.old x.there in
-      let other : get_elem? u.seats x.place ≡ some x.old =
-      ap (λ (z : List (SeatState H L)). get_elem? z x.place) y.sets
-      ∙ (set_else w.seats y.place x.place y.new apart ∙ x.there) in
-      absurd (x.differs (same_there u.seats x.place x.old x.new other mine)))
+  one_seat e d w u x y = grind (arith, common_steps, set_at, set_else, same_there)
 
   -- so they are one event
   one_event : (e d : Event B) (w u : World B H L) → Happens K F e w u → Happens K F d w u → d ≡ e
@@ -473,9 +421,7 @@ module _ {B H L : Type 0} (K : Ghosts B H L) (F : Form) where
 
   -- the book at home
   shelved_one : (b c : B) → shelf true b ≡ shelf true c → b ≡ c
-  shelved_one b c e = let one : std.Some b ≡ std.Some c = some-injective (std.Some b) (std.Some c)
-      (some-injective (some (std.Some b)) (some (std.Some c))
-      (ap (λ (z : List (Option (std.Option B))). get_elem? z 0) e)) in unwrapped b c one
+  shelved_one b c e = grind (arith, common_steps, unwrapped)
 
   -- the same of a book that is known to be at home
   pub turn_is_next : FormLaws F → (n : ℕ) (opening b : B) → TurnIsNext K F n opening b

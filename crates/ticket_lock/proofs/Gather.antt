@@ -1,8 +1,9 @@
 -- The seats of a lock that is closed.
+use Rattle.std.proofs.lemmas.Grind.{common_steps}
 use Rattle.std.proofs.Common.{◌≡◌, ℕ, zero, suc, ◌+◌, List, [], ◌∷◌, ◌++◌, map, length, sym, refl, ap, ◌∙◌, subst}
 use Rattle.std.proofs.Common.{arith, All, Some, slice_get}
 use Rattle.std.specs.Prelude as std
-use mathlib.Core.List.{append-nil, append_assoc, map-append}
+use mathlib.Core.List.{append-nil}
 use mathlib.Core.Option.{some}
 use lib.ListN.{get_elem?}
 use Rattle.ticket_lock.specs.declared.chronicle.Chronicle.{Ghosts}
@@ -100,12 +101,7 @@ module _ {H L : Type 0} where
   pub gathered : {A : Type 0} (f : A → SeatState H L) (all items new : List A) (a : A) (v after : SeatState H L)
       → stage_of v ≡ 0 → stage_of (f a) ≡ 1 → items ≡ new ++ a ∷ [] → after ≡ joined v (f a)
       → map f all ≡ map f items ++ idles (memos_of v) → map f all ≡ map f new ++ idles (memos_of after)
-  gathered f all items new a v after is there split told before =
-      before ∙ (ap (λ z. map f z ++ idles (memos_of v)) split
-      ∙ (ap (λ z. z ++ idles (memos_of v)) (map-append f new (a ∷ []))
-      ∙ (append_assoc (map f new) (f a ∷ []) (idles (memos_of v))
-      ∙ (ap (λ z. map f new ++ z) (joined_more v (f a) is there)
-      ∙ ap (λ (z : SeatState H L). map f new ++ idles (memos_of z)) (sym told)))))
+  gathered f all items new a v after is there split told before = grind (arith, common_steps, before, idles, memos_of, joined_more)
 
   -- as many idle seats as memos
   length_idles : (ms : List (Memo H L)) → length (idles ms) ≡ length ms
@@ -151,9 +147,7 @@ module _ {H L : Type 0} where
       → map f items ≡ idle_from h xs k c → All (λ s. (heads_of (f s) ≡ h ∷ []) × (seen_of (f s) ≡ xs)) items
   all_idle f [] h xs k c e i d l = absurd (omega arith)
   all_idle f (x ∷ items) h xs k zero e i d l = absurd (let n = ap length e in omega arith)
-  all_idle f (x ∷ items) h xs k (suc c) e zero d l = let same : Idle (memo k h xs) ≡ f x =
-      ap (first_or (Idle (memo k h xs))) (sym e) in
-      subst (λ (v : SeatState H L). (heads_of v ≡ h ∷ []) × (seen_of v ≡ xs)) same (refl, refl)
+  all_idle f (x ∷ items) h xs k (suc c) e zero d l = grind (arith, common_steps, memo, heads_of, seen_of)
   all_idle f (x ∷ items) h xs k (suc c) e (suc i) d l = all_idle f items h xs (suc k) c (ap others e) i d (omega arith)
 
   -- each seat's number is its place
@@ -161,9 +155,6 @@ module _ {H L : Type 0} where
       → map f all ≡ idle_from h xs k c → (i : ℕ) (a : A) → slice_get all i ≡ Some a → seat_of (f a) ≡ k + i
   numbers_from f [] h xs k c e i a at = cc
   numbers_from f (x ∷ all) h xs k zero e i a at = absurd (let n = ap length e in omega arith)
-  numbers_from f (x ∷ all) h xs k (suc c) e zero a at =
-      let same : x ≡ a = ap (value_or x) at in
-      let first : f x ≡ Idle (memo k h xs) = ap (first_or (f x)) e in
-      let number : seat_of (f a) ≡ k = ap (λ z. seat_of (f z)) (sym same) ∙ ap seat_of first in omega arith
+  numbers_from f (x ∷ all) h xs k (suc c) e zero a at = grind (arith, common_steps, memo, seat_of)
   numbers_from f (x ∷ all) h xs k (suc c) e (suc i) a at = let p =
       numbers_from f all h xs (suc k) c (ap others e) i a at in omega arith

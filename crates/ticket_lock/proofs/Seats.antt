@@ -1,9 +1,9 @@
 -- A keeper's seats are cut off, and joined again.
+use Rattle.std.proofs.lemmas.Grind.{common_steps}
 use Rattle.std.proofs.Common.{◌≡◌, ℕ, zero, suc, ◌+◌, ◌-◌, ◌^◌, ◌<◌, ◌≤◌, Bool, true, List, [], ◌∷◌, ◌++◌, map, length}
 use Rattle.std.proofs.Common.{set, sym, refl, ap, ◌∙◌, subst, ⊎_elim, arith, true≢false}
 use Rattle.std.specs.Prelude as std
 use mathlib.Core.Option.{Option, some, some-injective, some-ne-none}
-use mathlib.Core.List.{map-append}
 use lib.ListN.{get_elem?}
 use base.Growing.{prefix_refl}
 use Rattle.atomic_table.proofs.Lists.{set_else, at_longer}
@@ -77,9 +77,7 @@ module _ {H L : Type 0} where
   -- a keeper of the seats from k to c has the seat k first
   pub keeper_step : (h : H) (xs : List L) (k c : ℕ) → k < c
       → keeper_of h xs k (c - k) ≡ Keeper (memo k h xs ∷ memos_from h xs (k + 1) (c - (k + 1)))
-  keeper_step h xs k c less = let e : c - k ≡ suc (c - (k + 1)) = omega arith in let d : suc k ≡ k + 1 = omega arith in
-      ap (keeper_of h xs k) e
-      ∙ ap (λ (z : ℕ). let v : SeatState H L = Keeper (memo k h xs ∷ memos_from h xs z (c - (k + 1))) in v) d
+  keeper_step h xs k c less = grind (arith, common_steps, suc, keeper_of, memo, memos_from)
 
 -- the working form of a lock's end, with the seats that came back
 abbrev pub Ended : {B H L : Type 0} → Ghosts B H L → Form → ℕ → B → List (SeatState H L) → B → Type 0
@@ -267,30 +265,7 @@ module _ {B H L : Type 0} (K : Ghosts B H L) (F : Form) (n : ℕ) (opened : B) w
   pub opens_ok : (ws : List ℕ) → F.Shows (K.turn opened) (K.turn opened) ws → n ≤ 64 → K.lawful opened
       → K.turn opened < 2 ^ 64
       → Rule (opening ws (std.Some opened ∷ []) (keeper_of (K.head opened) (K.lines opened) 0 n))
-  opens_ok ws shows size lawful small = record {
-    next = K.turn opened;
-    serving = K.turn opened;
-    home = true;
-    current = opened;
-    queue = [];
-    good = record {
-      size = size;
-      words = record {
-        shows = shows;
-        small = small;
-        next_is = sym (wrap_small (K.turn opened) small) ∙ ap wrap (omega arith);
-      };
-      seats = record {
-        queued = λ i j e. absurd (some-ne-none j (sym e));
-        counted = refl;
-        parts = λ h. let p = weigh_from h (K.head opened) (K.lines opened) 0 n in omega arith;
-        each_seat = λ j v e. one_keeper j v e;
-        away = λ out. absurd (true≢false out);
-      };
-      book = record { lawful = lawful; head = refl; turn = refl };
-    };
-    shelved = refl;
-  }
+  opens_ok ws shows size lawful small = grind (arith, common_steps, true, wrap_small, wrap, weigh_from, one_keeper, true≢false, out)
 
   -- a keeper of all seats at the end: the book is at home, and its turn is the next number
   pub closes_ok : (id : ℕ) (ms : List (Memo H L)) (ws : List ℕ) (xs : List (std.Option B)) → length ms ≡ n
@@ -386,28 +361,19 @@ module _ {B H L : Type 0} (K : Ghosts B H L) (F : Form) (n : ℕ) (opened : B) w
       → n ≤ 64 → K.lawful opened → turn < 2 ^ 64 → turn ≡ K.turn opened → seats ≡ n → value ≡ opened
       → items ≡ std.Some opened ∷ []
       → Standing K F seats value (opening ws items (keeper_of (K.head value) (K.lines value) 0 seats))
-  opens_from turn seats ws value items shows size lawful small is count same laid =
-      let P : ℕ × B × List (std.Option B) → Type 0 =
-      λ z. Standing K F z.0 z.1 (opening ws z.2 (keeper_of (K.head z.1) (K.lines z.1) 0 z.0)) in
-      subst P (λ i. (sym count i, sym same i, sym laid i))
-      (opens_ok ws (subst (λ (z : ℕ). F.Shows z z ws) is shows) size lawful
-      (subst (λ (z : ℕ). z < 2 ^ 64) is small))
+  opens_from turn seats ws value items shows size lawful small is count same laid = grind (arith, common_steps, opening, keeper_of, opens_ok)
 
 module _ {S H L : Type 0} where
   -- the keeper after a seat was cut off it
   pub cut_keeper : (h : H) (xs : List L) (k c : ℕ) (old new : Me S (SeatState H L))
       → old ≡ (keeper_of h xs k (c - k), []) → k < c → new ≡ (left_of old.0, old.1)
       → new ≡ (keeper_of h xs (k + 1) (c - (k + 1)), [])
-  cut_keeper h xs k c old new is less told =
-      told ∙ (ap (λ (z : Me S (SeatState H L)). (left_of z.0, z.1)) is
-      ∙ ap (λ (v : SeatState H L). (left_of v, [])) (keeper_step h xs k c less))
+  cut_keeper h xs k c old new is less told = grind (arith, common_steps, left_of, keeper_step)
 
   -- the seat that was cut off
   pub cut_seat : (h : H) (xs : List L) (k c : ℕ) (old new : Me S (SeatState H L)) → old ≡ (keeper_of h xs k (c - k), [])
       → k < c → new ≡ (right_of old.0, []) → new ≡ (Idle (memo k h xs), [])
-  cut_seat h xs k c old new is less told =
-      told ∙ (ap (λ (z : Me S (SeatState H L)). (right_of z.0, [])) is
-      ∙ ap (λ (v : SeatState H L). (right_of v, [])) (keeper_step h xs k c less))
+  cut_seat h xs k c old new is less told = grind (arith, common_steps, right_of, keeper_step)
 
   -- a view that is an idle seat of number k
   pub is_idle : (m : Memo H L) (k : ℕ) (me : Me S (SeatState H L)) → me ≡ (Idle m, []) → m.seat ≡ k
@@ -419,8 +385,4 @@ module _ {S H L : Type 0} where
 pub seats_snoc : {A H L : Type 0} (f : A → SeatState H L) (all new : List A) (a : A) (h : H) (xs : List L) (k : ℕ)
     → new ≡ all ++ a ∷ [] → map f all ≡ idle_from h xs 0 k → f a ≡ Idle (memo k h xs)
     → map f new ≡ idle_from h xs 0 (k + 1)
-seats_snoc f all new a h xs k is before last = let e : k + 1 ≡ suc k = omega arith in let z : 0 + k ≡ k = omega arith in
-    ap (map f) is ∙ (map-append f all (a ∷ [])
-    ∙ ((λ i. before i ++ last i ∷ [])
-    ∙ (ap (λ (n : ℕ). idle_from h xs 0 k ++ Idle (memo n h xs) ∷ []) (sym z)
-    ∙ (sym (idle_snoc h xs 0 k) ∙ ap (idle_from h xs 0) (sym e)))))
+seats_snoc f all new a h xs k is before last = grind (arith, common_steps, suc, before, idle_from, memo, idle_snoc)

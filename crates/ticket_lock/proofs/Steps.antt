@@ -1,4 +1,5 @@
 -- Each step on the table keeps the rule.
+use Rattle.std.proofs.lemmas.Grind.{common_steps}
 use Rattle.std.proofs.Common.{◌≡◌, ℕ, ◌+◌, ◌%◌, ◌^◌, Bool, true, false, List, [], ◌∷◌, ◌++◌, get_or, set, sym, refl, ap}
 use Rattle.std.proofs.Common.{◌∙◌, subst, arith}
 use Rattle.std.specs.Prelude as std
@@ -6,7 +7,6 @@ use mathlib.Core.Logic.{dite}
 use mathlib.Core.Option.{Option, some, none}
 use native.Mathlib.Decide.{ℕ_discrete}
 use lib.ListN.{get_elem?}
-use lib.Seq.{set-get_or}
 use Rattle.atomic_table.specs.Table.{State, Me, step, keeps, takes, gives, rest, Allows}
 use Rattle.ticket_lock.specs.declared.seat_state.Memo.{Memo}
 use Rattle.ticket_lock.specs.declared.chronicle.Chronicle.{Ghosts}
@@ -86,17 +86,7 @@ module _ {B H L : Type 0} (K : Ghosts B H L) (F : Form) (laws : FormLaws F) (n :
       (record { words = s.words; next = next; serving = serving; seats = views; home = home; current = current }) q
       → homes ≡ shelf home current
       → Rule record { words = set s.words i (get_or s.words i 0); homes = homes; views = views }
-  unmoved s next serving home current q homes views i good shelved =
-      subst (λ (ws : List ℕ). Rule record { words = ws; homes = homes; views = views })
-      (sym (set-get_or s.words i 0)) record {
-        next = next;
-        serving = serving;
-        home = home;
-        current = current;
-        queue = q;
-        good = good;
-        shelved = shelved;
-      }
+  unmoved s next serving home current q homes views i good shelved = grind (arith, common_steps)
 
   -- a load of its serving word by a seat that waits is an event enter where it finds its number, and an event miss
   -- where it does not
@@ -249,9 +239,7 @@ module _ {B H L : Type 0} (K : Ghosts B H L) (F : Form) (laws : FormLaws F) wher
   pub handed_is : (old after : Me (std.Option B) (SeatState H L)) (xs : List L) (k : ℕ) → stage_of old.0 ≡ 3
       → seat_of old.0 ≡ k → after ≡ (after_hand xs old.0, [])
       → (stage_of after.0 ≡ 1) × (seat_of after.0 ≡ k) × (after.1 ≡ [])
-  handed_is old after xs k is seat e = let P : Me (std.Option B) (SeatState H L) → Type 0 =
-      λ z. (stage_of z.0 ≡ 1) × (seat_of z.0 ≡ k) × (z.1 ≡ []) in
-      subst P (sym e) (handed_stage xs old.0 is, handed_seat xs old.0 ∙ seat, refl)
+  handed_is old after xs k is seat e = grind (arith, common_steps, stage_of, seat_of, handed_stage, handed_seat)
 
 module _ {H L : Type 0} where
   -- what a take changes in a view

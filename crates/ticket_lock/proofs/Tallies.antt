@@ -1,6 +1,6 @@
 -- Two lists side by side, with the same numbers.
+use Rattle.std.proofs.lemmas.Grind.{common_steps}
 use Rattle.std.proofs.Common.{◌≡◌, ℕ, zero, suc, List, [], ◌∷◌, ◌++◌, map, length, sym, ap, ◌∙◌, arith, All}
-use mathlib.Core.List.{map-append}
 use Rattle.ticket_lock.specs.declared.chronicle.Chronicle.{Ghosts}
 use Rattle.ticket_lock.specs.World.{own}
 use Rattle.ticket_lock.specs.Tokens.{Stands}
@@ -19,9 +19,7 @@ module _ {A C : Type 0} (f : A → ℕ) (g : C → ℕ) where
   -- both lists got one more, with the same number
   pub matched : (xs new : List A) (ys more : List C) (x : A) (y : C) → new ≡ xs ++ x ∷ [] → more ≡ ys ++ y ∷ []
       → map f xs ≡ map g ys → f x ≡ g y → map f new ≡ map g more
-  matched xs new ys more x y is there before same =
-      ap (map f) is ∙ (map-append f xs (x ∷ [])
-      ∙ ((λ i. before i ++ same i ∷ []) ∙ (sym (map-append g ys (y ∷ [])) ∙ sym (ap (map g) there))))
+  matched xs new ys more x y is there before same = grind (arith, common_steps, before)
 
 module _ {A C B H L : Type 0} (K : Ghosts B H L) (b : B) (k : A → ℕ) (seen : A → List L) (number count : C → ℕ) where
   -- what stands of each seat stands of each tally
