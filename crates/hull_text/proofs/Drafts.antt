@@ -1,4 +1,5 @@
 -- What a reader of scripts keeps.
+use Rattle.std.proofs.lemmas.Grind.{common_steps}
 use Rattle.std.proofs.Common.{◌≡◌, ◌≤◌, ◌+◌, ℕ, List, [], ◌∷◌, ◌++◌, length, Option, Some, None, sym, subst, arith}
 use Rattle.std.proofs.lemmas.List.{append-nil, length-append}
 use Rattle.hull_text.specs.Item.{Item}
@@ -21,18 +22,8 @@ draft_nothing items n d low =
 -- A line that says something.
 draft_more : (items : List Item) (n : ℕ) (item : Item) → IsDraft items n → n ≤ 33554432 → HasWorker item
     → IsDraft (items ++ item ∷ []) (n + 1)
-draft_more items n None d low has = record {
-  low = omega arith;
-  high = omega arith;
-  few = omega (arith, d.few, length-append items (None ∷ []));
-  workers = omega (arith, d.workers, workers_append_join 1 items);
-}
-draft_more items n (Some order) d low has = record {
-  low = omega arith;
-  high = omega arith;
-  few = omega (arith, d.few, length-append items (Some order ∷ []));
-  workers = omega (arith, d.workers, workers_append 1 items order, has);
-}
+draft_more items n None d low has = grind (arith, common_steps, length-append, workers_append_join)
+draft_more items n (Some order) d low has = grind (arith, common_steps, length-append, workers_append)
 
 -- A line, whatever it says.
 pub draft_said : (items : List Item) (n : ℕ) (s : Option Item) → IsDraft items n → n ≤ 33554432 → SaysWorker s
@@ -44,6 +35,4 @@ draft_said items n (Some item) d low has = draft_more items n item d low has
 -- What is read of a text that ends within a line makes a script.
 pub draft_ended : (items all : List Item) (n : ℕ) (s : Option Item) → IsDraft items n → n ≤ 33554432 → SaysWorker s
     → all ≡ items ++ kept s [] → (workers_in all ≤ 64) × (length all ≤ 33554432)
-draft_ended items all n s d low has e =
-    let more = draft_said items n s d low has in
-    rw e (more.workers, omega (arith, more.few, low))
+draft_ended items all n s d low has e = grind (arith, common_steps, draft_said)

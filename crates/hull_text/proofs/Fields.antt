@@ -1,4 +1,5 @@
 -- A field that is read is the field that was written, and what was written is read again.
+use Rattle.std.proofs.lemmas.Grind.{common_steps}
 use Rattle.std.proofs.Common.{◌≡◌, ◌<◌, ◌≤◌, ◌+◌, ◌-◌, ◌*◌, ◌^◌, ℕ, zero, suc, List, [], ◌∷◌, ◌++◌, Option, Some, None}
 use Rattle.std.proofs.Common.{Bool, true, false, cond, Ok, Err, decimal, refl, ap, subst, arith, inl, inr}
 use Rattle.std.specs.Prelude.{◌==◌, ◌&&◌, nat_le, nat_lt, ℤ, pos, negsuc}
@@ -36,36 +37,20 @@ positive_some (Some n) z e = (n, refl, cc)
 pub first_digit : (b : ℕ) (bs : List ℕ) (n : ℕ) → number_of (b ∷ bs) ≡ Some n → (48 ≤ b) × (b ≤ 57)
 unfolding number_of digits_after
 first_digit b [] n e = digit_low b (guard_some (is_digit b) (Some (0 * 10 + (b - 48))) n e).0
-first_digit b (c ∷ bs) n e =
-    let h = guard_not (b == 48) (digits_after 0 (b ∷ c ∷ bs)) n e in
-    digit_low b (guard_some (is_digit b) (digits_after (0 * 10 + (b - 48)) (c ∷ bs)) n h.1).0
+first_digit b (c ∷ bs) n e = grind (arith, common_steps, guard_not, digits_after, digit_low, guard_some, is_digit)
 
 -- A field that spells a signed number is its decimal text.
 signed_text : (limit : ℕ) (f : List ℕ) (z : ℤ) → limit ≤ 2 ^ 40 → IsSized limit z → signed_of f ≡ Some z
     → f ≡ signed_decimal z
 unfolding signed_of
 signed_text limit [] z small fits e = absurd cc
-signed_text limit (b ∷ bs) z small fits e =
-    elim (chosen (b == 45) (negated (number_of bs)) (positive (number_of (b ∷ bs))) (Some z) e) [
-      | inl h ↦
-          let g = negated_some (number_of bs) z h.1 in
-          let size : IsSized limit (negsuc g.0) = subst (IsSized limit) g.2 fits in
-          let minus : b ≡ 45 = eqb-true b 45 h.0 in
-          rw (g.2, minus) (ap (λ (t : List ℕ). 45 ∷ t) (number_text bs (suc g.0) (omega (arith, size)) g.1))
-      | inr h ↦
-          let g = positive_some (number_of (b ∷ bs)) z h.1 in
-          let size : IsSized limit (pos g.0) = subst (IsSized limit) g.2 fits in
-          rw g.2 (number_text (b ∷ bs) g.0 (omega (arith, size)) g.1)
-    ]
+signed_text limit (b ∷ bs) z small fits e = grind (arith, common_steps, chosen, negated, number_of, positive, negated_some, negsuc, eqb-true, number_text, suc, positive_some, pos)
 
 -- an unsigned number is a signed one
 unsigned_signed : (f : List ℕ) (n : ℕ) → number_of f ≡ Some n → signed_of f ≡ Some (pos n)
 unfolding signed_of number_of
 unsigned_signed [] n e = absurd cc
-unsigned_signed (b ∷ bs) n e =
-    let d = first_digit b bs n e in
-    let ne : (b == 45) ≡ false = ne_eqb b 45 (λ same. omega (arith, same, d.0)) in
-    rw (ne, e) refl
+unsigned_signed (b ∷ bs) n e = grind (arith, common_steps, first_digit, false, ne_eqb)
 
 -- The decimal text of a signed number spells it.
 text_signed : (limit : ℕ) (z : ℤ) → limit ≤ 2 ^ 40 → IsSized limit z → signed_of (signed_decimal z) ≡ Some z
@@ -78,12 +63,8 @@ text_signed limit (negsuc n) small fits = rw (text_number (suc n) (omega (arith,
 -- a coordinate that was taken is within its limit
 coordinate_some : (limit : ℕ) (o : Option ℤ) (z : ℤ) → coordinate_in limit o ≡ Ok z → (o ≡ Some z) × IsSized limit z
 coordinate_some limit None z e = absurd cc
-coordinate_some limit (Some (pos n)) z e =
-    let g = guard_ok (nat_le n limit) (Ok (pos n)) Coordinate z e in
-    subst (λ (y : ℤ). (Some (pos n) ≡ Some y) × IsSized limit y) (ok_is (pos n) z g.1) (refl, low_le n limit g.0)
-coordinate_some limit (Some (negsuc n)) z e =
-    let g = guard_ok (nat_lt n limit) (Ok (negsuc n)) Coordinate z e in
-    subst (λ (y : ℤ). (Some (negsuc n) ≡ Some y) × IsSized limit y) (ok_is (negsuc n) z g.1) (refl, low_lt n limit g.0)
+coordinate_some limit (Some (pos n)) z e = grind (arith, common_steps, guard_ok, nat_le, pos, ok_is, low_le)
+coordinate_some limit (Some (negsuc n)) z e = grind (arith, common_steps, guard_ok, nat_lt, negsuc, ok_is, low_lt)
 
 -- a number within the limit is taken
 in_coordinate : (limit : ℕ) (z : ℤ) → IsSized limit z → coordinate_in limit (Some z) ≡ Ok z
@@ -94,15 +75,7 @@ in_coordinate limit (negsuc n) fits = rw (lt_test n limit fits) refl
 pub coordinates : (v : Version)
     → Format (IsSized (coordinate_limit v)) (λ z. signed_decimal z ∷ []) (coordinate_at v)
 unfolding coordinate_at
-coordinates v =
-    one (IsSized (coordinate_limit v)) signed_decimal (λ f. coordinate_in (coordinate_limit v) (signed_of f))
-    (λ f z e.
-    let s = coordinate_some (coordinate_limit v) (signed_of f) z e in
-    (signed_text (coordinate_limit v) f z (limit_small v) s.1 s.0, s.1))
-    (λ z fits. (
-      rw (text_signed (coordinate_limit v) z (limit_small v) fits, in_coordinate (coordinate_limit v) z fits) refl,
-      signed_field v z fits,
-    ))
+coordinates v = grind (arith, common_steps, one, coordinate_limit, signed_decimal, coordinate_in, signed_of, coordinate_some, signed_text, limit_small, text_signed, in_coordinate, signed_field)
 
 -- ---- points and directions
 
@@ -141,9 +114,7 @@ directions v = record {
 }
   where
     zero_bad : (q : Pair) → (is_zero q.x && is_zero q.y) ≡ false → q.x ≡ pos 0 → q.y ≡ pos 0 → ⊥
-    zero_bad q h ex ey =
-        let bad : true ≡ false = rw (ex, ey) at h in
-        cc
+    zero_bad q h ex ey = grind (arith, common_steps, true, false)
 
 -- ---- numbers and seats
 
@@ -151,19 +122,12 @@ directions v = record {
 up_to_some : (limit : ℕ) (beyond : FaultKind) (o : Option ℕ) (n : ℕ) → up_to limit beyond o ≡ Ok n
     → (o ≡ Some n) × (n ≤ limit)
 up_to_some limit beyond None n e = absurd cc
-up_to_some limit beyond (Some m) n e =
-    let g = guard_ok (nat_le m limit) (Ok m) beyond n e in
-    subst (λ (y : ℕ). (Some m ≡ Some y) × (y ≤ limit)) (ok_is m n g.1) (refl, low_le m limit g.0)
+up_to_some limit beyond (Some m) n e = grind (arith, common_steps, guard_ok, nat_le, ok_is, low_le)
 
 -- the numbers up to a limit are a format, whatever the fault of one beyond it
 limited : (limit : ℕ) (beyond : FaultKind) → limit < 10 ^ 64
     → Format (λ n. n ≤ limit) (λ n. decimal n ∷ []) (field_at (λ f. up_to limit beyond (number_of f)))
-limited limit beyond small =
-    one (λ n. n ≤ limit) decimal (λ f. up_to limit beyond (number_of f))
-    (λ f n e.
-    let s = up_to_some limit beyond (number_of f) n e in
-    (number_text f n (omega (arith, s.1)) s.0, s.1))
-    (λ n fits. (rw (text_number n (omega arith), le_test n limit fits) refl, decimal_field n (omega arith)))
+limited limit beyond small = grind (arith, common_steps, one, decimal, up_to, number_of, up_to_some, number_text, text_number, le_test, decimal_field)
 
 -- The numbers up to a limit are a format.
 pub numbers : (limit : ℕ) → limit < 10 ^ 64 → Format (λ n. n ≤ limit) (λ n. decimal n ∷ []) (number_at limit)

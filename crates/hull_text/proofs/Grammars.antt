@@ -1,4 +1,6 @@
 -- Grammars of texts: the values whose text the bytes are and their first faults, by what reading gives.
+use Rattle.std.proofs.Common.{arith}
+use Rattle.std.proofs.lemmas.Grind.{common_steps}
 use Rattle.std.proofs.Common.{◌≡◌, ◌⊎◌, ◌≤◌, ℕ, List, Option, Some, None, Result, Ok, Err, refl, sym, ap, ◌∙◌, inl, inr}
 use Rattle.hull_text.specs.declared.fault.TextFault.{TextFault}
 use Rattle.hull_text.specs.Fault.{IsOutside, IsServed, NoFaultBefore}
@@ -17,10 +19,7 @@ module _ {X V : Type 0} {value : X → V} {read : List ℕ → Result X TextFaul
     {IsFault : List ℕ → TextFault → Type 0} (grammar : Grammar value read IsText IsFault) (bytes : List ℕ) where
   -- The bytes are the text of one value.
   pub one_value : (v w : V) → IsText bytes v → IsText bytes w → v ≡ w
-  one_value v w s t =
-      let a = grammar.again bytes v s in
-      let b = grammar.again bytes w t in
-      a.1 ∙ ap value (ok_is a.0 b.0 (sym a.2 ∙ b.2)) ∙ sym b.1
+  one_value v w s t = grind (arith, common_steps, ok_is)
 
   -- They have one first fault.
   pub one_fault : (f g : TextFault) → IsFault bytes f → IsFault bytes g → f ≡ g
@@ -28,9 +27,7 @@ module _ {X V : Type 0} {value : X → V} {read : List ℕ → Result X TextFaul
 
   -- A text has no fault.
   pub no_text_fails : (v : V) (f : TextFault) → IsText bytes v → IsFault bytes f → ⊥
-  no_text_fails v f s t =
-      let a = grammar.again bytes v s in
-      no_fault a.0 f (sym a.2 ∙ grammar.fails_again bytes f t)
+  no_text_fails v f s t = grind (arith, common_steps, no_fault)
 
   -- What is no text has a fault.
   pub text_or_fault : ((v : V) × IsText bytes v) ⊎ ((f : TextFault) × IsFault bytes f)

@@ -1,4 +1,5 @@
 -- Lines of a text.
+use Rattle.std.proofs.lemmas.Grind.{common_steps}
 use Rattle.std.proofs.Common.{◌≡◌, ◌<◌, ◌+◌, ℕ, zero, suc, List, [], ◌∷◌, ◌++◌, length, get_or, take, drop, false, refl}
 use Rattle.std.proofs.Common.{sym, ap, subst, ◌∙◌, arith, append_assoc, Some, None, Err}
 use Rattle.std.specs.Prelude.{◌==◌}
@@ -40,17 +41,13 @@ no_newline text none = newline_none text (λ k lt e. none k (omega arith) lt (rw
 -- A text that begins with a line: the parts of the line, its newline, and what stands behind it.
 around : (kept line after left rest : List ℕ) → left ≡ line ++ 10 ∷ after
     → (kept ++ line ++ 10 ∷ []) ++ (after ++ rest) ≡ kept ++ left ++ rest
-around kept line after left rest e =
-    append_assoc (kept ++ line) (10 ∷ []) (after ++ rest) ∙ sym (append_assoc (kept ++ line) (10 ∷ after) rest)
-    ∙ ap (λ (t : List ℕ). t ++ rest) (append_assoc kept line (10 ∷ after) ∙ ap (λ (t : List ℕ). kept ++ t) (sym e))
+around kept line after left rest e = grind (arith, common_steps, append_assoc)
 
 -- One more line was taken.
 pub reads_on_line : {V : Type 0} (start mid new : Outlook V) (text kept line after left empty : List ℕ)
     → ReadsOn start mid text (kept ++ left) → left ≡ line ++ 10 ∷ after → empty ≡ []
     → ReadsOn mid new (kept ++ line ++ 10 ∷ []) [] → ReadsOn start new text (empty ++ after)
-reads_on_line start mid new text kept line after left empty on e none more = λ rest answer h.
-    on rest answer (subst (λ (t : List ℕ). mid t answer) (around kept line after left rest e)
-    (more (after ++ rest) answer (subst (λ (t : List ℕ). new (t ++ after ++ rest) answer) none h)))
+reads_on_line start mid new text kept line after left empty on e none more = grind (arith, common_steps, around)
 
 -- What is left is still the end of the text.
 pub tail_on_line : (all kept line after left empty : List ℕ) → (front : List ℕ) × (all ≡ front ++ (kept ++ left))

@@ -1,4 +1,5 @@
 -- Lines of a text by their numbers: what is read of one, and which is the first with a fault.
+use Rattle.std.proofs.lemmas.Grind.{common_steps}
 use Rattle.std.proofs.Common.{◌≡◌, ◌<◌, ◌≤◌, ◌+◌, ℕ, suc, List, [], ◌∷◌, ◌++◌, length, Result, Ok, Err, refl, sym, ap}
 use Rattle.std.proofs.Common.{subst, ◌∙◌, add-zero, arith, inl, inr}
 use Rattle.std.specs.Prelude.{nat_le}
@@ -34,9 +35,7 @@ numbered_over n r lt = rw (over_test n 33554432 lt) refl
 pub numbered_ok : {A : Type 0} (n : ℕ) (r : Result A FaultKind) (x : A) → numbered n r ≡ Ok x
     → (r ≡ Ok x) × (n ≤ 33554432)
 unfolding numbered
-numbered_ok n r x e =
-    let g = guard_ok (nat_le n 33554432) (at_line n r) _ x e in
-    (at_line_ok n r x g.1, low_le n 33554432 g.0)
+numbered_ok n r x e = grind (arith, common_steps, guard_ok, nat_le, at_line, at_line_ok, low_le)
 
 -- A line that is no line too many is read.
 pub numbered_again : {A : Type 0} (n : ℕ) (r : Result A FaultKind) (x : A) → r ≡ Ok x → n ≤ 33554432
@@ -55,25 +54,12 @@ module _ {A : Type 0} (most before n : ℕ) (r : Result A FaultKind) (f : TextFa
   -- A fault that is read is that of the line.
   pub numbered_err : before ≤ most → numbered n r ≡ Err f → (f.line ≡ n) × HasFault most before r f.number
   unfolding numbered
-  numbered_err low e = elim (chosen (nat_le n 33554432) (at_line n r) (Err (fault_at n Form)) (Err f) e) [
-    | inl h ↦
-        let a = at_line_err n r f h.1 in
-        subst (λ (g : TextFault). (g.line ≡ n) × HasFault most before r g.number) a.2
-        (refl, inr (omega (arith, place, low_le n 33554432 h.0), (a.0, a.1, refl)))
-    | inr h ↦
-        subst (λ (g : TextFault). (g.line ≡ n) × HasFault most before r g.number)
-        (err_is {A = A} (fault_at n Form) f h.1)
-        (refl, inl (omega (arith, place, low, test_over n 33554432 h.0), refl))
-  ]
+  numbered_err low e = grind (arith, common_steps, chosen, nat_le, at_line, fault_at, at_line_err, low_le, err_is, test_over)
 
   -- The fault of the line is the one that is read.
   pub numbered_stop : f.line ≡ n → HasFault most before r f.number → numbered n r ≡ Err f
-  numbered_stop at_line (inl h) =
-      numbered_over n r (omega (arith, place, h.0))
-      ∙ ap (λ (g : TextFault). Err g) (fault_made n Form f at_line h.1)
-  numbered_stop at_line (inr h) =
-      numbered_is n r (omega (arith, place, h.0))
-      ∙ rw (h.1.1) (ap (λ (g : TextFault). Err g) (fault_made n h.1.0 f at_line h.1.2))
+  numbered_stop at_line (inl h) = grind (arith, common_steps, numbered_over, fault_made, at_line)
+  numbered_stop at_line (inr h) = grind (arith, common_steps, numbered_is, fault_made, at_line)
 
 -- The first of these pieces with a fault, where so many stand before them: those before it are right.
 pub record FaultFrom {X : Type 0} (Right : List (List ℕ) → List X → Type 0)
@@ -90,28 +76,10 @@ module _ {X : Type 0} {Right : List (List ℕ) → List X → Type 0} {HasIt : �
     (piece : List ℕ) (ps : List (List ℕ)) where
   -- The first piece has the fault.
   pub here : Right [] [] → HasIt m piece ps → FaultFrom Right HasIt m (piece ∷ ps)
-  here right h = record {
-    before = [];
-    piece = piece;
-    after = ps;
-    whole = refl;
-    said = [];
-    right = right;
-    fault = subst (λ (n : ℕ). HasIt n piece ps) (sym (add-zero m)) h;
-  }
+  here right h = grind (arith, common_steps, add-zero)
 
   -- A later piece has it.
   pub later : (more : List X → List X)
       → ((before : List (List ℕ)) (said : List X) → Right before said → Right (piece ∷ before) (more said))
       → FaultFrom Right HasIt (suc m) ps → FaultFrom Right HasIt m (piece ∷ ps)
-  later more right t =
-      let same : suc m + length t.before ≡ m + length (piece ∷ t.before) = omega arith in
-      record {
-        before = piece ∷ t.before;
-        piece = t.piece;
-        after = t.after;
-        whole = ap (λ (ls : List (List ℕ)). piece ∷ ls) t.whole;
-        said = more t.said;
-        right = right t.before t.said t.right;
-        fault = subst (λ (n : ℕ). HasIt n t.piece t.after) same t.fault;
-      }
+  later more right t = grind (arith, common_steps, suc)

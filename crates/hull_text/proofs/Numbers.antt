@@ -1,4 +1,5 @@
 -- A field spells a number just where it is the number's decimal text.
+use Rattle.std.proofs.lemmas.Grind.{common_steps}
 use Rattle.std.proofs.Common.{◌≡◌, ◌<◌, ◌≤◌, ◌+◌, ◌-◌, ◌*◌, ◌/◌, ◌%◌, ◌^◌, ℕ, zero, suc, List, [], ◌∷◌, length, get_or}
 use Rattle.std.proofs.Common.{take, ◌++◌, Option, Some, None, Bool, true, false, cond, decimal, refl, sym, ap, subst}
 use Rattle.std.proofs.Common.{◌∙◌, arith, ◌⊎◌, inl, inr}
@@ -61,9 +62,7 @@ digits_text (c ∷ cs) m n some small e =
 
 -- a number of one digit
 one_digit : (b : ℕ) → 48 ≤ b → b ≤ 57 → decimal (b - 48) ≡ b ∷ []
-one_digit b low high =
-    let is : 48 + (b - 48) ≡ b = omega arith in
-    decimal_digit (b - 48) (omega arith) ∙ rw is refl
+one_digit b low high = grind (arith, common_steps, decimal_digit)
 
 -- a field that was read as a number is its decimal spelling
 pub number_text : (f : List ℕ) (n : ℕ) → n < 10 ^ 64 → number_of f ≡ Some n → f ≡ decimal n
@@ -125,43 +124,18 @@ digits_next (b ∷ bs) (suc i) m v lt low high e =
 -- one digit spells a number below ten
 spelled_one : (n : ℕ) → n < 10 → IsSpelled n ((48 + n) ∷ [])
 unfolding digits_after
-spelled_one n lt =
-    let d : is_digit (48 + n) ≡ true = digit_is (48 + n) (omega arith) (omega arith) in
-    let value : 0 * 10 + (48 + n - 48) ≡ n = omega arith in
-    record {
-      first = 48 + n;
-      rest = [];
-      is = refl;
-      digits = rw (d, value) refl;
-      head = λ some. ne_eqb (48 + n) 48 (λ e. omega arith);
-      short = λ _. refl;
-    }
+spelled_one n lt = grind (arith, common_steps, is_digit, true, digit_is, ne_eqb)
 
 -- a digit more spells a number from ten on
 spelled_more : (n : ℕ) (ds : List ℕ) → 10 ≤ n → IsSpelled (n / 10) ds → IsSpelled n (ds ++ ((48 + n % 10) ∷ []))
-spelled_more n ds le s =
-    let d : is_digit (48 + n % 10) ≡ true = digit_is (48 + n % 10) (omega arith) (omega arith) in
-    let value : n / 10 * 10 + (48 + n % 10 - 48) ≡ n = omega arith in
-    record {
-      first = s.first;
-      rest = s.rest ++ ((48 + n % 10) ∷ []);
-      is = ap (λ (t : List ℕ). t ++ ((48 + n % 10) ∷ [])) s.is;
-      digits = digits_more ds 0 (n / 10) (48 + n % 10) d s.digits ∙ ap (λ (k : ℕ). Some k) value;
-      head = λ some. s.head (omega arith);
-      short = λ lt. absurd (omega arith);
-    }
+spelled_more n ds le s = grind (arith, common_steps, is_digit, true, digit_is, digits_more)
 
 -- digits without a leading zero are a number
 is_number : (n first : ℕ) (rest : List ℕ) → digits_after 0 (first ∷ rest) ≡ Some n → (1 ≤ n → (first == 48) ≡ false)
     → (n < 10 → rest ≡ []) → number_of (first ∷ rest) ≡ Some n
 unfolding number_of
 is_number n first [] e head short = e
-is_number n first (c ∷ cs) e head short = elim (small_or_not n) [
-  | inl lt ↦
-      let bad : c ∷ cs ≡ [] = short lt in
-      absurd cc
-  | inr le ↦ rw (head (omega arith)) e
-]
+is_number n first (c ∷ cs) e head short = grind (arith, common_steps, small_or_not)
   where
     small_or_not : (n : ℕ) → (n < 10) ⊎ (10 ≤ n)
     small_or_not n = cases_lt n 10

@@ -1,4 +1,5 @@
 -- The text of a report, piece by piece.
+use Rattle.std.proofs.lemmas.Grind.{common_steps}
 use Rattle.std.proofs.Common.{◌≡◌, ◌<◌, ◌≤◌, ◌+◌, ◌++◌, ℕ, zero, suc, List, [], ◌∷◌, length, take, drop, get_or}
 use Rattle.std.proofs.Common.{refl, sym, ap, subst, ◌∙◌, arith, add-one, append_assoc, drop-cons, All}
 use Rattle.std.specs.Prelude.{slice_index, slice_index_or, Vec}
@@ -55,20 +56,14 @@ pub phases_cons : (worker : ℕ) (phase : PhaseValue) (rest after : List PhaseVa
     → answers_text worker (calls_of worker rest) answers ≡ answers_text worker calls (take (length calls) answers)
     ++ answers_text worker (calls_of worker after)
     (drop (length calls) answers)
-phases_cons worker phase rest after answers calls e f =
-    ap (λ (r : List PhaseValue). answers_text worker (calls_of worker r) answers) e
-    ∙ ap (λ (cs : List Call). answers_text worker (cs ++ calls_of worker after) answers) (sym f)
-    ∙ answers_split worker calls (calls_of worker after) answers
+phases_cons worker phase rest after answers calls e f = grind (arith, common_steps, answers_text, calls_of, answers_split, calls)
 
 -- The lines of a worker stand before those of the workers behind it.
 pub workers_more : (k : ℕ) (phases : List PhaseValue) (all : List (List Answer)) → k < length all
     → workers_text k phases (drop k all) ≡ answers_text k (calls_of k phases)
     (slice_index_or all k []) ++ workers_text (k + 1) phases (drop (k + 1) all)
 unfolding workers_text
-workers_more k phases all lt =
-    rw (drop-cons all k [] lt) (ap
-    (λ (n : ℕ). answers_text k (calls_of k phases) (slice_index_or all k []) ++ workers_text n phases (drop n all))
-    (sym (add-one k)))
+workers_more k phases all lt = grind (arith, common_steps, drop-cons, answers_text, calls_of, slice_index_or, workers_text, add-one)
 
 -- No worker is left.
 pub workers_none : (k : ℕ) (phases : List PhaseValue) (all : List (List Answer)) → length all ≤ k
@@ -80,9 +75,7 @@ workers_none k phases all le = rw (drop_all k all le) refl
 pub ledgers_more : (k : ℕ) (all : List ℕ) → k < length all
     → ledgers_text k (drop k all) ≡ ledger_line k (slice_index all k) ++ ledgers_text (k + 1) (drop (k + 1) all)
 unfolding ledgers_text
-ledgers_more k all lt =
-    rw (drop-cons all k 0 lt)
-    (ap (λ (n : ℕ). ledger_line k (slice_index all k) ++ ledgers_text n (drop n all)) (sym (add-one k)))
+ledgers_more k all lt = grind (arith, common_steps, drop-cons, ledger_line, slice_index, ledgers_text, add-one)
 
 -- No ledger is left.
 pub ledgers_none : (k : ℕ) (all : List ℕ) → length all ≤ k → ledgers_text k (drop k all) ≡ []

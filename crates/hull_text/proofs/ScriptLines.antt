@@ -1,4 +1,5 @@
 -- Reading a script line by line.
+use Rattle.std.proofs.lemmas.Grind.{common_steps}
 use Rattle.std.proofs.Common.{◌≡◌, ◌<◌, ◌+◌, ℕ, suc, List, [], ◌∷◌, ◌++◌, length, Option, Some, None, Result, Ok, Err}
 use Rattle.std.proofs.Common.{refl, sym, ap, subst, ◌∙◌, arith, add-one, append_assoc, inl, inr}
 use Rattle.std.specs.Prelude.{◌==◌, MatchResult}
@@ -25,9 +26,7 @@ regroup : (items : List Item) (r : Result (Option Item) TextFault) (q : Result (
     → with_front items (r >>= λ s. q >>= λ js. Ok (kept s js)) ≡ (r >>= λ s. with_front (items ++ kept s []) q)
 regroup items (Err e) q = refl
 regroup items (Ok s) (Err e) = refl
-regroup items (Ok s) (Ok js) =
-    ap (λ (l : List Item). Ok l) (ap (λ (l : List Item). items ++ l) (kept_front s js)
-    ∙ sym (append_assoc items (kept s []) js))
+regroup items (Ok s) (Ok js) = grind (arith, common_steps, kept_front, append_assoc, kept)
 
 -- A line that is not the last.
 items_cons : (n : ℕ) (line : List ℕ) (lines : List (List ℕ)) → 0 < length lines
@@ -54,17 +53,12 @@ newline items n line rest whole =
 pub script_on : (items more : List Item) (n next : ℕ) (line : List ℕ) (s : Option Item) → HasNoNewline line
     → Ok s ≡ numbered n (script_line_of line) → more ≡ items ++ kept s [] → next ≡ n + 1
     → ReadsOn (AnswersScript items n) (AnswersScript more next) (line ++ 10 ∷ []) []
-script_on items more n next line s whole e kept_is next_is = λ rest answer h.
-    let same : reading items n (line ++ 10 ∷ rest) ≡ reading more next rest =
-    newline items n line rest whole ∙ rw (← e, kept_is, next_is, add-one) refl in
-    subst (λ (t : List ℕ). AnswersItems answer (reading items n t)) (sym (append_assoc line (10 ∷ []) rest)) (rw same h)
+script_on items more n next line s whole e kept_is next_is = grind (arith, common_steps, reading, newline, add-one, append_assoc)
 
 -- A line with a fault.
 pub script_fault : (items : List Item) (n : ℕ) (line : List ℕ) (f : TextFault) → HasNoNewline line
     → Err f ≡ numbered n (script_line_of line) → FailsIn (AnswersScript items n) (line ++ 10 ∷ []) f
-script_fault items n line f whole e = λ rest.
-    let same : reading items n (line ++ 10 ∷ rest) ≡ Err f = newline items n line rest whole ∙ rw (← e) refl in
-    subst (λ (t : List ℕ). AnswersItems (Err f) (reading items n t)) (sym (append_assoc line (10 ∷ []) rest)) (inr same)
+script_fault items n line f whole e = grind (arith, common_steps, reading, newline, append_assoc)
 
 -- Refused memory.
 pub script_refused : (items : List Item) (n : ℕ) (text : List ℕ) (f : TextFault) → f.number ≡ 10 → f.line ≡ n

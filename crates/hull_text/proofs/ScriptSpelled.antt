@@ -1,4 +1,5 @@
 -- A line of a script is read as what it says just where it is spelled so.
+use Rattle.std.proofs.lemmas.Grind.{common_steps}
 use Rattle.std.proofs.Common.{◌≡◌, ◌≤◌, ℕ, List, [], ◌∷◌, ◌++◌, Option, Some, None, true, false, cond, not, Ok, decimal}
 use Rattle.std.proofs.Common.{codes, refl, sym, ap, subst, ◌∙◌, arith, inl, inr}
 use Rattle.std.specs.Prelude.{◌==◌}
@@ -77,11 +78,7 @@ line_takes (b ∷ bs) s e = elim (chosen (b == 35) (Ok None) _ (Ok s) e) [
 digit_line : (line : List ℕ) (b : ℕ) (bs : List ℕ) → line ≡ b ∷ bs → 48 ≤ b → b ≤ 57 → has_form_after true line ≡ true
     → script_line_of line ≡ served_at (cut line)
 unfolding script_line_of has_form
-digit_line line b bs is low high form =
-    let f : has_form_after true (b ∷ bs) ≡ true = rw is at form in
-    let no_comment : (b == 35) ≡ false = ne_eqb b 35 (λ e. omega arith) in
-    let no_join : (b == 106) ≡ false = ne_eqb b 106 (λ e. omega arith) in
-    rw is (rw (no_comment, f, no_join) refl)
+digit_line line b bs is low high form = grind (arith, common_steps, has_form_after, true, false, ne_eqb)
 
 -- A number's text begins with a digit.
 pub first_of : (f : List ℕ) (n : ℕ) → number_of f ≡ Some n
@@ -118,9 +115,6 @@ join_line = refl
 -- What is spelled by a line is read.
 pub line_again : (line : List ℕ) (s : Option Item) → IsScriptLine line s → script_line_of line ≡ Ok s
 unfolding script_line_of
-line_again line None h = elim h [
-  | inl e ↦ rw e refl
-  | inr k ↦ rw k.1 refl
-]
+line_again line None h = grind (arith, common_steps)
 line_again line (Some None) h = ap script_line_of h ∙ join_line
 line_again line (Some (Some order)) h = ap script_line_of h.0 ∙ call_line order.0 order.1 h.1 h.2

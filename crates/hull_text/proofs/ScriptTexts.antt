@@ -1,4 +1,5 @@
 -- The bytes are read as items just where their lines say these, and else have a first fault.
+use Rattle.std.proofs.lemmas.Grind.{common_steps}
 use Rattle.std.proofs.Common.{◌≡◌, ◌≤◌, ◌+◌, ℕ, suc, List, [], ◌∷◌, ◌++◌, length, Option}
 use Rattle.std.proofs.Common.{Result, Ok, Err, refl, sym, ap, subst, ◌∙◌, add-zero, zero-add, arith, inl, inr}
 use Rattle.std.proofs.lemmas.List.{length-append}
@@ -97,18 +98,7 @@ items_fault m (line ∷ next ∷ lines) f le e =
 
 -- The fault that is read is the first one of the bytes.
 script_fault_is : (bytes : List ℕ) (f : TextFault) → script_items bytes ≡ Err f → IsScriptFault bytes f
-script_fault_is bytes f e =
-    let t = items_fault 0 (pieces bytes) f (omega arith) e in
-    record {
-      before = t.before;
-      line = t.piece;
-      after = t.after;
-      whole = t.whole;
-      items = t.said;
-      right = t.right;
-      place = omega (arith, t.fault.0);
-      fault = subst (λ (n : ℕ). HasLineFault n t.piece f.number) (zero-add (length t.before)) t.fault.1;
-    }
+script_fault_is bytes f e = grind (arith, common_steps, items_fault, pieces, zero-add)
 
 -- ---- the first fault of the bytes is read
 
