@@ -6,7 +6,7 @@ use Rattle.lattice.specs.Bridges.{IsAllBefore, IsUpperBridge, IsLowerBridge}
 use Rattle.bridge_search.specs.Trees.{Tree, Leaf, Fork, On, IsBridged}
 use Rattle.bridge_search.specs.Trees.{first_of, last_of, height_of, IsAtDepth, highest}
 use Rattle.lattice.specs.declared.side.Side.TheVariants.{Lower, Upper}
-use Rattle.lattice.proofs.TurnedBridges.{turned_twice, IsTurn, order_turned, bridge_turned}
+use Rattle.lattice.proofs.TurnedBridges.{turned_twice, AreTurned, order_turned, bridge_turned}
 
 -- an edge turned: its ends turned, in the other order
 abbrev pub turned_pair : Pair × Pair → Pair × Pair
@@ -40,11 +40,11 @@ last_turned (Leaf x) = refl
 last_turned (Fork e f u w) = last_turned u
 
 -- the points of a half, after a turn, are those of the turned half
-pub turn_of : (t : Tree) → IsTurn (On t) (On (turned_tree t))
+pub turn_of : (t : Tree) → AreTurned (On t) (On (turned_tree t))
 turn_of t = record { onto = turned_on t; back = on_turned t }
 
 -- and those of the turned half, after another, are those of the half
-pub turn_back : (t : Tree) → IsTurn (On (turned_tree t)) (On t)
+pub turn_back : (t : Tree) → AreTurned (On (turned_tree t)) (On t)
 turn_back t = record { onto = on_turned t; back = turned_on t }
 
 -- the order of two halves, after a turn

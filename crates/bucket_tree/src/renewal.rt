@@ -1,7 +1,7 @@
 //! The forks above a point that came or went: a bridge that the change cannot have altered is kept.
 ghost use Rattle.std.specs.Prelude.{◌≡◌, ◌≤◌, ◌+◌, ◌*◌, ◌++◌, ◌⊎◌, ◌↔◌, IsTrue, true, false, max, length};
 ghost use Rattle.std.specs.Prelude.{pos, ◌≤ℤ◌, ◌<ℤ◌};
-ghost use Rattle.lattice.specs.Turns as turns;
+ghost use Rattle.lattice.specs.Orientations as orientations;
 ghost use Rattle.lattice.specs.Bridges.{IsAllBefore, IsBridge};
 ghost use Rattle.bridge_search.specs.Trees.{On, height_of as height_in};
 ghost use Rattle.hull_buckets.specs.Buckets.{IsCovered};

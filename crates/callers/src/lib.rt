@@ -11,8 +11,8 @@ mod loaded_zones;
 mod pictures;
 mod plain_hulls;
 mod sets;
+mod sides;
 mod texts;
-mod turns;
 mod watched_zones;
 
 pub use counts::write_count;
@@ -23,6 +23,6 @@ pub use loaded_zones::place_among;
 pub use pictures::draw_tree;
 pub use plain_hulls::corners_of_three;
 pub use sets::area_without;
+pub use sides::{lies_left, point_at};
 pub use texts::verdict_on;
-pub use turns::{point_at, turns_left};
 pub use watched_zones::add_and_look;

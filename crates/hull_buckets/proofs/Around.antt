@@ -8,7 +8,7 @@ use Rattle.std.specs.List.{All, Contains}
 use Rattle.std.specs.Prelude.{◌↔◌}
 use Rattle.lattice.specs.Covers.{IsPointSet, with_point, without_point}
 use Rattle.lattice.specs.Plane.{Pair, IsBefore}
-use Rattle.lattice.specs.Turns.{turn}
+use Rattle.lattice.specs.Orientations.{orient_on}
 use Rattle.lattice.specs.declared.side.Side.{Side}
 use Rattle.lattice.proofs.Order.{before_irrefl}
 use Rattle.hull_geometry.specs.Mending.{IsOverEdge}
@@ -174,10 +174,10 @@ point_before front a b rest =
 -- a point stands over the edge between the last of the first ones and the first of the others where it is not outwards
 -- of it
 pub over_told : (side : Side) (left right front rest : List Pair) (a b p : Pair) → left ≡ front ++ a ∷ []
-    → right ≡ b ∷ rest → (turn side a p b ≤ℤ pos 0) ↔ IsOverEdge side (left ++ right) (length left) p
+    → right ≡ b ∷ rest → (orient_on side a p b ≤ℤ pos 0) ↔ IsOverEdge side (left ++ right) (length left) p
 over_told side left right front rest a b p e f =
-    subst (λ (z : List Pair). (turn side a p b ≤ℤ pos 0) ↔ IsOverEdge side (z ++ right) (length z) p) (sym e)
-    (subst (λ (z : List Pair). (turn side a p b ≤ℤ pos 0)
+    subst (λ (z : List Pair). (orient_on side a p b ≤ℤ pos 0) ↔ IsOverEdge side (z ++ right) (length z) p) (sym e)
+    (subst (λ (z : List Pair). (orient_on side a p b ≤ℤ pos 0)
     ↔ IsOverEdge side ((front ++ a ∷ []) ++ z) (length (front ++ a ∷ [])) p) (sym f) (there, back))
   where
     chain : List Pair
@@ -189,17 +189,17 @@ over_told side left right front rest a b p e f =
     behind : point_at chain (length (front ++ a ∷ [])) ≡ b
     behind = point_behind (front ++ a ∷ []) b rest
 
-    there : turn side a p b ≤ℤ pos 0 → IsOverEdge side chain (length (front ++ a ∷ [])) p
+    there : orient_on side a p b ≤ℤ pos 0 → IsOverEdge side chain (length (front ++ a ∷ [])) p
     there h = (
       (let n = length-append front (a ∷ []) in omega (arith, n)),
       (let n = length-append (front ++ a ∷ []) (b ∷ rest) in omega (arith, n)),
-      subst (λ (z : Pair). turn side z p (point_at chain (length (front ++ a ∷ []))) ≤ℤ pos 0) (sym before)
-          (subst (λ (z : Pair). turn side a p z ≤ℤ pos 0) (sym behind) h),
+      subst (λ (z : Pair). orient_on side z p (point_at chain (length (front ++ a ∷ []))) ≤ℤ pos 0) (sym before)
+          (subst (λ (z : Pair). orient_on side a p z ≤ℤ pos 0) (sym behind) h),
     )
 
-    back : IsOverEdge side chain (length (front ++ a ∷ [])) p → turn side a p b ≤ℤ pos 0
-    back k = subst (λ (z : Pair). turn side z p b ≤ℤ pos 0) before
-        (subst (λ (z : Pair). turn side (point_at chain (length (front ++ a ∷ []) - 1)) p z ≤ℤ pos 0) behind k.2)
+    back : IsOverEdge side chain (length (front ++ a ∷ [])) p → orient_on side a p b ≤ℤ pos 0
+    back k = subst (λ (z : Pair). orient_on side z p b ≤ℤ pos 0) before
+        (subst (λ (z : Pair). orient_on side (point_at chain (length (front ++ a ∷ []) - 1)) p z ≤ℤ pos 0) behind k.2)
 
 -- no corner before it
 pub none_before : (side : Side) (left right : List Pair) (p : Pair) → left ≡ []

@@ -3,13 +3,13 @@ use Rattle.std.proofs.Common.{◌≡◌, ℕ, pos, ◌≤ℤ◌, ◌<ℤ◌, ◌
 use Rattle.std.proofs.Common.{List, [], ◌∷◌, ◌++◌, length, take, length-append}
 use Rattle.std.proofs.lemmas.List.{take-append-le}
 use Rattle.lattice.specs.Plane.{Pair}
-use Rattle.lattice.specs.Turns.{turn}
+use Rattle.lattice.specs.Orientations.{orient_on}
 use Rattle.lattice.specs.declared.side.Side.{Side}
 use Rattle.lattice.specs.Covers.{IsPointSet}
-use Rattle.hull_geometry.specs.Monotone.{EndsInwards, IsTurning, IsThinned}
+use Rattle.hull_geometry.specs.Monotone.{EndsInwards, IsConvex, IsThinned}
 use Rattle.hull_geometry.specs.Positions.{point_at}
 use Rattle.hull_geometry.proofs.ChainPasses.{popped_set, popped_inner, popped_among, popped_short, with_end}
-use Rattle.hull_geometry.proofs.Passes.{turning_join, pushed_ends}
+use Rattle.hull_geometry.proofs.Passes.{convex_join, pushed_ends}
 use Rattle.hull_geometry.proofs.PointLists.{append_twice, all_taken}
 use Rattle.hull_buckets.specs.Masks.{at_places}
 use Rattle.hull_buckets.proofs.Places.{pushed}
@@ -46,7 +46,7 @@ front_of front b =
 
 -- a list that ends with a and b, of which b does not lie outwards of the segment from a to c
 pub ends_inwards : (side : Side) (chain front : List Pair) (a b c : Pair) → chain ≡ front ++ a ∷ b ∷ []
-    → turn side a b c ≤ℤ pos 0 → EndsInwards side chain c
+    → orient_on side a b c ≤ℤ pos 0 → EndsInwards side chain c
 ends_inwards side chain front a b c e h = record {
   front = front;
   a = a;
@@ -57,13 +57,13 @@ ends_inwards side chain front a b c e h = record {
   inwards = h;
 }
 
--- where b lies outwards of it, the chain turns on to c
-pub turning_on : (side : Side) (chain front : List Pair) (a b c : Pair) → chain ≡ front ++ a ∷ b ∷ []
-    → pos 0 <ℤ turn side a b c → IsTurning side chain → IsTurning side (chain ++ c ∷ [])
-turning_on side chain front a b c e h t =
-    subst (λ (z : List Pair). IsTurning side (z ++ c ∷ [])) (sym e)
-    (subst (IsTurning side) (sym (append_twice front (a ∷ b ∷ []) (c ∷ [])))
-    (turning_join side front a b (c ∷ []) (subst (IsTurning side) e t) (h, (tt, tt))))
+-- where b lies outwards of it, the chain bends on to c
+pub convex_on : (side : Side) (chain front : List Pair) (a b c : Pair) → chain ≡ front ++ a ∷ b ∷ []
+    → pos 0 <ℤ orient_on side a b c → IsConvex side chain → IsConvex side (chain ++ c ∷ [])
+convex_on side chain front a b c e h t =
+    subst (λ (z : List Pair). IsConvex side (z ++ c ∷ [])) (sym e)
+    (subst (IsConvex side) (sym (append_twice front (a ∷ b ∷ []) (c ∷ [])))
+    (convex_join side front a b (c ∷ []) (subst (IsConvex side) e t) (h, (tt, tt))))
 
 -- ---- what goes from the end
 

@@ -8,10 +8,10 @@ use Rattle.lattice.specs.Covers.{IsPointSet}
 use Rattle.lattice.specs.Plane.{Pair}
 use Rattle.lattice.specs.declared.side.Side.{Side}
 use Rattle.hull_geometry.specs.Mending.{IsOverEdge}
-use Rattle.hull_geometry.specs.Monotone.{IsChainOf, IsPassed, IsTurning}
+use Rattle.hull_geometry.specs.Monotone.{IsChainOf, IsPassed, IsConvex}
 use Rattle.hull_geometry.specs.Positions.{IsPositionOf, point_at}
 use Rattle.hull_geometry.proofs.Mended.{put_in_same, put_in_new}
-use Rattle.hull_geometry.proofs.Passes.{turning_left, turning_right, passed_through}
+use Rattle.hull_geometry.proofs.Passes.{convex_left, convex_right, passed_through}
 use Rattle.hull_buckets.specs.Buckets.{IsMaskOf}
 use Rattle.hull_buckets.specs.Masks.{at_places, without_place, AreApart}
 use Rattle.hull_buckets.proofs.Around.{take_front, drop_front, others_count, put_back, between_lists}
@@ -89,12 +89,12 @@ module _ (side : Side) (S : List Pair) (old k : ℕ) (ordered : IsPointSet S) (l
   high_within = subst (λ (n : ℕ). old / 2 ^ k * 2 ^ (k + 1) < 2 ^ n) (others_count S k l)
       (moved_within old k (length (without_place k S)) mask.within)
 
-  -- the parts turn
-  pub left_turning : IsTurning side left
-  left_turning = turning_left side left right old_chain.strict.turning
+  -- the parts are convex
+  pub left_convex : IsConvex side left
+  left_convex = convex_left side left right old_chain.strict.convex
 
-  pub right_turning : IsTurning side right
-  right_turning = turning_right side left right old_chain.strict.turning
+  pub right_convex : IsConvex side right
+  right_convex = convex_right side left right old_chain.strict.convex
 
   -- where the point would stand in the old chain
   pub position : IsPositionOf (left ++ right) (point_at S k) (Err (length left))
@@ -139,8 +139,8 @@ pub record AreBeside (side : Side) (S : List Pair) (k low high : ℕ) : Type 0 w
   pub low_within : low < 2 ^ length S
   pub high_within : high < 2 ^ length S
   pub high_behind : high % 2 ^ (k + 1) ≡ 0
-  pub left_turning : IsTurning side (at_places low S)
-  pub right_turning : IsTurning side (at_places high S)
+  pub left_convex : IsConvex side (at_places low S)
+  pub right_convex : IsConvex side (at_places high S)
   pub stays : IsOverEdge side (at_places low S ++ at_places high S) (length (at_places low S)) (point_at S k)
       → IsMaskOf side S (low + high)
   pub comes : (front new : ℕ)
@@ -160,8 +160,8 @@ beside side S old k low high s l m e f =
       low_within = low_within side S old k s l m;
       high_within = high_within side S old k s l m;
       high_behind = high_behind side S old k s l m;
-      left_turning = left_turning side S old k s l m;
-      right_turning = right_turning side S old k s l m;
+      left_convex = left_convex side S old k s l m;
+      right_convex = right_convex side S old k s l m;
       stays = stays side S old k s l m;
       comes = comes side S old k s l m;
     }))

@@ -12,10 +12,10 @@ use Rattle.lattice.specs.Covers.{IsPointSet}
 use Rattle.lattice.specs.Plane.{Pair, IsBefore}
 use Rattle.lattice.specs.declared.side.Side.{Side}
 use Rattle.lattice.proofs.Order.{before_irrefl, before_not, before_trans}
-use Rattle.hull_geometry.specs.Monotone.{IsChainOf, IsInner, IsInnerFrom, IsPassed, IsTurning, EndsWith}
+use Rattle.hull_geometry.specs.Monotone.{IsChainOf, IsInner, IsInnerFrom, IsPassed, IsConvex, EndsWith}
 use Rattle.hull_geometry.proofs.Mended.{chain_of}
 use Rattle.hull_geometry.proofs.Passes.{ends_cut, inner_cut, inner_left, inner_right, member_inner, passed_through}
-use Rattle.hull_geometry.proofs.Passes.{turning_left, turning_right}
+use Rattle.hull_geometry.proofs.Passes.{convex_left, convex_right}
 use Rattle.hull_geometry.specs.Positions.{point_at, origin}
 use Rattle.hull_geometry.proofs.PointLists.{AllPairs-head, all_of, append_none, cut, get_or_free, only_member}
 use Rattle.hull_geometry.proofs.PointSets.{set_apart, set_left, set_right}
@@ -199,7 +199,7 @@ joined_is side T low high middle front new s e g h q within =
             among = λ t m. at_among new T t m;
             inner = λ u m. passed.inner u (inner u m);
           }
-          passed.strict.turning;
+          passed.strict.convex;
     }
   where
     inner : (u : Pair) → Contains T u → IsInner side ((at_places low T ++ at_places middle T) ++ at_places high T) u
@@ -253,8 +253,8 @@ module _ (side : Side) (S : List Pair) (old k : ℕ) (s : IsPointSet S) (l : k <
     apart = (k, mod_below old (2 ^ k) (pow_pos k), no_place k);
     low_within = low_within;
     high_within = pow_pos (length (take k S));
-    low_turning = turning_left side left right whole.strict.turning;
-    high_turning = subst (IsTurning side) (sym (none_at (take k S))) tt;
+    low_convex = convex_left side left right whole.strict.convex;
+    high_convex = subst (IsConvex side) (sym (none_at (take k S))) tt;
     others = λ t m. elim (inner_of_two side left right t whole.strict.ordered
         (whole.inner t (subst (λ (z : List Pair). Contains z t) (sym parts)
         (Contains-append_left (take k S) (drop k S) t m)))) [
@@ -276,8 +276,8 @@ module _ (side : Side) (S : List Pair) (old k : ℕ) (s : IsPointSet S) (l : k <
     high_within = shr_below old (length (drop k S)) k
         (subst (λ (j : ℕ). old < 2 ^ j) (let n = ap (λ (z : List Pair). length z) parts in
         let a = length-append (take k S) (drop k S) in omega (arith, n, a, count)) mask.within);
-    low_turning = subst (IsTurning side) (sym (none_at (drop k S))) tt;
-    high_turning = turning_right side left right whole.strict.turning;
+    low_convex = subst (IsConvex side) (sym (none_at (drop k S))) tt;
+    high_convex = convex_right side left right whole.strict.convex;
     others = λ t m. elim (inner_of_two side left right t whole.strict.ordered
         (whole.inner t (subst (λ (z : List Pair). Contains z t) (sym parts)
         (Contains-append_right (take k S) (drop k S) t m)))) [

@@ -9,10 +9,10 @@ use Rattle.lattice.specs.Covers.{IsPointSet}
 use Rattle.lattice.specs.Plane.{Pair, IsBefore}
 use Rattle.lattice.specs.declared.side.Side.{Side}
 use Rattle.lattice.proofs.Order.{before_trans}
-use Rattle.hull_geometry.specs.Monotone.{IsChainOf, IsInner, IsTurning}
+use Rattle.hull_geometry.specs.Monotone.{IsChainOf, IsInner, IsConvex}
 use Rattle.hull_geometry.specs.Positions.{point_at}
 use Rattle.hull_geometry.proofs.Mended.{take_out_same}
-use Rattle.hull_geometry.proofs.Passes.{turning_left, turning_right}
+use Rattle.hull_geometry.proofs.Passes.{convex_left, convex_right}
 use Rattle.hull_geometry.proofs.PointLists.{all_of, append_none}
 use Rattle.hull_geometry.proofs.PointSets.{set_right}
 use Rattle.hull_geometry.proofs.SetLaws.{members_without}
@@ -130,17 +130,17 @@ module _ (side : Side) (S : List Pair) (old k : ℕ) (ordered : IsPointSet S) (l
   old_chain : IsChainOf side S (left ++ kept_before (old / 2 ^ k % 2) (point_at S k) right)
   old_chain = subst (IsChainOf side S) (with_place S old k l) mask.chain
 
-  -- the parts turn
-  pub left_turning : IsTurning side left
-  left_turning = turning_left side left (kept_before (old / 2 ^ k % 2) (point_at S k) right) old_chain.strict.turning
+  -- the parts are convex
+  pub left_convex : IsConvex side left
+  left_convex = convex_left side left (kept_before (old / 2 ^ k % 2) (point_at S k) right) old_chain.strict.convex
 
-  pub right_turning : IsTurning side right
-  right_turning = go (old / 2 ^ k % 2)
-      (turning_right side left (kept_before (old / 2 ^ k % 2) (point_at S k) right) old_chain.strict.turning)
+  pub right_convex : IsConvex side right
+  right_convex = go (old / 2 ^ k % 2)
+      (convex_right side left (kept_before (old / 2 ^ k % 2) (point_at S k) right) old_chain.strict.convex)
     where
-      go : (n : ℕ) → IsTurning side (kept_before n (point_at S k) right) → IsTurning side right
+      go : (n : ℕ) → IsConvex side (kept_before n (point_at S k) right) → IsConvex side right
       go zero h = h
-      go (suc n) h = turning_right side (point_at S k ∷ []) right h
+      go (suc n) h = convex_right side (point_at S k ∷ []) right h
 
   -- where the point was no corner, the chain stays
   pub stays : old / 2 ^ k % 2 ≡ 0 → IsMaskOf side rest (old % 2 ^ k + old / 2 ^ (k + 1) * 2 ^ k)
@@ -159,8 +159,8 @@ module _ (side : Side) (S : List Pair) (old k : ℕ) (ordered : IsPointSet S) (l
     apart = are_apart;
     low_within = low_within;
     high_within = high_within;
-    low_turning = left_turning;
-    high_turning = right_turning;
+    low_convex = left_convex;
+    high_convex = right_convex;
     others = λ t m. among t
         ((members_without (point_at S k) t S ordered).0
         (subst (λ (z : List Pair). Contains z t) (taken_away S k ordered l) m));

@@ -5,9 +5,9 @@ use Rattle.std.proofs.lemmas.Nat.{mod_low, pow_pos}
 use Rattle.lattice.specs.Plane.{Pair}
 use Rattle.lattice.specs.declared.side.Side.{Side}
 use Rattle.lattice.specs.Covers.{IsPointSet}
-use Rattle.hull_geometry.specs.Monotone.{IsPassed, IsTurning}
+use Rattle.hull_geometry.specs.Monotone.{IsPassed, IsConvex}
 use Rattle.hull_geometry.specs.Positions.{point_at}
-use Rattle.hull_geometry.proofs.Passes.{passed_through, passed_itself, turning_join, ends_right, ends_cut}
+use Rattle.hull_geometry.proofs.Passes.{passed_through, passed_itself, convex_join, ends_right, ends_cut}
 use Rattle.hull_geometry.proofs.PointLists.{append_none, append_twice}
 use Rattle.hull_buckets.specs.Masks.{at_places, AreApart}
 use Rattle.hull_buckets.proofs.Places.{first_at, none_at, pushed, set_at, together}
@@ -80,20 +80,20 @@ module _ {S : List Pair} {kept left place : ℕ} (now : IsStep S kept left place
       ends_cut (point_at S place) (at_places next S)
       (h.ends (point_at S place) (ends_right (point_at S place) (at_places kept S) (point_at S place ∷ []) refl))
 
-  -- where the new point stays behind the last of the chain, at which those that are left turn on, all stay
+  -- where the new point stays behind the last of the chain, at which those that are left bend on, all stay
   pub stopped : (side : Side) (next : ℕ) (front : List Pair) (q : Pair) → IsPointSet S → next < 2 ^ length S
-      → next ≡ kept + 2 ^ place → at_places kept S ≡ front ++ q ∷ [] → IsTurning side (q ∷ at_places left S)
-      → IsTurning side (at_places next S)
+      → next ≡ kept + 2 ^ place → at_places kept S ≡ front ++ q ∷ [] → IsConvex side (q ∷ at_places left S)
+      → IsConvex side (at_places next S)
       → IsPassed side (at_places kept S ++ at_places left S) (at_places (next + (left - 2 ^ place)) S)
   stopped side next front q s l e f t h =
       subst (λ (z : List Pair). IsPassed side z (at_places (next + (left - 2 ^ place)) S)) (sym same)
       (passed_itself side (at_places (next + (left - 2 ^ place)) S) (record {
         ordered = set_at (next + (left - 2 ^ place)) S s;
-        turning = subst (IsTurning side) (sym in_parts)
-            (turning_join side front q (point_at S place) (at_places (left - 2 ^ place) S)
-            (subst (IsTurning side) (stays ∙ ap (λ (z : List Pair). z ++ point_at S place ∷ []) f
+        convex = subst (IsConvex side) (sym in_parts)
+            (convex_join side front q (point_at S place) (at_places (left - 2 ^ place) S)
+            (subst (IsConvex side) (stays ∙ ap (λ (z : List Pair). z ++ point_at S place ∷ []) f
             ∙ append_twice front (q ∷ []) (point_at S place ∷ [])) h)
-            (subst (λ (z : List Pair). IsTurning side (q ∷ z)) first_left t));
+            (subst (λ (z : List Pair). IsConvex side (q ∷ z)) first_left t));
       }))
     where
       low : next < 2 ^ (place + 1)
@@ -120,8 +120,8 @@ module _ {S : List Pair} {kept left place : ℕ} (now : IsStep S kept left place
 
 -- where nothing is left the chain is what the pass leaves
 pub none_left : (side : Side) (S : List Pair) (kept left : ℕ) → IsPointSet S → left ≡ 0
-    → IsTurning side (at_places kept S) → IsPassed side (at_places kept S ++ at_places left S) (at_places kept S)
+    → IsConvex side (at_places kept S) → IsPassed side (at_places kept S ++ at_places left S) (at_places kept S)
 none_left side S kept left s e t = subst (λ (z : List Pair). IsPassed side z (at_places kept S))
     (append_none (at_places kept S) ∙ ap (λ (z : List Pair). at_places kept S ++ z)
     (sym (none_at S) ∙ ap (λ (m : ℕ). at_places m S) (sym e)))
-    (passed_itself side (at_places kept S) (record { ordered = set_at kept S s; turning = t }))
+    (passed_itself side (at_places kept S) (record { ordered = set_at kept S s; convex = t }))

@@ -6,7 +6,7 @@ use Rattle.lattice.specs.Covers.{IsPointSet}
 use Rattle.lattice.specs.Plane.{Pair, IsBefore}
 use Rattle.lattice.specs.declared.side.Side.{Side}
 use Rattle.lattice.specs.declared.side.Side.TheVariants.{Lower, Upper}
-use Rattle.hull_geometry.specs.Monotone.{IsChainOf, IsInner, IsInwards, IsTurning}
+use Rattle.hull_geometry.specs.Monotone.{IsChainOf, IsInner, IsInwards, IsConvex}
 use Rattle.hull_set.specs.declared.TheConstants.{MULTIPLICITY_LIMIT}
 use Rattle.hull_buckets.specs.Masks.{at_places, without_place, AreApart}
 use Rattle.hull_buckets.specs.declared.TheConstants.{ROOM}
@@ -60,14 +60,14 @@ pub record WasMaskOf (side : Side) (points : List Pair) (place mask : ℕ) : Typ
 abbrev pub IsAmid : List Pair → List Pair → Pair → Type 0
 IsAmid left right t = All (λ u. IsBefore u t) left × All (IsBefore t) right
 
--- the points at the places of two masks, all of the one before all of the other, turn; each of the points is inner to those of
+-- the points at the places of two masks, all of the one before all of the other, are convex; each of the points is inner to those of
 -- one, or stands between both
 pub record AreEnds (side : Side) (points : List Pair) (low high : ℕ) : Type 0 where
   pub apart : AreApart low high
   pub low_within : low < 2 ^ length points
   pub high_within : high < 2 ^ length points
-  pub low_turning : IsTurning side (at_places low points)
-  pub high_turning : IsTurning side (at_places high points)
+  pub low_convex : IsConvex side (at_places low points)
+  pub high_convex : IsConvex side (at_places high points)
   pub others : (t : Pair) → Contains points t → IsInner side (at_places low points) t
       ⊎ (IsInner side (at_places high points) t ⊎ IsAmid (at_places low points) (at_places high points) t)
 

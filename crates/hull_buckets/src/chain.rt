@@ -3,20 +3,20 @@
 ghost use Rattle.std.specs.Prelude.{◌≡◌, ℕ, ◌↔◌, ◌<◌, ◌≤◌, ◌+◌, ◌-◌, ◌^◌, ◌++◌, ◌∷◌, [], IfSome, IsTrue, None};
 ghost use Rattle.std.specs.Prelude.{pos, ◌<ℤ◌, length, take};
 ghost use Rattle.lattice.specs.Covers.{IsPointSet};
-ghost use Rattle.lattice.specs.Turns as turns;
-ghost use Rattle.hull_geometry.specs.Monotone.{EndsInwards, IsTurning, IsPassed};
+ghost use Rattle.lattice.specs.Orientations as orientations;
+ghost use Rattle.hull_geometry.specs.Monotone.{EndsInwards, IsConvex, IsPassed};
 ghost use Rattle.hull_geometry.specs.Positions.{point_at};
 ghost use Rattle.hull_buckets.specs.Masks.{at_places, AreApart};
 ghost use Rattle.hull_buckets.specs.declared.TheConstants.{ROOM};
 
 use super::mask::{bit, highest, lowest};
-use lattice::{Point, Side, turn};
+use lattice::{Point, Side, orient_on};
 
-/// Whether a chain turns at `b` on the way from `a` to `c`: whether `b` lies outwards of the segment between them.
-pub(crate) fn turns_at(side: Side, a: Point, b: Point, c: Point) -> bool
-    ensures { IsTrue result ↔ (pos 0 <ℤ turns.turn side a b c) }
+/// Whether a chain bends at `b` on the way from `a` to `c`: whether `b` lies outwards of the segment between them.
+pub(crate) fn is_convex_at(side: Side, a: Point, b: Point, c: Point) -> bool
+    ensures { IsTrue result ↔ (pos 0 <ℤ orientations.orient_on side a b c) }
 {
-    turn(side, a, b, c) > 0
+    orient_on(side, a, b, c) > 0
 }
 
 /// A chain without its last corner, where that one does not lie outwards of the segment from the one before it to the
@@ -29,8 +29,8 @@ fn without_last(side: Side, points: &[Point], chain: u64, place: usize) -> Optio
     ensures inwards { IfSome result (λ _. EndsInwards side (at_places chain points.now) (point_at points.now place)) }
     ensures front { IfSome result (λ front. at_places front points.now
         ≡ take (length (at_places chain points.now) - 1) (at_places chain points.now)) }
-    ensures turning { result ≡ None → IsTurning side (at_places chain points.now)
-        → IsTurning side (at_places chain points.now ++ point_at points.now place ∷ []) }
+    ensures convex { result ≡ None → IsConvex side (at_places chain points.now)
+        → IsConvex side (at_places chain points.now ++ point_at points.now place ∷ []) }
 {
     if chain == 0 {
         return None;
@@ -41,19 +41,19 @@ fn without_last(side: Side, points: &[Point], chain: u64, place: usize) -> Optio
         return None;
     }
     let ahead = highest(front);
-    if turns_at(side, points[ahead], points[last], points[place]) {
+    if is_convex_at(side, points[ahead], points[last], points[place]) {
         return None;
     }
     Some(front)
 }
 
-/// The chain with the point at a place behind it: those of its last corners go at which it does not turn then.
+/// The chain with the point at a place behind it: those of its last corners go at which it does not bend then.
 pub(crate) fn pushed(side: Side, points: &[Point], chain: u64, place: usize) -> u64
     requires few { length points.now ≤ ROOM }
     requires within { place < length points.now }
     requires ordered { IsPointSet points.now }
     requires before { chain < 2 ^ place }
-    requires turning { IsTurning side (at_places chain points.now) }
+    requires convex { IsConvex side (at_places chain points.now) }
     ensures within { result < 2 ^ (place + 1) }
     ensures passed { IsPassed side (at_places chain points.now ++ point_at points.now place ∷ [])
         (at_places result points.now) }
@@ -72,7 +72,7 @@ pub(crate) fn passed_over(side: Side, points: &[Point], chain: u64, rest: u64) -
     requires apart { AreApart chain rest }
     requires chain_within { chain < 2 ^ length points.now }
     requires rest_within { rest < 2 ^ length points.now }
-    requires turning { IsTurning side (at_places chain points.now) }
+    requires convex { IsConvex side (at_places chain points.now) }
     ensures within { (k : ℕ) → chain < 2 ^ k → rest < 2 ^ k → result < 2 ^ k }
     ensures passed { IsPassed side (at_places chain points.now ++ at_places rest points.now)
         (at_places result points.now) }
@@ -87,16 +87,16 @@ pub(crate) fn passed_over(side: Side, points: &[Point], chain: u64, rest: u64) -
     kept
 }
 
-/// A chain taken on over corners that turn, all behind its own, at the places of `rest`. It ends as soon as two of them
-/// stand on it in a row: from there on all turns are as they were.
+/// A chain taken on over corners that bend, all behind its own, at the places of `rest`. It ends as soon as two of them
+/// stand on it in a row: from there on all bends are as they were.
 pub(crate) fn taken_up(side: Side, points: &[Point], chain: u64, rest: u64) -> u64
     requires few { length points.now ≤ ROOM }
     requires ordered { IsPointSet points.now }
     requires apart { AreApart chain rest }
     requires chain_within { chain < 2 ^ length points.now }
     requires rest_within { rest < 2 ^ length points.now }
-    requires turning { IsTurning side (at_places chain points.now) }
-    requires rest_turning { IsTurning side (at_places rest points.now) }
+    requires convex { IsConvex side (at_places chain points.now) }
+    requires rest_convex { IsConvex side (at_places rest points.now) }
     ensures within { (k : ℕ) → chain < 2 ^ k → rest < 2 ^ k → result < 2 ^ k }
     ensures passed { IsPassed side (at_places chain points.now ++ at_places rest points.now)
         (at_places result points.now) }

@@ -7,7 +7,7 @@ ghost use Rattle.hull_buckets.specs.Buckets.{AreEnds, IsMaskOf, WasMaskOf};
 ghost use Rattle.hull_buckets.specs.Masks.{at_places, without_place};
 ghost use Rattle.hull_buckets.specs.declared.TheConstants.{ROOM};
 
-use super::chain::{passed_over, pushed, taken_up, turns_at};
+use super::chain::{is_convex_at, passed_over, pushed, taken_up};
 use super::mask::{below, between, first, has, highest, lowest, moved_down, moved_up};
 use lattice::{Point, Side};
 
@@ -27,13 +27,13 @@ fn is_covered(side: Side, points: &[Point], low: u64, high: u64, place: usize) -
     }
     let ahead = points[highest(low)];
     let behind = points[lowest(high)];
-    !turns_at(side, ahead, points[place], behind)
+    !is_convex_at(side, ahead, points[place], behind)
 }
 
 /// The mask of the chain of points of which the one at `place` came new; `old` was that of the others.
 ///
 /// Where the point lies between two corners of the old chain and not outwards of their segment, nothing changes. Else
-/// those corners go at which the chain to it does not turn, on either side.
+/// those corners go at which the chain to it does not bend, on either side.
 pub(crate) fn with_corner(side: Side, points: &[Point], old: u64, place: usize) -> u64
     requires few { length points.now ≤ ROOM }
     requires ordered { IsPointSet points.now }
@@ -51,7 +51,7 @@ pub(crate) fn with_corner(side: Side, points: &[Point], old: u64, place: usize) 
 }
 
 /// The mask of the chain of points, by corners at its two ends: one pass goes over the points between these, and on over the
-/// corners behind them until the chain turns as it did.
+/// corners behind them until the chain bends as it did.
 fn joined(side: Side, points: &[Point], low: u64, high: u64) -> u64
     requires few { length points.now ≤ ROOM }
     requires ordered { IsPointSet points.now }

@@ -7,25 +7,25 @@ use Rattle.lattice.specs.Plane.{Pair, orient, IsBefore}
 use Rattle.lattice.proofs.Order.{before_trans, before_irrefl, before_not}
 use Rattle.hull_geometry.specs.ChainEdges.{IsBeside, IsEdge}
 use Rattle.hull_geometry.specs.Edges.{IsLowerEdge, IsUpperEdge, IsChain, end_of, IsFirst, IsLast}
-use Rattle.hull_geometry.specs.Monotone.{IsInwards, IsInnerFrom, IsInner, IsTurningFrom}
-use Rattle.lattice.specs.Turns.{turn}
+use Rattle.hull_geometry.specs.Monotone.{IsInwards, IsInnerFrom, IsInner, IsConvexFrom}
+use Rattle.lattice.specs.Orientations.{orient_on}
 use Rattle.hull_geometry.specs.Monotone.{IsChainOf}
 use Rattle.lattice.specs.declared.side.Side.{Side}
 use Rattle.lattice.specs.declared.side.Side.TheVariants.{Lower, Upper}
 use Rattle.hull_geometry.proofs.PointLists.{AllPairs-head, AllPairs-tail, all_of, later}
 use Rattle.hull_geometry.proofs.Supports.{IsSupport}
 use Rattle.lattice.proofs.Numbers.{nn_above, nn_zero}
-use Rattle.hull_geometry.proofs.Turns.{turn_at_start, turn_at_end, turns_on, turns_back}
+use Rattle.hull_geometry.proofs.Orientations.{orient_on_start, orient_on_end, strict_on, strict_back}
 use Rattle.std.proofs.lemmas.List.Elements.{All-head}
 
 -- what is strictly inwards of a line
-strictly : (side : Side) (t a b : Pair) → pos 0 <ℤ turn side a b t → IsBeside side t a b
+strictly : (side : Side) (t a b : Pair) → pos 0 <ℤ orient_on side a b t → IsBeside side t a b
 strictly side t a b h = record { inwards = nn_above _ h; before = λ k. h; after = λ k. h }
 
 -- the start of an edge
 at_start : (side : Side) (a b : Pair) → IsBefore a b → IsBeside side a a b
 at_start side a b ab = record {
-  inwards = nn_zero _ (turn_at_start side a b);
+  inwards = nn_zero _ (orient_on_start side a b);
   before = λ k. absurd (before_irrefl a k);
   after = λ k. absurd (before_not a b ab k);
 }
@@ -33,7 +33,7 @@ at_start side a b ab = record {
 -- its end
 at_end : (side : Side) (a b : Pair) → IsBefore a b → IsBeside side b a b
 at_end side a b ab = record {
-  inwards = nn_zero _ (turn_at_end side a b);
+  inwards = nn_zero _ (orient_on_end side a b);
   before = λ k. absurd (before_not a b ab k);
   after = λ k. absurd (before_irrefl b k);
 }
@@ -52,39 +52,39 @@ first_step a b rest s = All-head (IsBefore a) b rest (AllPairs-head a (b ∷ res
 
 -- what is inner to a chain behind its second point is strictly inwards of the first edge
 after_edge : (side : Side) (a b : Pair) (rest : List Pair) (u : Pair) → IsPointSet (a ∷ b ∷ rest)
-    → IsTurningFrom side a (b ∷ rest) → IsInnerFrom side b rest u → IsBefore b u × (pos 0 <ℤ turn side a b u)
+    → IsConvexFrom side a (b ∷ rest) → IsInnerFrom side b rest u → IsBefore b u × (pos 0 <ℤ orient_on side a b u)
 after_edge side a b [] u s h k = elim k [ ]
 after_edge side a b (c ∷ rest) u s h (inl e) =
     let tail = AllPairs-tail a (b ∷ c ∷ rest) s in
-    (subst (IsBefore b) (sym e) (first_step b c rest tail), subst (λ z. pos 0 <ℤ turn side a b z) (sym e) h.0)
+    (subst (IsBefore b) (sym e) (first_step b c rest tail), subst (λ z. pos 0 <ℤ orient_on side a b z) (sym e) h.0)
 after_edge side a b (c ∷ rest) u s h (inr (inl (bu, uc, k))) =
     let tail = AllPairs-tail a (b ∷ c ∷ rest) s in
-    (bu, turns_on side a b c u (first_step a b (c ∷ rest) s) (first_step b c rest tail) bu h.0 k)
+    (bu, strict_on side a b c u (first_step a b (c ∷ rest) s) (first_step b c rest tail) bu h.0 k)
 after_edge side a b (c ∷ rest) u s h (inr (inr k)) =
     let tail = AllPairs-tail a (b ∷ c ∷ rest) s in
     let later = after_edge side b c rest u tail h.1 k in
     let bu = before_trans b c u (first_step b c rest tail) later.0 in
-    (bu, turns_on side a b c u (first_step a b (c ∷ rest) s) (first_step b c rest tail) bu h.0 (nn_above _ later.1))
+    (bu, strict_on side a b c u (first_step a b (c ∷ rest) s) (first_step b c rest tail) bu h.0 (nn_above _ later.1))
 
 -- what stands before the end of an edge and not outwards of it is beside all later edges
 beside_later : (side : Side) (a b : Pair) (rest : List Pair) (t : Pair) → IsPointSet (a ∷ b ∷ rest)
-    → IsTurningFrom side a (b ∷ rest) → IsBefore t b → pos 0 ≤ℤ turn side a b t → IsChain (IsBeside side t) b rest
+    → IsConvexFrom side a (b ∷ rest) → IsBefore t b → pos 0 ≤ℤ orient_on side a b t → IsChain (IsBeside side t) b rest
 beside_later side a b [] t s h tb k = tt
 beside_later side a b (c ∷ rest) t s h tb k =
     let tail = AllPairs-tail a (b ∷ c ∷ rest) s in
     let bc = first_step b c rest tail in
-    let in_next = turns_back side a b c t (first_step a b (c ∷ rest) s) bc tb k h.0 in
+    let in_next = strict_back side a b c t (first_step a b (c ∷ rest) s) bc tb k h.0 in
     (strictly side t b c in_next, beside_later side b c rest t tail h.1 (before_trans t b c tb bc) (nn_above _ in_next))
 
 -- what is inner to a chain is beside each of its edges
 beside_from : (side : Side) (x : Pair) (rest : List Pair) (t : Pair) → IsPointSet (x ∷ rest)
-    → IsTurningFrom side x rest → IsInner side (x ∷ rest) t → IsChain (IsBeside side t) x rest
+    → IsConvexFrom side x rest → IsInner side (x ∷ rest) t → IsChain (IsBeside side t) x rest
 beside_from side x [] t s h k = tt
 beside_from side x (y ∷ rest) t s h (inl e) =
     let xy = first_step x y rest s in
     subst (λ (z : Pair). IsChain (IsBeside side z) x (y ∷ rest)) (sym e) (
       at_start side x y xy,
-      beside_later side x y rest x s h xy (nn_zero _ (turn_at_start side x y)),
+      beside_later side x y rest x s h xy (nn_zero _ (orient_on_start side x y)),
     )
 beside_from side x (y ∷ rest) t s h (inr (inl e)) =
     subst (λ (z : Pair). IsChain (IsBeside side z) x (y ∷ rest)) (sym e) (
@@ -153,7 +153,7 @@ along_all side S x (y ∷ rest) s among h = (
 pub chain_edges : (side : Side) (S : List Pair) (x : Pair) (rest : List Pair) → IsChainOf side S (x ∷ rest)
     → IsChain (IsEdge side S) x rest
 chain_edges side S x rest c = along_all side S x rest c.strict.ordered c.among
-    (λ t m. beside_from side x rest t c.strict.ordered c.strict.turning (c.inner t m))
+    (λ t m. beside_from side x rest t c.strict.ordered c.strict.convex (c.inner t m))
 
 -- the line of an edge has no point outwards
 pub edge_support : {side : Side} {S : List Pair} {a b : Pair} → IsEdge side S a b → IsSupport side S a b

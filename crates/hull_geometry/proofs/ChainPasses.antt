@@ -9,7 +9,7 @@ use Rattle.lattice.specs.Covers.{IsPointSet}
 use Rattle.lattice.specs.Plane.{Pair, orient, IsBefore}
 use Rattle.lattice.proofs.Order.{before_trans}
 use Rattle.hull_geometry.specs.Monotone.{IsInwards, IsInnerFrom, IsInner, EndsInwards}
-use Rattle.lattice.specs.Turns.{turn}
+use Rattle.lattice.specs.Orientations.{orient_on}
 use Rattle.lattice.specs.declared.side.Side.{Side}
 use Rattle.lattice.specs.declared.side.Side.TheVariants.{Lower, Upper}
 use Rattle.hull_geometry.proofs.ChangedSets.{set-insert}
@@ -22,7 +22,7 @@ use Rattle.lattice.proofs.LineCrossings.{orient_other}
 
 -- three points in the order, of which the middle one does not lie outwards: it lies inwards of the segment of the
 -- others
-middle : (side : Side) (a b c : Pair) → IsBefore a b → IsBefore b c → turn side a b c ≤ℤ pos 0 → IsInwards side a c b
+middle : (side : Side) (a b c : Pair) → IsBefore a b → IsBefore b c → orient_on side a b c ≤ℤ pos 0 → IsInwards side a c b
 middle Lower a b c ab bc h = (ab, bc, let e = orient_swap a c b in omega (arith, ints))
 middle Upper a b c ab bc h = (
   ab,
@@ -32,7 +32,7 @@ middle Upper a b c ab bc h = (
 )
 
 -- what lies inwards of the first of two segments lies inwards of the long one
-first_inwards : (side : Side) (a b c u : Pair) → IsBefore a b → IsBefore b c → turn side a b c ≤ℤ pos 0
+first_inwards : (side : Side) (a b c u : Pair) → IsBefore a b → IsBefore b c → orient_on side a b c ≤ℤ pos 0
     → IsInwards side a b u → IsInwards side a c u
 first_inwards Lower a b c u ab bc h (au, ub, k) = (
   au,
@@ -53,7 +53,7 @@ first_inwards Upper a b c u ab bc h (au, ub, k) = (
 )
 
 -- and of the second
-second_inwards : (side : Side) (a b c u : Pair) → IsBefore a b → IsBefore b c → turn side a b c ≤ℤ pos 0
+second_inwards : (side : Side) (a b c u : Pair) → IsBefore a b → IsBefore b c → orient_on side a b c ≤ℤ pos 0
     → IsInwards side b c u → IsInwards side a c u
 second_inwards Lower a b c u ab bc h (bu, uc, k) = (
   before_trans a b u ab bu,
@@ -73,7 +73,7 @@ second_inwards Upper a b c u ab bc h (bu, uc, k) = (
 )
 
 -- the last two segments in one
-last_two : (side : Side) (a b c u : Pair) → IsBefore a b → IsBefore b c → turn side a b c ≤ℤ pos 0
+last_two : (side : Side) (a b c u : Pair) → IsBefore a b → IsBefore b c → orient_on side a b c ≤ℤ pos 0
     → IsInnerFrom side a (b ∷ c ∷ []) u → IsInnerFrom side a (c ∷ []) u
 last_two side a b c u ab bc h (inl e) = inr (inl (subst (IsInwards side a c) (sym e) (middle side a b c ab bc h)))
 last_two side a b c u ab bc h (inr (inl k)) = inr (inl (first_inwards side a b c u ab bc h k))
@@ -83,7 +83,7 @@ last_two side a b c u ab bc h (inr (inr (inr (inr k)))) = elim k [ ]
 
 -- the same behind more of the chain
 behind_more : (side : Side) (x : Pair) (front : List Pair) (a b c u : Pair) → IsBefore a b → IsBefore b c
-    → turn side a b c ≤ℤ pos 0 → IsInnerFrom side x (front ++ a ∷ b ∷ c ∷ []) u
+    → orient_on side a b c ≤ℤ pos 0 → IsInnerFrom side x (front ++ a ∷ b ∷ c ∷ []) u
     → IsInnerFrom side x (front ++ a ∷ c ∷ []) u
 behind_more side x [] a b c u ab bc h (inl e) = inl e
 behind_more side x [] a b c u ab bc h (inr (inl k)) = inr (inl k)
@@ -94,7 +94,7 @@ behind_more side x (y ∷ ys) a b c u ab bc h (inr (inr k)) = inr (inr (behind_m
 
 -- a chain without its last point but one
 without_inward : (side : Side) (front : List Pair) (a b c u : Pair) → IsBefore a b → IsBefore b c
-    → turn side a b c ≤ℤ pos 0 → IsInner side (front ++ a ∷ b ∷ c ∷ []) u → IsInner side (front ++ a ∷ c ∷ []) u
+    → orient_on side a b c ≤ℤ pos 0 → IsInner side (front ++ a ∷ b ∷ c ∷ []) u → IsInner side (front ++ a ∷ c ∷ []) u
 without_inward side [] a b c u ab bc h (inl e) = inl e
 without_inward side [] a b c u ab bc h (inr k) = inr (last_two side a b c u ab bc h k)
 without_inward side (x ∷ xs) a b c u ab bc h (inl e) = inl e

@@ -39,17 +39,17 @@ first_extreme = end_extreme Upper
 pub last_extreme : (S : List Pair) (v : Pair) → IsPointSet S → Contains S v → IsLast S v → IsExtreme S v
 last_extreme = end_extreme Lower
 
--- two edges on one side turn left
-pub edges_turn : (side : Side) (S : List Pair) (u v w : Pair) → IsEdgeOn side S u v → IsEdgeOn side S v w
+-- two edges on one side bend left
+pub edges_convex : (side : Side) (S : List Pair) (u v w : Pair) → IsEdgeOn side S u v → IsEdgeOn side S v w
     → pos 0 <ℤ orient u v w
-edges_turn side S u v w e f =
+edges_convex side S u v w e f =
     elim (le_or_lt (orient u v w) (pos 0)) [
       | inr h ↦ h
       | inl h ↦ absurd (All-contains (λ t. orient u v t ≡ pos 0 → ¬ (IsAlong side v t)) S w e.last f.to
           (zero_between _ (All-contains (λ t. pos 0 ≤ℤ orient u v t) S w e.left f.to) h) f.along)
     ]
 
--- a corner that turns left, with S on the left of both its edges, is extreme
+-- a corner that bends left, with S on the left of both its edges, is extreme
 corner_extreme : (S : List Pair) (u v w : Pair) → IsPointSet S → Contains S v → pos 0 <ℤ orient u v w → IsLeftOf S u v
     → IsLeftOf S v w → IsExtreme S v
 corner_extreme S u v w s m h a b =
@@ -67,7 +67,7 @@ corner_extreme S u v w s m h a b =
 pub edge_corner : (side : Side) (S : List Pair) (u v w : Pair) → IsPointSet S → IsEdgeOn side S u v → IsEdgeOn side S v w
     → IsExtreme S v
 edge_corner side S u v w s e f =
-    corner_extreme S u v w s e.to (edges_turn side S u v w e f) e.left f.left
+    corner_extreme S u v w s e.to (edges_convex side S u v w e f) e.left f.left
 
 -- t stands strictly between the ends of an edge on this side
 abbrev BesideEdge : Side → List Pair → Pair → Type 0

@@ -5,7 +5,7 @@ use Rattle.std.proofs.lemmas.Int.{ints}
 use Rattle.lattice.specs.Covers.{IsBetween, IsOnSegment, Covers, OnSegment, InTriangle}
 use Rattle.lattice.specs.Plane.{Pair, orient, IsBefore}
 use Rattle.lattice.specs.Signs.{le_or_lt}
-use Rattle.lattice.proofs.Vectors.{minus, opp, cross, Ahead, cross-opp_left, cross-opp_right, cross-opp, turn_trans}
+use Rattle.lattice.proofs.Vectors.{minus, opp, cross, Ahead, cross-opp_left, cross-opp_right, cross-opp, cross_trans}
 use Rattle.hull_geometry.proofs.Orientation.{orient_swap, orient-sum, at_least, ahead_of, behind_of, turned, orient-cycle}
 use Rattle.hull_geometry.proofs.Orientation.{along}
 
@@ -34,11 +34,11 @@ on_segment a b q ha hb z = (
 )
 
 -- a, b, c orient to the left round q, which lies between a and b in the order
-covered_by_turn : (S : List Pair) (q a b c : Pair) → Contains S a → Contains S b → Contains S c → IsBefore a q
+covered_by_sides : (S : List Pair) (q a b c : Pair) → Contains S a → Contains S b → Contains S c → IsBefore a q
     → IsBefore q b
     → pos 0 ≤ℤ orient q a b → pos 0 ≤ℤ orient q b c → pos 0 ≤ℤ orient q c a → Covers S q
 unfolding orient
-covered_by_turn S q a b c ma mb mc ha hb ab bc ca =
+covered_by_sides S q a b c ma mb mc ha hb ab bc ca =
     elim (le_or_lt (orient a b c) (pos 0)) [
       | inl h ↦ let z : orient q a b ≡ pos 0 = let e = orient-sum a b c q in omega (arith, ints) in
           OnSegment a b ma mb (
@@ -72,17 +72,17 @@ covered_by_edges S q a b c d ma mb mc md ha hb hc hd ab cd =
     let DC : pos 0 ≤ℤ cross (opp D) C = at_least _ _ (sym (cross-opp_left D C)) cd in
     elim (le_or_lt (pos 0) (orient q b c)) [
       | inl bc ↦ elim (le_or_lt (pos 0) (orient q c a)) [
-        | inl ca ↦ covered_by_turn S q a b c ma mb mc ha hb ab bc ca
+        | inl ca ↦ covered_by_sides S q a b c ma mb mc ha hb ab bc ca
         | inr ca ↦ elim (le_or_lt (pos 0) (orient q d a)) [
-          | inl da ↦ covered_by_turn S q a c d ma mc md ha hc (turned q c a ca) cd da
-          | inr da ↦ covered_by_turn S q a b c ma mb mc ha hb ab bc
+          | inl da ↦ covered_by_sides S q a c d ma mc md ha hc (turned q c a ca) cd da
+          | inr da ↦ covered_by_sides S q a b c ma mb mc ha hb ab bc
               (at_least _ _ (cross-opp_left A C)
-              (turn_trans (opp A) (opp D) C oA oD pC (at_least _ _ (sym (cross-opp A D)) (turned q d a da)) DC))
+              (cross_trans (opp A) (opp D) C oA oD pC (at_least _ _ (sym (cross-opp A D)) (turned q d a da)) DC))
         ]
       ]
       | inr bc ↦
           let CA : pos 0 ≤ℤ cross C (opp A) =
-          turn_trans C B (opp A) pC pB oA (turned q b c bc) (at_least _ _ (sym (cross-opp_right B A)) ab) in
-          covered_by_turn S q a c d ma mc md ha hc (at_least _ _ (cross-opp_right C A) CA) cd
-          (at_least _ _ (cross-opp D A) (turn_trans (opp D) C (opp A) oD pC oA DC CA))
+          cross_trans C B (opp A) pC pB oA (turned q b c bc) (at_least _ _ (sym (cross-opp_right B A)) ab) in
+          covered_by_sides S q a c d ma mc md ha hc (at_least _ _ (cross-opp_right C A) CA) cd
+          (at_least _ _ (cross-opp D A) (cross_trans (opp D) C (opp A) oD pC oA DC CA))
     ]

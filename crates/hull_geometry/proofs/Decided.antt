@@ -48,34 +48,34 @@ module _ (B : Pair → Pair → Type 0) (irreflexive : (x : Pair) → ¬ (B x x)
         | inr n ↦ (r.0, later t r.0 (x ∷ xs) r.1, All-cons (λ u. ¬ (B u r.0)) t (x ∷ xs) n r.2)
       ]
 
--- whether a turn is above 0, or is 0 and a number below another, can be told
-turn_told : (turn near far : ℤ)
-    → ((pos 0 <ℤ turn) ⊎ ((turn ≡ pos 0) × (near <ℤ far))) ⊎ ¬ ((pos 0 <ℤ turn) ⊎ ((turn ≡ pos 0) × (near <ℤ far)))
-turn_told turn near far =
-    elim (le_or_lt turn (pos 0)) [
+-- whether a bend is above 0, or is 0 and a number below another, can be told
+nearer_told : (orient_on near far : ℤ)
+    → ((pos 0 <ℤ orient_on) ⊎ ((orient_on ≡ pos 0) × (near <ℤ far))) ⊎ ¬ ((pos 0 <ℤ orient_on) ⊎ ((orient_on ≡ pos 0) × (near <ℤ far)))
+nearer_told orient_on near far =
+    elim (le_or_lt orient_on (pos 0)) [
       | inr h ↦ inl (inl h)
       | inl h ↦ elim (le_or_lt far near) [
         | inl k ↦ inr (no_less h k)
-        | inr k ↦ elim (le_or_lt (pos 0) turn) [
+        | inr k ↦ elim (le_or_lt (pos 0) orient_on) [
           | inl m ↦ inl (inr (omega (arith, ints), k))
-          | inr m ↦ inr (turns_away m)
+          | inr m ↦ inr (not_outwards m)
         ]
       ]
     ]
   where
-    no_less : turn ≤ℤ pos 0 → far ≤ℤ near → ¬ ((pos 0 <ℤ turn) ⊎ ((turn ≡ pos 0) × (near <ℤ far)))
+    no_less : orient_on ≤ℤ pos 0 → far ≤ℤ near → ¬ ((pos 0 <ℤ orient_on) ⊎ ((orient_on ≡ pos 0) × (near <ℤ far)))
     no_less h k (inl b) = omega (arith, ints)
     no_less h k (inr b) = omega (arith, ints, b.1)
 
-    turns_away : turn <ℤ pos 0 → ¬ ((pos 0 <ℤ turn) ⊎ ((turn ≡ pos 0) × (near <ℤ far)))
-    turns_away h (inl b) = omega (arith, ints)
-    turns_away h (inr b) = omega (arith, ints, b.0)
+    not_outwards : orient_on <ℤ pos 0 → ¬ ((pos 0 <ℤ orient_on) ⊎ ((orient_on ≡ pos 0) × (near <ℤ far)))
+    not_outwards h (inl b) = omega (arith, ints)
+    not_outwards h (inr b) = omega (arith, ints, b.0)
 
 -- of points on one side of q some one is farthest on a hand
 farthest_on : (hand : Hand) (q : Pair) (P : Pair → Type 0) → ((u v w : Pair) → P u → P v → P w → OneSide q u v w)
     → (t : Pair) (ts : List Pair) → All P (t ∷ ts) → (b : Pair) × IsTangent hand (t ∷ ts) q b
 farthest_on hand q P beside t ts h =
-    let r = best_there (IsMore hand q) (more_irrefl hand q) (λ u v. turn_told _ _ _) P
+    let r = best_there (IsMore hand q) (more_irrefl hand q) (λ u v. nearer_told _ _ _) P
     (λ u v w pu pv pw. more_beside hand q u v w (beside u v w pu pv pw)) t ts h in
     (r.0, tangent_of hand (t ∷ ts) q r.0 r.1 r.2)
 

@@ -11,14 +11,14 @@ use Rattle.hull_geometry.specs.ChainEdges.{IsEdge}
 use Rattle.hull_geometry.specs.Edges.{IsChain, end_of}
 use Rattle.hull_geometry.specs.Mending.{IsBetween, ThinsBetween}
 use Rattle.hull_geometry.specs.Monotone.{IsInwards, IsInnerFrom, IsInner, IsPassed, IsFringeOf, IsChainOf}
-use Rattle.lattice.specs.Turns.{turn}
+use Rattle.lattice.specs.Orientations.{orient_on}
 use Rattle.hull_geometry.specs.Positions.{IsPositionOf}
 use Rattle.lattice.specs.declared.side.Side.{Side}
 use Rattle.hull_geometry.proofs.ChainEdges.{chain_edges, chain_first, chain_last}
 use Rattle.hull_geometry.proofs.Mended.{chain_of, left_or_gone, take_off_new, inner_still}
 use Rattle.hull_geometry.proofs.Passes.{member_inner, thinned_of}
 use Rattle.hull_geometry.proofs.SetLaws.{members_without}
-use Rattle.hull_geometry.proofs.Turns.{turn_cycle, turn_swap, turns_back, stays_outwards}
+use Rattle.hull_geometry.proofs.Orientations.{orient_on_cycle, orient_on_swap, strict_back, stays_outwards}
 
 -- ---- corners
 
@@ -28,10 +28,10 @@ outwards_from : (side : Side) (S : List Pair) (x : Pair) (rest : List Pair) (t a
 outwards_from side S x [] t a b e m ma mb k = omega (arith, m.1)
 outwards_from side S x (y ∷ ys) t a b e (zero, l, q) ma mb (at, tb, h) =
     let f : IsEdge side S x t = subst (IsEdge side S x) q e.0 in
-    let out : pos 0 <ℤ turn side t b a =
-    turns_back side x t b a f.forward tb at (f.beside a ma).inwards ((f.beside b mb).after tb) in
-    let c = turn_cycle side a t b in
-    let d = turn_swap side a t b in
+    let out : pos 0 <ℤ orient_on side t b a =
+    strict_back side x t b a f.forward tb at (f.beside a ma).inwards ((f.beside b mb).after tb) in
+    let c = orient_on_cycle side a t b in
+    let d = orient_on_swap side a t b in
     omega (arith, ints)
 outwards_from side S x (y ∷ ys) t a b e (suc k, l, q) ma mb i =
     outwards_from side S y ys t a b e.1 (k, omega (arith, l), q) ma mb i
@@ -94,8 +94,8 @@ along side S x (y ∷ ys) u a b e ma mb i h k =
       | inr (inr yu) ↦ further (along side S y ys u a b e.1 ma mb i (before_not y u yu) k)
     ]
   where
-    inwards : pos 0 ≤ℤ turn side x y u
-    inwards = elim (le_or_lt (pos 0) (turn side x y u)) [
+    inwards : pos 0 ≤ℤ orient_on side x y u
+    inwards = elim (le_or_lt (pos 0) (orient_on side x y u)) [
       | inl n ↦ n
       | inr n ↦ absurd (let m = stays_outwards side x y a u b e.0.forward i.0 i.1 n (e.0.beside a ma).inwards
           (e.0.beside b mb).inwards in let o = i.2 in omega (arith, ints))
@@ -154,7 +154,7 @@ take_out_new side S fringe chain middle new p i s at among k h c f =
     (chain_of side fringe new
     (take_off_new side fringe chain middle new p i c.strict.ordered at among
     (λ u m. inner_still side (without_point p S) S chain p s refl c.inner u (f.among u m)) k
-    (thinned_of side (take i chain ++ middle ++ drop (i + 1) chain) new h)) h.strict.turning)
+    (thinned_of side (take i chain ++ middle ++ drop (i + 1) chain) new h)) h.strict.convex)
 
 -- what is left of all points of a set is a fringe of it
 pub whole_fringe : (side : Side) (S new : List Pair) → ThinsBetween side S [] [] new → IsFringeOf side S new

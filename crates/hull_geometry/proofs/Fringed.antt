@@ -5,7 +5,7 @@ use Rattle.lattice.specs.Bridges.{IsAllBefore, IsBridge, IsInner}
 use Rattle.lattice.specs.Plane.{Pair, orient, IsBefore}
 use Rattle.lattice.specs.Signs.{le_or_lt}
 use Rattle.lattice.specs.Standing.{WithPoint, IsInnerToEdge}
-use Rattle.lattice.specs.Turns.{turn}
+use Rattle.lattice.specs.Orientations.{orient_on}
 use Rattle.lattice.specs.declared.side.Side.{Side}
 use Rattle.lattice.specs.declared.side.Side.TheVariants.{Lower, Upper}
 use Rattle.lattice.proofs.Numbers.{nn_above, nn_opposite, np_opposite, zero_opposite, zero_between, nn_not_below}
@@ -16,65 +16,65 @@ use Rattle.hull_geometry.specs.Fringes.{UnderAnEdgeIsInner, IsFringe, BridgeIsOf
 use Rattle.hull_geometry.specs.Fringes.{BridgeEndsAtWhatCame}
 use Rattle.hull_geometry.specs.Monotone.{IsInwards, IsInnerFrom, IsChainOf}
 use Rattle.hull_geometry.specs.Monotone as monotone
-use Rattle.hull_geometry.proofs.Turns.{stays_outwards, stays_first, stays_second, turn_at_start, turn_at_end}
+use Rattle.hull_geometry.proofs.Orientations.{stays_outwards, stays_first, stays_second, orient_on_start, orient_on_end}
 use Rattle.lattice.proofs.LineCrossings.{orient_other}
 use Rattle.hull_geometry.proofs.Touching.{straight}
 
--- ---- inner to an edge, by turns
+-- ---- inner to an edge, by orientations
 
 -- inwards of a line
-to_turn : (side : Side) (u v t : Pair) → IsInner side (orient u v t) → pos 0 ≤ℤ turn side u v t
-to_turn Lower u v t h = h
-to_turn Upper u v t h = nn_opposite _ _ (orient_other u v t) h
+to_orient_on : (side : Side) (u v t : Pair) → IsInner side (orient u v t) → pos 0 ≤ℤ orient_on side u v t
+to_orient_on Lower u v t h = h
+to_orient_on Upper u v t h = nn_opposite _ _ (orient_other u v t) h
 
 -- and back
-from_turn : (side : Side) (u v t : Pair) → pos 0 ≤ℤ turn side u v t → IsInner side (orient u v t)
-from_turn Lower u v t h = h
-from_turn Upper u v t h = np_opposite _ _ (orient_other v u t) h
+from_orient_on : (side : Side) (u v t : Pair) → pos 0 ≤ℤ orient_on side u v t → IsInner side (orient u v t)
+from_orient_on Lower u v t h = h
+from_orient_on Upper u v t h = np_opposite _ _ (orient_other v u t) h
 
 -- on a line
-to_none : (side : Side) (u v t : Pair) → orient u v t ≡ pos 0 → turn side u v t ≡ pos 0
+to_none : (side : Side) (u v t : Pair) → orient u v t ≡ pos 0 → orient_on side u v t ≡ pos 0
 to_none Lower u v t e = e
 to_none Upper u v t e = zero_opposite _ _ (orient_other u v t) e
 
--- no turn is not inwards
+-- no bend is not inwards
 at_most : (x : ℤ) → x ≡ pos 0 → x ≤ℤ pos 0
 at_most x e = np_by x (pos 0) e (omega arith)
 
 -- what lies strictly inwards of a line is inner to each edge along it
-pub strictly_inner : (side : Side) (u v t : Pair) → pos 0 <ℤ turn side u v t → IsInnerToEdge side u v t
+pub strictly_inner : (side : Side) (u v t : Pair) → pos 0 <ℤ orient_on side u v t → IsInnerToEdge side u v t
 strictly_inner side u v t h = (
-  from_turn side u v t (nn_above _ h),
+  from_orient_on side u v t (nn_above _ h),
   λ e. absurd (above_not_np _ _ (to_none side u v t e) h (omega arith)),
 )
 
 -- so is the start of an edge
 pub start_inner : (side : Side) (u v : Pair) → IsBefore u v → IsInnerToEdge side u v u
 start_inner side u v uv = (
-  from_turn side u v u (subst (λ (z : ℤ). pos 0 ≤ℤ z) (sym (turn_at_start side u v)) (omega arith)),
+  from_orient_on side u v u (subst (λ (z : ℤ). pos 0 ≤ℤ z) (sym (orient_on_start side u v)) (omega arith)),
   λ e. (before_irrefl u, before_not u v uv),
 )
 
 -- and its end
 pub end_inner : (side : Side) (u v : Pair) → IsBefore u v → IsInnerToEdge side u v v
 end_inner side u v uv = (
-  from_turn side u v v (subst (λ (z : ℤ). pos 0 ≤ℤ z) (sym (turn_at_end side u v)) (omega arith)),
+  from_orient_on side u v v (subst (λ (z : ℤ). pos 0 ≤ℤ z) (sym (orient_on_end side u v)) (omega arith)),
   λ e. (before_not u v uv, before_irrefl v),
 )
 
 -- ---- under an edge
 
 -- what stands before the start of an edge to which it is inner lies strictly inwards of its line
-strictly_before : (side : Side) (u v a : Pair) → IsBefore a u → IsInnerToEdge side u v a → pos 0 <ℤ turn side u v a
-strictly_before side u v a au h = elim (le_or_lt (turn side u v a) (pos 0)) [
-  | inl k ↦ absurd ((h.1 (straight side u v a (zero_between _ (to_turn side u v a h.0) k))).0 au)
+strictly_before : (side : Side) (u v a : Pair) → IsBefore a u → IsInnerToEdge side u v a → pos 0 <ℤ orient_on side u v a
+strictly_before side u v a au h = elim (le_or_lt (orient_on side u v a) (pos 0)) [
+  | inl k ↦ absurd ((h.1 (straight side u v a (zero_between _ (to_orient_on side u v a h.0) k))).0 au)
   | inr k ↦ k
 ]
 
 -- and what stands after its end
-strictly_after : (side : Side) (u v b : Pair) → IsBefore v b → IsInnerToEdge side u v b → pos 0 <ℤ turn side u v b
-strictly_after side u v b vb h = elim (le_or_lt (turn side u v b) (pos 0)) [
-  | inl k ↦ absurd ((h.1 (straight side u v b (zero_between _ (to_turn side u v b h.0) k))).1 vb)
+strictly_after : (side : Side) (u v b : Pair) → IsBefore v b → IsInnerToEdge side u v b → pos 0 <ℤ orient_on side u v b
+strictly_after side u v b vb h = elim (le_or_lt (orient_on side u v b) (pos 0)) [
+  | inl k ↦ absurd ((h.1 (straight side u v b (zero_between _ (to_orient_on side u v b h.0) k))).1 vb)
   | inr k ↦ k
 ]
 
@@ -83,34 +83,34 @@ pub under_is_inner : (side : Side) → UnderAnEdgeIsInner side
 under_is_inner side u v a b t uv k ha hb = (inwards, λ e. (not_ahead e, not_behind e))
   where
     inwards : IsInner side (orient u v t)
-    inwards = elim (le_or_lt (pos 0) (turn side u v t)) [
-      | inl h ↦ from_turn side u v t h
+    inwards = elim (le_or_lt (pos 0) (orient_on side u v t)) [
+      | inl h ↦ from_orient_on side u v t h
       | inr h ↦ absurd (nn_not_below _ k.2
-          (stays_outwards side u v a t b uv k.0 k.1 h (to_turn side u v a ha.0) (to_turn side u v b hb.0)))
+          (stays_outwards side u v a t b uv k.0 k.1 h (to_orient_on side u v a ha.0) (to_orient_on side u v b hb.0)))
     ]
 
     not_ahead : orient u v t ≡ pos 0 → ¬ IsBefore t u
     not_ahead e h = nn_not_below _ k.2
         (stays_first side u v a t b uv k.0 k.1 (at_most _ (to_none side u v t e))
-        (strictly_before side u v a (before_trans a t u k.0 h) ha) (to_turn side u v b hb.0))
+        (strictly_before side u v a (before_trans a t u k.0 h) ha) (to_orient_on side u v b hb.0))
 
     not_behind : orient u v t ≡ pos 0 → ¬ IsBefore v t
     not_behind e h = nn_not_below _ k.2
-        (stays_second side u v a t b uv k.0 k.1 (at_most _ (to_none side u v t e)) (to_turn side u v a ha.0)
+        (stays_second side u v a t b uv k.0 k.1 (at_most _ (to_none side u v t e)) (to_orient_on side u v a ha.0)
         (strictly_after side u v b (before_trans v t b h k.1) hb))
 
 -- the start of an edge stands inwards of no segment between two points that are inner to it
 start_is_no_under : (side : Side) (u v a b : Pair) → IsBefore u v → IsInwards side a b u → IsInnerToEdge side u v a
     → IsInnerToEdge side u v b → ⊥
 start_is_no_under side u v a b uv k ha hb = nn_not_below _ k.2
-    (stays_first side u v a u b uv k.0 k.1 (at_most _ (turn_at_start side u v)) (strictly_before side u v a k.0 ha)
-    (to_turn side u v b hb.0))
+    (stays_first side u v a u b uv k.0 k.1 (at_most _ (orient_on_start side u v)) (strictly_before side u v a k.0 ha)
+    (to_orient_on side u v b hb.0))
 
 -- nor does its end
 end_is_no_under : (side : Side) (u v a b : Pair) → IsBefore u v → IsInwards side a b v → IsInnerToEdge side u v a
     → IsInnerToEdge side u v b → ⊥
 end_is_no_under side u v a b uv k ha hb = nn_not_below _ k.2
-    (stays_second side u v a v b uv k.0 k.1 (at_most _ (turn_at_end side u v)) (to_turn side u v a ha.0)
+    (stays_second side u v a v b uv k.0 k.1 (at_most _ (orient_on_end side u v)) (to_orient_on side u v a ha.0)
     (strictly_after side u v b k.1 hb))
 
 -- ---- fringes

@@ -4,7 +4,7 @@ pub mod ChangedSets
 pub mod SetLaws
 pub mod Orientation
 pub mod Along
-pub mod Turns
+pub mod Orientations
 pub mod NotCovered
 pub mod CoveredByEdges
 pub mod Separators

@@ -18,8 +18,8 @@ use Rattle.lattice.specs.Signs.{le_or_lt}
 use Rattle.lattice.proofs.Order.{before_total, before_trans, before_irrefl}
 use Rattle.hull_geometry.specs.Mending.{IsOverEdge, IsBetween}
 use Rattle.hull_geometry.specs.Monotone.{IsInwards, IsInnerFrom, IsInner, EndsWith, IsPassed, IsThinned}
-use Rattle.lattice.specs.Turns.{turn}
-use Rattle.hull_geometry.specs.Monotone.{IsTurning, IsFringeOf, IsChainOf}
+use Rattle.lattice.specs.Orientations.{orient_on}
+use Rattle.hull_geometry.specs.Monotone.{IsConvex, IsFringeOf, IsChainOf}
 use Rattle.hull_geometry.specs.Positions.{IsPositionOf, point_at, origin}
 use Rattle.lattice.specs.declared.side.Side.{Side}
 use Rattle.hull_geometry.proofs.Between.{after_ends, end_in, first_in, set_few}
@@ -33,7 +33,7 @@ use Rattle.hull_geometry.proofs.PointSets.{set_left, set_right}
 use Rattle.hull_geometry.proofs.Passes.{inner_across, member_inner, ends_take, ends_right, thinned_itself, thinned_of}
 use Rattle.hull_geometry.proofs.PointLists.{AllPairs-head, append_twice, append_none, get_or_free, later, cut}
 use Rattle.hull_geometry.proofs.SetLaws.{members_with, members_without}
-use Rattle.hull_geometry.proofs.Turns.{turn_swap, inwards_from, inwards_to}
+use Rattle.hull_geometry.proofs.Orientations.{orient_on_swap, inwards_from, inwards_to}
 use Rattle.lattice.proofs.Numbers.{nn_above}
 
 -- the negation of a number at most 0
@@ -74,14 +74,14 @@ first_from xs i y rest e =
 pub fringe_of : (side : Side) (S chain : List Pair) → IsChainOf side S chain → IsFringeOf side S chain
 fringe_of side S chain c = record { ordered = c.strict.ordered; among = c.among; inner = c.inner }
 
--- and a fringe that turns is its chain
-pub chain_of : (side : Side) (S chain : List Pair) → IsFringeOf side S chain → IsTurning side chain
+-- and a fringe that bends is its chain
+pub chain_of : (side : Side) (S chain : List Pair) → IsFringeOf side S chain → IsConvex side chain
     → IsChainOf side S chain
 chain_of side S chain c h =
     record {
       strict = record {
         ordered = c.ordered;
-        turning = h;
+        convex = h;
       };
       among = c.among;
       inner = c.inner;
@@ -112,7 +112,7 @@ put_on_same side S chain p i at (some, l, h) c = record {
           (end_in (point_at chain (i - 1)) (take i chain) ends),
       All-contains (IsBefore p) (drop i chain) (point_at chain i) at.2
           (first_in (point_at chain i) (drop i chain) (drop (i + 1) chain) (drop_more chain i origin l)),
-      not_below _ _ (turn_swap side (point_at chain (i - 1)) p (point_at chain i)) h,
+      not_below _ _ (orient_on_swap side (point_at chain (i - 1)) p (point_at chain i)) h,
     )
 
     inner_p : IsInner side chain p
@@ -127,7 +127,7 @@ put_on_same side S chain p i at (some, l, h) c = record {
 pub put_in_same : (side : Side) (S chain : List Pair) (p : Pair) (i : ℕ) → IsPositionOf chain p (Err i)
     → IsOverEdge side chain i p → IsChainOf side S chain → IsChainOf side (with_point p S) chain
 put_in_same side S chain p i at over c =
-    chain_of side (with_point p S) chain (put_on_same side S chain p i at over (fringe_of side S chain c)) c.strict.turning
+    chain_of side (with_point p S) chain (put_on_same side S chain p i at over (fringe_of side S chain c)) c.strict.convex
 
 -- the points before p, and p
 pub before_and : (side : Side) (chain : List Pair) (p : Pair) (i : ℕ) → IsPointSet chain → IsPositionOf chain p (Err i)
@@ -144,7 +144,7 @@ before_and_after chain p i s at =
 
 -- a point that stood inwards of a segment, outwards of which p stands, is inwards of one of the two to p
 split : (side : Side) (xs : List Pair) (d p y : Pair) (rest : List Pair) (u : Pair) → EndsWith d xs → IsBefore d p
-    → IsBefore p y → pos 0 <ℤ turn side d p y → IsInwards side d y u → IsInner side (xs ++ p ∷ [] ++ y ∷ rest) u
+    → IsBefore p y → pos 0 <ℤ orient_on side d p y → IsInwards side d y u → IsInner side (xs ++ p ∷ [] ++ y ∷ rest) u
 split side xs d p y rest u e dp py h (du, uy, k) =
     let dy : IsBefore d y = before_trans d p y dp py in
     elim (before_total u p) [
@@ -174,17 +174,17 @@ inner_put side chain p i (y ∷ rest) is at n u k =
       | inr (inr m) ↦ inner_right side (take i chain ++ p ∷ []) (y ∷ rest) u m
     ]
   where
-    outwards : (d : Pair) → EndsWith d (take i chain) → pos 0 <ℤ turn side d p y
+    outwards : (d : Pair) → EndsWith d (take i chain) → pos 0 <ℤ orient_on side d p y
     outwards d e =
         let a = end_before chain i d at.0 e in
         let b = first_from chain i y rest is in
-        elim (le_or_lt (turn side d p y) (pos 0)) [
+        elim (le_or_lt (orient_on side d p y) (pos 0)) [
           | inr h ↦ h
           | inl h ↦ absurd (n (
             a.0,
             b.0,
-            subst (λ (z : Pair). turn side (point_at chain (i - 1)) p z ≤ℤ pos 0) b.1
-                (subst (λ (z : Pair). turn side z p y ≤ℤ pos 0) a.1 h),
+            subst (λ (z : Pair). orient_on side (point_at chain (i - 1)) p z ≤ℤ pos 0) b.1
+                (subst (λ (z : Pair). orient_on side z p y ≤ℤ pos 0) a.1 h),
           ))
         ]
 
@@ -233,7 +233,7 @@ pub put_in_new : (side : Side) (S chain new : List Pair) (p : Pair) (i : ℕ) �
 put_in_new side S chain new p i at n h c =
     chain_of side (with_point p S) new
     (put_on_new side S chain new p i at n (thinned_of side (take i chain ++ p ∷ [] ++ drop i chain) new h)
-    (fringe_of side S chain c)) h.strict.turning
+    (fringe_of side S chain c)) h.strict.convex
 
 -- a list with p put in at a place
 inserted : (xs : List Pair) (i : ℕ) (p : Pair) → i ≤ length xs → insert xs i p ≡ take i xs ++ p ∷ drop i xs
@@ -268,7 +268,7 @@ take_off_same side keys S chain p i s at e c =
 pub take_out_same : (side : Side) (keys S chain : List Pair) (p : Pair) (i : ℕ) → IsPointSet S
     → IsPositionOf chain p (Err i) → keys ≡ without_point p S → IsChainOf side S chain → IsChainOf side keys chain
 take_out_same side keys S chain p i s at e c =
-    chain_of side keys chain (take_off_same side keys S chain p i s at e (fringe_of side S chain c)) c.strict.turning
+    chain_of side keys chain (take_off_same side keys S chain p i s at e (fringe_of side S chain c)) c.strict.convex
 
 -- a point of the set is left, or is the one that left
 pub left_or_gone : (p : Pair) (keys S : List Pair) (t : Pair) → keys ≡ without_point p S → Contains S t
@@ -408,14 +408,14 @@ pub inner_still : (side : Side) (keys S fringe : List Pair) (p : Pair) → IsPoi
 inner_still side keys S fringe p s e inner u m =
     let in_S = (members_without p u S s).0 (subst (λ (z : List Pair). Contains z u) e m) in (inner u in_S.0, in_S.1)
 
--- where a turn at a place is tested, it tells whether p stands over the edge there
+-- where a bend at a place is tested, it tells whether p stands over the edge there
 pub over_edge : (side : Side) (chain : List Pair) (p a b : Pair) (i : ℕ) (v : ℤ) → 0 < i → i < length chain
-    → a ≡ get_or chain (i - 1) a → b ≡ get_or chain i b → v ≡ turn side a p b → IsWithin widest_side v
+    → a ≡ get_or chain (i - 1) a → b ≡ get_or chain i b → v ≡ orient_on side a p b → IsWithin widest_side v
     → IsTrue (le_z (to_z w128 (of_z w128 v)) (pos 0)) ↔ IsOverEdge side chain i p
 over_edge side chain p a b i v some l ea eb ev size =
     let before : a ≡ point_at chain (i - 1) = ea ∙ get_or_free chain (i - 1) a origin (omega (arith, l)) in
     let behind : b ≡ point_at chain i = eb ∙ get_or_free chain i b origin l in
-    let e : v ≡ turn side (point_at chain (i - 1)) p (point_at chain i) =
-    ev ∙ ap (λ (z : Pair). turn side z p b) before ∙ ap (λ (z : Pair). turn side (point_at chain (i - 1)) p z) behind in
-    let t = below_test v (turn side (point_at chain (i - 1)) p (point_at chain i)) e (fits_side v size) in
+    let e : v ≡ orient_on side (point_at chain (i - 1)) p (point_at chain i) =
+    ev ∙ ap (λ (z : Pair). orient_on side z p b) before ∙ ap (λ (z : Pair). orient_on side (point_at chain (i - 1)) p z) behind in
+    let t = below_test v (orient_on side (point_at chain (i - 1)) p (point_at chain i)) e (fits_side v size) in
     (λ k. (some, l, t.0 k), λ o. t.1 o.2)

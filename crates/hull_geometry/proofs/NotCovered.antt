@@ -33,7 +33,7 @@ mix a b c A B C hA hB hC ha hb hc h e =
     let zc : c ≡ pos 0 = cancel_zero c C hC (omega (arith, ints)) in
     omega (arith, ints)
 
--- three vectors that turn left round the origin do not all lie on one side of a line through it
+-- three vectors that bend left round the origin do not all lie on one side of a line through it
 no_triangle : (f a b c : Pair) → pos 0 <ℤ product f a → pos 0 <ℤ product f b → pos 0 <ℤ product f c
     → pos 0 ≤ℤ cross b c → pos 0 ≤ℤ cross c a → pos 0 ≤ℤ cross a b → pos 0 <ℤ (cross b c +ℤ cross c a +ℤ cross a b) → ⊥
 no_triangle f a b c ha hb hc A B C s =

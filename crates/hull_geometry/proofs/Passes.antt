@@ -9,8 +9,8 @@ use Rattle.std.proofs.lemmas.Grind.{common_steps}
 use Rattle.lattice.specs.Covers.{IsPointSet}
 use Rattle.lattice.specs.Plane.{Pair}
 use Rattle.hull_geometry.specs.Edges.{end_of}
-use Rattle.hull_geometry.specs.Monotone.{IsInwards, IsInnerFrom, IsInner, IsTurningFrom, IsTurning, IsStrict}
-use Rattle.lattice.specs.Turns.{turn}
+use Rattle.hull_geometry.specs.Monotone.{IsInwards, IsInnerFrom, IsInner, IsConvexFrom, IsConvex, IsStrict}
+use Rattle.lattice.specs.Orientations.{orient_on}
 use Rattle.hull_geometry.specs.Monotone.{EndsInwards, EndsWith, IsPassed, IsThinned}
 use Rattle.hull_geometry.specs.Positions.{point_at, origin}
 use Rattle.lattice.specs.declared.side.Side.{Side}
@@ -114,77 +114,77 @@ ends_back c (x ∷ xs) y rest e = sym (end_from x xs y rest) ∙ e
 pub pushed_ends : (xs ys : List Pair) (p c : Pair) → EndsWith c (xs ++ p ∷ []) → EndsWith c (ys ++ p ∷ [])
 pushed_ends xs ys p c e = ends_right c ys (p ∷ []) (ends_back c xs p [] e)
 
--- ---- turns
+-- ---- convex lists
 
--- behind a point the front turns
-turning_left_from : (side : Side) (x : Pair) (xs ys : List Pair) → IsTurningFrom side x (xs ++ ys)
-    → IsTurningFrom side x xs
-turning_left_from side x [] ys h = tt
-turning_left_from side x (z ∷ []) ys h = (tt, tt)
-turning_left_from side x (z ∷ w ∷ ws) ys h = (h.0, turning_left_from side z (w ∷ ws) ys h.1)
+-- behind a point the front is convex
+convex_left_from : (side : Side) (x : Pair) (xs ys : List Pair) → IsConvexFrom side x (xs ++ ys)
+    → IsConvexFrom side x xs
+convex_left_from side x [] ys h = tt
+convex_left_from side x (z ∷ []) ys h = (tt, tt)
+convex_left_from side x (z ∷ w ∷ ws) ys h = (h.0, convex_left_from side z (w ∷ ws) ys h.1)
 
--- the front of a turning list turns
-pub turning_left : (side : Side) (xs ys : List Pair) → IsTurning side (xs ++ ys) → IsTurning side xs
-turning_left side [] ys h = tt
-turning_left side (x ∷ xs) ys h = turning_left_from side x xs ys h
+-- the front of a convex list is convex
+pub convex_left : (side : Side) (xs ys : List Pair) → IsConvex side (xs ++ ys) → IsConvex side xs
+convex_left side [] ys h = tt
+convex_left side (x ∷ xs) ys h = convex_left_from side x xs ys h
 
--- its first points turn
-pub turning_take : (side : Side) (n : ℕ) (xs : List Pair) → IsTurning side xs → IsTurning side (take n xs)
-turning_take side n xs h = elim (cases_lt n (length xs)) [
-  | inl l ↦ turning_left side (take n xs) (drop n xs) (subst (IsTurning side) (cut xs n (omega (arith, l))) h)
-  | inr l ↦ let e : take n xs ≡ xs = grind (arith, common_steps, l) in subst (IsTurning side) (sym e) h
+-- its first points are convex
+pub convex_take : (side : Side) (n : ℕ) (xs : List Pair) → IsConvex side xs → IsConvex side (take n xs)
+convex_take side n xs h = elim (cases_lt n (length xs)) [
+  | inl l ↦ convex_left side (take n xs) (drop n xs) (subst (IsConvex side) (cut xs n (omega (arith, l))) h)
+  | inr l ↦ let e : take n xs ≡ xs = grind (arith, common_steps, l) in subst (IsConvex side) (sym e) h
 ]
 
--- behind a point the rest turns
-turning_right_from : (side : Side) (x : Pair) (xs ys : List Pair) → IsTurningFrom side x (xs ++ ys) → IsTurning side ys
-turning_right_from side x [] [] h = tt
-turning_right_from side x [] (y ∷ ys) h = h.1
-turning_right_from side x (z ∷ zs) ys h = turning_right_from side z zs ys h.1
+-- behind a point the rest is convex
+convex_right_from : (side : Side) (x : Pair) (xs ys : List Pair) → IsConvexFrom side x (xs ++ ys) → IsConvex side ys
+convex_right_from side x [] [] h = tt
+convex_right_from side x [] (y ∷ ys) h = h.1
+convex_right_from side x (z ∷ zs) ys h = convex_right_from side z zs ys h.1
 
--- the rest of a turning list turns
-pub turning_right : (side : Side) (xs ys : List Pair) → IsTurning side (xs ++ ys) → IsTurning side ys
-turning_right side [] ys h = h
-turning_right side (x ∷ xs) ys h = turning_right_from side x xs ys h
+-- the rest of a convex list is convex
+pub convex_right : (side : Side) (xs ys : List Pair) → IsConvex side (xs ++ ys) → IsConvex side ys
+convex_right side [] ys h = h
+convex_right side (x ∷ xs) ys h = convex_right_from side x xs ys h
 
--- its last points turn
-pub turning_drop : (side : Side) (n : ℕ) (xs : List Pair) → IsTurning side xs → IsTurning side (drop n xs)
-turning_drop side n xs h = elim (cases_lt n (length xs)) [
-  | inl l ↦ turning_right side (take n xs) (drop n xs) (subst (IsTurning side) (cut xs n (omega (arith, l))) h)
-  | inr l ↦ let e : drop n xs ≡ [] = grind (arith, common_steps, l) in subst (IsTurning side) (sym e) tt
+-- its last points are convex
+pub convex_drop : (side : Side) (n : ℕ) (xs : List Pair) → IsConvex side xs → IsConvex side (drop n xs)
+convex_drop side n xs h = elim (cases_lt n (length xs)) [
+  | inl l ↦ convex_right side (take n xs) (drop n xs) (subst (IsConvex side) (cut xs n (omega (arith, l))) h)
+  | inr l ↦ let e : drop n xs ≡ [] = grind (arith, common_steps, l) in subst (IsConvex side) (sym e) tt
 ]
 
--- behind a point: two turning lists of which the second begins with the two last points of the first
-turning_join_from : (side : Side) (x : Pair) (front : List Pair) (a b : Pair) (rest : List Pair)
-    → IsTurningFrom side x (front ++ a ∷ b ∷ []) → IsTurning side (a ∷ b ∷ rest)
-    → IsTurningFrom side x (front ++ a ∷ b ∷ rest)
-turning_join_from side x [] a b rest h k = (h.0, k)
-turning_join_from side x (y ∷ []) a b rest h k = (h.0, turning_join_from side y [] a b rest h.1 k)
-turning_join_from side x (y ∷ z ∷ zs) a b rest h k = (h.0, turning_join_from side y (z ∷ zs) a b rest h.1 k)
+-- behind a point: two convex lists of which the second begins with the two last points of the first
+convex_join_from : (side : Side) (x : Pair) (front : List Pair) (a b : Pair) (rest : List Pair)
+    → IsConvexFrom side x (front ++ a ∷ b ∷ []) → IsConvex side (a ∷ b ∷ rest)
+    → IsConvexFrom side x (front ++ a ∷ b ∷ rest)
+convex_join_from side x [] a b rest h k = (h.0, k)
+convex_join_from side x (y ∷ []) a b rest h k = (h.0, convex_join_from side y [] a b rest h.1 k)
+convex_join_from side x (y ∷ z ∷ zs) a b rest h k = (h.0, convex_join_from side y (z ∷ zs) a b rest h.1 k)
 
--- two turning lists of which the second begins with the two last points of the first are one
-pub turning_join : (side : Side) (front : List Pair) (a b : Pair) (rest : List Pair)
-    → IsTurning side (front ++ a ∷ b ∷ []) → IsTurning side (a ∷ b ∷ rest) → IsTurning side (front ++ a ∷ b ∷ rest)
-turning_join side [] a b rest h k = k
-turning_join side (x ∷ front) a b rest h k = turning_join_from side x front a b rest h k
+-- two convex lists of which the second begins with the two last points of the first are one
+pub convex_join : (side : Side) (front : List Pair) (a b : Pair) (rest : List Pair)
+    → IsConvex side (front ++ a ∷ b ∷ []) → IsConvex side (a ∷ b ∷ rest) → IsConvex side (front ++ a ∷ b ∷ rest)
+convex_join side [] a b rest h k = k
+convex_join side (x ∷ front) a b rest h k = convex_join_from side x front a b rest h k
 
 -- a list is its front and its last two points
 last_two : (xs : List Pair) (a b : Pair) → 1 < length xs → a ≡ get_or xs (length xs - 2) a
     → b ≡ get_or xs (length xs - 1) b → xs ≡ take (length xs - 2) xs ++ a ∷ b ∷ []
 last_two xs a b l ea eb = grind (arith, common_steps, ea, eb)
 
--- a point is put behind a turning list whose last point lies outwards of it
-pub turning_push : (side : Side) (chain : List Pair) (a b c : Pair) → 1 < length chain
-    → a ≡ get_or chain (length chain - 2) a → b ≡ get_or chain (length chain - 1) b → IsTurning side chain
-    → pos 0 <ℤ turn side a b c → IsTurning side (chain ++ c ∷ [])
-turning_push side chain a b c l ea eb h k =
+-- a point is put behind a convex list whose last point lies outwards of it
+pub convex_push : (side : Side) (chain : List Pair) (a b c : Pair) → 1 < length chain
+    → a ≡ get_or chain (length chain - 2) a → b ≡ get_or chain (length chain - 1) b → IsConvex side chain
+    → pos 0 <ℤ orient_on side a b c → IsConvex side (chain ++ c ∷ [])
+convex_push side chain a b c l ea eb h k =
     let front = take (length chain - 2) chain in
     let e : chain ≡ front ++ a ∷ b ∷ [] = last_two chain a b l ea eb in
-    subst (IsTurning side) (sym (append_twice front (a ∷ b ∷ []) (c ∷ [])) ∙ ap (λ (z : List Pair). z ++ c ∷ []) (sym e))
-    (turning_join side front a b (c ∷ []) (subst (IsTurning side) e h) (k, (tt, tt)))
+    subst (IsConvex side) (sym (append_twice front (a ∷ b ∷ []) (c ∷ [])) ∙ ap (λ (z : List Pair). z ++ c ∷ []) (sym e))
+    (convex_join side front a b (c ∷ []) (subst (IsConvex side) e h) (k, (tt, tt)))
 
 -- a list whose last point does not lie outwards of the one before it and c
 pub ends_inwards_of : (side : Side) (chain : List Pair) (a b c : Pair) → 1 < length chain
-    → a ≡ get_or chain (length chain - 2) a → b ≡ get_or chain (length chain - 1) b → turn side a b c ≤ℤ pos 0
+    → a ≡ get_or chain (length chain - 2) a → b ≡ get_or chain (length chain - 1) b → orient_on side a b c ≤ℤ pos 0
     → EndsInwards side chain c
 ends_inwards_of side chain a b c l ea eb h =
     let next : length chain - 2 + 1 ≡ length chain - 1 = omega (arith, l) in
@@ -220,13 +220,13 @@ pub thinned_of : (side : Side) (xs ys : List Pair) → IsPassed side xs ys → I
 thinned_of side xs ys p =
     record { ordered = p.strict.ordered; among = p.among; inner = p.inner; ends = p.ends; short = p.short }
 
--- and what is left of a list is what a pass leaves of it, where it turns
-pub passed_of : (side : Side) (xs ys : List Pair) → IsThinned side xs ys → IsTurning side ys → IsPassed side xs ys
+-- and what is left of a list is what a pass leaves of it, where it bends
+pub passed_of : (side : Side) (xs ys : List Pair) → IsThinned side xs ys → IsConvex side ys → IsPassed side xs ys
 passed_of side xs ys p h =
     record {
       strict = record {
         ordered = p.ordered;
-        turning = h;
+        convex = h;
       };
       among = p.among;
       inner = p.inner;
@@ -287,20 +287,20 @@ pub passed_through : (side : Side) (xs ys zs ws : List Pair) → IsPassed side x
     → IsPassed side (xs ++ zs) ws
 passed_through side xs ys zs ws p q =
     passed_of side (xs ++ zs) ws
-    (thinned_through side xs ys zs ws (thinned_of side xs ys p) (thinned_of side (ys ++ zs) ws q)) q.strict.turning
+    (thinned_through side xs ys zs ws (thinned_of side xs ys p) (thinned_of side (ys ++ zs) ws q)) q.strict.convex
 
 -- what a pass leaves of the front of a set makes a set with the rest
 pub passed_set : (side : Side) (xs ys zs : List Pair) → IsPassed side xs ys → IsPointSet (xs ++ zs)
     → IsPointSet (ys ++ zs)
 passed_set side xs ys zs p s = thinned_set side xs ys zs (thinned_of side xs ys p) s
 
--- where what a pass left turns on into the points behind it, these may stay as they are
+-- where what a pass left bends on into the points behind it, these may stay as they are
 pub passed_copied : (side : Side) (xs ys zs : List Pair) → IsPassed side xs ys → IsPointSet (xs ++ zs)
-    → IsTurning side (ys ++ zs) → IsPassed side (xs ++ zs) (ys ++ zs)
+    → IsConvex side (ys ++ zs) → IsPassed side (xs ++ zs) (ys ++ zs)
 passed_copied side xs ys zs p s h = passed_of side (xs ++ zs) (ys ++ zs)
     (thinned_copied side xs ys zs (thinned_of side xs ys p) s) h
 
--- ---- a pass that goes on over a turning list
+-- ---- a pass that goes on over a convex list
 
 -- the place before
 before_place : (i : ℕ) → 0 < i → i - 1 + 1 ≡ i
@@ -360,7 +360,7 @@ rest_at xs i p l e = grind (arith, common_steps, e)
 
 -- where a point stays behind the one before it, the rest may stay as it is
 pub take_up_stop : (side : Side) (old rest chain new : List Pair) (i : ℕ) (p : Pair) → 0 < i → i < length rest
-    → p ≡ get_or rest i p → IsPointSet (old ++ rest) → IsTurning side rest → IsPassed side (old ++ take i rest) chain
+    → p ≡ get_or rest i p → IsPointSet (old ++ rest) → IsConvex side rest → IsPassed side (old ++ take i rest) chain
     → IsPassed side (chain ++ p ∷ []) new → new ≡ chain ++ p ∷ []
     → IsPassed side (old ++ rest) (new ++ drop (i + 1) rest)
 take_up_stop side old rest chain new i p some l e s t h k same =
@@ -372,7 +372,7 @@ take_up_stop side old rest chain new i p some l e s t h k same =
     whole = append_twice old (take (i + 1) rest) (drop (i + 1) rest)
         ∙ ap (λ (z : List Pair). old ++ z) (sym (parted_at rest i p l e))
 
-    turns : IsTurning side (new ++ drop (i + 1) rest)
+    turns : IsConvex side (new ++ drop (i + 1) rest)
     turns =
         let a : Pair = point_at rest (i - 1) in
         let l' : i - 1 < length rest = omega (arith, l) in
@@ -386,8 +386,8 @@ take_up_stop side old rest chain new i p some l e s t h k same =
         cut_at rest (i - 1) origin l'
         ∙ ap (λ (n : ℕ). take (i - 1) rest ++ a ∷ drop n rest) behind
         ∙ ap (λ (z : List Pair). take (i - 1) rest ++ a ∷ z) (rest_at rest i p l e) in
-        subst (IsTurning side)
+        subst (IsConvex side)
         (sym (append_twice c.0 (a ∷ p ∷ []) (drop (i + 1) rest))
         ∙ ap (λ (z : List Pair). z ++ drop (i + 1) rest) (sym is))
-        (turning_join side c.0 a p (drop (i + 1) rest) (subst (IsTurning side) is k.strict.turning)
-        (turning_right side (take (i - 1) rest) (a ∷ p ∷ drop (i + 1) rest) (subst (IsTurning side) parts t)))
+        (convex_join side c.0 a p (drop (i + 1) rest) (subst (IsConvex side) is k.strict.convex)
+        (convex_right side (take (i - 1) rest) (a ∷ p ∷ drop (i + 1) rest) (subst (IsConvex side) parts t)))

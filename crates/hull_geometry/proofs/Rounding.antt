@@ -57,7 +57,7 @@ fan-back f u xs =
 pub fan-push : (f u w : Pair) (xs : List Pair) → fan f u (xs ++ w ∷ []) ≡ fan f u xs +ℤ orient f (end_of u xs) w
 fan-push f u w xs = let e = fan-append f u xs (w ∷ []) in omega (arith, ints)
 
--- the triangle from the first point to a lower edge does not turn right
+-- the triangle from the first point to a lower edge does not bend right
 pub lower_triangle : (S : List Pair) (u v t : Pair) → IsLowerEdge S u v → Contains S t → pos 0 ≤ℤ orient t u v
 lower_triangle S u v t e m = at_least _ _ (orient-cycle u v t) (All-contains (λ z. pos 0 ≤ℤ orient u v z) S t e.left m)
 

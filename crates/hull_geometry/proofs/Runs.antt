@@ -5,7 +5,7 @@ use Rattle.std.specs.List.{Contains}
 use Rattle.lattice.specs.Plane.{Pair, IsBefore}
 use Rattle.lattice.specs.Signs.{le_or_lt}
 use Rattle.lattice.specs.Standing.{IsInnerToEdge}
-use Rattle.lattice.specs.Turns.{turn}
+use Rattle.lattice.specs.Orientations.{orient_on}
 use Rattle.lattice.specs.declared.side.Side.{Side}
 use Rattle.lattice.specs.declared.side.Side.TheVariants.{Lower, Upper}
 use Rattle.lattice.proofs.Numbers.{nn_opposite}
@@ -14,41 +14,41 @@ use Rattle.hull_geometry.specs.Monotone.{IsChainOf}
 use Rattle.hull_geometry.specs.Runs.{opposite, RunsHaveTheirBridge}
 use Rattle.hull_geometry.proofs.FringeChains.{corner_outwards}
 use Rattle.hull_geometry.proofs.Fringed.{strictly_inner, start_inner, end_inner}
-use Rattle.hull_geometry.proofs.Turns.{turn_cycle, turn_swap}
+use Rattle.hull_geometry.proofs.Orientations.{orient_on_cycle, orient_on_swap}
 use Rattle.lattice.proofs.LineCrossings.{orient_other}
 
--- a turn seen from the other side
-turn_opposite : (side : Side) (a b t : Pair) → turn (opposite side) a b t ≡ neg_ℤ (turn side a b t)
-turn_opposite Lower a b t = orient_other a b t
-turn_opposite Upper a b t = orient_other b a t
+-- an orientation seen from the other side
+orient_on_opposite : (side : Side) (a b t : Pair) → orient_on (opposite side) a b t ≡ neg_ℤ (orient_on side a b t)
+orient_on_opposite Lower a b t = orient_other a b t
+orient_on_opposite Upper a b t = orient_other b a t
 
 -- a corner of the other chain between a and b
 between : (side : Side) (S other : List Pair) (a b t : Pair) → IsChainOf (opposite side) S other → Contains other t
-    → Contains S a → Contains S b → IsBefore a t → IsBefore t b → pos 0 <ℤ turn side a b t
-between side S other a b t c m ma mb at tb = elim (le_or_lt (turn side a b t) (pos 0)) [
+    → Contains S a → Contains S b → IsBefore a t → IsBefore t b → pos 0 <ℤ orient_on side a b t
+between side S other a b t c m ma mb at tb = elim (le_or_lt (orient_on side a b t) (pos 0)) [
   | inl h ↦ absurd (corner_outwards (opposite side) S other t a b c m ma mb
-      (at, tb, nn_opposite _ _ (turn_opposite side a b t) h))
+      (at, tb, nn_opposite _ _ (orient_on_opposite side a b t) h))
   | inr h ↦ h
 ]
 
 -- what stands after b, a corner of the chain
 after : (side : Side) (S chain : List Pair) (a b t : Pair) → IsChainOf side S chain → Contains chain b → Contains S a
-    → Contains S t → IsBefore a b → IsBefore b t → pos 0 <ℤ turn side a b t
-after side S chain a b t c m ma mt ab bt = elim (le_or_lt (turn side a b t) (pos 0)) [
-  | inl h ↦ absurd (corner_outwards side S chain b a t c m ma mt (ab, bt, nn_opposite _ _ (turn_swap side a b t) h))
+    → Contains S t → IsBefore a b → IsBefore b t → pos 0 <ℤ orient_on side a b t
+after side S chain a b t c m ma mt ab bt = elim (le_or_lt (orient_on side a b t) (pos 0)) [
+  | inl h ↦ absurd (corner_outwards side S chain b a t c m ma mt (ab, bt, nn_opposite _ _ (orient_on_swap side a b t) h))
   | inr h ↦ h
 ]
 
 -- what stands before a, a corner of the chain
 ahead : (side : Side) (S chain : List Pair) (a b t : Pair) → IsChainOf side S chain → Contains chain a → Contains S b
-    → Contains S t → IsBefore a b → IsBefore t a → pos 0 <ℤ turn side a b t
-ahead side S chain a b t c m mb mt ab ta = elim (le_or_lt (turn side a b t) (pos 0)) [
+    → Contains S t → IsBefore a b → IsBefore t a → pos 0 <ℤ orient_on side a b t
+ahead side S chain a b t c m mb mt ab ta = elim (le_or_lt (orient_on side a b t) (pos 0)) [
   | inl h ↦ absurd (corner_outwards side S chain a t b c m mt mb (ta, ab, nn_opposite _ _ swapped h))
   | inr h ↦ h
 ]
   where
-    swapped : turn side t b a ≡ neg_ℤ (turn side a b t)
-    swapped = turn_cycle side t b a ∙ turn_cycle side b a t ∙ turn_swap side a b t
+    swapped : orient_on side t b a ≡ neg_ℤ (orient_on side a b t)
+    swapped = orient_on_cycle side t b a ∙ orient_on_cycle side b a t ∙ orient_on_swap side a b t
 
 -- the edge between two runs is their bridge
 pub runs_bridge : (side : Side) (l r : Pair → Type 0) → RunsHaveTheirBridge side l r

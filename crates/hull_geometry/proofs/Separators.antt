@@ -10,7 +10,7 @@ use Rattle.lattice.specs.declared.side.Side.{Side}
 use Rattle.lattice.specs.declared.side.Side.TheVariants.{Lower, Upper}
 use Rattle.lattice.proofs.Vectors.{as_pair, minus, opp}
 use Rattle.hull_geometry.specs.Edges.{IsAlong}
-use Rattle.hull_geometry.proofs.Turns.{turns_on, turns_back}
+use Rattle.hull_geometry.proofs.Orientations.{strict_on, strict_back}
 use Rattle.hull_geometry.proofs.NotCovered.{Separated}
 use Rattle.lattice.proofs.Order.{couple}
 use Rattle.hull_geometry.proofs.Orientation.{product-minus, at_least, above, orient-cycle}
@@ -56,19 +56,19 @@ sum_above_left a b h k = omega (arith, ints)
 pub wedge_before : (side : Side) (q l r t : Pair) → IsAlong side l q → IsAlong side q r → IsAlong side t q
     → pos 0 <ℤ orient q r l → pos 0 ≤ℤ orient q t l → pos 0 <ℤ (orient q r t +ℤ orient q t l)
 wedge_before Lower q l r t lq qr tq rl tl =
-    sum_above_left _ _ (turns_back Lower l q r t lq qr tq (at_least _ _ (orient-cycle q t l) tl)
+    sum_above_left _ _ (strict_back Lower l q r t lq qr tq (at_least _ _ (orient-cycle q t l) tl)
     (above _ _ (orient-cycle q r l) rl)) tl
 wedge_before Upper q l r t lq qr tq rl tl =
-    sum_above_left _ _ (turns_on Upper r q l t qr lq tq rl (at_least _ _ (orient-cycle q t l) tl)) tl
+    sum_above_left _ _ (strict_on Upper r q l t qr lq tq rl (at_least _ _ (orient-cycle q t l) tl)) tl
 
 -- and what comes behind q and is no farther right than r
 pub wedge_behind : (side : Side) (q l r t : Pair) → IsAlong side l q → IsAlong side q r → IsAlong side q t
     → pos 0 <ℤ orient q r l → pos 0 ≤ℤ orient q r t → pos 0 <ℤ (orient q r t +ℤ orient q t l)
 wedge_behind Lower q l r t lq qr qt rl rt =
     sum_above _ _ rt (above _ _ (sym (orient-cycle q t l))
-    (turns_on Lower l q r t lq qr qt (above _ _ (orient-cycle q r l) rl) rt))
+    (strict_on Lower l q r t lq qr qt (above _ _ (orient-cycle q r l) rl) rt))
 wedge_behind Upper q l r t lq qr qt rl rt =
-    sum_above _ _ rt (above _ _ (sym (orient-cycle q t l)) (turns_back Upper r q l t qr lq qt rt rl))
+    sum_above _ _ rt (above _ _ (sym (orient-cycle q t l)) (strict_back Upper r q l t qr lq qt rt rl))
 
 -- the direction to the right of the line from q to r
 pub product-right : (q r t : Pair) → product (across q r) q -ℤ product (across q r) t ≡ orient q r t

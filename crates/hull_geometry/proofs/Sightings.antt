@@ -5,20 +5,20 @@ use Rattle.std.proofs.lemmas.Int.{ints}
 use Rattle.std.proofs.lemmas.List.Elements.{All-weaker}
 use Rattle.lattice.specs.Plane.{Pair, orient, distance_squared}
 use Rattle.lattice.specs.Signs.{le_or_lt}
-use Rattle.hull_geometry.specs.Hands.{turn_on, IsMore}
+use Rattle.hull_geometry.specs.Hands.{orient_by, IsMore}
 use Rattle.hull_geometry.specs.Tangents.{IsNoMore, IsTangent}
 use Rattle.hull_geometry.specs.declared.hand.Hand.{Hand}
 use Rattle.hull_geometry.specs.declared.hand.Hand.TheVariants.{Left, Right}
 use Rattle.hull_geometry.proofs.Orientation.{orient_swap}
 
--- the turn the other way round
-pub turn_on_back : (hand : Hand) (q s t : Pair) → turn_on hand q t s ≡ neg_ℤ (turn_on hand q s t)
-turn_on_back Left q s t = orient_swap q s t
-turn_on_back Right q s t = orient_swap q t s
+-- the orientation the other way round
+pub orient_by_back : (hand : Hand) (q s t : Pair) → orient_by hand q t s ≡ neg_ℤ (orient_by hand q s t)
+orient_by_back Left q s t = orient_swap q s t
+orient_by_back Right q s t = orient_swap q t s
 
 -- no point is farther on a hand than itself
 pub more_irrefl : (hand : Hand) (q x : Pair) → ¬ (IsMore hand q x x)
-more_irrefl hand q x (inl h) = let e = turn_on_back hand q x x in omega (arith, ints)
+more_irrefl hand q x (inl h) = let e = orient_by_back hand q x x in omega (arith, ints)
 more_irrefl hand q x (inr h) = omega (arith, ints, h.1)
 
 -- what is not farther on a hand than p is not farther there

@@ -6,13 +6,13 @@ use Rattle.lattice.specs.Polynomials.{difference-eq, difference_rules}
 use Rattle.lattice.specs.Signs.{le_or_lt, product_nn, product_pp, product_np}
 use Rattle.lattice.proofs.Vectors.{as_pair, minus, opp, cross, Ahead, ahead_nn}
 use Rattle.lattice.proofs.Numbers.{less_not_le}
-use Rattle.lattice.specs.Turns.{turn}
+use Rattle.lattice.specs.Orientations.{orient_on}
 use Rattle.lattice.specs.declared.side.Side.{Side}
 use Rattle.lattice.specs.declared.side.Side.TheVariants.{Lower, Upper}
 use Rattle.hull_geometry.specs.Runs.{opposite}
 use Rattle.hull_geometry.specs.Tangents.{Faces}
 use Rattle.hull_geometry.proofs.Orientation.{ahead_of, at_least}
-use Rattle.hull_geometry.proofs.Turns.{wedge, turn_start, turn_back}
+use Rattle.hull_geometry.proofs.Orientations.{wedge, orient_on_by_start, orient_on_by_last}
 
 -- how far two vectors go in a direction, weighed by how far they go to the right and by their sides
 weigh_right : (d w t : Pair) → product d t *ℤ w.x +ℤ d.y *ℤ cross t w ≡ product d w *ℤ t.x
@@ -90,21 +90,21 @@ no_gain Lower d w t down = falls d w t down
 no_gain Upper d w t up = rises d w t up
 
 -- inwards of the line pq and after p, where q is no farther than p: no farther than p
-pub stays : (side : Side) (d p q t : Pair) → Faces side d → IsBefore p q → IsBefore p t → pos 0 ≤ℤ turn side p q t
+pub stays : (side : Side) (d p q t : Pair) → Faces side d → IsBefore p q → IsBefore p t → pos 0 ≤ℤ orient_on side p q t
     → product d q ≤ℤ product d p → product d t ≤ℤ product d p
 stays side d p q t faces pq pt o f =
     no_farther d p t (no_gain side d (minus q p) (minus t p) faces (ahead_of p q pq) (ahead_of p t pt)
-    (at_least _ _ (turn_start side p q t) o) (step_back d p q f))
+    (at_least _ _ (orient_on_by_start side p q t) o) (step_back d p q f))
 
 -- inwards of the line pq and before q, where p is less far than q: less far than q
-pub goes : (side : Side) (d p q t : Pair) → Faces side d → IsBefore p q → IsBefore t q → pos 0 ≤ℤ turn side p q t
+pub goes : (side : Side) (d p q t : Pair) → Faces side d → IsBefore p q → IsBefore t q → pos 0 ≤ℤ orient_on side p q t
     → product d p <ℤ product d q → product d t <ℤ product d q
 goes side d p q t faces pq tq o f =
     elim (le_or_lt (product d q) (product d t)) [
       | inr k ↦ k
       | inl k ↦ absurd (less_not_le _ _ f
           (no_farther d p q (no_gain side d (minus q t) (minus q p) faces (ahead_of t q tq) (ahead_of p q pq)
-          (at_least _ _ (turn_back side p q t) o) (step_back d t q k))))
+          (at_least _ _ (orient_on_by_last side p q t) o) (step_back d t q k))))
     ]
 
 -- how far a vector goes the other way
@@ -112,7 +112,7 @@ pub product-opp : (d w : Pair) → product (opp d) w ≡ neg_ℤ (product d w)
 unfolding product
 product-opp d w = rw (as_pair d, as_pair w) (simp difference_rules (difference-eq _ _ _ _ (omega arith)))
 
--- the steps of a turn exchanged, as the other side sees them
+-- the steps of a bend exchanged, as the other side sees them
 other_wedge : (side : Side) (u v : Pair) → wedge (opposite side) u v ≡ wedge side v u
 other_wedge Lower u v = refl
 other_wedge Upper u v = refl
@@ -120,13 +120,13 @@ other_wedge Upper u v = refl
 -- inwards of the line pq and after p, where q is less far than p, and d faces the other side as one looks back: less
 -- far than p
 pub drops : (side : Side) (d p q t : Pair) → Faces (opposite side) (opp d) → IsBefore p q → IsBefore p t
-    → pos 0 ≤ℤ turn side p q t → product d q <ℤ product d p → product d t <ℤ product d p
+    → pos 0 ≤ℤ orient_on side p q t → product d q <ℤ product d p → product d t <ℤ product d p
 drops side d p q t faces pq pt o f =
     elim (le_or_lt (product d p) (product d t)) [
       | inr k ↦ k
       | inl k ↦ absurd (back _ _ (product-opp d (minus q p)) (product-step d p q) f
           (no_gain (opposite side) (opp d) (minus t p) (minus q p) faces (ahead_of p t pt) (ahead_of p q pq)
-          (at_least _ _ (turn_start side p q t ∙ sym (other_wedge side (minus t p) (minus q p))) o)
+          (at_least _ _ (orient_on_by_start side p q t ∙ sym (other_wedge side (minus t p) (minus q p))) o)
           (forth _ _ (product-opp d (minus t p)) (product-step d p t) k)))
     ]
   where

@@ -3,7 +3,7 @@ use Rattle.std.proofs.Common.{pos, ◌≤ℤ◌, List}
 use Rattle.std.specs.List.{Contains}
 use Rattle.std.proofs.lemmas.List.Elements.{All-contains}
 use Rattle.lattice.specs.Plane.{Pair, orient, IsBefore}
-use Rattle.lattice.specs.Turns.{turn}
+use Rattle.lattice.specs.Orientations.{orient_on}
 use Rattle.lattice.specs.declared.side.Side.{Side}
 use Rattle.lattice.specs.declared.side.Side.TheVariants.{Lower, Upper}
 use Rattle.hull_geometry.specs.Edges.{IsEdgeOn}
@@ -13,7 +13,7 @@ pub record IsSupport (side : Side) (S : List Pair) (a b : Pair) : Type 0 where
   pub from : Contains S a
   pub to : Contains S b
   pub forward : IsBefore a b
-  pub inner : (t : Pair) → Contains S t → pos 0 ≤ℤ turn side a b t
+  pub inner : (t : Pair) → Contains S t → pos 0 ≤ℤ orient_on side a b t
 
 -- a lower edge is one
 pub lower_support : {S : List Pair} {u v : Pair} → IsEdgeOn Lower S u v → IsSupport Lower S u v

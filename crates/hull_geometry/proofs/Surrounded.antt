@@ -9,7 +9,7 @@ use Rattle.lattice.specs.Signs.{le_or_lt, product_nn, product_pp, product_np, pr
 use Rattle.lattice.proofs.Vectors.{as_pair, minus, opp, cross, Ahead, ahead_nn}
 use Rattle.hull_geometry.proofs.Orientation.{product-minus, ahead_of, behind_of}
 
--- the second component of a functional that puts neither end of a turn below 0
+-- the second component of a functional that puts neither end of a bend below 0
 sides : (fy A B c x y : ℤ) → pos 0 <ℤ c → pos 0 ≤ℤ A → pos 0 ≤ℤ B → x ≤ℤ pos 0 → pos 0 ≤ℤ y → y *ℤ A ≡ x *ℤ B -ℤ fy *ℤ c
     → fy ≤ℤ pos 0
 sides fy A B c x y hc hA hB hx hy e =
@@ -55,16 +55,16 @@ straight_up f u (inl h) e hf hu =
     absurd (let p : (u.x *ℤ f.x) <ℤ pos 0 = product_pn u.x f.x h hf in let e = product-level f u e in omega (arith, ints))
 straight_up f u (inr h) e hf hu = h
 
--- no left turn to a vector straight down
-no_turn_down : (c d : Pair) → pos 0 ≤ℤ c.x → (d.x ≡ pos 0) × (d.y <ℤ pos 0) → ¬ (pos 0 <ℤ cross c d)
-no_turn_down c d hc hd h =
+-- no left bend to a vector straight down
+none_outwards_down : (c d : Pair) → pos 0 ≤ℤ c.x → (d.x ≡ pos 0) × (d.y <ℤ pos 0) → ¬ (pos 0 <ℤ cross c d)
+none_outwards_down c d hc hd h =
     let p : (d.y *ℤ c.x) ≤ℤ pos 0 = product_np d.y c.x (omega (arith, ints, hd.1)) hc in
     let e : cross c d ≡ c.x *ℤ d.y -ℤ c.y *ℤ pos 0 = ap (λ (z : ℤ). c.x *ℤ d.y -ℤ c.y *ℤ z) hd.0 in
     omega (arith, ints)
 
--- no left turn to a vector straight up
-no_turn_up : (a b : Pair) → a.x ≤ℤ pos 0 → (b.x ≡ pos 0) × (pos 0 <ℤ b.y) → ¬ (pos 0 <ℤ cross a b)
-no_turn_up a b ha hb h =
+-- no left bend to a vector straight up
+none_outwards_up : (a b : Pair) → a.x ≤ℤ pos 0 → (b.x ≡ pos 0) × (pos 0 <ℤ b.y) → ¬ (pos 0 <ℤ cross a b)
+none_outwards_up a b ha hb h =
     let p : (a.x *ℤ b.y) ≤ℤ pos 0 = product_np a.x b.y ha (omega (arith, ints, hb.1)) in
     let e : cross a b ≡ a.x *ℤ b.y -ℤ a.y *ℤ pos 0 = ap (λ (z : ℤ). a.x *ℤ b.y -ℤ a.y *ℤ z) hb.0 in
     omega (arith, ints)
@@ -90,9 +90,9 @@ surrounded f A B C D oA pB pC oD AB CD hA hB hC hD =
     elim (le_or_lt f.x (pos 0)) [
       | inl h ↦ elim (le_or_lt (pos 0) f.x) [
         | inl k ↦ (omega (arith, ints), z)
-        | inr k ↦ absurd (no_turn_up A B (behind_np A oA) (straight_up f B pB z k hB) AB)
+        | inr k ↦ absurd (none_outwards_up A B (behind_np A oA) (straight_up f B pB z k hB) AB)
       ]
-      | inr h ↦ absurd (no_turn_down C D (ahead_nn C pC) (straight f D oD z h hD) CD)
+      | inr h ↦ absurd (none_outwards_down C D (ahead_nn C pC) (straight f D oD z h hD) CD)
     ]
 
 -- how much less far t lies than q

@@ -13,7 +13,7 @@ use Rattle.lattice.proofs.Order.{before_irrefl, equal_by}
 use Rattle.hull_geometry.specs.ChainEdges.{IsEdge}
 use Rattle.hull_geometry.specs.Edges.{IsLowerEdge, IsUpperEdge, IsChain, end_of}
 use Rattle.hull_geometry.specs.Monotone.{IsInner, IsChainOf, AreChainsOf, fan_from, fan_of}
-use Rattle.lattice.specs.Turns.{turn}
+use Rattle.lattice.specs.Orientations.{orient_on}
 use Rattle.hull_geometry.specs.Positions.{point_at, origin}
 use Rattle.lattice.specs.declared.side.Side.{Side}
 use Rattle.lattice.specs.declared.side.Side.TheVariants.{Lower, Upper}
@@ -284,10 +284,10 @@ fans_area S lower upper m n s c e f = elim (cases_lt 1 (length upper)) [
 
 -- ---- the sum along a chain
 
--- the triangle between an edge and the first point does not turn outwards
+-- the triangle between an edge and the first point does not bend outwards
 pub triangle : (side : Side) (S chain : List Pair) (i : ℕ) (a b c : Pair) → IsChainOf side S chain → 0 < i
     → i < length chain → a ≡ get_or chain (i - 1) a → b ≡ get_or chain i b → c ≡ get_or chain 0 c
-    → pos 0 ≤ℤ turn side a b c
+    → pos 0 ≤ℤ orient_on side a b c
 triangle side S chain i a b c k some l ea eb ec =
     let n : i - 1 + 1 ≡ i = omega (arith, some) in
     let w : i - 1 + 1 < length chain = omega (arith, some, l) in
@@ -297,6 +297,6 @@ triangle side S chain i a b c k some l ea eb ec =
     subst (λ (j : ℕ). IsEdge side S (point_at chain (i - 1)) (point_at chain j)) n
     (chain_edge side S chain (i - 1) k w) in
     let first : Contains S c = k.among c (0, z, sym ec) in
-    subst (λ (p : Pair). pos 0 ≤ℤ turn side p b c) (sym (ea ∙ get_or_free chain (i - 1) a origin w'))
-    (subst (λ (p : Pair). pos 0 ≤ℤ turn side (point_at chain (i - 1)) p c) (sym (eb ∙ get_or_free chain i b origin l))
+    subst (λ (p : Pair). pos 0 ≤ℤ orient_on side p b c) (sym (ea ∙ get_or_free chain (i - 1) a origin w'))
+    (subst (λ (p : Pair). pos 0 ≤ℤ orient_on side (point_at chain (i - 1)) p c) (sym (eb ∙ get_or_free chain i b origin l))
     (edge.beside c first).inwards)

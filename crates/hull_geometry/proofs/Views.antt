@@ -3,13 +3,13 @@ use Rattle.std.proofs.Common.{pos, ◌≤ℤ◌, ◌<ℤ◌, List}
 use Rattle.std.specs.List.{Contains}
 use Rattle.std.proofs.lemmas.List.Elements.{All-contains}
 use Rattle.lattice.specs.Plane.{Pair, orient, IsBefore}
-use Rattle.lattice.specs.Turns.{turn}
+use Rattle.lattice.specs.Orientations.{orient_on}
 use Rattle.lattice.specs.declared.side.Side.{Side}
 use Rattle.lattice.specs.declared.side.Side.TheVariants.{Lower, Upper}
 use Rattle.lattice.proofs.Numbers.{less_not_le}
 use Rattle.lattice.proofs.Order.{before_irrefl, before_not}
 use Rattle.hull_geometry.specs.Sights.{IsClear, IsRightOfEdge}
-use Rattle.hull_geometry.proofs.Turns.{stays_outwards}
+use Rattle.hull_geometry.proofs.Orientations.{stays_outwards}
 
 -- before all
 pub clear_before : (side : Side) (S : List Pair) (q : Pair) → ((t : Pair) → Contains S t → IsBefore q t)
@@ -29,7 +29,7 @@ clear_after side S q h = record {
 
 -- outwards of a line that has no point of S outwards
 pub clear_outwards : (side : Side) (S : List Pair) (q a b : Pair) → IsBefore a b
-    → ((t : Pair) → Contains S t → pos 0 ≤ℤ turn side a b t) → turn side a b q <ℤ pos 0 → IsClear side S q
+    → ((t : Pair) → Contains S t → pos 0 ≤ℤ orient_on side a b t) → orient_on side a b q <ℤ pos 0 → IsClear side S q
 clear_outwards side S q a b ab inner h = record {
   absent = λ m. less_not_le _ _ h (inner q m);
   outwards = λ s t ms mt sq qt. stays_outwards side a b s q t ab sq qt h (inner s ms) (inner t mt);

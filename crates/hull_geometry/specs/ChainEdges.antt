@@ -2,14 +2,14 @@
 use Rattle.std.specs.Prelude.{pos, ◌≤ℤ◌, ◌<ℤ◌, List}
 use Rattle.std.specs.List.{Contains}
 use Rattle.lattice.specs.Plane.{Pair, IsBefore}
-use Rattle.lattice.specs.Turns.{turn}
+use Rattle.lattice.specs.Orientations.{orient_on}
 use Rattle.lattice.specs.declared.side.Side.{Side}
 
 -- t is not outwards of the line from a forward to b, and strictly inwards of it where it stands before a or after b
 pub record IsBeside (side : Side) (t a b : Pair) : Type 0 where
-  pub inwards : pos 0 ≤ℤ turn side a b t
-  pub before : IsBefore t a → pos 0 <ℤ turn side a b t
-  pub after : IsBefore b t → pos 0 <ℤ turn side a b t
+  pub inwards : pos 0 ≤ℤ orient_on side a b t
+  pub before : IsBefore t a → pos 0 <ℤ orient_on side a b t
+  pub after : IsBefore b t → pos 0 <ℤ orient_on side a b t
 
 -- an edge of the hull of S on a side, from a forward to b: each point of S is beside it
 pub record IsEdge (side : Side) (S : List Pair) (a b : Pair) : Type 0 where
@@ -26,8 +26,8 @@ pub record IsEdgeAt (side : Side) (S : List Pair) (q a b : Pair) : Type 0 where
 
 -- the edge from a forward to b ends before q, which lies inwards of it
 abbrev pub IsPassedBy : Side → Pair → Pair → Pair → Type 0
-IsPassedBy side q a b = IsBefore b q × (pos 0 <ℤ turn side a b q)
+IsPassedBy side q a b = IsBefore b q × (pos 0 <ℤ orient_on side a b q)
 
 -- it begins after q, which lies inwards of it
 abbrev pub IsToCome : Side → Pair → Pair → Pair → Type 0
-IsToCome side q a b = IsBefore q a × (pos 0 <ℤ turn side a b q)
+IsToCome side q a b = IsBefore q a × (pos 0 <ℤ orient_on side a b q)

@@ -17,14 +17,14 @@ hand_behind Lower = Left
 hand_behind Upper = Right
 
 -- above 0 where s is seen farther on this hand than t
-abbrev pub turn_on : Hand → Pair → Pair → Pair → ℤ
-turn_on Left q s t = orient q t s
-turn_on Right q s t = orient q s t
+abbrev pub orient_by : Hand → Pair → Pair → Pair → ℤ
+orient_by Left q s t = orient q t s
+orient_by Right q s t = orient q s t
 
 -- seen from q, s is farther on this hand than t, or in line with it and farther off
 abbrev pub IsMore : Hand → Pair → Pair → Pair → Type 0
 IsMore hand q s t =
-    (pos 0 <ℤ turn_on hand q s t) ⊎ ((turn_on hand q s t ≡ pos 0) × (distance_squared q t <ℤ distance_squared q s))
+    (pos 0 <ℤ orient_by hand q s t) ⊎ ((orient_by hand q s t ≡ pos 0) × (distance_squared q t <ℤ distance_squared q s))
 
 -- s stands before t on the left hand, and after it on the right
 abbrev pub IsOnHand : Hand → Pair → Pair → Type 0

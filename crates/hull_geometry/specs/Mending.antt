@@ -4,14 +4,14 @@ use Rattle.std.specs.List.{All, Contains}
 use Rattle.lattice.specs.Covers.{IsPointSet}
 use Rattle.lattice.specs.Plane.{Pair, IsBefore}
 use Rattle.hull_geometry.specs.Monotone.{IsThinned}
-use Rattle.lattice.specs.Turns.{turn}
+use Rattle.lattice.specs.Orientations.{orient_on}
 use Rattle.hull_geometry.specs.Positions.{point_at}
 use Rattle.lattice.specs.declared.side.Side.{Side}
 
 -- p, with the position i in a chain, stands between two of its points, and not outwards of their segment
 abbrev pub IsOverEdge : Side → List Pair → ℕ → Pair → Type 0
 IsOverEdge side chain i p =
-    (0 < i) × (i < length chain) × (turn side (point_at chain (i - 1)) p (point_at chain i) ≤ℤ pos 0)
+    (0 < i) × (i < length chain) × (orient_on side (point_at chain (i - 1)) p (point_at chain i) ≤ℤ pos 0)
 
 -- `middle` has all points of S that stand after `left` and before `right`, and is in order between them
 pub record IsBetween (S left right middle : List Pair) : Type 0 where

@@ -3,14 +3,14 @@ use Rattle.std.specs.Prelude.{◌≡◌, ◌⊎◌, ℤ, pos, ◌+ℤ◌, ◌≤
 use Rattle.std.specs.List.{Contains}
 use Rattle.lattice.specs.Covers.{IsPointSet}
 use Rattle.lattice.specs.Plane.{Pair, IsBefore}
-use Rattle.lattice.specs.Turns.{turn}
+use Rattle.lattice.specs.Orientations.{orient_on}
 use Rattle.hull_geometry.specs.Edges.{end_of}
 use Rattle.lattice.specs.declared.side.Side.{Side}
 use Rattle.lattice.specs.declared.side.Side.TheVariants.{Lower, Upper}
 
 -- u stands between a and b in the order, and not outwards of their segment
 abbrev pub IsInwards : Side → Pair → Pair → Pair → Type 0
-IsInwards side a b u = IsBefore a u × IsBefore u b × (pos 0 ≤ℤ turn side a b u)
+IsInwards side a b u = IsBefore a u × IsBefore u b × (pos 0 ≤ℤ orient_on side a b u)
 
 -- u is a point of the chain behind a, or stands inwards of one of its segments from a on
 abbrev pub IsInnerFrom : Side → Pair → List Pair → Pair → Type 0
@@ -25,22 +25,22 @@ IsInner side (a ∷ rest) u = (u ≡ a) ⊎ IsInnerFrom side a rest u
 -- b lies outwards of the segment from a to the next point, where there is one
 abbrev pub IsCorner : Side → Pair → Pair → List Pair → Type 0
 IsCorner side a b [] = Unit {0}
-IsCorner side a b (c ∷ rest) = pos 0 <ℤ turn side a b c
+IsCorner side a b (c ∷ rest) = pos 0 <ℤ orient_on side a b c
 
 -- each point behind a but the last lies outwards of the segment between its neighbours
-abbrev pub IsTurningFrom : Side → Pair → List Pair → Type 0
-IsTurningFrom side a [] = Unit {0}
-IsTurningFrom side a (b ∷ rest) = IsCorner side a b rest × IsTurningFrom side b rest
+abbrev pub IsConvexFrom : Side → Pair → List Pair → Type 0
+IsConvexFrom side a [] = Unit {0}
+IsConvexFrom side a (b ∷ rest) = IsCorner side a b rest × IsConvexFrom side b rest
 
 -- each point but the first and the last lies outwards of the segment between its neighbours
-abbrev pub IsTurning : Side → List Pair → Type 0
-IsTurning side [] = Unit {0}
-IsTurning side (a ∷ rest) = IsTurningFrom side a rest
+abbrev pub IsConvex : Side → List Pair → Type 0
+IsConvex side [] = Unit {0}
+IsConvex side (a ∷ rest) = IsConvexFrom side a rest
 
--- points in order, at each of which but the ends the chain turns
+-- points in order, at each of which but the ends the chain bends
 pub record IsStrict (side : Side) (chain : List Pair) : Type 0 where
   pub ordered : IsPointSet chain
-  pub turning : IsTurning side chain
+  pub convex : IsConvex side chain
 
 -- the list ends with c
 abbrev pub EndsWith : Pair → List Pair → Type 0
@@ -83,7 +83,7 @@ pub record EndsInwards (side : Side) (chain : List Pair) (c : Pair) : Type 0 whe
   pub b : Pair
   pub whole : chain ≡ front ++ a ∷ b ∷ []
   pub kept : take (length chain - 1) chain ≡ front ++ a ∷ []
-  pub inwards : turn side a b c ≤ℤ pos 0
+  pub inwards : orient_on side a b c ≤ℤ pos 0
 
 -- a fringe of a set S on each side
 pub record AreFringesOf (S lower upper : List Pair) : Type 0 where
@@ -106,7 +106,7 @@ AreChains lower upper = (S : List Pair) × AreChainsOf S lower upper
 -- the doubled areas of the triangles between c and the steps of a chain behind a
 abbrev pub fan_from : Side → Pair → Pair → List Pair → ℤ
 fan_from side c a [] = pos 0
-fan_from side c a (b ∷ rest) = turn side a b c +ℤ fan_from side c b rest
+fan_from side c a (b ∷ rest) = orient_on side a b c +ℤ fan_from side c b rest
 
 -- the doubled area between a chain and the segment from its first point to its last
 abbrev pub fan_of : Side → List Pair → ℤ

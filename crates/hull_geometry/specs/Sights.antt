@@ -6,7 +6,7 @@ use Rattle.lattice.specs.Covers.{Covers}
 use Rattle.lattice.specs.Places.{IsInside, IsOutside, IsOnBoundary}
 use Rattle.lattice.specs.declared.side.Side.{Side}
 use Rattle.lattice.specs.declared.side.Side.TheVariants.{Lower, Upper}
-use Rattle.lattice.specs.Turns.{turn}
+use Rattle.lattice.specs.Orientations.{orient_on}
 use Rattle.hull_geometry.specs.Edges.{IsAlong, IsEdgeOn, IsFirst, IsLast}
 use Rattle.hull_geometry.specs.Hands.{other_hand, IsOnHand, end_on}
 use Rattle.hull_geometry.specs.declared.hand.Hand.{Hand}
@@ -35,7 +35,7 @@ IsRightOfEdge side S q = (c : Pair) × (d : Pair) × IsEdgeOn side S c d × (ori
 -- q is no point of S, and lies outwards of each segment from a point of S before it to one after it
 pub record IsClear (side : Side) (S : List Pair) (q : Pair) : Type 0 where
   pub absent : ¬ Contains S q
-  pub outwards : (s t : Pair) → Contains S s → Contains S t → IsBefore s q → IsBefore q t → turn side s t q <ℤ pos 0
+  pub outwards : (s t : Pair) → Contains S s → Contains S t → IsBefore s q → IsBefore q t → orient_on side s t q <ℤ pos 0
 
 -- outwards on the lower side is below
 abbrev pub IsBelow : List Pair → Pair → Type 0

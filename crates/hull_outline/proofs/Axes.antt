@@ -59,7 +59,7 @@ three_turned d a b c = omega (arith, ints, three d a b c)
 pub record IsWedge (d left right : Pair) : Type 0 where
   pub left_up : pos 0 ≤ℤ product d left
   pub right_up : pos 0 ≤ℤ product d right
-  pub turns : pos 0 <ℤ cross right left
+  pub bends : pos 0 <ℤ cross right left
 
 -- a vector of a wedge that is not right of the left one of another: nor is it right of the right one
 left_of_both : (d w l r m s : Pair) → IsWedge d l r → IsWedge d m s → pos 0 <ℤ product d w → pos 0 ≤ℤ cross m l
@@ -67,7 +67,7 @@ left_of_both : (d w l r m s : Pair) → IsWedge d l r → IsWedge d m s → pos 
 left_of_both d w l r m s e f up h =
     no_more (product d m) (product d s) (product d l) (product d r) (product d w) (cross s m) (cross r l) (cross l s)
     (cross m l) (cross s r) (cross w s) (cross m w) (three d s m l) (three d l s r) (three d w s m) f.left_up
-    f.right_up e.left_up e.right_up up f.turns e.turns h
+    f.right_up e.left_up e.right_up up f.bends e.bends h
 
 -- the same on the other side
 right_of_both : (d w l r m s : Pair) → IsWedge d l r → IsWedge d m s → pos 0 <ℤ product d w → pos 0 ≤ℤ cross r s
@@ -75,7 +75,7 @@ right_of_both : (d w l r m s : Pair) → IsWedge d l r → IsWedge d m s → pos
 right_of_both d w l r m s e f up h =
     no_more (product d s) (product d m) (product d r) (product d l) (product d w) (cross s m) (cross r l) (cross m r)
     (cross r s) (cross l m) (cross m w) (cross w s) (three_turned d m r s) (three_turned d r l m)
-    (three_turned d w s m) f.right_up f.left_up e.right_up e.left_up up f.turns e.turns h
+    (three_turned d w s m) f.right_up f.left_up e.right_up e.left_up up f.bends e.bends h
 
 -- a vector that goes up is right of the left one of two, or left of the right one
 between_clash : (d w l r : Pair) → pos 0 ≤ℤ product d l → pos 0 ≤ℤ product d r → pos 0 <ℤ cross r l
@@ -90,9 +90,9 @@ between_clash d w l r hl hr t up left right =
 level_of : (d l r m s : Pair) → IsWedge d l r → IsWedge d m s → pos 0 ≤ℤ cross m l → cross l s ≡ pos 0
     → product d l ≡ pos 0
 level_of d l r m s e f h flat =
-    cancel_zero (product d l) (cross s m) f.turns
+    cancel_zero (product d l) (cross s m) f.bends
     (third_of_three _ _ _ (three d s m l) (product_nn _ _ f.right_up h) (nn_zero _ (times_nothing (product d m) _ flat))
-    (product_nn _ _ e.left_up (nn_above _ f.turns)))
+    (product_nn _ _ e.left_up (nn_above _ f.bends)))
   where
     times_nothing : (k z : ℤ) → z ≡ pos 0 → k *ℤ z ≡ pos 0
     times_nothing k z e = ap (λ (x : ℤ). k *ℤ x) e ∙ omega (arith, ints)
@@ -105,7 +105,7 @@ pub record IsSpan (d l r m s g h : Pair) : Type 0 where
       ⊎ ((h ≡ s) × (pos 0 ≤ℤ cross s l) × (pos 0 ≤ℤ cross s r))
   pub left_up : pos 0 ≤ℤ product d g
   pub right_up : pos 0 ≤ℤ product d h
-  pub turns : (pos 0 <ℤ cross h g) ⊎ (product d g ≡ pos 0)
+  pub bends : (pos 0 <ℤ cross h g) ⊎ (product d g ≡ pos 0)
 
 -- of two wedges there are such two
 pub span_of : (d w l r m s : Pair) → IsWedge d l r → IsWedge d m s → pos 0 <ℤ product d w
@@ -122,7 +122,7 @@ span_of d w l r m s e f up = elim (le_or_lt (cross l m) (pos 0)) [
             right_one = inl (refl, nn_opposite _ _ (cross_swap r m) (right_of_both d w l r m s e f up b), b);
             left_up = e.left_up;
             right_up = e.right_up;
-            turns = inl e.turns;
+            bends = inl e.bends;
           },
         )
         | inr b ↦ (
@@ -135,7 +135,7 @@ span_of d w l r m s e f up = elim (le_or_lt (cross l m) (pos 0)) [
                 inr (refl, nn_opposite _ _ (cross_swap s l) (right_of_both d w m s l r f e up j), j);
             left_up = e.left_up;
             right_up = f.right_up;
-            turns = told (cross s l) (nn_opposite _ _ (cross_swap s l) k)
+            bends = told (cross s l) (nn_opposite _ _ (cross_swap s l) k)
                 (λ z. level_of d l r m s e f (nn_opposite _ _ (cross_swap m l) a)
                 (zero_opposite _ _ (cross_swap l s) z));
           },
@@ -153,7 +153,7 @@ span_of d w l r m s e f up = elim (le_or_lt (cross l m) (pos 0)) [
             right_one = inl (refl, nn_opposite _ _ (cross_swap r m) (right_of_both d w l r m s e f up b), b);
             left_up = f.left_up;
             right_up = e.right_up;
-            turns = told (cross r m) (nn_opposite _ _ (cross_swap r m) k)
+            bends = told (cross r m) (nn_opposite _ _ (cross_swap r m) k)
                 (λ z. level_of d m s l r f e (nn_above _ a) (zero_opposite _ _ (cross_swap m r) z));
           },
         )
@@ -167,7 +167,7 @@ span_of d w l r m s e f up = elim (le_or_lt (cross l m) (pos 0)) [
                 inr (refl, nn_opposite _ _ (cross_swap s l) (right_of_both d w m s l r f e up j), j);
             left_up = f.left_up;
             right_up = f.right_up;
-            turns = inl f.turns;
+            bends = inl f.bends;
           },
         )
       ]
@@ -181,7 +181,7 @@ span_of d w l r m s e f up = elim (le_or_lt (cross l m) (pos 0)) [
 -- it is right of the left one of a wedge that is level
 level_clash : (d w l r : Pair) → IsWedge d l r → product d l ≡ pos 0 → pos 0 <ℤ product d w → pos 0 ≤ℤ cross l w → ⊥
 level_clash d w l r e level up left =
-    clash _ _ _ (three d w r l) (product_pp _ _ up e.turns) (product_nn _ _ e.right_up left)
+    clash _ _ _ (three d w r l) (product_pp _ _ up e.bends) (product_nn _ _ e.right_up left)
     (zero_times _ (cross w r) level)
   where
     clash : (x y z : ℤ) → x +ℤ (y +ℤ z) ≡ pos 0 → pos 0 <ℤ x → pos 0 ≤ℤ y → z ≡ pos 0 → ⊥
@@ -194,7 +194,7 @@ outside_of d w l r m s g h e f up n = elim (le_or_lt (pos 0) (cross g w)) [
   | inr a ↦ inl a
   | inl a ↦ elim (le_or_lt (cross h w) (pos 0)) [
     | inr b ↦ inr b
-    | inl b ↦ absurd (elim n.turns [
+    | inl b ↦ absurd (elim n.bends [
       | inl t ↦ between_clash d w g h n.left_up n.right_up t up a (nn_opposite _ _ (cross_swap w h) b)
       | inr z ↦ elim n.left_one [
         | inl o ↦ level_clash d w l r e (subst (λ (v : Pair). product d v ≡ pos 0) o.0 z) up

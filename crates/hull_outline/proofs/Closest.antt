@@ -26,7 +26,7 @@ use Rattle.hull_geometry.proofs.PointLists.{all_of}
 use Rattle.hull_outline.proofs.Fractions.{quotients_le}
 use Rattle.hull_outline.proofs.Parted.{never_both}
 use Rattle.hull_outline.proofs.Separated.{apart_by, from_corner, from_edge, way_on}
-use Rattle.hull_outline.proofs.Turns.{farthest_corner, placed}
+use Rattle.hull_outline.proofs.Switches.{farthest_corner, placed}
 use Rattle.hull_outline.proofs.Witnessed.{apart_turned}
 use Rattle.hull_outline.proofs.Rivals.{depth, reach, Rival, farther_than, reach_above, corner_closest, other_normal}
 use Rattle.hull_outline.proofs.Rivals.{edge_closest}

@@ -128,7 +128,7 @@ way_square c q = rw (as_pair c, as_pair q) (simp difference_rules (difference-eq
 pub way_forward : (c q : Pair) → pos 0 ≤ℤ (product (step c q) q -ℤ product (step c q) c)
 way_forward c q = rw (way_square c q) (sum_nn _ _ (square_nn (q.x -ℤ c.x)) (square_nn (q.y -ℤ c.y)))
 
--- ---- a left turn from p by c to n
+-- ---- a left bend from p by c to n
 
 -- what lies left of both edges is no farther than c where p and n are not
 pub no_farther_in_cone : (f p c n x : Pair) → pos 0 <ℤ orient p c n → pos 0 ≤ℤ orient p c x → pos 0 ≤ℤ orient c n x

@@ -193,7 +193,7 @@ opposite_is : (S : List Pair) (d p a q b f : Pair) → Contains S p → IsLeftOf
     → product d (minus b q) <ℤ pos 0 → ((t : Pair) → Contains S t → ¬ (t ≡ p) → product d p <ℤ product d t)
     → pos 0 ≤ℤ cross (minus a p) (minus b q) → (cross (minus a p) (minus b q) ≡ pos 0 → IsBefore p a)
     → IsFirstFarthest S (left_of q b) f → f ≡ p
-opposite_is S d p a q b f mp left up down low turn tie far = elim (before_total f p) [
+opposite_is S d p a q b f mp left up down low orient_on tie far = elim (before_total f p) [
   | inr (inl e) ↦ e
   | inl fp ↦ absurd (not_up_and_down d (minus a p) (minus p f) (ahead_of p a (tie (flat (before_apart f p fp))))
       (ahead_of f p fp) up (below_by_less _ _ _ (product_minus d p f) (low f far.0 (before_apart f p fp)))
@@ -237,7 +237,7 @@ opposite_is S d p a q b f mp left up down low turn tie far = elim (before_total 
     second = product_same _ _ (np_below _ down) inside
 
     third : ¬ (f ≡ p) → pos 0 ≤ℤ (product d (minus f p) *ℤ cross (minus a p) (minus b q))
-    third n = product_nn _ _ (nn_above _ (goes n)) turn
+    third n = product_nn _ _ (nn_above _ (goes n)) orient_on
 
     cancel_left : (x y : ℤ) → pos 0 <ℤ x → x *ℤ y ≡ pos 0 → y ≡ pos 0
     cancel_left x y h e = cancel_zero y x h (*ℤ_comm y x ∙ e)
@@ -263,7 +263,7 @@ edge_opposite : (S V : List Pair) (i j : ℕ) → IsVertexList S V → 1 < lengt
     → (cross (minus (corner V (j + 1)) (corner V j)) (minus (corner V (i + 1)) (corner V i)) ≡ pos 0
     → IsBefore (corner V j) (corner V (j + 1)))
     → (f : Pair) → IsFirstFarthest S (left_of (corner V i) (corner V (i + 1))) f → f ≡ corner V j
-edge_opposite S V i j o n li lj h turn tie f far =
+edge_opposite S V i j o n li lj h orient_on tie f far =
     opposite_is S (step (corner V j) (corner V i)) (corner V j) (corner V (j + 1)) (corner V i) (corner V (i + 1)) f
     h.start (next_left S V j (j + 1) o refl lj)
     (above_by_less _ _ _ (product_minus (step (corner V j) (corner V i)) (corner V (j + 1)) (corner V j))
@@ -272,7 +272,7 @@ edge_opposite S V i j o n li lj h turn tie f far =
     (below_by_less _ _ _ (product_minus (step (corner V j) (corner V i)) (corner V (i + 1)) (corner V i))
     (short_of_end S (corner V j) (corner V i) h (corner V (i + 1)) (there (i + 1))
     (λ e. next_apart S V i (i + 1) o refl li n (sym e))))
-    (beyond_start S (corner V j) (corner V i) h) turn tie far
+    (beyond_start S (corner V j) (corner V i) h) orient_on tie far
   where
     there : (k : ℕ) → Contains S (corner V k)
     there k = (corner_extreme S V k o (omega (arith, n))).0

@@ -31,7 +31,7 @@ use Rattle.hull_outline.proofs.Ends.{alone}
 use Rattle.hull_outline.proofs.EdgeAxes.{bend_at, bend_at_most, both_back, product_minus, product_minus_back, side_off, side_off_more, top_of, wedge_from, wedge_to}
 use Rattle.hull_outline.proofs.NearestOf.{previous_at, same_beside}
 use Rattle.hull_outline.proofs.Shields.{product_left}
-use Rattle.hull_outline.proofs.Turns.{holds_by_corners}
+use Rattle.hull_outline.proofs.Switches.{holds_by_corners}
 use Rattle.hull_geometry.proofs.Slopes.{product-opp}
 use Rattle.lattice.proofs.LineCrossings.{orient_other}
 
@@ -85,7 +85,7 @@ cap_of_two T W end j o p l few a b hp hn t m =
 
 -- ---- the corners where a line touches
 
--- the steps to or from a corner do not go down, and turn, or are one
+-- the steps to or from a corner do not go down, and bend, or are one
 pub record IsTip (d left right : Pair) : Type 0 where
   pub left_up : pos 0 ≤ℤ product d left
   pub right_up : pos 0 ≤ℤ product d right
@@ -96,14 +96,14 @@ axis_of_tips : (d w l r m s : Pair) → ¬ IsZero d → IsTip d l r → IsTip d 
     → HasAxis l r m s w
 axis_of_tips d w l r m s n e f up = elim e.shape [
   | inl te ↦
-      let we : IsWedge d l r = record { left_up = e.left_up; right_up = e.right_up; turns = te } in
+      let we : IsWedge d l r = record { left_up = e.left_up; right_up = e.right_up; bends = te } in
       elim f.shape [
-        | inl tf ↦ axis_of_wedges d w l r m s n we record { left_up = f.left_up; right_up = f.right_up; turns = tf } up
+        | inl tf ↦ axis_of_wedges d w l r m s n we record { left_up = f.left_up; right_up = f.right_up; bends = tf } up
         | inr ef ↦ subst (λ (z : Pair). HasAxis l r m z w) ef (axis_of_wedge d w l r m n we f.left_up up)
       ]
   | inr ee ↦ elim f.shape [
     | inl tf ↦ subst (λ (z : Pair). HasAxis l z m s w) ee
-        (axis_of_vector d w l m s n e.left_up record { left_up = f.left_up; right_up = f.right_up; turns = tf } up)
+        (axis_of_vector d w l m s n e.left_up record { left_up = f.left_up; right_up = f.right_up; bends = tf } up)
     | inr ef ↦ subst (λ (z : Pair). HasAxis l z m s w) ee
         (subst (λ (z : Pair). HasAxis l l m z w) ef (axis_of_vectors d w l m n e.left_up f.left_up up))
   ]
@@ -143,7 +143,7 @@ tip_to S V last j d o p l f = record {
   left_up = up_to S d (corner V j) (previous V j) f (previous_there S V last j o l);
   right_up = up_to S d (corner V j) (corner V (j + 1)) f (corner_extreme S V (j + 1) o.1 (omega (arith, l))).0;
   shape = elim (cases_lt 2 (length V)) [
-    | inl many ↦ inl (wedge_to S V d j o l (bend_at S V last j o p many l) f).turns
+    | inl many ↦ inl (wedge_to S V d j o l (bend_at S V last j o p many l) f).bends
     | inr few ↦ inr (ap (minus (corner V j)) (same_beside V j l few))
   ];
 }
@@ -156,7 +156,7 @@ tip_from T W end j d o p l f = record {
   left_up = up_from T d (corner W j) (previous W j) f (previous_there T W end j o l);
   right_up = up_from T d (corner W j) (corner W (j + 1)) f (corner_extreme T W (j + 1) o.1 (omega (arith, l))).0;
   shape = elim (cases_lt 2 (length W)) [
-    | inl many ↦ inl (wedge_from T W d j o l (bend_at T W end j o p many l) f).turns
+    | inl many ↦ inl (wedge_from T W d j o l (bend_at T W end j o p many l) f).bends
     | inr few ↦ inr (ap (λ (z : Pair). minus z (corner W j)) (same_beside W j l few))
   ];
 }

@@ -59,9 +59,9 @@ left_of_wedge d x m s n up f h = elim (le_or_lt (cross x s) (pos 0)) [
   | inr k ↦
       let e = three d m x s in
       let p = product_nn _ _ f.left_up (nn_above _ k) in
-      let q = product_nn _ _ up (nn_above _ f.turns) in
+      let q = product_nn _ _ up (nn_above _ f.bends) in
       let r = product_nn _ _ f.right_up (nn_above _ h) in
-      absurd (not_level d m s n f.turns (first_none _ _ _ _ e k f.left_up q r) (third_none _ _ _ _ e h p q f.right_up))
+      absurd (not_level d m s n f.bends (first_none _ _ _ _ e k f.left_up q r) (third_none _ _ _ _ e h p q f.right_up))
 ]
 
 -- a vector that does not go down lies not left of a wedge's left one and right of its right one
@@ -70,10 +70,10 @@ not_outside : (d w l r : Pair) → ¬ IsZero d → IsWedge d l r → pos 0 ≤�
 not_outside d w l r n f up left right =
     let e = three d w r l in
     let k = above_opposite _ _ (cross_swap w r) right in
-    let p = product_nn _ _ up (nn_above _ f.turns) in
+    let p = product_nn _ _ up (nn_above _ f.bends) in
     let q = product_nn _ _ f.right_up (nn_above _ left) in
     let s = product_nn _ _ f.left_up (nn_above _ k) in
-    not_level d l r n f.turns (third_none _ _ _ _ e k p q f.left_up) (second_none _ _ _ _ e left p f.right_up s)
+    not_level d l r n f.bends (third_none _ _ _ _ e k p q f.left_up) (second_none _ _ _ _ e left p f.right_up s)
 
 -- nor left of a vector that is left of a wedge's left one, and right of the wedge's right one
 not_astride : (d w x m s : Pair) → ¬ IsZero d → pos 0 ≤ℤ product d x → IsWedge d m s → pos 0 ≤ℤ product d w
@@ -88,7 +88,7 @@ not_astride d w x m s n ux f up hm hs left right =
     let x-none : product d x ≡ pos 0 = third_none _ _ _ _ e k p q ux in
     let m-none : product d m ≡ pos 0 = third_none _ _ _ _ (three d x w m) left
     (nn_zero _ (zero_times _ _ x-none)) (product_nn _ _ up hm) f.left_up in
-    not_level d m s n f.turns m-none s-none
+    not_level d m s n f.bends m-none s-none
 
 -- the same from the other side: not right of a vector that is right of a wedge's right one, and left of its left one
 not_astride_right : (d w x m s : Pair) → ¬ IsZero d → pos 0 ≤ℤ product d x → IsWedge d m s → pos 0 ≤ℤ product d w
@@ -103,7 +103,7 @@ not_astride_right d w x m s n ux f up hm hs right left =
     let m-none : product d m ≡ pos 0 = third_none _ _ _ _ e k p q f.left_up in
     let s-none : product d s ≡ pos 0 = second_none _ _ _ _ (three d x s w) k (nn_zero _ (zero_times _ _ x-none)) f.right_up
     (product_nn _ _ up hs) in
-    not_level d m s n f.turns m-none s-none
+    not_level d m s n f.bends m-none s-none
 
 -- ---- an axis
 
@@ -137,10 +137,10 @@ wedge_left d l r m s n e f h = elim (le_or_lt (cross l s) (pos 0)) [
       let a = three d s m l in
       let p = product_nn _ _ f.right_up h in
       let q = product_nn _ _ f.left_up (nn_above _ k) in
-      let l-none : product d l ≡ pos 0 = third_none _ _ _ _ a f.turns p q e.left_up in
+      let l-none : product d l ≡ pos 0 = third_none _ _ _ _ a f.bends p q e.left_up in
       let r-none : product d r ≡ pos 0 = third_none _ _ _ _ (three d l s r) k (nn_zero _ (zero_times _ _ l-none))
-      (product_nn _ _ f.right_up (nn_above _ e.turns)) e.right_up in
-      absurd (not_level d l r n e.turns l-none r-none)
+      (product_nn _ _ f.right_up (nn_above _ e.bends)) e.right_up in
+      absurd (not_level d l r n e.bends l-none r-none)
 ]
 
 -- .. and the same of the right ones
@@ -151,10 +151,10 @@ wedge_right d l r m s n e f h = elim (le_or_lt (cross m r) (pos 0)) [
       let a = three d s m r in
       let p = product_nn _ _ f.right_up (nn_above _ k) in
       let q = product_nn _ _ f.left_up h in
-      let r-none : product d r ≡ pos 0 = third_none _ _ _ _ a f.turns p q e.right_up in
+      let r-none : product d r ≡ pos 0 = third_none _ _ _ _ a f.bends p q e.right_up in
       let l-none : product d l ≡ pos 0 = first_none _ _ _ _ (three d l m r) k e.left_up
-      (product_nn _ _ f.left_up (nn_above _ e.turns)) (nn_zero _ (zero_times _ _ r-none)) in
-      absurd (not_level d l r n e.turns l-none r-none)
+      (product_nn _ _ f.left_up (nn_above _ e.bends)) (nn_zero _ (zero_times _ _ r-none)) in
+      absurd (not_level d l r n e.bends l-none r-none)
 ]
 
 -- two wedges of which the first reaches no less far to the left
@@ -244,7 +244,7 @@ vectors_from_left d w x y n ux uy up a = elim (le_or_lt (cross x w) (pos 0)) [
       | inl g ↦ let h = nn_opposite _ _ (cross_swap y x) a in
           inr (inr record { beside = g; left_beside = h; right_beside = h })
       | inr g ↦ absurd (not_outside d w x y n
-          record { left_up = ux; right_up = uy; turns = above_opposite _ _ (cross_swap y x) b } up c g)
+          record { left_up = ux; right_up = uy; bends = above_opposite _ _ (cross_swap y x) b } up c g)
     ]
   ]
 ]

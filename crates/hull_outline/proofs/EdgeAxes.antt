@@ -17,10 +17,10 @@ use Rattle.hull_outline.specs.Steps.{left_of}
 use Rattle.hull_outline.proofs.Axes.{IsWedge, IsLeftAxis, IsRightAxis, axis_of}
 use Rattle.hull_outline.proofs.Cones.{no_farther_in_cone}
 use Rattle.hull_outline.proofs.Corners.{corner_extreme, next_left}
-use Rattle.hull_outline.proofs.NearestOf.{left_before, previous_at, turn_at}
+use Rattle.hull_outline.proofs.NearestOf.{left_before, previous_at, bends_at}
 use Rattle.hull_outline.proofs.Shields.{product_left}
 use Rattle.lattice.proofs.Sides.{side_after, side_back, side_more, side_to_end}
-use Rattle.hull_outline.proofs.Turns.{farthest_corner, placed}
+use Rattle.hull_outline.proofs.Switches.{farthest_corner, placed}
 use Rattle.lattice.proofs.Numbers.{above_by_less, below_opposite, nn_by_le, np_by, np_opposite}
 
 -- ---- identities
@@ -54,9 +54,9 @@ both_back a b c d =
 
 -- ---- a corner and the edges at it
 
--- all of T lies left of the edges from p to v and from v to n, which turn left
+-- all of T lies left of the edges from p to v and from v to n, which bend left
 pub record IsBend (T : List Pair) (p v n : Pair) : Type 0 where
-  pub turns : pos 0 <ℤ orient p v n
+  pub bends : pos 0 <ℤ orient p v n
   pub to : IsLeftOf T p v
   pub from : IsLeftOf T v n
 
@@ -67,7 +67,7 @@ pub bend_at_most : (T : List Pair) (a b p v n : Pair) → IsBend T p v n
 bend_at_most T a b p v n h hp hn t m =
     let f : Pair → ℤ = product (left_of a b) in
     at_most (f t) (f v) (f a) _ _ (product_left a b t) (product_left a b v)
-    (no_farther_in_cone (left_of a b) p v n t h.turns (All-contains (λ u. pos 0 ≤ℤ orient p v u) T t h.to m)
+    (no_farther_in_cone (left_of a b) p v n t h.bends (All-contains (λ u. pos 0 ≤ℤ orient p v u) T t h.to m)
     (All-contains (λ u. pos 0 ≤ℤ orient v n u) T t h.from m)
     (same (f n) (f v) (f a) _ _ (product_left a b n) (product_left a b v) hn)
     (same (f p) (f v) (f a) _ _ (product_left a b p) (product_left a b v) hp))
@@ -126,7 +126,7 @@ IsBendAt S V j = IsBend S (previous V j) (corner V j) (corner V (j + 1))
 pub bend_at : (S V : List Pair) (last j : ℕ) → IsOutlineOf S V → IsParted V last → 2 < length V → j < length V
     → IsBendAt S V j
 bend_at S V last j o p many l = record {
-  turns = turn_at S V j o.1 l many;
+  bends = bends_at S V j o.1 l many;
   to = left_before S V j o.1 l;
   from = next_left S V j (j + 1) o.1 (omega arith) l;
 }
@@ -152,7 +152,7 @@ wedge_to S V d j o l h f =
       right_up = nn_by_le _ _ _ (product_minus d (corner V j) (corner V (j + 1)))
           (All-contains (λ t. product d t ≤ℤ product d (corner V j)) S (corner V (j + 1)) f.1
           (corner_extreme S V (j + 1) o.1 (omega (arith, l))).0);
-      turns = rw (← (side_to_end (previous V j) (corner V j) (corner V (j + 1)))) h.turns;
+      bends = rw (← (side_to_end (previous V j) (corner V j) (corner V (j + 1)))) h.bends;
     }
 
 -- the steps from a corner that is farthest backwards do not go down
@@ -168,7 +168,7 @@ wedge_from T W d j o l h f =
       right_up = nn_by_le _ _ _ (product_minus_back d (corner W (j + 1)) (corner W j))
           (All-contains (λ t. product (opp d) t ≤ℤ product (opp d) (corner W j)) T (corner W (j + 1)) f.1
           (corner_extreme T W (j + 1) o.1 (omega (arith, l))).0);
-      turns = rw (← (side_back (previous W j) (corner W j) (corner W (j + 1)))) h.turns;
+      bends = rw (← (side_back (previous W j) (corner W j) (corner W (j + 1)))) h.bends;
     }
 
 -- ---- an edge that parts

@@ -7,7 +7,7 @@ use Rattle.lattice.specs.Covers.{IsExtreme, OnSegment}
 use Rattle.lattice.specs.Plane.{Pair, orient, IsBefore}
 use Rattle.lattice.specs.Vertices.{IsLeftOf}
 use Rattle.lattice.proofs.Order.{before_apart, after_apart}
-use Rattle.lattice.proofs.Vectors.{minus, cross, cross_swap, Ahead, turn_trans}
+use Rattle.lattice.proofs.Vectors.{minus, cross, cross_swap, Ahead, cross_trans}
 use Rattle.hull_geometry.specs.Edges.{IsAlong, IsEdgeOn, IsLowerEdge, IsUpperEdge, IsFirst, IsLast}
 use Rattle.lattice.specs.declared.side.Side.{Side}
 use Rattle.lattice.specs.declared.side.Side.TheVariants.{Lower, Upper}
@@ -47,7 +47,7 @@ edge_along side S u v mu ev h b = record {
 -- three vectors ahead, each not right of the next one round, are in line
 in_line : (a b c : Pair) → Ahead a → Ahead b → Ahead c → pos 0 ≤ℤ cross a c → pos 0 ≤ℤ cross c b → pos 0 ≤ℤ cross b a
     → cross a c ≡ pos 0
-in_line a b c ha hb hc ac cb ba = omega (arith, ints, cross_swap a c, turn_trans c b a hc hb ha cb ba)
+in_line a b c ha hb hc ac cb ba = omega (arith, ints, cross_swap a c, cross_trans c b a hc hb ha cb ba)
 
 -- an upper edge to v and a lower edge from v: v is the first point
 pub first_between : (S : List Pair) (u v w : Pair) → IsUpperEdge S u v → IsLowerEdge S v w → IsFirst S v

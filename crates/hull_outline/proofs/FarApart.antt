@@ -61,11 +61,11 @@ far_apart : (S T : List Pair) (d back s t : Pair) (k : ℕ) (p q : Pair) (h : �
     → IsFarthest T back t → ((x : Pair) → product back x ≡ neg_ℤ (product d x)) → h ≡ product d t -ℤ product d s
     → pos 0 ≤ℤ h → Covers (magnified k S) p → Covers (magnified k T) q
     → ((pos k *ℤ h) *ℤ (pos k *ℤ h)) ≤ℤ (product d d *ℤ distance_squared p q)
-far_apart S T d back s t k p q h fs ft turn e hh cp cq =
+far_apart S T d back s t k p q h fs ft orient_on e hh cp cq =
     as_far d p q (pos k *ℤ h) (product_nn (pos k) h (omega (arith, ints)) hh)
     (wide (pos k) h _ _ _ _ _ _ (apart (pos k) (product d t) (product d s)) e (magnified_near S d s p k fs cp)
-    (magnified_near T back t q k ft cq) (turn q)
-    (ap (λ (z : ℤ). pos k *ℤ z) (turn t) ∙ negated (pos k) (product d t)))
+    (magnified_near T back t q k ft cq) (orient_on q)
+    (ap (λ (z : ℤ). pos k *ℤ z) (orient_on t) ∙ negated (pos k) (product d t)))
   where
     apart : (k x y : ℤ) → k *ℤ (x -ℤ y) ≡ k *ℤ x -ℤ k *ℤ y
     apart k x y = rw (as_difference k, as_difference x, as_difference y)

@@ -22,7 +22,7 @@ use Rattle.hull_outline.proofs.Corners.{corner_extreme}
 use Rattle.hull_outline.proofs.Distances.{covered_near}
 use Rattle.hull_outline.proofs.Ends.{no_corners}
 use Rattle.hull_outline.proofs.FarApart.{magnified_near, times_along}
-use Rattle.hull_outline.proofs.Turns.{farthest_corner, holds_by_corners, placed}
+use Rattle.hull_outline.proofs.Switches.{farthest_corner, holds_by_corners, placed}
 use Rattle.hull_geometry.proofs.Slopes.{product-opp}
 
 -- ---- of what a line divides

@@ -283,7 +283,7 @@ by_span S V i j w d g h n c best s e =
     let at_left = left_bounded S V i j d g h c s in
     let left = weighed S V w (cross g v) (length_squared g) c.outline best at_left in
     let right = weighed S V w (cross v h) (length_squared h) c.outline best (right_bounded S V i j d g h c s) in
-    elim s.turns [
+    elim s.bends [
       | inl t ↦ between_two (side_of w *ℤ side_of w) (edge_squared w) (cross h g) n (length_squared d) (product d h)
           (product d g) (cross g v) (cross v h) (length_squared g) (length_squared h) (neg_ℤ (dot g h))
           (square_nn (side_of w))

@@ -13,7 +13,7 @@ pub mod EdgesAt
 pub mod Triangles
 pub mod TangentsOf
 pub mod Parted
-pub mod Turns
+pub mod Switches
 pub mod Boxed
 pub mod Shields
 pub mod Cones

@@ -28,7 +28,7 @@ use Rattle.hull_outline.proofs.Corners.{corner_back, corner_extreme, next_left}
 use Rattle.hull_geometry.proofs.PointLists.{all_of}
 use Rattle.hull_outline.proofs.Parted.{farther_back}
 use Rattle.hull_outline.proofs.Shields.{among_on_segment, third_among, one_of_two, start_there, end_there}
-use Rattle.hull_outline.proofs.Turns.{farthest_corner, placed, less_told}
+use Rattle.hull_outline.proofs.Switches.{farthest_corner, placed, less_told}
 use Rattle.lattice.proofs.Numbers.{gap_np, le_itself, le_trans, less_opposites, not_less}
 use Rattle.lattice.proofs.LineCrossings.{orient_other}
 
@@ -83,10 +83,10 @@ left_before S V j h l =
 positive : (x : ℤ) → pos 0 ≤ℤ x → ¬ (x ≡ pos 0) → pos 0 <ℤ x
 positive x h n = elim (le_or_lt x (pos 0)) [ inl k ↦ absurd (n (omega (arith, ints))) | inr k ↦ k ]
 
--- three corners or more turn left at each
-pub turn_at : (S V : List Pair) (j : ℕ) → IsVertexList S V → j < length V → 2 < length V
+-- three corners or more bend left at each
+pub bends_at : (S V : List Pair) (j : ℕ) → IsVertexList S V → j < length V → 2 < length V
     → pos 0 <ℤ orient (previous V j) (corner V j) (corner V (j + 1))
-turn_at S V j h l many =
+bends_at S V j h l many =
     let b = previous_at V j l in
     let a = next_at V j l in
     let left : pos 0 ≤ℤ orient (previous V j) (corner V j) (corner V (j + 1)) =
@@ -118,7 +118,7 @@ pub farthest_from : (S V : List Pair) (last j : ℕ) (q : Pair) → IsOutlineOf 
     → IsFarthest S (step (corner V j) q) (corner V j)
 farthest_from S V last j q o p l t = elim (cases_lt 2 (length V)) [
   | inl many ↦ all_of (λ s. product f s ≤ℤ product f c) S (λ s m. no_more _ _
-      (no_farther_in_cone f (previous V j) c (corner V (j + 1)) s (turn_at S V j o.1 l many)
+      (no_farther_in_cone f (previous V j) c (corner V (j + 1)) s (bends_at S V j o.1 l many)
       (All-contains (λ u. pos 0 ≤ℤ orient (previous V j) c u) S s (left_before S V j o.1 l) m)
       (All-contains (λ u. pos 0 ≤ℤ orient c (corner V (j + 1)) u) S s (next_left S V j (j + 1) o.1 refl l) m)
       (not_onward c (corner V (j + 1)) q t.1) (not_onward c (previous V j) q t.0)))
@@ -183,7 +183,7 @@ unseen_many S V last q o p many out h = elim (covers_or_separated S q o.0) [
       let b = previous_at V j k.1 in
       clash _ _ (All-contains (λ t. product d t <ℤ product d q) S (corner V j) a.1
       (corner_extreme S V j o.1 (omega (arith, many))).0)
-      (no_farther_in_cone d (previous V j) (corner V j) (corner V (j + 1)) q (turn_at S V j o.1 k.1 many)
+      (no_farther_in_cone d (previous V j) (corner V j) (corner V (j + 1)) q (bends_at S V j o.1 k.1 many)
       (not_less _ (pos 0) (rw (b.3, ← b.4) (h b.0 b.1))) (not_less _ (pos 0) (h j k.1))
       (gap_np _ _ (All-contains (λ t. product d t ≤ℤ product d (corner V j)) S (corner V (j + 1)) top
       (corner_extreme S V (j + 1) o.1 (omega (arith, many))).0))
@@ -285,7 +285,7 @@ module _ (S V : List Pair) (q : Pair) (o : IsOutlineOf S V) (none : NoneNearest 
       → orient (corner V j) (corner V (j + 1)) q <ℤ pos 0 → ¬ IsOnward (corner V j) (corner V (j + 1)) q
       → ¬ IsOnward (corner V j) (previous V j) q
   not_back j l h k n = elim (cases_lt 2 (length V)) [
-    | inl many ↦ turned_to_second (previous V j) (corner V j) (corner V (j + 1)) q (turn_at S V j o.1 l many) h k n
+    | inl many ↦ turned_to_second (previous V j) (corner V j) (corner V (j + 1)) q (bends_at S V j o.1 l many) h k n
     | inr few ↦ subst (λ (z : Pair). ¬ IsOnward (corner V j) z q) (sym (same_beside V j l few)) n
   ]
 
@@ -294,7 +294,7 @@ module _ (S V : List Pair) (q : Pair) (o : IsOutlineOf S V) (none : NoneNearest 
       → pos 0 ≤ℤ orient (corner V j) (corner V (j + 1)) q → ¬ IsOnward (corner V j) (previous V j) q
       → ¬ IsOnward (corner V j) (corner V (j + 1)) q
   not_on j l h k n = elim (cases_lt 2 (length V)) [
-    | inl many ↦ turned_to_first (previous V j) (corner V j) (corner V (j + 1)) q (turn_at S V j o.1 l many) h k n
+    | inl many ↦ turned_to_first (previous V j) (corner V j) (corner V (j + 1)) q (bends_at S V j o.1 l many) h k n
     | inr few ↦ subst (λ (z : Pair). ¬ IsOnward (corner V j) z q) (same_beside V j l few) n
   ]
 

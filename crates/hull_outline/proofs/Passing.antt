@@ -20,8 +20,8 @@ use Rattle.hull_outline.specs.Meetings.{Parts, IsApart, segment}
 use Rattle.hull_outline.specs.Outlines.{IsOutlineOf}
 use Rattle.hull_outline.specs.Rounds.{corner, IsParted}
 use Rattle.hull_outline.proofs.Corners.{corner_back, corner_extreme, next_left}
-use Rattle.hull_outline.proofs.Turns.{turn_of, farthest_corner, placed, less_told}
-use Rattle.hull_outline.proofs.NearestOf.{search_below, turn_at, previous_at}
+use Rattle.hull_outline.proofs.Switches.{switch_of, farthest_corner, placed, less_told}
+use Rattle.hull_outline.proofs.NearestOf.{search_below, bends_at, previous_at}
 use Rattle.hull_outline.specs.Steps.{left_of}
 use Rattle.hull_outline.proofs.Differences.{Shared}
 use Rattle.hull_outline.proofs.Parted.{weights_from, product_ns, product_mp}
@@ -241,7 +241,7 @@ ends_ahead : (V : List Pair) (Q : Pair → Type 0) → ((p : Pair) → Q p ⊎ �
     → Q (corner V i) → ¬ Q (corner V j)
     → (m : ℕ) × (m < length V) × Q (corner V m) × ¬ Q (corner V (m + 1))
 ends_ahead V Q told i j l n q f =
-    let r = turn_of (λ k. Q (corner V k)) (λ k. told (corner V k)) (j - i) i j (omega (arith, l)) in
+    let r = switch_of (λ k. Q (corner V k)) (λ k. told (corner V k)) (j - i) i j (omega (arith, l)) in
     let t = r.1 in
     let past : ¬ Q (corner V r.0) =
     elim (cases_lt r.0 j) [
@@ -294,7 +294,7 @@ same_far {m} k f p q big e g =
     spread x y z = rw (as_difference x, as_difference y, as_difference z)
         (simp difference_rules (difference-eq _ _ _ _ (omega arith)))
 
--- where three corners that turn lie as far, all points do
+-- where three corners that bend lie as far, all points do
 level_by : (f p c n x : Pair) → pos 0 <ℤ orient p c n → product f n ≡ product f c → product f p ≡ product f c
     → product f x ≡ product f c
 level_by f p c n x t en ep =
@@ -406,7 +406,7 @@ module _ (S T W : List Pair) (last : ℕ) (o : IsOutlineOf T W) (p : IsParted W 
       let q : product K P ≡ product K C =
       same_far k K P C big (flat P (rw (b.3) (level b.0 b.1))) (flat C (level 0 (omega (arith, many)))) in
       let all : (x : Pair) → product K x ≡ product K C =
-      λ x. level_by K P C N x (turn_at T W 0 o.1 (omega (arith, many)) many) n q in
+      λ x. level_by K P C N x (bends_at T W 0 o.1 (omega (arith, many)) many) n q in
       let e : common S T h ≡ times k v = turned_nothing (times k v) (common S T h) C (all (east C)) (all (north C)) in
       omega (arith, ints, times_far k g v, ap (product g) e, less_than_T S T h g (product g v) free)
     where

@@ -6,7 +6,7 @@ use Rattle.lattice.specs.Plane.{Pair, IsBefore}
 use Rattle.lattice.specs.Vertices.{IsVertexList}
 use Rattle.lattice.proofs.Order.{before_total}
 use Rattle.hull_geometry.specs.Edges.{IsAlong, IsEdgeOn, IsLowerEdge, IsUpperEdge, IsFirst, IsLast}
-use Rattle.hull_geometry.proofs.Chains.{edges_turn}
+use Rattle.hull_geometry.proofs.Chains.{edges_convex}
 use Rattle.lattice.specs.declared.side.Side.{Side}
 use Rattle.lattice.specs.declared.side.Side.TheVariants.{Lower, Upper}
 use Rattle.hull_outline.specs.Outlines.{IsOutlineOf}
@@ -114,10 +114,10 @@ round_of S V top o s = record {
   starts = s.starts;
   within = s.within;
   steps = λ i l. (λ k. (ahead i (i + 1) refl k).along, λ k. (back i (i + 1) refl k l).along);
-  turns = λ i l apart n. elim (cases_lt i top) [
-    | inl k ↦ edges_turn Lower S (corner V i) (corner V (i + 1)) (corner V (i + 2)) (ahead i (i + 1) refl k)
+  bends = λ i l apart n. elim (cases_lt i top) [
+    | inl k ↦ edges_convex Lower S (corner V i) (corner V (i + 1)) (corner V (i + 2)) (ahead i (i + 1) refl k)
         (ahead (i + 1) (i + 2) (omega arith) (omega (arith, k, apart)))
-    | inr k ↦ edges_turn Upper S (corner V i) (corner V (i + 1)) (corner V (i + 2)) (back i (i + 1) refl k l)
+    | inr k ↦ edges_convex Upper S (corner V i) (corner V (i + 1)) (corner V (i + 2)) (back i (i + 1) refl k l)
         (back (i + 1) (i + 2) (omega arith) (omega (arith, k)) n)
   ];
 }

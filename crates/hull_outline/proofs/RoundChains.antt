@@ -25,9 +25,9 @@ pub front_convex : (V : List Pair) (top : ℕ) → IsRound V top → IsConvex (c
 front_convex V top r = record {
   ascends = λ i j e l. renumbered V (IsBefore (corner V i)) (i + 1) j (sym e)
       ((r.steps i (omega (arith, e, l, r.within))).0 (omega (arith, e, l)));
-  turns = λ i j k e f l. renumbered V (λ z. pos 0 <ℤ orient (corner V i) z (corner V k)) (i + 1) j (sym e)
+  bends = λ i j k e f l. renumbered V (λ z. pos 0 <ℤ orient (corner V i) z (corner V k)) (i + 1) j (sym e)
       (renumbered V (λ z. pos 0 <ℤ orient (corner V i) (corner V (i + 1)) z) (i + 2) k (omega (arith, e, f))
-      (r.turns i (omega (arith, e, f, l, r.within)) (λ q. absurd (omega (arith, e, f, l, q)))
+      (r.bends i (omega (arith, e, f, l, r.within)) (λ q. absurd (omega (arith, e, f, l, q)))
       (omega (arith, e, f, l, r.within))));
 }
 
@@ -37,13 +37,13 @@ behind_convex V top r = record {
   ascends = λ i j e l. turned_order (corner V (top + j)) (corner V (top + i))
       (renumbered V (λ z. IsBefore z (corner V (top + i))) (top + i + 1) (top + j) (omega (arith, e))
       ((r.steps (top + i) (omega (arith, e, l, r.within))).1 (omega arith)));
-  turns = λ i j k e f l.
+  bends = λ i j k e f l.
       subst (λ (n : ℤ). pos 0 <ℤ n) (sym (side_turned (corner V (top + i)) (corner V (top + j)) (corner V (top + k))))
       (renumbered V (λ z. pos 0 <ℤ orient (corner V (top + i)) z (corner V (top + k))) (top + i + 1) (top + j)
       (omega (arith, e))
       (renumbered V (λ z. pos 0 <ℤ orient (corner V (top + i)) (corner V (top + i + 1)) z) (top + i + 2) (top + k)
       (omega (arith, e, f))
-      (r.turns (top + i) (omega (arith, e, f, l, r.within)) (λ q. absurd (omega (arith, q)))
+      (r.bends (top + i) (omega (arith, e, f, l, r.within)) (λ q. absurd (omega (arith, q)))
       (omega (arith, e, f, l, r.within)))));
 }
 

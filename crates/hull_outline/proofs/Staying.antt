@@ -26,7 +26,7 @@ use Rattle.hull_outline.proofs.Ends.{ends_of, no_corners}
 use Rattle.hull_outline.proofs.Made.{own_outline}
 use Rattle.hull_outline.proofs.MadeEdges.{set_of, set_ordered, set_among, set_all}
 use Rattle.hull_outline.proofs.RoundChains.{renumbered}
-use Rattle.hull_outline.proofs.Turns.{turn_of}
+use Rattle.hull_outline.proofs.Switches.{switch_of}
 
 -- ---- a covered point stands under a segment between two corners
 
@@ -76,7 +76,7 @@ under_chain : (side : Side) (S V : List Pair) (last : ℕ) (t : Pair) → IsOutl
     → Covers S t → IsAlong side t (corner V (ends_at side V last)) → IsUnder side V t
 under_chain side S V last t o p n c to =
     let from = (within_ends side S V last t o p n c).0 in
-    let r = turn_of (λ i. ¬ (IsAlong side t (corner V (i + 1)))) told (ends_at side V last - starts_at side last)
+    let r = switch_of (λ i. ¬ (IsAlong side t (corner V (i + 1)))) told (ends_at side V last - starts_at side last)
     (starts_at side last) (ends_at side V last) (span side) in
     let high = start_within side V last r.0 t from to r.1.from r.1.to r.1.held in
     let e : IsEdgeOnAt side S t (corner V r.0, corner V (r.0 + 1)) =

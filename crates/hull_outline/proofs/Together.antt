@@ -15,7 +15,7 @@ use Rattle.hull_outline.specs.Rounds.{corner, IsParted}
 use Rattle.hull_outline.proofs.Differences.{parted_or_shared}
 use Rattle.hull_outline.proofs.Passing.{none_shared}
 use Rattle.hull_outline.proofs.Shields.{start_there, end_there}
-use Rattle.hull_outline.proofs.Turns.{all_nearer}
+use Rattle.hull_outline.proofs.Switches.{all_nearer}
 use Rattle.hull_geometry.proofs.Slopes.{product-opp}
 
 -- any set is apart from no points

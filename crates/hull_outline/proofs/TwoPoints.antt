@@ -8,7 +8,7 @@ use Rattle.hull_geometry.specs.Positions.{point_at}
 use Rattle.hull_geometry.proofs.Rounding.{small_list}
 use Rattle.hull_geometry.proofs.SetLaws.{ordered_with}
 use Rattle.hull_outline.specs.Outlines.{IsOutlineOf}
-use Rattle.hull_outline.specs.Rounds.{GoesOn, TurnsLeft, IsParted, IsRound}
+use Rattle.hull_outline.specs.Rounds.{GoesOn, BendsLeft, IsParted, IsRound}
 use Rattle.hull_outline.specs.Segments.{ends}
 use Rattle.hull_outline.proofs.Made.{own_outline}
 
@@ -37,10 +37,10 @@ two_steps p q b zero l = (λ k. b, λ k. absurd (omega (arith, k)))
 two_steps p q b (suc zero) l = (λ k. absurd (omega (arith, k)), λ k. b)
 two_steps p q b (suc (suc i)) l = absurd (omega (arith, l))
 
-two_turns : (p q : Pair) (i : ℕ) → i < length (p ∷ q ∷ []) → TurnsLeft (p ∷ q ∷ []) 1 i
-two_turns p q zero l = λ n k. absurd (n (omega arith))
-two_turns p q (suc zero) l = λ n k. absurd (omega (arith, k))
-two_turns p q (suc (suc i)) l = absurd (omega (arith, l))
+two_bends : (p q : Pair) (i : ℕ) → i < length (p ∷ q ∷ []) → BendsLeft (p ∷ q ∷ []) 1 i
+two_bends p q zero l = λ n k. absurd (n (omega arith))
+two_bends p q (suc zero) l = λ n k. absurd (omega (arith, k))
+two_bends p q (suc (suc i)) l = absurd (omega (arith, l))
 
 -- two points in order are a round
 two_round : (p q : Pair) → IsBefore p q → IsRound (p ∷ q ∷ []) 1
@@ -48,7 +48,7 @@ two_round p q b = record {
   starts = omega arith;
   within = omega arith;
   steps = two_steps p q b;
-  turns = two_turns p q;
+  bends = two_bends p q;
 }
 
 -- so their last one stands second

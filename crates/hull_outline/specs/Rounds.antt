@@ -12,17 +12,17 @@ abbrev pub GoesOn : List Pair → ℕ → ℕ → Type 0
 GoesOn V last i =
     (i < last → IsBefore (corner V i) (corner V (i + 1))) × (last ≤ i → IsBefore (corner V (i + 1)) (corner V i))
 
--- two steps from the corner at i, both forward or both back, turn left
-abbrev pub TurnsLeft : List Pair → ℕ → ℕ → Type 0
-TurnsLeft V last i =
+-- two steps from the corner at i, both forward or both back, bend left
+abbrev pub BendsLeft : List Pair → ℕ → ℕ → Type 0
+BendsLeft V last i =
     ¬ (i + 1 ≡ last) → i + 1 < length V → pos 0 <ℤ orient (corner V i) (corner V (i + 1)) (corner V (i + 2))
 
--- the corners go forward to the one at `last` and back, and turn left between
+-- the corners go forward to the one at `last` and back, and bend left between
 pub record IsRound (V : List Pair) (last : ℕ) : Type 0 where
   pub starts : 0 < last
   pub within : last < length V
   pub steps : (i : ℕ) → i < length V → GoesOn V last i
-  pub turns : (i : ℕ) → i < length V → TurnsLeft V last i
+  pub bends : (i : ℕ) → i < length V → BendsLeft V last i
 
 -- the last of the corners stands at `last`, and two corners or more are a round
 abbrev pub IsParted : List Pair → ℕ → Type 0

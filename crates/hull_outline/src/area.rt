@@ -10,7 +10,7 @@ ghost use Rattle.hull_outline.specs.Lent.{corners_of};
 use super::outline::Outline;
 use lattice::{Point, orient};
 
-/// The doubled area of a triangle that does not turn right.
+/// The doubled area of a triangle that does not bend right.
 fn doubled_triangle(first: Point, u: Point, v: Point) -> u128
     requires { pos 0 ≤ℤ plane.orient first u v }
     ensures value { pos result ≡ plane.orient first u v }

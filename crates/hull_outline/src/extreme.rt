@@ -87,7 +87,7 @@ pub(crate) fn farthest_place(corners: &[Point], last: usize, d: Vector) -> usize
 impl<'a> Outline<'a> {
     /// The first, by x and then y, of the points with the greatest product with `d`; `None` for the empty set.
     ///
-    /// A bisection of the chain that `d` faces, whose edges turn from rising in `d` to falling.
+    /// A bisection of the chain that `d` faces, whose edges go from rising in `d` to falling.
     pub fn extreme(&self, d: Direction) -> Option<Point>
         ensures { HoldsOfSetsOf (corners_of self.now) (λ S. AnswersExtreme S d (reply_to_extreme result)) }
     {

@@ -145,8 +145,8 @@ fn nearest_on(side: Side, corners: &[Point], last: usize, q: Point) -> usize
 /// The corner or the edge nearest to `q`, which the hull does not cover.
 ///
 /// Along the part of the boundary that `q` sees the way to it falls, and then rises: the distance from `q` to the line of an
-/// edge, along a ray that turns, is that length by the cosine of the ray's angle, and the boundary is the greatest of
-/// these. So a bisection of each chain finds where it turns. That one of the two does is not proved: should none have,
+/// edge, along a ray that goes round, is that length by the cosine of the ray's angle, and the boundary is the greatest of
+/// these. So a bisection of each chain finds where it changes. That one of the two does is not proved: should none have,
 /// one pass looks for it, which no test has seen.
 pub(crate) fn nearest_outside(corners: &[Point], last: usize, q: Point) -> Nearest
     requires some { 0 < length corners.now }

@@ -3,7 +3,7 @@ ghost use Rattle.std.specs.Prelude.{◌≡◌, ◌↔◌, pos, ◌<ℤ◌, ◌+�
 ghost use Rattle.lattice.specs.Plane as plane;
 ghost use Rattle.lattice.specs.Plane.{IsBefore};
 ghost use Rattle.hull_outline.specs.Outlines.{IsOutline};
-ghost use Rattle.hull_outline.specs.Rounds.{corner, GoesOn, TurnsLeft, IsRound, IsParted};
+ghost use Rattle.hull_outline.specs.Rounds.{corner, GoesOn, BendsLeft, IsRound, IsParted};
 
 use super::bisection::first_failing;
 use lattice::{Point, before, orient};
@@ -44,8 +44,8 @@ fn is_back(corners: &[Point], i: usize) -> bool
     before(corner_at(corners, i + 1), corner_at(corners, i))
 }
 
-/// Whether the list turns left behind the corner at `i`.
-fn is_left_turn(corners: &[Point], i: usize) -> bool
+/// Whether the list bends left behind the corner at `i`.
+fn bends_left(corners: &[Point], i: usize) -> bool
     requires { i + 1 < length corners.now }
     ensures { IsTrue result
         ↔ (pos 0 <ℤ plane.orient (corner corners.now i) (corner corners.now (i + 1)) (corner corners.now (i + 2))) }
@@ -83,19 +83,19 @@ fn goes_on(corners: &[Point], last: usize, i: usize) -> bool
     }
 }
 
-/// Whether the list turns left behind the corner at `i`, if it goes on the same way.
+/// Whether the list bends left behind the corner at `i`, if it goes on the same way.
 fn bends(corners: &[Point], last: usize, i: usize) -> bool
     requires { i < length corners.now }
-    ensures { IsTrue result ↔ TurnsLeft corners.now last i }
+    ensures { IsTrue result ↔ BendsLeft corners.now last i }
 {
     if i + 1 == last || i + 1 == corners.len() {
         true
     } else {
-        is_left_turn(corners, i)
+        bends_left(corners, i)
     }
 }
 
-/// Whether the corners go forward to the one at `last`, and back, and turn left between.
+/// Whether the corners go forward to the one at `last`, and back, and bend left between.
 fn is_round(corners: &[Point], last: usize) -> bool
     requires starts { 0 < last }
     requires within { last < length corners.now }
@@ -129,7 +129,7 @@ pub(crate) fn last_of(corners: &[Point]) -> Option<usize>
 /// [`HullSet::vertices`](hull_set::HullSet::vertices) gives them.
 ///
 /// One pass: a list of two points or more is an outline where it goes forward to its last point and back from there to
-/// the first, and turns left in between (the two chains of Andrew, 1979). Lists of one point and of none are outlines.
+/// the first, and bends left in between (the two chains of Andrew, 1979). Lists of one point and of none are outlines.
 pub fn is_outline(corners: &[Point]) -> bool
     ensures { IsTrue result ↔ IsOutline corners.now }
 {

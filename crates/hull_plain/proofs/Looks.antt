@@ -10,7 +10,7 @@ use Rattle.lattice.proofs.Order.{before_not}
 use Rattle.hull_geometry.specs.ChainEdges.{IsEdge, IsEdgeAt}
 use Rattle.hull_plain.specs.ChainSights.{IsSeen}
 use Rattle.hull_geometry.specs.Monotone.{IsChainOf}
-use Rattle.lattice.specs.Turns.{turn}
+use Rattle.lattice.specs.Orientations.{orient_on}
 use Rattle.hull_geometry.specs.Positions.{IsPositionOf, point_at, origin}
 use Rattle.lattice.specs.declared.side.Side.{Side}
 use Rattle.lattice.specs.declared.side.Side.TheVariants.{Lower, Upper}
@@ -23,17 +23,17 @@ use Rattle.hull_geometry.proofs.EdgesAt.{up_to, on_from, touching_first}
 use Rattle.hull_geometry.proofs.CoveredByEdges.{on_segment}
 use Rattle.hull_geometry.proofs.EdgePlaces.{on_line_outer, between_inside}
 use Rattle.hull_geometry.proofs.Orientation.{orient-cycle, orient_swap}
-use Rattle.hull_geometry.proofs.Turns.{turn_at_end}
+use Rattle.hull_geometry.proofs.Orientations.{orient_on_end}
 
 -- ---- from the boundary
 
 -- a point on the line of an edge is outer
-on_edge_line : (side : Side) (S : List Pair) (q a b : Pair) → IsEdge side S a b → turn side a b q ≡ pos 0 → IsOuter S q
+on_edge_line : (side : Side) (S : List Pair) (q a b : Pair) → IsEdge side S a b → orient_on side a b q ≡ pos 0 → IsOuter S q
 on_edge_line Lower S q a b e z = on_line_outer S a b q (inl e.forward) (lower_edge e).left z
 on_edge_line Upper S q a b e z = on_line_outer S b a q (inr e.forward) (upper_edge e).left z
 
--- a turn that is 0 is a side that is 0
-level : (side : Side) (a b q : Pair) → turn side a b q ≡ pos 0 → orient q a b ≡ pos 0
+-- a bend that is 0 is a side that is 0
+level : (side : Side) (a b q : Pair) → orient_on side a b q ≡ pos 0 → orient q a b ≡ pos 0
 level Lower a b q z = sym (orient-cycle a b q) ∙ z
 level Upper a b q z = swapped _ _ (orient_swap q a b) (sym (orient-cycle b a q) ∙ z)
   where
@@ -41,7 +41,7 @@ level Upper a b q z = swapped _ _ (orient_swap q a b) (sym (orient-cycle b a q) 
     swapped x y e h = omega (arith, ints)
 
 -- a point on an edge is on the boundary
-pub on_edge : (side : Side) (S : List Pair) (q a b : Pair) → IsEdgeAt side S q a b → turn side a b q ≡ pos 0
+pub on_edge : (side : Side) (S : List Pair) (q a b : Pair) → IsEdgeAt side S q a b → orient_on side a b q ≡ pos 0
     → IsOnBoundary S q
 on_edge side S q a b e z = (
   OnSegment a b e.edge.from e.edge.to (on_segment a b q e.after e.before (level side a b q z)),
@@ -56,7 +56,7 @@ on_chain side S chain q i at c = subst (IsOnBoundary S) (at.1 origin) (elim (edg
   | inr k ↦ (
     Member there,
     on_edge_line side S (point_at chain i) (point_at chain (i - 1)) (point_at chain i) k.1
-        (turn_at_end side (point_at chain (i - 1)) (point_at chain i)),
+        (orient_on_end side (point_at chain (i - 1)) (point_at chain i)),
   )
 ])
   where

@@ -3,12 +3,12 @@ ghost use Rattle.std.specs.Prelude.{◌≡◌, ◌+◌, ◌*◌, ◌<◌, ◌≤
 ghost use Rattle.lattice.specs.Plane.{Pair, widest_side};
 ghost use Rattle.lattice.specs.Covers.{IsPointSet};
 ghost use Rattle.lattice.specs.Vertices.{IsVertexList, IsDoubledArea};
-ghost use Rattle.lattice.specs.Turns as turns;
+ghost use Rattle.lattice.specs.Orientations as orientations;
 ghost use Rattle.hull_geometry.specs.Monotone.{IsSomeChain, AreChainsOf, AreChains, fan_of};
 
 use heap::Heap;
 use hull_set::POINT_LIMIT;
-use lattice::{Point, Side, turn};
+use lattice::{Point, Side, orient_on};
 use std::alloc::AllocError;
 use tiered_list::TieredList;
 
@@ -32,13 +32,13 @@ pub(crate) fn vertices_of(
     Ok(out)
 }
 
-/// The doubled area of a triangle that does not turn outwards.
+/// The doubled area of a triangle that does not bend outwards.
 fn doubled_triangle(side: Side, a: Point, b: Point, c: Point) -> u128
-    requires { pos 0 ≤ℤ turns.turn side a b c }
-    ensures value { pos result ≡ turns.turn side a b c }
+    requires { pos 0 ≤ℤ orientations.orient_on side a b c }
+    ensures value { pos result ≡ orientations.orient_on side a b c }
     ensures size { result ≤ widest_side }
 {
-    turn(side, a, b, c) as u128
+    orient_on(side, a, b, c) as u128
 }
 
 /// The doubled area between a chain and the segment from its first point to its last.

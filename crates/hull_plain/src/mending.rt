@@ -11,7 +11,7 @@ ghost use Rattle.hull_plain.specs.Bounds.{IsBehind, IsAhead};
 use super::draft::Draft;
 use super::monotone::{extend, pass_over, take_up};
 use super::positions::{count_up_to, first_not_before, position_of};
-use lattice::{Point, Side, turn};
+use lattice::{Point, Side, orient_on};
 use std::ops::Bound;
 use tiered_list::TieredList;
 
@@ -47,7 +47,7 @@ pub(crate) fn is_inwards(side: Side, chain: &TieredList, i: usize, p: Point) -> 
     if i == 0 || i == chain.len() {
         return false;
     }
-    turn(side, chain.get(i - 1), p, chain.get(i)) <= 0
+    orient_on(side, chain.get(i - 1), p, chain.get(i)) <= 0
 }
 
 /// The number of points up to the last of the first ones of a chain.

@@ -3,29 +3,29 @@ ghost use Rattle.std.specs.Prelude.{◌≡◌, ◌+◌, ◌-◌, ◌<◌, ◌≤
 ghost use Rattle.std.specs.Prelude.{None, slice_range, vec_capacity};
 ghost use Rattle.lattice.specs.Covers.{IsPointSet};
 ghost use Rattle.hull_plain.specs.Drafts.{IsAsRoomy, drafted};
-ghost use Rattle.lattice.specs.Turns as turns;
-ghost use Rattle.hull_geometry.specs.Monotone.{EndsInwards, IsTurning, IsPassed, IsThinned};
+ghost use Rattle.lattice.specs.Orientations as orientations;
+ghost use Rattle.hull_geometry.specs.Monotone.{EndsInwards, IsConvex, IsPassed, IsThinned};
 
 use super::draft::Draft;
-use lattice::{Point, Side, turn};
+use lattice::{Point, Side, orient_on};
 use tiered_list::TieredList;
 
 /// Whether `c` lies inwards of the line from `a` forward to `b`.
 pub(crate) fn is_inner(side: Side, a: Point, b: Point, c: Point) -> bool
-    ensures { IsTrue result ↔ (pos 0 <ℤ turns.turn side a b c) }
+    ensures { IsTrue result ↔ (pos 0 <ℤ orientations.orient_on side a b c) }
 {
-    turn(side, a, b, c) > 0
+    orient_on(side, a, b, c) > 0
 }
 
 /// Whether the last point of a draft does not lie outwards of the segment from the one before it to `c`.
 fn ends_inwards(side: Side, list: &TieredList, draft: &Draft, c: Point) -> bool
     requires { draft.now.kept ≤ length list.now.items }
     ensures inwards { IsTrue result → EndsInwards side (drafted list.now.items draft.now) c }
-    ensures turning { result ≡ false → IsTurning side (drafted list.now.items draft.now)
-        → IsTurning side (drafted list.now.items draft.now ++ c ∷ []) }
+    ensures convex { result ≡ false → IsConvex side (drafted list.now.items draft.now)
+        → IsConvex side (drafted list.now.items draft.now ++ c ∷ []) }
 {
     match draft.last_two(list) {
-        Some(ends) => turn(side, ends.0, ends.1, c) <= 0,
+        Some(ends) => orient_on(side, ends.0, ends.1, c) <= 0,
         None => false,
     }
 }
@@ -44,8 +44,8 @@ pub(crate) fn extend_behind(
     requires room { length (drafted list.now.items draft.old) < vec_capacity draft.old.fresh }
     ensures within { draft.new.kept ≤ draft.old.kept }
     ensures thinned { IsThinned side (drafted list.now.items draft.old ++ c ∷ []) (drafted list.now.items draft.new) }
-    ensures turning { fixed ≡ None → IsTurning side (drafted list.now.items draft.old)
-        → IsTurning side (drafted list.now.items draft.new) }
+    ensures convex { fixed ≡ None → IsConvex side (drafted list.now.items draft.old)
+        → IsConvex side (drafted list.now.items draft.new) }
     ensures stays { IsTrue result
         → drafted list.now.items draft.new ≡ drafted list.now.items draft.old ++ c ∷ [] }
     ensures room { IsAsRoomy draft.old draft.new }
@@ -59,11 +59,11 @@ pub(crate) fn extend_behind(
     stays
 }
 
-/// The same of a draft that turns: none of its points has to stay.
+/// The same of a draft that bends: none of its points has to stay.
 pub(crate) fn extend(side: Side, list: &TieredList, draft: &mut Draft, c: Point) -> bool
     requires within { draft.old.kept ≤ length list.now.items }
     requires set { IsPointSet (drafted list.now.items draft.old ++ c ∷ []) }
-    requires turning { IsTurning side (drafted list.now.items draft.old) }
+    requires convex { IsConvex side (drafted list.now.items draft.old) }
     requires room { length (drafted list.now.items draft.old) < vec_capacity draft.old.fresh }
     ensures within { draft.new.kept ≤ draft.old.kept }
     ensures passed { IsPassed side (drafted list.now.items draft.old ++ c ∷ []) (drafted list.now.items draft.new) }
@@ -87,7 +87,7 @@ pub(crate) fn pass_over(
     requires order { from ≤ to }
     requires inside { to ≤ length points.now.items }
     requires set { IsPointSet (drafted list.now.items draft.old ++ slice_range points.now.items from to) }
-    requires turning { IsTurning side (drafted list.now.items draft.old) }
+    requires convex { IsConvex side (drafted list.now.items draft.old) }
     requires room { length (drafted list.now.items draft.old) + (to - from) ≤ vec_capacity draft.old.fresh }
     ensures within { draft.new.kept ≤ draft.old.kept }
     ensures passed { IsPassed side (drafted list.now.items draft.old ++ slice_range points.now.items from to)
@@ -99,14 +99,14 @@ pub(crate) fn pass_over(
     }
 }
 
-/// Takes the pass on over the list's own points from a place on, which turn. It ends as soon as it stands on two of them in
-/// a row: from there on, the place that it tells, all turns are as they were.
+/// Takes the pass on over the list's own points from a place on, which bend. It ends as soon as it stands on two of them in
+/// a row: from there on, the place that it tells, all bends are as they were.
 pub(crate) fn take_up(side: Side, list: &TieredList, draft: &mut Draft, from: usize) -> usize
     requires within { draft.old.kept ≤ length list.now.items }
     requires inside { from ≤ length list.now.items }
     requires set { IsPointSet (drafted list.now.items draft.old ++ drop from list.now.items) }
-    requires turning { IsTurning side (drafted list.now.items draft.old) }
-    requires rest_turning { IsTurning side (drop from list.now.items) }
+    requires convex { IsConvex side (drafted list.now.items draft.old) }
+    requires rest_convex { IsConvex side (drop from list.now.items) }
     requires room { length (drafted list.now.items draft.old) + length (drop from list.now.items)
         ≤ vec_capacity draft.old.fresh }
     ensures within { draft.new.kept ≤ draft.old.kept }

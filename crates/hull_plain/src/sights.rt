@@ -10,7 +10,7 @@ ghost use Rattle.hull_set.specs.Replies.{LiesAt};
 use super::positions::position_of;
 use hull_geometry::Sight;
 use hull_set::Place;
-use lattice::{Point, Side, turn};
+use lattice::{Point, Side, orient_on};
 use tiered_list::TieredList;
 
 /// From where a point looks at the chain on one side.
@@ -39,7 +39,7 @@ fn look_from(side: Side, chain: &TieredList, i: usize, q: Point) -> ChainSight
     if i == chain.len() {
         return ChainSight::After;
     }
-    let inwards = turn(side, chain.get(i - 1), chain.get(i), q);
+    let inwards = orient_on(side, chain.get(i - 1), chain.get(i), q);
     if inwards < 0 {
         ChainSight::Outwards
     } else if inwards > 0 {

@@ -6,8 +6,8 @@ use Rattle.lattice.specs.Plane.{Pair, orient, IsBefore}
 use Rattle.lattice.specs.Bridges.{IsAllBefore, IsLowerBridge}
 use Rattle.lattice.specs.Signs.{le_or_lt}
 use Rattle.lattice.specs.declared.side.Side.TheVariants.{Lower}
-use Rattle.lattice.proofs.Vectors.{minus, cross, turn_trans_strict, turn_trans_strict_right}
-use Rattle.hull_geometry.proofs.Turns.{turns_on, turns_back}
+use Rattle.lattice.proofs.Vectors.{minus, cross, cross_trans_strict, cross_trans_strict_right}
+use Rattle.hull_geometry.proofs.Orientations.{strict_on, strict_back}
 use Rattle.hull_questions.proofs.Halves.{AreHalves, swapped, halves_of}
 use Rattle.bridge_search.specs.Trees.{Tree, Leaf, Fork, On, IsBridged, lower_of}
 use Rattle.bridge_search.specs.Leaves.{points_of}
@@ -27,9 +27,9 @@ over_from_left : (a b c d t : Pair) → IsBefore a b → IsBefore c d → IsBefo
 over_from_left a b c d t ab cd ca at da bc bt =
     let low : pos 0 ≤ℤ cross (minus d c) (minus a c) = at_least _ _ (orient-cross c d a) da in
     let mid : pos 0 <ℤ cross (minus a c) (minus t a) =
-    above _ _ (side_after c a t) (turns_on Lower c a b t ca ab at (above _ _ (orient-cycle a b c) bc) bt) in
+    above _ _ (side_after c a t) (strict_on Lower c a b t ca ab at (above _ _ (orient-cycle a b c) bc) bt) in
     sum_above _ _ _ (side_by_start c d a t) low
-    (turn_trans_strict_right (minus d c) (minus a c) (minus t a) (ahead_of c d cd) (ahead_of c a ca) (ahead_of a t at)
+    (cross_trans_strict_right (minus d c) (minus a c) (minus t a) (ahead_of c d cd) (ahead_of c a ca) (ahead_of a t at)
     low mid)
 
 -- an edge cd that ends after b, where the edge ab is less steep: what lies over ab, before b, lies over cd
@@ -38,9 +38,9 @@ over_from_right : (a b c d t : Pair) → IsBefore a b → IsBefore c d → IsBef
 over_from_right a b c d t ab cd bd tb db bd_turn bt =
     let low : pos 0 ≤ℤ cross (minus d b) (minus d c) = at_least _ _ (side_to_end c d b) db in
     let mid : pos 0 <ℤ cross (minus b t) (minus d b) =
-    above _ _ (orient-cycle b d t ∙ side_after t b d) (turns_back Lower a b d t ab bd tb bt bd_turn) in
+    above _ _ (orient-cycle b d t ∙ side_after t b d) (strict_back Lower a b d t ab bd tb bt bd_turn) in
     sum_above _ _ _ (side_by_end c d b t) low
-    (turn_trans_strict (minus b t) (minus d b) (minus d c) (ahead_of t b tb) (ahead_of b d bd) (ahead_of c d cd) mid low)
+    (cross_trans_strict (minus b t) (minus d b) (minus d c) (ahead_of t b tb) (ahead_of b d bd) (ahead_of c d cd) mid low)
 
 -- a number at least 0 that is not 0
 pub not_zero : (z : ℤ) → pos 0 ≤ℤ z → ¬ (z ≡ pos 0) → pos 0 <ℤ z
@@ -90,13 +90,13 @@ pub left_lifts : (u w : Tree) (v a b : Pair) (e : Pair × Pair) → IsAllBefore 
 left_lifts u w v a b e o h va k =
     let ca : IsBefore e.0 a = up_to e.0 v a k.starts va in
     let inc : On u e.0 = on_of_contains u e.0 k.edge.from in
-    let turn : pos 0 <ℤ orient a b e.0 = not_zero _ (h.inner_left e.0 inc) (λ z. (h.tie_left e.0 inc z).0 ca) in
+    let orient_on : pos 0 <ℤ orient a b e.0 = not_zero _ (h.inner_left e.0 inc) (λ z. (h.tie_left e.0 inc z).0 ca) in
     let low : pos 0 ≤ℤ orient e.0 e.1 a =
     All-contains (λ t. pos 0 ≤ℤ orient e.0 e.1 t) (points_of u) a k.edge.left (contains_of_on u a h.from_left) in
     record {
       edge = grow (points_of u ++ points_of w) u w e.0 e.1 (halves_of u w) k.edge
           (λ t i. over_from_left a b e.0 e.1 t (o a b h.from_left h.to_right) k.edge.along ca
-          (o a t h.from_left i) low turn (h.inner_right t i));
+          (o a t h.from_left i) low orient_on (h.inner_right t i));
       starts = k.starts;
       onward = k.onward;
     }
@@ -108,13 +108,13 @@ pub right_lifts : (u w : Tree) (v a b : Pair) (e : Pair × Pair) → IsAllBefore
 right_lifts u w v a b e o h n k =
     let bd : IsBefore b e.1 = up_to b v e.1 n k.onward in
     let ind : On w e.1 = on_of_contains w e.1 k.edge.to in
-    let turn : pos 0 <ℤ orient a b e.1 = not_zero _ (h.inner_right e.1 ind) (λ z. (h.tie_right e.1 ind z).1 bd) in
+    let orient_on : pos 0 <ℤ orient a b e.1 = not_zero _ (h.inner_right e.1 ind) (λ z. (h.tie_right e.1 ind z).1 bd) in
     let low : pos 0 ≤ℤ orient e.0 e.1 b =
     All-contains (λ t. pos 0 ≤ℤ orient e.0 e.1 t) (points_of w) b k.edge.left (contains_of_on w b h.to_right) in
     record {
       edge = grow (points_of u ++ points_of w) w u e.0 e.1 (swapped _ u w (halves_of u w)) k.edge
           (λ t i. over_from_right a b e.0 e.1 t (o a b h.from_left h.to_right) k.edge.along bd
-          (o t b i h.to_right) low turn (h.inner_left t i));
+          (o t b i h.to_right) low orient_on (h.inner_left t i));
       starts = k.starts;
       onward = k.onward;
     }

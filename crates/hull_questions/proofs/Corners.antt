@@ -13,7 +13,7 @@ use Rattle.hull_geometry.proofs.Orientation.{orient_swap, above, orient-cycle}
 use Rattle.hull_questions.specs.Chains.{IsLowerCorner}
 use Rattle.hull_questions.proofs.ChainEdges.{not_zero}
 use Rattle.lattice.specs.declared.side.Side.TheVariants.{Lower}
-use Rattle.hull_geometry.proofs.Turns.{turns_on, turns_back}
+use Rattle.hull_geometry.proofs.Orientations.{strict_on, strict_back}
 use Rattle.lattice.proofs.Numbers.{below_opposite, less_not_le}
 
 -- the first point is a corner: nothing stands before it
@@ -37,9 +37,9 @@ bridge_start u w a b o h = record {
   there = contains_of_on u a h.from_left;
   under = λ s t m n sa at.
       let i : On u s = on_of_contains u s m in
-      let turn : pos 0 <ℤ orient a b s = not_zero _ (h.inner_left s i) (λ z. (h.tie_left s i z).0 sa) in
+      let orient_on : pos 0 <ℤ orient a b s = not_zero _ (h.inner_left s i) (λ z. (h.tie_left s i z).0 sa) in
       below_opposite _ _ (orient_swap s t a)
-      (turns_on Lower s a b t sa (o a b h.from_left h.to_right) at (above _ _ (orient-cycle a b s) turn)
+      (strict_on Lower s a b t sa (o a b h.from_left h.to_right) at (above _ _ (orient-cycle a b s) orient_on)
       (h.inner_left t (on_of_contains u t n)));
 }
 
@@ -50,9 +50,9 @@ bridge_end u w a b o h = record {
   there = contains_of_on w b h.to_right;
   under = λ s t m n sb bt.
       let i : On w t = on_of_contains w t n in
-      let turn : pos 0 <ℤ orient a b t = not_zero _ (h.inner_right t i) (λ z. (h.tie_right t i z).1 bt) in
+      let orient_on : pos 0 <ℤ orient a b t = not_zero _ (h.inner_right t i) (λ z. (h.tie_right t i z).1 bt) in
       below_opposite _ _ (orient_swap s t b) (above _ _ (orient-cycle b t s)
-      (turns_back Lower a b t s (o a b h.from_left h.to_right) bt sb (h.inner_right s (on_of_contains w s m)) turn));
+      (strict_back Lower a b t s (o a b h.from_left h.to_right) bt sb (h.inner_right s (on_of_contains w s m)) orient_on));
 }
 
 -- a corner of both halves that is a point of the left one is a corner of that

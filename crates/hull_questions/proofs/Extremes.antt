@@ -17,7 +17,7 @@ use Rattle.hull_geometry.specs.Tangents.{IsFirstFarthest, Faces}
 use Rattle.lattice.proofs.Order.{before_not, before_irrefl}
 use Rattle.hull_geometry.proofs.Slopes.{stays, goes}
 use Rattle.lattice.proofs.Numbers.{nn_opposite}
-use Rattle.lattice.specs.Turns.{turn}
+use Rattle.lattice.specs.Orientations.{orient_on}
 use Rattle.lattice.specs.declared.side.Side.{Side}
 use Rattle.lattice.specs.declared.side.Side.TheVariants.{Lower, Upper}
 use Rattle.hull_questions.proofs.StoredEdges.{same_ends}
@@ -77,20 +77,20 @@ facing_fork d (Fork e f u w) g h = tt
 
 -- the left end of a bridge that d faces is not less far than the right one: the first of the farthest is in the left half
 stays_left : (side : Side) (u w : Tree) (d a b r : Pair) → Faces side d → IsAllBefore (On u) (On w) → On u a → On w b
-    → ((s : Pair) → On w s → pos 0 ≤ℤ turn side a b s) → product d b ≤ℤ product d a → IsFirstFarthest (points_of u) d r
+    → ((s : Pair) → On w s → pos 0 ≤ℤ orient_on side a b s) → product d b ≤ℤ product d a → IsFirstFarthest (points_of u) d r
     → IsFirstFarthest (points_of u ++ points_of w) d r
 stays_left side u w d a b r faces o ia ib inner f h =
     in_left u w d r o h (λ s i. (a, ia, stays side d a b s faces (o a b ia ib) (o a s ia i) (inner s i) f))
 
 -- the left end is less far than the right one: it is in the right half
 goes_right : (side : Side) (u w : Tree) (d a b r : Pair) → Faces side d → IsAllBefore (On u) (On w) → On u a → On w b
-    → ((s : Pair) → On u s → pos 0 ≤ℤ turn side a b s) → product d a <ℤ product d b → IsFirstFarthest (points_of w) d r
+    → ((s : Pair) → On u s → pos 0 ≤ℤ orient_on side a b s) → product d a <ℤ product d b → IsFirstFarthest (points_of w) d r
     → IsFirstFarthest (points_of u ++ points_of w) d r
 goes_right side u w d a b r faces o ia ib inner f h =
     in_right u w d r h (λ s i. (b, ib, goes side d a b s faces (o a b ia ib) (o s b i ib) (inner s i) f))
 
 -- inwards of an upper bridge
-under : (e : Pair × Pair) (s : Pair) → orient e.0 e.1 s ≤ℤ pos 0 → pos 0 ≤ℤ turn Upper e.0 e.1 s
+under : (e : Pair × Pair) (s : Pair) → orient e.0 e.1 s ≤ℤ pos 0 → pos 0 ≤ℤ orient_on Upper e.0 e.1 s
 under e s h = nn_opposite _ _ (orient_other e.0 e.1 s) h
 
 -- the left end of the edge that d faces is not less far than the right one: to the left half

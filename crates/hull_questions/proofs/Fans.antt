@@ -33,7 +33,7 @@ fan_over t u w apex from a b to m n k walks (xs, p, e) z (ys, q, g) =
 
 -- ---- signs
 
--- seen from a point, a chain of lower edges does not turn right
+-- seen from a point, a chain of lower edges does not bend right
 fan_above : (S : List Pair) (f v : Pair) (vs : List Pair) → IsChain (IsLowerEdge S) v vs → Contains S f
     → pos 0 ≤ℤ fan f v vs
 fan_above S f v [] c m = omega (arith, ints)

@@ -16,9 +16,9 @@ use Rattle.hull_geometry.proofs.EdgeSteps.{past_farther, past_farther_back}
 use Rattle.lattice.proofs.Order.{before_total, before_trans}
 use Rattle.hull_geometry.proofs.Orientation.{orient_swap, at_least, above, orient-cycle}
 use Rattle.hull_geometry.proofs.SameSide.{OneSide, more_beside}
-use Rattle.hull_geometry.proofs.Sightings.{turn_on_back, no_more, tangent_of}
+use Rattle.hull_geometry.proofs.Sightings.{orient_by_back, no_more, tangent_of}
 use Rattle.hull_geometry.proofs.EdgesAt.{up_to, on_from}
-use Rattle.hull_geometry.specs.Hands.{other_hand, turn_on, IsMore, IsOnHand, end_on}
+use Rattle.hull_geometry.specs.Hands.{other_hand, orient_by, IsMore, IsOnHand, end_on}
 use Rattle.hull_geometry.specs.Tangents.{IsNoMore, IsTangent}
 use Rattle.hull_questions.specs.Hands.{half_on, outermost, IsBeyond}
 use Rattle.hull_questions.proofs.Halves.{AreHalves, swapped, halves_of}
@@ -27,7 +27,7 @@ use Rattle.hull_geometry.specs.Sights.{IsBelow}
 use Rattle.hull_geometry.specs.declared.hand.Hand.{Hand}
 use Rattle.hull_geometry.specs.declared.hand.Hand.TheVariants.{Left, Right}
 use Rattle.lattice.specs.declared.side.Side.TheVariants.{Lower}
-use Rattle.hull_geometry.proofs.Turns.{turns_on, turns_back, fans_from, fans_to}
+use Rattle.hull_geometry.proofs.Orientations.{strict_on, strict_back, fans_from, fans_to}
 
 -- ---- the order in which q sees the points that lie above it
 
@@ -44,16 +44,16 @@ side_of hand S q t h m = sort hand (before_total t q)
 
 -- a point on this hand of q is seen farther there than each point on the other
 across : (hand : Hand) (S : List Pair) (q s t : Pair) → IsBelow S q → Contains S s → Contains S t → IsOnHand hand s q
-    → IsOnHand hand q t → pos 0 <ℤ turn_on hand q s t
+    → IsOnHand hand q t → pos 0 <ℤ orient_by hand q s t
 across Left S q s t h m n b k = let a : orient s t q <ℤ pos 0 = h.outwards s t m n b k in let e = orient-cycle s t q in
     let f = orient_swap q t s in omega (arith, ints)
 across Right S q s t h m n b k = let a : orient t s q <ℤ pos 0 = h.outwards t s n m k b in let e = orient-cycle t s q in
     let f = orient_swap q s t in omega (arith, ints)
 
 -- of two points not each is farther on this hand
-clash : (hand : Hand) (q s t : Pair) → pos 0 <ℤ turn_on hand q s t → IsMore hand q t s → ⊥
-clash hand q s t a (inl g) = let e = turn_on_back hand q s t in omega (arith, ints)
-clash hand q s t a (inr g) = let e = turn_on_back hand q s t in omega (arith, ints, g.0)
+clash : (hand : Hand) (q s t : Pair) → pos 0 <ℤ orient_by hand q s t → IsMore hand q t s → ⊥
+clash hand q s t a (inl g) = let e = orient_by_back hand q s t in omega (arith, ints)
+clash hand q s t a (inr g) = let e = orient_by_back hand q s t in omega (arith, ints, g.0)
 
 -- three points on this hand of q stand on one side of it
 all_on : (hand : Hand) (q u v w : Pair) → IsOnHand hand u q → IsOnHand hand v q → IsOnHand hand w q → OneSide q u v w
@@ -145,9 +145,9 @@ near_more Right S q t (a, b) h mb mt ab tb qb over under =
 far_more : (hand : Hand) (q t : Pair) (e : Pair × Pair) → IsBefore e.0 e.1 → IsOnHand hand t (end_on (other_hand hand) e)
     → IsBeyond hand e q → pos 0 ≤ℤ orient e.0 e.1 t → IsMore hand q (end_on (other_hand hand) e) t
 far_more Left q t (a, b) ab tb (bq, left) over =
-    inl (above _ _ (orient-cycle b q t ∙ orient-cycle t b q) (turns_back Lower a b q t ab bq tb over left))
+    inl (above _ _ (orient-cycle b q t ∙ orient-cycle t b q) (strict_back Lower a b q t ab bq tb over left))
 far_more Right q t (a, b) ab at (qa, left) over =
-    inl (turns_on Lower q a b t qa ab at (above _ _ (orient-cycle a b q) left) over)
+    inl (strict_on Lower q a b t qa ab at (above _ _ (orient-cycle a b q) left) over)
 
 -- ---- one step down
 

@@ -28,7 +28,7 @@ use Rattle.hull_shared.specs.declared.desk.Desk.TheVariants.{Fresh, Open, Closed
 use Rattle.hull_shared.specs.declared.desk.FreshDesk.{FreshDesk}
 use Rattle.hull_shared.specs.declared.desk.OpenDesk.{OpenDesk}
 use Rattle.hull_shared.specs.declared.limits.Limits.{Limits}
-use Rattle.hull_shared.specs.declared.place.Place.{Place}
+use Rattle.hull_shared.specs.declared.place.SeatPlace.{SeatPlace}
 use Rattle.hull_shared.specs.declared.seat.IdleSeat.{IdleSeat}
 use Rattle.hull_shared.specs.declared.seat.SharedSeat.{SharedSeat}
 use Rattle.hull_shared.specs.declared.seat.SharedSeat.TheVariants as seat
@@ -55,14 +55,14 @@ pub record IsDeskRound (b : DeskValue) (seats : ℕ) (d : OpenDesk) : Type 0 whe
   pub book : book_of (lock_of d.lock) ≡ b
   pub seats_are : d.seats ≡ seats
   pub all_in : All IsSome d.places.list.items
-  pub all_seen : (j : ℕ) (p : Place) → HasAt d.places.list.items j p → seat_seen p.seat ≡ b.book.lines
+  pub all_seen : (j : ℕ) (p : SeatPlace) → HasAt d.places.list.items j p → seat_seen p.seat ≡ b.book.lines
 
 -- all seats are at the desk, round such a book, and have seen no line
 pub record IsNew (l : Limits) (d : OpenDesk) : Type 0 where
   pub book : IsNewBook l (book_of (lock_of d.lock))
   pub seats_are : d.seats ≡ l.seats
   pub all_in : All IsSome d.places.list.items
-  pub none_seen : (j : ℕ) (p : Place) → HasAt d.places.list.items j p → seat_seen p.seat ≡ []
+  pub none_seen : (j : ℕ) (p : SeatPlace) → HasAt d.places.list.items j p → seat_seen p.seat ≡ []
 
 -- a new desk; or a number is out of range, or memory was refused
 abbrev pub IsOpening : Limits → Result OpenDesk Code → Type 0
@@ -93,7 +93,7 @@ IsSameDesk d e = (lock_of e.lock ≡ lock_of d.lock) × (e.seats ≡ d.seats) ×
 -- the seat of this number went out of its place
 pub record HasGone (number : ℕ) (d e : OpenDesk) (i : IdleSeat) : Type 0 where
   pub same : IsSameDesk d e
-  pub place : Place
+  pub place : SeatPlace
   pub j : ℕ
   pub home : number + j + 1 ≡ d.seats
   pub was_in : HasAt d.places.list.items j place
@@ -138,7 +138,7 @@ pub record HasCome (d e : OpenDesk) (i : IdleSeat) : Type 0 where
 
 -- a seat of this number is at the desk
 abbrev pub IsAtDesk : ℕ → OpenDesk → Type 0
-IsAtDesk number d = (j : ℕ) × (p : Place) × (number + j + 1 ≡ d.seats) × HasAt d.places.list.items j p
+IsAtDesk number d = (j : ℕ) × (p : SeatPlace) × (number + j + 1 ≡ d.seats) × HasAt d.places.list.items j p
 
 -- a seat with no number was given back: it is there again; or its place has a seat, and nothing changed
 abbrev pub TakesBack : OpenDesk → IdleSeat → OpenDesk → Option IdleSeat → Type 0
@@ -169,8 +169,8 @@ pub record IsJournalOf (d : OpenDesk) (c : ClosedDesk) : Type 0 where
   pub whole : List MarkedLine
   pub holds_none : HoldsNone (head_of (lock_of d.lock)).keeps whole
   pub legal : IsLegal (whole_head (head_of (lock_of d.lock)).book.journal whole) (plain whole)
-  pub seen : (j : ℕ) (p : Place) → HasAt d.places.list.items j p → IsPrefix (seat_seen p.seat) whole
-  pub own_lines : (j : ℕ) (p : Place) → HasAt d.places.list.items j p → HasOwnLines whole p
+  pub seen : (j : ℕ) (p : SeatPlace) → HasAt d.places.list.items j p → IsPrefix (seat_seen p.seat) whole
+  pub own_lines : (j : ℕ) (p : SeatPlace) → HasAt d.places.list.items j p → HasOwnLines whole p
   pub part : c.part ≡ last_part (head_of (lock_of d.lock)).book.journal whole
 
 -- all seats and all readers are at the desk

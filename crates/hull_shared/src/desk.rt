@@ -6,7 +6,7 @@ ghost use Rattle.hull_shared.specs.Places.{AreLaidOut};
 
 use crate::gate::Gate;
 use crate::lock::SharedLock;
-use crate::place::Places;
+use crate::place::SeatPlaces;
 use hull_book::Journal;
 use std::alloc::Global;
 
@@ -16,7 +16,7 @@ pub(crate) struct OpenDesk {
     pub(crate) lock: SharedLock,
     pub(crate) seats: u8,
     pub(crate) capacity: u32,
-    pub(crate) places: Places,
+    pub(crate) places: SeatPlaces,
     pub(crate) gate: Option<Gate>,
     ghost holds: { capacity ≡ capacity_of (lock_of lock) },
     ghost laid_out: { AreLaidOut (lock_of lock) seats places },

@@ -4,7 +4,7 @@ ghost use Rattle.hull_shared.specs.Desks.{HasLent, HasReturned, IsSeatOfDesk, Le
 ghost use Rattle.hull_shared.specs.Locks.{lock_of};
 
 use crate::desk::{Desk, OpenDesk};
-use crate::place::{Place, Places};
+use crate::place::{SeatPlace, SeatPlaces};
 use crate::seat::{IdleSeat, SharedSeat};
 use core::mem::{replace, replace_with};
 use hull_reply::Code;
@@ -34,7 +34,7 @@ fn lend_from(desk: OpenDesk, number: u32) -> (OpenDesk, Result<IdleSeat, Code>)
         return (desk, Err(Code::NoMemory));
     };
     let mut desk = desk;
-    let Place { seat, ledger } = desk.places.list[j].take().unwrap();
+    let SeatPlace { seat, ledger } = desk.places.list[j].take().unwrap();
     let idle = IdleSeat {
         lock,
         seat,
@@ -65,7 +65,7 @@ fn return_to(desk: OpenDesk, idle: IdleSeat) -> (OpenDesk, Option<IdleSeat>)
     } = idle;
     drop(lock);
     let mut desk = desk;
-    let none = desk.places.list[j].replace(Place { seat, ledger });
+    let none = desk.places.list[j].replace(SeatPlace { seat, ledger });
     let None = none else { unreachable!() };
     (desk, None)
 }

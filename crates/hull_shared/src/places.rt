@@ -8,12 +8,12 @@ ghost use Rattle.bucket_tree.specs.Sets.{bucket_set};
 ghost use Rattle.hull_shared.specs.DeskBooks.{desk_head};
 ghost use Rattle.hull_shared.specs.Locks.{book_of, boxed_head, head_of, seats_of};
 ghost use Rattle.hull_shared.specs.Places.{AreLaidOut, HasAt, HasOwnLines};
-ghost use Rattle.hull_shared.specs.declared.place.Place.{Place as PlaceValue};
+ghost use Rattle.hull_shared.specs.declared.place.SeatPlace.{SeatPlace as PlaceValue};
 ghost use Rattle.ticket_lock.specs.Tokens.{AreNumbered, IsSeatOf, seat_count, seat_seen};
 
 use crate::book::DeskBook;
 use crate::lock::{DeskLock, DeskSeat};
-use crate::place::{Place, Places};
+use crate::place::{SeatPlace, SeatPlaces};
 use hull_book::Ledger;
 use hull_pool::close_book;
 
@@ -22,8 +22,8 @@ pub(crate) fn lay_out(
     lock: DeskLock,
     mut seats: Vec<DeskSeat>,
     mut ledgers: Vec<Ledger>,
-    mut list: Vec<Option<Place>>,
-) -> (DeskLock, Places)
+    mut list: Vec<Option<SeatPlace>>,
+) -> (DeskLock, SeatPlaces)
     requires all { (vec_len seats ≡ seat_count lock) × (seat_count lock ≡ seats_of lock) }
     requires own { All (IsSeatOf boxed_head lock) seats.items }
     requires numbers { AreNumbered seats.items }
@@ -38,9 +38,9 @@ pub(crate) fn lay_out(
 {
     while let Some(seat) = seats.pop() {
         let ledger = ledgers.pop().unwrap();
-        list.push_reserved(Some(Place { seat, ledger }));
+        list.push_reserved(Some(SeatPlace { seat, ledger }));
     }
-    let places = Places {
+    let places = SeatPlaces {
         list,
         seats,
         ledgers,
@@ -50,7 +50,7 @@ pub(crate) fn lay_out(
 
 /// Closes the lock, all of whose seats are at the desk: its book, whose journal begins with what each seat has seen and
 /// has no other lines in its name.
-pub(crate) fn close_lock(lock: DeskLock, places: Places) -> DeskBook
+pub(crate) fn close_lock(lock: DeskLock, places: SeatPlaces) -> DeskBook
     requires laid_out { AreLaidOut lock (seat_count lock) places }
     requires all_in { All IsSome places.list.items }
     ensures lawful { IsLawful bucket_set (whole result.book) }
@@ -60,13 +60,13 @@ pub(crate) fn close_lock(lock: DeskLock, places: Places) -> DeskBook
     ensures own_lines { (j : ℕ) (p : PlaceValue) → HasAt places.list.items j p → HasOwnLines
         result.book.lines p }
 {
-    let Places {
+    let SeatPlaces {
         mut list,
         mut seats,
         mut ledgers,
     } = places;
     while let Some(place) = list.pop() {
-        let Place { seat, ledger } = place.unwrap();
+        let SeatPlace { seat, ledger } = place.unwrap();
         seats.push_reserved(seat);
         ledgers.push_reserved(ledger);
     }

@@ -13,7 +13,7 @@ use crate::book::DeskBook;
 use crate::desk::OpenDesk;
 use crate::gate::Gate;
 use crate::lock::{DeskLock, DeskSeat};
-use crate::place::Places;
+use crate::place::SeatPlaces;
 use crate::places::{close_lock, lay_out};
 use core::mem::ManuallyDrop;
 use hull_book::{Ledger, gather};
@@ -84,7 +84,7 @@ fn new_desk(
     lock: DeskLock,
     seats: u8,
     capacity: u32,
-    places: Places,
+    places: SeatPlaces,
     gate: Option<Gate>,
 ) -> Result<OpenDesk, NoMemory>
     requires capacity { capacity ≡ capacity_of lock }

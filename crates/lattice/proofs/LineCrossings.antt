@@ -74,7 +74,7 @@ bend_negative a b c d hab hbc hcd g1 g2 =
     (scale_nonnegative (bend a b c d) (c.x -ℤ b.x) (c.y -ℤ b.y) up (step_positive b c hbc))
     (slope_x a b c d b c) (slope_y a b c d b c) (inl (omega (arith, linear)))))
 
--- two lines that both turn right do cross
+-- two lines that both bend right do cross
 pub s_positive : (a b c d : Pair) → IsBefore a b → IsBefore b c → IsBefore c d → orient a b c <ℤ pos 0
     → orient c d b <ℤ pos 0 → pos 0 <ℤ (s1 a b c d +ℤ s2 a b c d)
 s_positive a b c d hab hbc hcd g1 g2 = omega (arith, linear, bend_negative a b c d hab hbc hcd g1 g2, bend_is a b c d)
@@ -89,7 +89,7 @@ crossing_side a b c d =
     ap (λ (z : ℤ). orient a b c *ℤ orient a b d +ℤ z *ℤ orient a b c) (orient_other a b d)
     ∙ cancels (orient a b c) (orient a b d)
 
--- the crossing of two lines that turn right is a point, and on both lines
+-- the crossing of two lines that bend right is a point, and on both lines
 pub crossing_on_both : (a b c d : Pair) → IsBefore a b → IsBefore b c → IsBefore c d → orient a b c <ℤ pos 0
     → orient b c d <ℤ pos 0
     → (pos 0 <ℤ (s1 a b c d +ℤ s2 a b c d)) × (s1 a b c d *ℤ orient a b d +ℤ s2 a b c d *ℤ orient a b c ≡ pos 0)

@@ -72,7 +72,7 @@ no_sum a b vx vy wx wy ux uy v w ha hb u ex ey s =
     (λ r. ⊎_elim (λ h. inr (inl (scale_positive b wx wy h w))) (λ h. inr (inr h)) r) s)
     ex ey
 
--- ---- two lines, pq and ab: how much more the first turns
+-- ---- two lines, pq and ab: how much more the first bends
 unfoldable pub bend : Pair → Pair → Pair → Pair → ℤ
 bend p q a b = (q.x -ℤ p.x) *ℤ (b.y -ℤ a.y) -ℤ (q.y -ℤ p.y) *ℤ (b.x -ℤ a.x)
 

@@ -69,7 +69,7 @@ unfolding orient
 side_turned_over a b t =
     rw (as_pair a, as_pair b, as_pair t) (simp difference_rules (difference-eq _ _ _ _ (omega arith)))
 
--- a turn of all three points, of which the middle one is turned already
+-- a bend of all three points, of which the middle one is turned already
 pub side_turned_back : (a b c : Pair) → orient (turned_point a) b (turned_point c) ≡ orient a (turned_point b) c
 unfolding orient
 side_turned_back a b c =

@@ -38,7 +38,7 @@ unturned p q (inl h) = inl (omega (arith, linear))
 unturned p q (inr h) = inr (omega (arith, linear))
 
 -- the set t is the set s after a turn
-pub record IsTurn (s t : Pair → Type 0) : Type 0 where
+pub record AreTurned (s t : Pair → Type 0) : Type 0 where
   pub onto : (p : Pair) → s p → t (turned_point p)
   pub back : (p : Pair) → t p → s (turned_point p)
 
@@ -47,11 +47,11 @@ abbrev pub Turned : (Pair → Type 0) → Pair → Type 0
 Turned s t = s (turned_point t)
 
 -- that is the set after a turn
-pub is_turn : (s : Pair → Type 0) → IsTurn s (Turned s)
-is_turn s = record { onto = λ p h. subst s (sym (turned_twice p)) h; back = λ p h. h }
+pub are_turned : (s : Pair → Type 0) → AreTurned s (Turned s)
+are_turned s = record { onto = λ p h. subst s (sym (turned_twice p)) h; back = λ p h. h }
 
 -- the order of two sets, after a turn
-pub order_turned : (l r m n : Pair → Type 0) → IsTurn l n → IsTurn r m → IsAllBefore l r → IsAllBefore m n
+pub order_turned : (l r m n : Pair → Type 0) → AreTurned l n → AreTurned r m → IsAllBefore l r → IsAllBefore m n
 order_turned l r m n f g o p q i j = unturned p q (o (turned_point q) (turned_point p) (f.back q j) (g.back p i))
 
 -- on the line of the turned edge, as it is seen before the turn
@@ -77,7 +77,7 @@ inner Lower p q t h = let e : orient (turned_point q) (turned_point p) t ≡ neg
     orient_turned p q t in omega (arith, linear)
 
 -- a bridge of two sets, turned, is the bridge of the sets after a turn on the other side
-pub bridge_turned : (side : Side) (l r m n : Pair → Type 0) (p q : Pair) → IsTurn l n → IsTurn r m → IsBridge side l r p q
+pub bridge_turned : (side : Side) (l r m n : Pair → Type 0) (p q : Pair) → AreTurned l n → AreTurned r m → IsBridge side l r p q
     → IsBridge (other side) m n (turned_point q) (turned_point p)
 bridge_turned side l r m n p q f g h = record {
   from_left = g.onto q h.to_right;

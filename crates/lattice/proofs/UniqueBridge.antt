@@ -5,7 +5,7 @@ use lib.IntN.{pos, ◌-ℤ◌, ◌*ℤ◌}
 use lib.Signed.{◌<ℤ◌, ◌≤ℤ◌}
 use Rattle.lattice.specs.Plane.{Pair, orient, IsBefore, turned_point}
 use Rattle.lattice.proofs.Order.{equal_by}
-use Rattle.lattice.proofs.TurnedBridges.{Turned, is_turn, order_turned, bridge_turned, turned_twice}
+use Rattle.lattice.proofs.TurnedBridges.{Turned, are_turned, order_turned, bridge_turned, turned_twice}
 use Rattle.lattice.specs.Bridges.{IsAllBefore, IsUpperBridge, IsLowerBridge}
 use Rattle.lattice.specs.declared.side.Side.TheVariants.{Lower}
 use Rattle.lattice.specs.Integers.{linear}
@@ -74,8 +74,8 @@ pub one_lower_bridge : (l r : Pair → Type 0) (p q a b : Pair) → IsAllBefore 
     → IsLowerBridge l r a b → (p ≡ a) × (q ≡ b)
 one_lower_bridge l r p q a b o h k =
     let e = one_bridge (Turned r) (Turned l) (turned_point q) (turned_point p) (turned_point b) (turned_point a)
-    (order_turned l r _ _ (is_turn l) (is_turn r) o) (bridge_turned Lower l r _ _ p q (is_turn l) (is_turn r) h)
-    (bridge_turned Lower l r _ _ a b (is_turn l) (is_turn r) k) in
+    (order_turned l r _ _ (are_turned l) (are_turned r) o) (bridge_turned Lower l r _ _ p q (are_turned l) (are_turned r) h)
+    (bridge_turned Lower l r _ _ a b (are_turned l) (are_turned r) k) in
     (unturned p a e.1, unturned q b e.0)
   where
     unturned : (u v : Pair) → turned_point u ≡ turned_point v → u ≡ v

@@ -63,34 +63,34 @@ vertical u w vy hu v (inr h) vw =
     let p : pos 0 ≤ℤ (u.x *ℤ w.y) = product_nn u.x w.y hu (omega (arith, ints, h.1)) in
     subst (λ (z : ℤ). pos 0 ≤ℤ (u.x *ℤ w.y -ℤ u.y *ℤ z)) (sym h.0) (omega (arith, ints))
 
--- turns to the left, in the half of the plane ahead, compose
-pub turn_trans : (u v w : Pair) → Ahead u → Ahead v → Ahead w → pos 0 ≤ℤ cross u v → pos 0 ≤ℤ cross v w
+-- bends to the left, in the half of the plane ahead, compose
+pub cross_trans : (u v w : Pair) → Ahead u → Ahead v → Ahead w → pos 0 ≤ℤ cross u v → pos 0 ≤ℤ cross v w
     → pos 0 ≤ℤ cross u w
-turn_trans u v w hu (inl h) hw uv vw =
+cross_trans u v w hu (inl h) hw uv vw =
     cancel_nn (cross u w) v.x h
     (sum_nn (cross u v *ℤ w.x) (cross v w *ℤ u.x) _ (plucker u v w) (product_nn _ w.x uv (ahead_nn w hw))
     (product_nn _ u.x vw (ahead_nn u hu)))
-turn_trans u v w hu (inr h) hw uv vw =
+cross_trans u v w hu (inr h) hw uv vw =
     vertical u w v.y (ahead_nn u hu) h.1 hw (subst (λ (z : ℤ). pos 0 ≤ℤ (z *ℤ w.y -ℤ v.y *ℤ w.x)) h.0 vw)
 
--- the same where the first turn is strict
-pub turn_trans_strict : (u v w : Pair) → Ahead u → Ahead v → Ahead w → pos 0 <ℤ cross u v → pos 0 ≤ℤ cross v w
+-- the same where the first bend is strict
+pub cross_trans_strict : (u v w : Pair) → Ahead u → Ahead v → Ahead w → pos 0 <ℤ cross u v → pos 0 ≤ℤ cross v w
     → pos 0 <ℤ cross u w
-turn_trans_strict u v w hu hv hw uv vw =
+cross_trans_strict u v w hu hv hw uv vw =
     elim (le_or_lt (cross u w) (pos 0)) [
       | inl h ↦ let k : pos 0 ≤ℤ cross w u = rw (cross_swap w u) (omega (arith, ints)) in
-          let n : pos 0 ≤ℤ cross v u = turn_trans v w u hv hw hu vw k in
+          let n : pos 0 ≤ℤ cross v u = cross_trans v w u hv hw hu vw k in
           absurd (let e = cross_swap u v in omega (arith, ints))
       | inr h ↦ h
     ]
 
--- the same where the second turn is strict
-pub turn_trans_strict_right : (u v w : Pair) → Ahead u → Ahead v → Ahead w → pos 0 ≤ℤ cross u v → pos 0 <ℤ cross v w
+-- the same where the second bend is strict
+pub cross_trans_strict_right : (u v w : Pair) → Ahead u → Ahead v → Ahead w → pos 0 ≤ℤ cross u v → pos 0 <ℤ cross v w
     → pos 0 <ℤ cross u w
-turn_trans_strict_right u v w hu hv hw uv vw =
+cross_trans_strict_right u v w hu hv hw uv vw =
     elim (le_or_lt (cross u w) (pos 0)) [
       | inl h ↦ let k : pos 0 ≤ℤ cross w u = rw (cross_swap w u) (omega (arith, ints)) in
-          let n : pos 0 ≤ℤ cross w v = turn_trans w u v hw hu hv k uv in
+          let n : pos 0 ≤ℤ cross w v = cross_trans w u v hw hu hv k uv in
           absurd (let e = cross_swap v w in omega (arith, ints))
       | inr h ↦ h
     ]

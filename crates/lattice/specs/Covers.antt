@@ -16,7 +16,7 @@ IsBetween a b v = ((a ≤ℤ v) × (v ≤ℤ b)) ⊎ ((b ≤ℤ v) × (v ≤ℤ 
 abbrev pub IsOnSegment : Pair → Pair → Pair → Type 0
 IsOnSegment a b q = (orient a b q ≡ pos 0) × IsBetween a.x b.x q.x × IsBetween a.y b.y q.y
 
--- q lies in the closed triangle abc, which turns left
+-- q lies in the closed triangle abc, which bends left
 abbrev pub IsInTriangle : Pair → Pair → Pair → Pair → Type 0
 IsInTriangle a b c q =
     (pos 0 <ℤ orient a b c) × (pos 0 ≤ℤ orient a b q) × (pos 0 ≤ℤ orient b c q) × (pos 0 ≤ℤ orient c a q)

@@ -12,7 +12,7 @@ abbrev pub BridgeIsUnique : Side → (Pair → Type 0) → (Pair → Type 0) →
 BridgeIsUnique side l r =
     (p q a b : Pair) → IsAllBefore l r → IsBridge side l r p q → IsBridge side l r a b → (p ≡ a) × (q ≡ b)
 
--- where a, b, c, d stand in their order and turn right at b and at c, the weights of their crossing have a positive
+-- where a, b, c, d stand in their order and bend right at b and at c, the weights of their crossing have a positive
 -- sum, and the point between c and d that has these weights has neither side of the line ab, so it lies on both lines
 abbrev pub CrossingIsOnBothLines : Type 0
 CrossingIsOnBothLines =

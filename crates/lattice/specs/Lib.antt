@@ -1,5 +1,5 @@
 pub mod Plane
-pub mod Turns
+pub mod Orientations
 pub mod Covers
 pub mod Bridges
 pub mod Standing

@@ -35,7 +35,7 @@ pub use laws::{
 };
 pub use near::{is_near, orient_near, sum_of_near_products};
 pub use point::Point;
-pub use side::{Side, turn};
+pub use side::{Side, orient_on};
 pub use wide::{difference, sum_of_products};
 
 /// The greatest size of a coordinate of a point, and of a component of a direction.

@@ -1,7 +1,7 @@
-//! The two sides of a hull, and turns as they are seen from either.
+//! The two sides of a hull, and orientations as they are seen from either.
 ghost use Rattle.std.specs.Prelude.{◌≡◌};
 ghost use Rattle.lattice.specs.Plane.{IsWithin, widest_side};
-ghost use Rattle.lattice.specs.Turns as turns;
+ghost use Rattle.lattice.specs.Orientations as orientations;
 
 use super::compare::orient;
 use super::point::Point;
@@ -15,8 +15,8 @@ pub enum Side {
 
 /// Positive where `b`, between `a` and `c` in the order "before", lies outwards of the segment from `a` to `c`: where `c` lies
 /// inwards of the line from `a` forward to `b`. It is `orient(a, b, c)` on the lower side, and its negative on the upper one.
-pub fn turn(side: Side, a: Point, b: Point, c: Point) -> i128
-    ensures value { result ≡ turns.turn side a b c }
+pub fn orient_on(side: Side, a: Point, b: Point, c: Point) -> i128
+    ensures value { result ≡ orientations.orient_on side a b c }
     ensures size { IsWithin widest_side result }
 {
     match side {

@@ -59,7 +59,7 @@ fn all_short_lists(rt: HostRuntime) -> Result<(), Fail> {
 }
 
 /// Whether a list of six points turns left behind the one at `i`.
-fn turns_left(list: &[Point], i: usize) -> bool {
+fn lies_left(list: &[Point], i: usize) -> bool {
     match (
         list.get(i % 6),
         list.get((i % 6 + 1) % 6),
@@ -78,7 +78,7 @@ fn a_list_that_winds_twice(rt: HostRuntime) -> Result<(), Fail> {
         &[(0, 0), (10, 1), (5, 9), (1, 1), (9, 0), (6, 8)],
     )?;
     for i in 0usize..6 {
-        assert!(rt; turns_left(&list, i), "turn {i}");
+        assert!(rt; lies_left(&list, i), "turn {i}");
     }
     assert!(rt; !is_outline(&list));
     assert!(rt; Outline::new(&list).is_none());

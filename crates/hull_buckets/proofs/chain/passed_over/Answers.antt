@@ -29,7 +29,7 @@ loop-left-preserved c =
         next_within s c.pushed-kept.result k c.pushed-kept.ensures.within w.0 w.1,
         (let n = w.1 in omega (arith, n)),
       );
-      turning = c.pushed-kept.ensures.passed.strict.turning;
+      convex = c.pushed-kept.ensures.passed.strict.convex;
       passed = λ new h. c.loop-left.invariant.passed new
           (passed_on s c.args.side c.pushed-kept.result c.bit-left.result new c.bit-left.ensures
           c.pushed-kept.ensures.passed h);
@@ -38,4 +38,4 @@ loop-left-preserved c =
 pub returns-clause-passed : goal.returns-clause-passed
 returns-clause-passed c = c.loop-left.invariant.passed (at_places c.loop-left.kept c.args.points.now)
     (none_left c.args.side c.args.points.now c.loop-left.kept c.loop-left.left c.requires.ordered c.loop-left-test.false
-    c.loop-left.invariant.turning)
+    c.loop-left.invariant.convex)

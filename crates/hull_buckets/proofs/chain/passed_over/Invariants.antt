@@ -1,7 +1,7 @@
 -- what a pass leaves of the chain so far and the points that are left, it leaves of all of them
 use Rattle.std.proofs.Common.{ℕ, ◌<◌, ◌^◌, ◌++◌, List}
 use Rattle.lattice.specs.Plane.{Pair}
-use Rattle.hull_geometry.specs.Monotone.{IsTurning, IsPassed}
+use Rattle.hull_geometry.specs.Monotone.{IsConvex, IsPassed}
 use Rattle.hull_buckets.specs.Masks.{at_places, AreApart}
 use Rattle.hull_buckets.proofs.chain.passed_over.Given as goal
 
@@ -9,7 +9,7 @@ abbrev pub invariant-loop-left : goal.invariant-loop-left
 invariant-loop-left l = record {
   apart : AreApart l.kept l.left;
   within : (k : ℕ) → l.chain < 2 ^ k → l.rest < 2 ^ k → (l.kept < 2 ^ k) × (l.left < 2 ^ k);
-  turning : IsTurning l.side (at_places l.kept l.points);
+  convex : IsConvex l.side (at_places l.kept l.points);
   passed : (new : List Pair) → IsPassed l.side (at_places l.kept l.points ++ at_places l.left l.points) new
       → IsPassed l.side (at_places l.chain l.points ++ at_places l.rest l.points) new;
 }

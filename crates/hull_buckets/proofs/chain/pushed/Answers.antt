@@ -1,11 +1,11 @@
--- corners at which the chain does not turn go, and what is left of it turns
+-- corners at which the chain does not bend go, and what is left of it bends
 use Rattle.std.proofs.Common.{◌≡◌, ◌<◌, ◌+◌, ◌-◌, ◌^◌, ◌++◌, ◌∷◌, [], List, ℕ, length, take, arith, sym, ap, subst, ◌∙◌}
 use Rattle.std.proofs.Common.{refl}
 use Rattle.lattice.specs.Covers.{IsPointSet}
 use Rattle.lattice.specs.Plane.{Pair}
-use Rattle.hull_geometry.specs.Monotone.{IsTurning, IsPassed}
+use Rattle.hull_geometry.specs.Monotone.{IsConvex, IsPassed}
 use Rattle.hull_geometry.specs.Positions.{point_at}
-use Rattle.hull_geometry.proofs.Passes.{thinned_itself, passed_of, turning_take}
+use Rattle.hull_geometry.proofs.Passes.{thinned_itself, passed_of, convex_take}
 use Rattle.hull_buckets.specs.Masks.{at_places}
 use Rattle.hull_buckets.proofs.Ends.{thinned_twice, thinned_by}
 use Rattle.hull_buckets.proofs.Places.{set_at, pushed}
@@ -19,7 +19,7 @@ set_with S mask k s b l = subst IsPointSet (pushed S mask k b l) (set_at (mask +
 pub loop-front-init : goal.loop-front-init
 loop-front-init c = record {
   fewer = omega arith;
-  turning = c.requires.turning;
+  convex = c.requires.convex;
   thinned = thinned_itself c.args.side _
       (set_with c.args.points.now c.args.chain c.args.place c.requires.ordered c.requires.before c.requires.within);
 }
@@ -32,8 +32,8 @@ loop-front-preserved c =
     c.in-Some.ensures.front in
     record {
       fewer = omega (arith, c.in-Some.ensures.fewer, c.loop-front.invariant.fewer);
-      turning = subst (IsTurning c.args.side) (sym front)
-          (turning_take c.args.side _ (at_places c.loop-front.kept S) c.loop-front.invariant.turning);
+      convex = subst (IsConvex c.args.side) (sym front)
+          (convex_take c.args.side _ (at_places c.loop-front.kept S) c.loop-front.invariant.convex);
       thinned = thinned_twice c.args.side _ _ _ c.loop-front.invariant.thinned
           (thinned_by c.args.side (at_places c.loop-front.kept S) (at_places c.in-Some.front S)
           (point_at S c.args.place) c.in-Some.ensures.inwards front
@@ -52,4 +52,4 @@ returns-clause-passed c =
     ∙ ap (λ (b : ℕ). at_places (c.loop-front.kept + b) S) (sym c.bit.ensures) in
     subst (IsPassed c.args.side (at_places c.args.chain S ++ point_at S c.args.place ∷ [])) new
     (passed_of c.args.side _ _ c.loop-front.invariant.thinned
-    (c.in_default.ensures.turning refl c.loop-front.invariant.turning))
+    (c.in_default.ensures.convex refl c.loop-front.invariant.convex))

@@ -1,12 +1,12 @@
--- each step takes the lowest place that is left; where its corner stays behind the one before it, the others turn on
+-- each step takes the lowest place that is left; where its corner stays behind the one before it, the others bend on
 -- there
 use Rattle.std.proofs.Common.{◌≡◌, ℕ, ◌+◌, ◌-◌, ◌*◌, ◌^◌, ◌<◌, ◌≤◌, ◌++◌, ◌∷◌, [], List, length, arith, sym, ap}
 use Rattle.std.proofs.Common.{subst, ◌∙◌}
 use Rattle.std.proofs.Common.{suc}
 use Rattle.lattice.specs.Plane.{Pair}
-use Rattle.hull_geometry.specs.Monotone.{IsPassed, IsTurning}
+use Rattle.hull_geometry.specs.Monotone.{IsPassed, IsConvex}
 use Rattle.hull_geometry.specs.Positions.{point_at}
-use Rattle.hull_geometry.proofs.Passes.{turning_right}
+use Rattle.hull_geometry.proofs.Passes.{convex_right}
 use Rattle.hull_buckets.specs.Masks.{at_places}
 use Rattle.hull_buckets.proofs.Steps.{step, place_within, kept_before, first_left, rest_apart, next_within, none_left}
 use Rattle.hull_buckets.proofs.Steps.{ends_there, passed_on, stopped}
@@ -78,7 +78,7 @@ returns-then-next-kept-clause-passed c =
     (at_places (c.pushed-next.result + (c.loop-left.left - m)) S)) (sym c.bit-left.ensures)
     (stopped s c.args.side c.pushed-next.result b.0 b.1 c.requires.ordered
     (next_within s c.pushed-next.result (length S) c.pushed-next.ensures.within kept s.within) next b.2 b.3
-    c.pushed-next.ensures.passed.strict.turning))
+    c.pushed-next.ensures.passed.strict.convex))
 
 pub loop-left-preserved : goal.loop-left-preserved
 loop-left-preserved c =
@@ -86,11 +86,11 @@ loop-left-preserved c =
     let s = step c.args.points.now c.loop-left.kept c.loop-left.left c.lowest-place.result c.loop-left.invariant.apart
     c.lowest-place.ensures.least c.lowest-place.ensures.there
     (c.loop-left.invariant.within (length c.args.points.now) c.requires.chain_within c.requires.rest_within).1 in
-    let turning : IsTurning c.args.side (point_at S c.lowest-place.result
+    let convex : IsConvex c.args.side (point_at S c.lowest-place.result
     ∷ at_places (c.loop-left.left - c.bit-left.result) S) =
-    subst (λ (b : ℕ). IsTurning c.args.side (point_at S c.lowest-place.result ∷ at_places (c.loop-left.left - b) S))
+    subst (λ (b : ℕ). IsConvex c.args.side (point_at S c.lowest-place.result ∷ at_places (c.loop-left.left - b) S))
     (sym c.bit-left.ensures)
-    (subst (IsTurning c.args.side) (first_left s) c.loop-left.invariant.rest_turning) in
+    (subst (IsConvex c.args.side) (first_left s) c.loop-left.invariant.rest_convex) in
     let ends = ends_there s c.args.side c.pushed-next.result c.pushed-next.ensures.passed in
     record {
       apart = rest_apart s c.pushed-next.result c.bit-left.result c.pushed-next.ensures.within c.bit-left.ensures;
@@ -98,10 +98,10 @@ loop-left-preserved c =
         next_within s c.pushed-next.result k c.pushed-next.ensures.within w.0 w.1,
         (let n = w.1 in omega (arith, n)),
       );
-      turning = c.pushed-next.ensures.passed.strict.turning;
-      rest_turning = turning_right c.args.side (point_at S c.lowest-place.result ∷ [])
-          (at_places (c.loop-left.left - c.bit-left.result) S) turning;
-      behind = λ e. (ends.0, point_at S c.lowest-place.result, ends.1, turning);
+      convex = c.pushed-next.ensures.passed.strict.convex;
+      rest_convex = convex_right c.args.side (point_at S c.lowest-place.result ∷ [])
+          (at_places (c.loop-left.left - c.bit-left.result) S) convex;
+      behind = λ e. (ends.0, point_at S c.lowest-place.result, ends.1, convex);
       passed = λ new h. c.loop-left.invariant.passed new
           (passed_on s c.args.side c.pushed-next.result c.bit-left.result new c.bit-left.ensures
           c.pushed-next.ensures.passed h);
@@ -110,4 +110,4 @@ loop-left-preserved c =
 pub returns-clause-passed : goal.returns-clause-passed
 returns-clause-passed c = c.loop-left.invariant.passed (at_places c.loop-left.kept c.args.points.now)
     (none_left c.args.side c.args.points.now c.loop-left.kept c.loop-left.left c.requires.ordered c.loop-left-test.false
-    c.loop-left.invariant.turning)
+    c.loop-left.invariant.convex)

@@ -5,26 +5,26 @@ use Rattle.std.proofs.lemmas.Nat.{pow_pos}
 use Rattle.std.proofs.lemmas.Bool.{false≢true}
 use Rattle.lattice.specs.Plane.{Pair}
 use Rattle.lattice.specs.Signs.{le_or_lt}
-use Rattle.lattice.specs.Turns.{turn}
+use Rattle.lattice.specs.Orientations.{orient_on}
 use Rattle.lattice.specs.declared.side.Side.{Side}
-use Rattle.hull_geometry.specs.Monotone.{IsTurning, EndsInwards}
+use Rattle.hull_geometry.specs.Monotone.{IsConvex, EndsInwards}
 use Rattle.hull_geometry.specs.Positions.{point_at}
 use Rattle.hull_buckets.specs.Masks.{at_places}
-use Rattle.hull_buckets.proofs.Ends.{last_at, last_two_at, front_of, ends_inwards, turning_on}
+use Rattle.hull_buckets.proofs.Ends.{last_at, last_two_at, front_of, ends_inwards, convex_on}
 use Rattle.hull_buckets.proofs.Places.{none_at, read_at}
 use Rattle.hull_buckets.proofs.Words.{top_before, below_top}
 use Rattle.hull_buckets.proofs.chain.without_last.Goals as goal
 
-pub returns-then-chain-eq0-clause-turning : goal.returns-then-chain-eq0-clause-turning
-returns-then-chain-eq0-clause-turning c = λ e t.
-    subst (λ (m : ℕ). IsTurning c.args.side (at_places m c.args.points.now ++ point_at c.args.points.now c.args.place ∷
+pub returns-then-chain-eq0-clause-convex : goal.returns-then-chain-eq0-clause-convex
+returns-then-chain-eq0-clause-convex c = λ e t.
+    subst (λ (m : ℕ). IsConvex c.args.side (at_places m c.args.points.now ++ point_at c.args.points.now c.args.place ∷
     []))
     (sym c.if-chain-eq0.true)
-    (subst (λ (z : List Pair). IsTurning c.args.side (z ++ point_at c.args.points.now c.args.place ∷ []))
+    (subst (λ (z : List Pair). IsConvex c.args.side (z ++ point_at c.args.points.now c.args.place ∷ []))
     (sym (none_at c.args.points.now)) tt)
 
-pub returns-then-front-eq0-clause-turning : goal.returns-then-front-eq0-clause-turning
-returns-then-front-eq0-clause-turning c = λ e t.
+pub returns-then-front-eq0-clause-convex : goal.returns-then-front-eq0-clause-convex
+returns-then-front-eq0-clause-convex c = λ e t.
     let l = top_before c.args.chain c.highest-last.result c.args.place c.highest-last.ensures.there c.requires.before in
     let none : c.args.chain - 2 ^ c.highest-last.result ≡ 0 = omega (arith, c.if-front-eq0.true, c.bit.ensures) in
     let one : at_places c.args.chain c.args.points.now ≡ point_at c.args.points.now c.highest-last.result ∷ [] =
@@ -32,7 +32,7 @@ returns-then-front-eq0-clause-turning c = λ e t.
     c.highest-last.ensures.none_above (omega (arith, l, c.requires.within))
     ∙ ap (λ (m : ℕ). at_places m c.args.points.now ++ point_at c.args.points.now c.highest-last.result ∷ []) none
     ∙ ap (λ (z : List Pair). z ++ point_at c.args.points.now c.highest-last.result ∷ []) (none_at c.args.points.now) in
-    subst (λ (z : List Pair). IsTurning c.args.side (z ++ point_at c.args.points.now c.args.place ∷ [])) (sym one) (
+    subst (λ (z : List Pair). IsConvex c.args.side (z ++ point_at c.args.points.now c.args.place ∷ [])) (sym one) (
       tt,
       tt,
     )
@@ -83,16 +83,16 @@ read side S chain bit last ahead place a b p there above before within e fthere 
     lm = let b = below_top chain last above in
         let m = top_before (chain - bit) ahead last fthere (omega (arith, b, e)) in omega (arith, ll, m)
 
-pub returns-then-turns_at-clause-turning : goal.returns-then-turns_at-clause-turning
-returns-then-turns_at-clause-turning c = λ e t.
+pub returns-then-is_convex_at-clause-convex : goal.returns-then-is_convex_at-clause-convex
+returns-then-is_convex_at-clause-convex c = λ e t.
     let r = read c.args.side c.args.points.now c.args.chain c.bit.result c.highest-last.result c.highest-ahead.result
     c.args.place c.index-points-ahead.result c.index-points-last.result c.index-points-place.result
     c.highest-last.ensures.there c.highest-last.ensures.none_above c.requires.before c.requires.within c.bit.ensures
     c.highest-ahead.ensures.there c.highest-ahead.ensures.none_above c.index-points-ahead.is c.index-points-last.is
     c.index-points-place.is in
-    subst (λ (z : Pair). IsTurning c.args.side (at_places c.args.chain c.args.points.now ++ z ∷ [])) r.next
-    (turning_on c.args.side (at_places c.args.chain c.args.points.now) _ c.index-points-ahead.result
-    c.index-points-last.result c.index-points-place.result r.whole (c.turns_at.ensures.0 c.if-turns_at.true) t)
+    subst (λ (z : Pair). IsConvex c.args.side (at_places c.args.chain c.args.points.now ++ z ∷ [])) r.next
+    (convex_on c.args.side (at_places c.args.chain c.args.points.now) _ c.index-points-ahead.result
+    c.index-points-last.result c.index-points-place.result r.whole (c.is_convex_at.ensures.0 c.if-is_convex_at.true) t)
 
 pub returns-clause-inwards : goal.returns-clause-inwards
 returns-clause-inwards c =
@@ -104,11 +104,11 @@ returns-clause-inwards c =
     subst (EndsInwards c.args.side (at_places c.args.chain c.args.points.now)) r.next
     (ends_inwards c.args.side (at_places c.args.chain c.args.points.now) _ c.index-points-ahead.result
     c.index-points-last.result c.index-points-place.result r.whole
-    (elim (le_or_lt (turn c.args.side c.index-points-ahead.result c.index-points-last.result
+    (elim (le_or_lt (orient_on c.args.side c.index-points-ahead.result c.index-points-last.result
     c.index-points-place.result)
     (pos 0)) [
       | inl h ↦ h
-      | inr h ↦ absurd (false≢true (sym c.if-turns_at.false ∙ c.turns_at.ensures.1 h))
+      | inr h ↦ absurd (false≢true (sym c.if-is_convex_at.false ∙ c.is_convex_at.ensures.1 h))
     ]))
 
 pub returns-clause-front : goal.returns-clause-front

@@ -2,15 +2,15 @@
 use Rattle.std.proofs.Common.{◌≡◌, ◌-◌, ◌^◌, ◌++◌, ℕ, List, length, arith, sym, ap, subst, ◌∙◌}
 use Rattle.std.proofs.lemmas.Nat.{pow_pos}
 use Rattle.lattice.specs.Plane.{Pair}
-use Rattle.hull_geometry.specs.Monotone.{IsTurning, IsPassed}
+use Rattle.hull_geometry.specs.Monotone.{IsConvex, IsPassed}
 use Rattle.hull_geometry.proofs.Mended.{chain_of}
 use Rattle.hull_geometry.proofs.Passes.{member_inner}
 use Rattle.hull_buckets.specs.Masks.{at_places}
 use Rattle.hull_buckets.proofs.Places.{none_at, all_at}
 use Rattle.hull_buckets.proofs.mending.all_corners.Goals as goal
 
-pub passed_over-requires-clause-turning : goal.passed_over-requires-clause-turning
-passed_over-requires-clause-turning c = subst (IsTurning c.args.side) (sym (none_at c.args.points.now)) tt
+pub passed_over-requires-clause-convex : goal.passed_over-requires-clause-convex
+passed_over-requires-clause-convex c = subst (IsConvex c.args.side) (sym (none_at c.args.points.now)) tt
 
 pub returns : goal.returns
 returns c =
@@ -31,5 +31,5 @@ returns c =
             among = h.among;
             inner = λ u m. h.inner u (member_inner c.args.side S u m);
           })
-          h.strict.turning;
+          h.strict.convex;
     }

@@ -6,7 +6,7 @@ use Rattle.std.specs.Prelude.{◌↔◌, IsTrue}
 use Rattle.std.proofs.lemmas.Bool.{false≢true}
 use Rattle.lattice.specs.Plane.{Pair}
 use Rattle.lattice.specs.Signs.{le_or_lt}
-use Rattle.lattice.specs.Turns.{turn}
+use Rattle.lattice.specs.Orientations.{orient_on}
 use Rattle.lattice.proofs.Numbers.{less_not_le}
 use Rattle.lattice.specs.declared.side.Side.{Side}
 use Rattle.hull_geometry.specs.Mending.{IsOverEdge}
@@ -55,14 +55,14 @@ pub bounds-points-lowest : goal.bounds-points-lowest
 bounds-points-lowest c =
     top_before c.args.high c.lowest.result (length c.args.points.now) c.lowest.ensures.least c.requires.high_within
 
--- the turn of the points that were read at three places, and what it tells
+-- the bend of the points that were read at three places, and what it tells
 tells : (side : Side) (S : List Pair) (low high place h l : ℕ) (a b p : Pair) → low < 2 ^ place → place < length S
     → high < 2 ^ length S → 2 ^ h ≤ low → low < 2 ^ (h + 1) → 2 ^ l ≤ high → high % 2 ^ (l + 1) ≡ 2 ^ l
     → a ≡ get_or S h a → b ≡ get_or S l b → p ≡ get_or S place p
-    → (turn side a p b ≤ℤ pos 0)
+    → (orient_on side a p b ≤ℤ pos 0)
     ↔ IsOverEdge side (at_places low S ++ at_places high S) (length (at_places low S)) (point_at S place)
 tells side S low high place h l a b p before within high_within there above least first ea eb ep =
-    subst (λ (z : Pair). (turn side a p b ≤ℤ pos 0)
+    subst (λ (z : Pair). (orient_on side a p b ≤ℤ pos 0)
     ↔ IsOverEdge side (at_places low S ++ at_places high S) (length (at_places low S)) z) (read_at S place p within ep)
     (over_told side (at_places low S) (at_places high S) (at_places (low - 2 ^ h) S) (at_places (high - 2 ^ l) S) a b p
     (last_at S low h there above hl ∙ ap (λ (z : Pair). at_places (low - 2 ^ h) S ++ z ∷ []) (sym (read_at S h a hl
@@ -76,7 +76,7 @@ tells side S low high place h l a b p before within high_within there above leas
     ll = top_before high l (length S) least high_within
 
 pub returns : goal.returns
-returns c = told _ _ c.turns_at.result c.turns_at.ensures
+returns c = told _ _ c.is_convex_at.result c.is_convex_at.ensures
     (tells c.args.side c.args.points.now c.args.low c.args.high c.args.place c.highest.result c.lowest.result
     c.index-points-highest.result c.index-points-lowest.result c.index-points-place.result c.requires.low_before
     c.requires.within c.requires.high_within c.highest.ensures.there c.highest.ensures.none_above

@@ -38,10 +38,10 @@ returns-then-is_covered c =
     c.requires.ordered c.requires.within c.requires.mask c.below-low.ensures c.moved_up-high.ensures).stays
     (c.is_covered.ensures.0 c.if-is_covered.true)
 
-pub pushed-front-requires-clause-turning : goal.pushed-front-requires-clause-turning
-pushed-front-requires-clause-turning c =
+pub pushed-front-requires-clause-convex : goal.pushed-front-requires-clause-convex
+pushed-front-requires-clause-convex c =
     (beside c.args.side c.args.points.now c.args.old c.args.place c.below-low.result c.moved_up-high.result
-    c.requires.ordered c.requires.within c.requires.mask c.below-low.ensures c.moved_up-high.ensures).left_turning
+    c.requires.ordered c.requires.within c.requires.mask c.below-low.ensures c.moved_up-high.ensures).left_convex
 
 pub taken_up-requires-clause-apart : goal.taken_up-requires-clause-apart
 taken_up-requires-clause-apart c =
@@ -60,10 +60,10 @@ taken_up-requires-clause-rest_within c =
     (beside c.args.side c.args.points.now c.args.old c.args.place c.below-low.result c.moved_up-high.result
     c.requires.ordered c.requires.within c.requires.mask c.below-low.ensures c.moved_up-high.ensures).high_within
 
-pub taken_up-requires-clause-rest_turning : goal.taken_up-requires-clause-rest_turning
-taken_up-requires-clause-rest_turning c =
+pub taken_up-requires-clause-rest_convex : goal.taken_up-requires-clause-rest_convex
+taken_up-requires-clause-rest_convex c =
     (beside c.args.side c.args.points.now c.args.old c.args.place c.below-low.result c.moved_up-high.result
-    c.requires.ordered c.requires.within c.requires.mask c.below-low.ensures c.moved_up-high.ensures).right_turning
+    c.requires.ordered c.requires.within c.requires.mask c.below-low.ensures c.moved_up-high.ensures).right_convex
 
 pub returns : goal.returns
 returns c =

@@ -1,4 +1,4 @@
--- each place that was passed goes on and turns left
+-- each place that was passed goes on and bends left
 use Rattle.std.proofs.Common.{ℕ, ◌+◌, ◌<◌, inl, inr, subst, arith}
 use Rattle.std.proofs.lemmas.Bool.{cases_lt}
 use Rattle.hull_outline.proofs.rounds.is_round.Goals as goal
@@ -10,5 +10,5 @@ one_more P n k h p l = elim (cases_lt k n) [ inl b ↦ h k b | inr b ↦ subst P
 pub loop-i-preserved : goal.loop-i-preserved
 loop-i-preserved c = record {
   steps = λ k l. one_more _ c.loop-i.i k c.loop-i.invariant.steps (c.goes_on.ensures.0 c.if-not-goes_on.false) l;
-  turns = λ k l. one_more _ c.loop-i.i k c.loop-i.invariant.turns (c.bends.ensures.0 c.if-not-bends.false) l;
+  bends = λ k l. one_more _ c.loop-i.i k c.loop-i.invariant.bends (c.bends.ensures.0 c.if-not-bends.false) l;
 }

@@ -1,4 +1,4 @@
--- each edge makes a triangle with the first point that does not turn outwards, so the sum grows by its doubled area
+-- each edge makes a triangle with the first point that does not bend outwards, so the sum grows by its doubled area
 use Rattle.std.proofs.Common.{arith}
 use Rattle.hull_geometry.proofs.TwoChains.{triangle}
 use Rattle.hull_plain.proofs.corners.doubled_fan.Goals as goal

@@ -5,10 +5,10 @@ use Rattle.std.proofs.lemmas.Bool.{false≢true}
 use Rattle.lattice.specs.Covers.{IsPointSet}
 use Rattle.lattice.specs.Plane.{Pair}
 use Rattle.hull_plain.specs.Drafts.{drafted}
-use Rattle.hull_geometry.specs.Monotone.{IsTurning, IsPassed}
+use Rattle.hull_geometry.specs.Monotone.{IsConvex, IsPassed}
 use Rattle.hull_plain.proofs.Drafts.{started, as_roomy}
 use Rattle.hull_geometry.proofs.Mended.{put_in_same, put_in_new, before_and, before_and_after}
-use Rattle.hull_geometry.proofs.Passes.{turning_take, turning_drop, passed_set, passed_through}
+use Rattle.hull_geometry.proofs.Passes.{convex_take, convex_drop, passed_set, passed_through}
 use Rattle.hull_geometry.proofs.PointLists.{take_few}
 use Rattle.hull_plain.proofs.mending.put_in.Goals as goal
 
@@ -27,11 +27,11 @@ extend-stays-requires-clause-set c =
     (before_and c.args.side c.args.chain.now.items c.args.p c.in-Err.i c.requires.strict.ordered
     c.in-Err.ensures.position)
 
-pub extend-stays-requires-clause-turning : goal.extend-stays-requires-clause-turning
-extend-stays-requires-clause-turning c =
-    subst (IsTurning c.args.side)
+pub extend-stays-requires-clause-convex : goal.extend-stays-requires-clause-convex
+extend-stays-requires-clause-convex c =
+    subst (IsConvex c.args.side)
     (sym (started c.args.chain.now.items c.start.new.self c.in-Err.i c.start.ensures.kept c.start.ensures.none))
-    (turning_take c.args.side c.in-Err.i c.args.chain.now.items c.requires.strict.turning)
+    (convex_take c.args.side c.in-Err.i c.args.chain.now.items c.requires.strict.convex)
 
 pub extend-stays-requires-clause-room : goal.extend-stays-requires-clause-room
 extend-stays-requires-clause-room c =
@@ -50,9 +50,9 @@ take_up-to-requires-clause-set c =
     c.extend-stays.ensures.passed)
     (before_and_after c.args.chain.now.items c.args.p c.in-Err.i c.requires.strict.ordered c.in-Err.ensures.position)
 
-pub take_up-to-requires-clause-rest_turning : goal.take_up-to-requires-clause-rest_turning
-take_up-to-requires-clause-rest_turning c =
-    turning_drop c.args.side c.in-Err.i c.args.chain.now.items c.requires.strict.turning
+pub take_up-to-requires-clause-rest_convex : goal.take_up-to-requires-clause-rest_convex
+take_up-to-requires-clause-rest_convex c =
+    convex_drop c.args.side c.in-Err.i c.args.chain.now.items c.requires.strict.convex
 
 pub take_up-to-requires-clause-room : goal.take_up-to-requires-clause-room
 take_up-to-requires-clause-room c =

@@ -5,11 +5,11 @@ use Rattle.std.specs.Prelude.{slice_range}
 use Rattle.lattice.specs.Covers.{IsPointSet}
 use Rattle.lattice.specs.Plane.{Pair}
 use Rattle.hull_plain.specs.Drafts.{drafted}
-use Rattle.hull_geometry.specs.Monotone.{IsTurning, IsPassed}
+use Rattle.hull_geometry.specs.Monotone.{IsConvex, IsPassed}
 use Rattle.hull_plain.proofs.Drafts.{started, as_roomy}
 use Rattle.hull_geometry.proofs.FringeChains.{take_out_new}
 use Rattle.hull_geometry.proofs.Mended.{take_out_same, around_set, around_among, around_few, between_few}
-use Rattle.hull_geometry.proofs.Passes.{turning_take, turning_drop, passed_set, passed_through}
+use Rattle.hull_geometry.proofs.Passes.{convex_take, convex_drop, passed_set, passed_through}
 use Rattle.hull_geometry.proofs.PointSets.{set_left}
 use Rattle.hull_geometry.proofs.PointLists.{range_long}
 use Rattle.hull_plain.proofs.mending.take_out.Goals as goal
@@ -37,11 +37,11 @@ pass_over-requires-clause-set c =
     (set_left (take c.in-Ok.i c.args.chain.now.items ++ middle) (drop (c.in-Ok.i + 1) c.args.chain.now.items)
     c.between-from.ensures.between.ordered)
 
-pub pass_over-requires-clause-turning : goal.pass_over-requires-clause-turning
-pass_over-requires-clause-turning c =
-    subst (IsTurning c.args.side)
+pub pass_over-requires-clause-convex : goal.pass_over-requires-clause-convex
+pass_over-requires-clause-convex c =
+    subst (IsConvex c.args.side)
     (sym (started c.args.chain.now.items c.start.new.self c.in-Ok.i c.start.ensures.kept c.start.ensures.none))
-    (turning_take c.args.side c.in-Ok.i c.args.chain.now.items c.requires.strict.turning)
+    (convex_take c.args.side c.in-Ok.i c.args.chain.now.items c.requires.strict.convex)
 
 pub pass_over-requires-clause-room : goal.pass_over-requires-clause-room
 pass_over-requires-clause-room c =
@@ -73,12 +73,12 @@ take_up-to-requires-clause-set c =
     (started L c.start.new.self c.in-Ok.i c.start.ensures.kept c.start.ensures.none) c.pass_over.ensures.passed)
     c.between-from.ensures.between.ordered
 
-pub take_up-to-requires-clause-turning : goal.take_up-to-requires-clause-turning
-take_up-to-requires-clause-turning c = c.pass_over.ensures.passed.strict.turning
+pub take_up-to-requires-clause-convex : goal.take_up-to-requires-clause-convex
+take_up-to-requires-clause-convex c = c.pass_over.ensures.passed.strict.convex
 
-pub take_up-to-requires-clause-rest_turning : goal.take_up-to-requires-clause-rest_turning
-take_up-to-requires-clause-rest_turning c =
-    turning_drop c.args.side (c.in-Ok.i + 1) c.args.chain.now.items c.requires.strict.turning
+pub take_up-to-requires-clause-rest_convex : goal.take_up-to-requires-clause-rest_convex
+take_up-to-requires-clause-rest_convex c =
+    convex_drop c.args.side (c.in-Ok.i + 1) c.args.chain.now.items c.requires.strict.convex
 
 pub take_up-to-requires-clause-room : goal.take_up-to-requires-clause-room
 take_up-to-requires-clause-room c =

@@ -1,8 +1,8 @@
--- where the chain turns and none of its points has to stay, what is left is what a pass leaves
+-- where the chain bends and none of its points has to stay, what is left is what a pass leaves
 use Rattle.std.proofs.Common.{refl}
 use Rattle.hull_geometry.proofs.Passes.{passed_of}
 use Rattle.hull_plain.proofs.monotone.extend.Goals as goal
 
 pub returns-clause-passed : goal.returns-clause-passed
 returns-clause-passed c =
-    passed_of c.args.side _ _ c.extend_behind.ensures.thinned (c.extend_behind.ensures.turning refl c.requires.turning)
+    passed_of c.args.side _ _ c.extend_behind.ensures.thinned (c.extend_behind.ensures.convex refl c.requires.convex)

@@ -5,10 +5,10 @@ use Rattle.std.specs.List.{Contains}
 use Rattle.lattice.specs.Covers.{IsPointSet}
 use Rattle.lattice.specs.Plane.{Pair}
 use Rattle.hull_plain.specs.Drafts.{drafted}
-use Rattle.hull_geometry.specs.Monotone.{IsInner, IsTurning, EndsInwards, IsThinned}
+use Rattle.hull_geometry.specs.Monotone.{IsInner, IsConvex, EndsInwards, IsThinned}
 use Rattle.hull_geometry.proofs.ChainPasses.{popped_set, popped_inner, popped_among, popped_short, with_end}
 use Rattle.hull_plain.proofs.Drafts.{fresh_few, pushed, as_roomy}
-use Rattle.hull_geometry.proofs.Passes.{turning_take, pushed_ends}
+use Rattle.hull_geometry.proofs.Passes.{convex_take, pushed_ends}
 use Rattle.hull_plain.proofs.monotone.extend_behind.Goals as goal
 use Rattle.hull_plain.proofs.monotone.extend_behind.Goals.{then-loop-draft-test+else-ends_inwards, else-loop-draft-test}
 
@@ -38,8 +38,8 @@ loop-draft-preserved c =
       within = omega (arith, c.pop.ensures.within, c.loop-draft.invariant.within);
       set = subst (λ (z : List Pair). IsPointSet (z ++ c.args.c ∷ [])) (sym rest)
           (popped_set e c.loop-draft.invariant.set);
-      turning = λ h. subst (IsTurning c.args.side) (sym rest)
-          (turning_take c.args.side _ old (c.loop-draft.invariant.turning h));
+      convex = λ h. subst (IsConvex c.args.side) (sym rest)
+          (convex_take c.args.side _ old (c.loop-draft.invariant.convex h));
       among = λ t k. c.loop-draft.invariant.among t (popped_among e t (subst (λ (z : List Pair). Contains z t) rest k));
       inner = λ u k. subst (λ (z : List Pair). IsInner c.args.side (z ++ c.args.c ∷ []) u) (sym rest)
           (popped_inner e c.loop-draft.invariant.set u (c.loop-draft.invariant.inner u k));
@@ -80,12 +80,12 @@ returns-clause-stays c = λ t.
     pushed c.args.list.now.items c.loop-draft.draft c.push.new.self c.args.c c.push.ensures.kept c.push.ensures.more
     ∙ ap (λ (z : List Pair). z ++ c.args.c ∷ []) (c.loop-draft.invariant.stays t)
 
-pub returns-clause-turning : goal.returns-clause-turning
-returns-clause-turning c = λ none h.
-    subst (IsTurning c.args.side) (sym (pushed c.args.list.now.items c.loop-draft.draft c.push.new.self c.args.c
+pub returns-clause-convex : goal.returns-clause-convex
+returns-clause-convex c = λ none h.
+    subst (IsConvex c.args.side) (sym (pushed c.args.list.now.items c.loop-draft.draft c.push.new.self c.args.c
     c.push.ensures.kept c.push.ensures.more))
     (elim c.loop-draft-test.branch [
       | then-loop-draft-test+else-ends_inwards w ↦
-          w.ends_inwards.ensures.turning w.if-ends_inwards.false (c.loop-draft.invariant.turning h)
+          w.ends_inwards.ensures.convex w.if-ends_inwards.false (c.loop-draft.invariant.convex h)
       | else-loop-draft-test w ↦ absurd (false≢true (sym w.loop-draft-test.false ∙ c.may_lose.ensures none))
     ])

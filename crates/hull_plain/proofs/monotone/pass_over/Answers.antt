@@ -19,7 +19,7 @@ loop-i-init c =
       passed = subst (λ (z : List Pair). IsPassed c.args.side z start) (append_none start)
           (passed_itself c.args.side start (record {
             ordered = set_left start points c.requires.set;
-            turning = c.requires.turning;
+            convex = c.requires.convex;
           }));
       room = record { fresh = refl; rest = refl };
     }
@@ -32,8 +32,8 @@ extend-stays-requires-clause-set c =
     (slice_range c.args.points.now.items c.args.from c.args.to) (drafted c.args.list.now.items c.loop-i.draft) c.loop-i.i
     c.get.result at.within at.point c.requires.set c.loop-i.invariant.passed
 
-pub extend-stays-requires-clause-turning : goal.extend-stays-requires-clause-turning
-extend-stays-requires-clause-turning c = c.loop-i.invariant.passed.strict.turning
+pub extend-stays-requires-clause-convex : goal.extend-stays-requires-clause-convex
+extend-stays-requires-clause-convex c = c.loop-i.invariant.passed.strict.convex
 
 pub extend-stays-requires-clause-room : goal.extend-stays-requires-clause-room
 extend-stays-requires-clause-room c =

@@ -18,7 +18,7 @@ loop-i-init c =
       passed = subst (λ (z : List Pair). IsPassed c.args.side z start) (append_none start)
           (passed_itself c.args.side start (record {
             ordered = set_left start (drop c.args.from c.args.list.now.items) c.requires.set;
-            turning = c.requires.turning;
+            convex = c.requires.convex;
           }));
       room = record { fresh = refl; rest = refl };
     }
@@ -31,8 +31,8 @@ extend-requires-clause-set c =
     (drafted c.args.list.now.items c.loop-i.draft) c.loop-i.i c.get.result at.within at.point c.requires.set
     c.loop-i.invariant.passed
 
-pub extend-requires-clause-turning : goal.extend-requires-clause-turning
-extend-requires-clause-turning c = c.loop-i.invariant.passed.strict.turning
+pub extend-requires-clause-convex : goal.extend-requires-clause-convex
+extend-requires-clause-convex c = c.loop-i.invariant.passed.strict.convex
 
 pub extend-requires-clause-room : goal.extend-requires-clause-room
 extend-requires-clause-room c =
@@ -78,7 +78,7 @@ returns-then-i-gt0-clause-passed c =
     ∙ ap (λ (n : ℕ). drop n c.args.list.now.items) behind)
     (take_up_stop c.args.side start (drop c.args.from c.args.list.now.items)
     (drafted c.args.list.now.items c.loop-i.draft) new c.loop-i.i c.get.result c.if-i-gt0.true at.within at.point
-    c.requires.set c.requires.rest_turning c.loop-i.invariant.passed c.extend.ensures.passed
+    c.requires.set c.requires.rest_convex c.loop-i.invariant.passed c.extend.ensures.passed
     (c.extend.ensures.stays c.if-extend.true))
 
 pub returns-clause-passed : goal.returns-clause-passed

@@ -24,7 +24,7 @@ returns-then-inwards-lt0 c = λ S k. (
   c.get-2.result,
   edge_at c.args.side S c.args.chain.now.items c.args.q _ _ c.args.i c.requires (omega (arith, c.if-i-eq0.false))
       (omega (arith, c.if-i-eq0.false, c.if-i-len.false, c.len.ensures, c.requires.0)) c.get.ensures c.get-2.ensures k,
-  let e = cast_side _ c.turn-inwards.ensures.size ∙ c.turn-inwards.ensures.value in
+  let e = cast_side _ c.orient_on-inwards.ensures.size ∙ c.orient_on-inwards.ensures.value in
       omega (arith, ints, e, c.if-inwards-lt0.true),
 )
 
@@ -34,7 +34,7 @@ returns-then-inwards-gt0 c = λ S k. (
   c.get-2.result,
   edge_at c.args.side S c.args.chain.now.items c.args.q _ _ c.args.i c.requires (omega (arith, c.if-i-eq0.false))
       (omega (arith, c.if-i-eq0.false, c.if-i-len.false, c.len.ensures, c.requires.0)) c.get.ensures c.get-2.ensures k,
-  let e = cast_side _ c.turn-inwards.ensures.size ∙ c.turn-inwards.ensures.value in
+  let e = cast_side _ c.orient_on-inwards.ensures.size ∙ c.orient_on-inwards.ensures.value in
       omega (arith, ints, e, c.if-inwards-gt0.true),
 )
 
@@ -43,5 +43,5 @@ returns-else-inwards-gt0 c = λ S k.
     on_edge c.args.side S c.args.q c.get.result c.get-2.result
     (edge_at c.args.side S c.args.chain.now.items c.args.q _ _ c.args.i c.requires (omega (arith, c.if-i-eq0.false))
     (omega (arith, c.if-i-eq0.false, c.if-i-len.false, c.len.ensures, c.requires.0)) c.get.ensures c.get-2.ensures k)
-    (let e = cast_side _ c.turn-inwards.ensures.size ∙ c.turn-inwards.ensures.value in
+    (let e = cast_side _ c.orient_on-inwards.ensures.size ∙ c.orient_on-inwards.ensures.value in
     omega (arith, ints, e, c.if-inwards-lt0.false, c.if-inwards-gt0.false))

@@ -12,7 +12,7 @@ use mathlib.Core.List.{IsPrefix}
 use Rattle.hull_book.specs.Marks.{plain}
 use Rattle.hull_shared.specs.Locks.{boxed_head}
 use Rattle.hull_shared.specs.Places.{HasAt, IsAtHome}
-use Rattle.hull_shared.specs.declared.place.Place.{Place}
+use Rattle.hull_shared.specs.declared.place.SeatPlace.{SeatPlace}
 use Rattle.hull_shared.proofs.Homes.{home_front}
 use Rattle.hull_shared.proofs.Lists.{get_before, get_front, get_last, same_or_more}
 use Rattle.hull_shared.proofs.places.close_lock.Goals as goal
@@ -33,10 +33,10 @@ loop-place-preserved c =
     let longer2 : length c.push_reserved-in-Some.new.self.items ≡ length c.loop-place.ledgers.items + 1 =
     ap length more2 ∙ length-append c.loop-place.ledgers.items (p.ledger ∷ []) in
     let last : slice_get c.loop-place.list.items (length list) ≡ Some c.in-Some.place =
-    subst (λ (z : List (Option Place)). slice_get z (length list) ≡ Some c.in-Some.place) (sym e)
+    subst (λ (z : List (Option SeatPlace)). slice_get z (length list) ≡ Some c.in-Some.place) (sym e)
     (get_last list c.in-Some.place) in
     let was : HasAt c.loop-place.list.items (length list) p =
-    last ∙ ap (λ (o : Option Place). Some o) c.unwrap-seat.ensures in
+    last ∙ ap (λ (o : Option SeatPlace). Some o) c.unwrap-seat.ensures in
     let is : IsAtHome lock n (length list) p = inv.at_home (length list) p was in
     let number : seat_number p.seat ≡ length seats = omega (arith, is.home, inv.all) in
     record {
@@ -52,7 +52,7 @@ loop-place-preserved c =
           (plain (seat_seen s)) k) seats c.push_reserved.new.self.items c.loop-place.ledgers.items
           c.push_reserved-in-Some.new.self.items p.seat p.ledger more more2 inv.counts is.counts;
       left = λ j q at lt. get_before list c.in-Some.place j (Some q)
-          (subst (λ (z : List (Option Place)). HasAt z j q) e (inv.left j q at (omega (arith, long)))) lt;
+          (subst (λ (z : List (Option SeatPlace)). HasAt z j q) e (inv.left j q at (omega (arith, long)))) lt;
       gathered = λ i j q at le sum. elim (same_or_more (length list) j le) as
           (λ _. slice_get c.push_reserved.new.self.items i ≡ Some q.seat) [
             | inl here ↦
@@ -63,7 +63,7 @@ loop-place-preserved c =
                 let at_end : i ≡ length seats = omega (arith, sum, here, inv.all, long) in
                 subst (λ (k : ℕ). slice_get c.push_reserved.new.self.items k ≡ Some q.seat) (sym at_end)
                 (subst (λ (z : List _). slice_get z (length seats) ≡ Some q.seat) (sym more)
-                (get_last seats p.seat ∙ ap (λ (x : Place). Some x.seat) same))
+                (get_last seats p.seat ∙ ap (λ (x : SeatPlace). Some x.seat) same))
             | inr behind ↦ subst (λ (z : List _). slice_get z i ≡ Some q.seat) (sym more)
                 (get_front seats p.seat i q.seat (inv.gathered i j q at (omega (arith, long, behind)) sum))
           ];

@@ -5,7 +5,7 @@ use Rattle.hull_book.specs.Ledgers.{IsLedgerOf}
 use Rattle.hull_book.specs.Marks.{plain}
 use Rattle.hull_shared.specs.Locks.{boxed_head}
 use Rattle.hull_shared.specs.Places.{AreAtHome, HasAt}
-use Rattle.hull_shared.specs.declared.place.Place.{Place}
+use Rattle.hull_shared.specs.declared.place.SeatPlace.{SeatPlace}
 use Rattle.ticket_lock.specs.Tokens.{AreNumbered, IsSeatOf, seat_count, seat_number, seat_seen}
 use Rattle.hull_shared.proofs.places.close_lock.Given as goal
 
@@ -19,8 +19,8 @@ invariant-loop-place l = record {
   own : All (IsSeatOf boxed_head l.lock) l.seats.items;
   numbers : AreNumbered l.seats.items;
   counts : AllZip (λ s k. IsLedgerOf (seat_number s) (plain (seat_seen s)) k) l.seats.items l.ledgers.items;
-  left : (j : ℕ) (p : Place) → HasAt l.fn.places.list.items j p → j < length l.list.items → HasAt l.list.items j p;
-  gathered : (i j : ℕ) (p : Place) → HasAt l.fn.places.list.items j p → length l.list.items ≤ j
+  left : (j : ℕ) (p : SeatPlace) → HasAt l.fn.places.list.items j p → j < length l.list.items → HasAt l.list.items j p;
+  gathered : (i j : ℕ) (p : SeatPlace) → HasAt l.fn.places.list.items j p → length l.list.items ≤ j
       → i + j + 1 ≡ seat_count l.lock → slice_get l.seats.items i ≡ Some p.seat;
 }
 

@@ -10,7 +10,7 @@ use Rattle.hull_book.specs.LongBooks.{whole}
 use Rattle.hull_book.specs.Marks.{plain}
 use Rattle.hull_shared.specs.Locks.{book_of, boxed_head}
 use Rattle.hull_shared.specs.Places.{HasAt, IsAtHome}
-use Rattle.hull_shared.specs.declared.place.Place.{Place}
+use Rattle.hull_shared.specs.declared.place.SeatPlace.{SeatPlace}
 use Rattle.hull_shared.proofs.Homes.{home_more}
 use Rattle.hull_shared.proofs.Lists.{get_front, get_last, get_pushed}
 use Rattle.hull_shared.proofs.places.lay_out.Goals as goal
@@ -65,10 +65,10 @@ loop-seat-preserved c =
           (Some (record { seat = s; ledger = l })) more inv.all_in refl;
       all_seen = λ j p at. elim
           (get_pushed list (Some (record { seat = s; ledger = l })) j (Some p)
-          (subst (λ (z : List (Option Place)). HasAt z j p) more at)) as (λ _. seat_seen p.seat ≡ lines) [
+          (subst (λ (z : List (Option SeatPlace)). HasAt z j p) more at)) as (λ _. seat_seen p.seat ≡ lines) [
             | inl old ↦ inv.all_seen j p old
             | inr new ↦ let same : p ≡ record { seat = s; ledger = l } =
                 (let o : Some p ≡ Some (record { seat = s; ledger = l }) = new.1 in cc) in
-                ap (λ (q : Place). seat_seen q.seat) same ∙ seen
+                ap (λ (q : SeatPlace). seat_seen q.seat) same ∙ seen
           ];
     }

@@ -4,7 +4,7 @@ use Rattle.hull_book.specs.Ledgers.{LedgerValue, IsLedger}
 use Rattle.hull_book.specs.LongBooks.{whole}
 use Rattle.hull_shared.specs.Locks.{book_of, boxed_head}
 use Rattle.hull_shared.specs.Places.{AreAtHome, HasAt}
-use Rattle.hull_shared.specs.declared.place.Place.{Place}
+use Rattle.hull_shared.specs.declared.place.SeatPlace.{SeatPlace}
 use Rattle.ticket_lock.specs.Tokens.{AreNumbered, IsSeatOf, seat_count, seat_seen}
 use Rattle.hull_shared.proofs.places.lay_out.Given as goal
 
@@ -20,7 +20,7 @@ invariant-loop-seat l = record {
       × (seat_count l.lock ≤ vec_capacity l.ledgers);
   at_home : AreAtHome l.lock (seat_count l.lock) l.list.items;
   all_in : All IsSome l.list.items;
-  all_seen : (j : ℕ) (p : Place) → HasAt l.list.items j p → seat_seen p.seat ≡ (book_of l.lock).book.lines;
+  all_seen : (j : ℕ) (p : SeatPlace) → HasAt l.list.items j p → seat_seen p.seat ≡ (book_of l.lock).book.lines;
 }
 
 abbrev pub decreases-loop-seat : goal.decreases-loop-seat

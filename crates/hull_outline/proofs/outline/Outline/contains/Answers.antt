@@ -7,7 +7,7 @@ use Rattle.lattice.specs.Plane.{Pair}
 use Rattle.lattice.specs.Covers.{Covers, Member}
 use Rattle.hull_outline.specs.Rounds.{corner}
 use Rattle.hull_outline.proofs.Corners.{corner_extreme, read_corner}
-use Rattle.hull_outline.proofs.Turns.{holds_by_corners}
+use Rattle.hull_outline.proofs.Switches.{holds_by_corners}
 use Rattle.lattice.proofs.Tests.{passed, failed}
 use Rattle.hull_outline.proofs.outline.Outline.contains.Goals as goal
 

@@ -14,8 +14,8 @@ pub fn point_at(x: i64, y: i64) -> Option<Point>
     }
 }
 
-/// Whether a way over three points turns left at the second.
-pub fn turns_left(a: Point, b: Point, c: Point) -> bool
+/// Whether a way over three points bends left at the second.
+pub fn lies_left(a: Point, b: Point, c: Point) -> bool
     ensures { IsTrue result ↔ (pos 0 <ℤ orient a b c) }
 {
     orient(a, b, c) > 0

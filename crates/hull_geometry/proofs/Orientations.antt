@@ -1,13 +1,13 @@
--- How turns to one side compose, on a chain of either side.
+-- How bends to one side compose, on a chain of either side.
 use Rattle.std.proofs.Common.{◌≡◌, ℤ, pos, ◌-ℤ◌, ◌≤ℤ◌, ◌<ℤ◌, neg_ℤ, sym, ap, ◌∙◌, arith}
 use Rattle.std.proofs.lemmas.Int.{ints}
 use Rattle.lattice.specs.Plane.{Pair, IsBefore}
 use Rattle.lattice.proofs.Numbers.{nn_above, nn_opposite, np_by, below_opposite}
 use Rattle.lattice.proofs.Sides.{side_after, side_to_end, side_more, side_less}
 use Rattle.lattice.proofs.LineCrossings.{orient_start, orient_end, orient_other}
-use Rattle.lattice.proofs.Vectors.{minus, cross, cross_swap, Ahead, turn_trans, turn_trans_strict}
-use Rattle.lattice.proofs.Vectors.{turn_trans_strict_right}
-use Rattle.lattice.specs.Turns.{turn}
+use Rattle.lattice.proofs.Vectors.{minus, cross, cross_swap, Ahead, cross_trans, cross_trans_strict}
+use Rattle.lattice.proofs.Vectors.{cross_trans_strict_right}
+use Rattle.lattice.specs.Orientations.{orient_on}
 use Rattle.lattice.specs.declared.side.Side.{Side}
 use Rattle.lattice.specs.declared.side.Side.TheVariants.{Lower, Upper}
 use Rattle.hull_geometry.proofs.Orientation.{orient-cross, orient_swap, ahead_of, orient-cycle}
@@ -23,136 +23,136 @@ wedge_swap : (side : Side) (u v : Pair) → wedge side u v ≡ neg_ℤ (wedge si
 wedge_swap Lower u v = cross_swap u v
 wedge_swap Upper u v = cross_swap v u
 
--- turns compose
+-- bends compose
 wedge_trans : (side : Side) (u v w : Pair) → Ahead u → Ahead v → Ahead w → pos 0 ≤ℤ wedge side u v
     → pos 0 ≤ℤ wedge side v w → pos 0 ≤ℤ wedge side u w
-wedge_trans Lower u v w hu hv hw a b = turn_trans u v w hu hv hw a b
-wedge_trans Upper u v w hu hv hw a b = turn_trans w v u hw hv hu b a
+wedge_trans Lower u v w hu hv hw a b = cross_trans u v w hu hv hw a b
+wedge_trans Upper u v w hu hv hw a b = cross_trans w v u hw hv hu b a
 
 -- where the first is strict
 wedge_trans_first : (side : Side) (u v w : Pair) → Ahead u → Ahead v → Ahead w → pos 0 <ℤ wedge side u v
     → pos 0 ≤ℤ wedge side v w → pos 0 <ℤ wedge side u w
-wedge_trans_first Lower u v w hu hv hw a b = turn_trans_strict u v w hu hv hw a b
-wedge_trans_first Upper u v w hu hv hw a b = turn_trans_strict_right w v u hw hv hu b a
+wedge_trans_first Lower u v w hu hv hw a b = cross_trans_strict u v w hu hv hw a b
+wedge_trans_first Upper u v w hu hv hw a b = cross_trans_strict_right w v u hw hv hu b a
 
 -- where the second is strict
 wedge_trans_second : (side : Side) (u v w : Pair) → Ahead u → Ahead v → Ahead w → pos 0 ≤ℤ wedge side u v
     → pos 0 <ℤ wedge side v w → pos 0 <ℤ wedge side u w
-wedge_trans_second Lower u v w hu hv hw a b = turn_trans_strict_right u v w hu hv hw a b
-wedge_trans_second Upper u v w hu hv hw a b = turn_trans_strict w v u hw hv hu b a
+wedge_trans_second Lower u v w hu hv hw a b = cross_trans_strict_right u v w hu hv hw a b
+wedge_trans_second Upper u v w hu hv hw a b = cross_trans_strict w v u hw hv hu b a
 
--- a turn by the steps from its first point
-pub turn_start : (side : Side) (a b c : Pair) → turn side a b c ≡ wedge side (minus b a) (minus c a)
-turn_start Lower a b c = orient-cross a b c
-turn_start Upper a b c =
+-- an orientation by the steps from its first point
+pub orient_on_by_start : (side : Side) (a b c : Pair) → orient_on side a b c ≡ wedge side (minus b a) (minus c a)
+orient_on_by_start Lower a b c = orient-cross a b c
+orient_on_by_start Upper a b c =
     orient_other a b c ∙ ap neg_ℤ (orient-cross a b c) ∙ sym (cross_swap (minus c a) (minus b a))
 
 -- by the steps to and from its middle
-turn_middle : (side : Side) (a b c : Pair) → turn side a b c ≡ wedge side (minus b a) (minus c b)
-turn_middle Lower a b c = side_after a b c
-turn_middle Upper a b c =
+orient_on_by_middle : (side : Side) (a b c : Pair) → orient_on side a b c ≡ wedge side (minus b a) (minus c b)
+orient_on_by_middle Lower a b c = side_after a b c
+orient_on_by_middle Upper a b c =
     orient_other a b c ∙ ap neg_ℤ (side_after a b c) ∙ sym (cross_swap (minus c b) (minus b a))
 
--- a turn by the steps to its middle point
-pub turn_back : (side : Side) (a b t : Pair) → turn side a b t ≡ wedge side (minus b t) (minus b a)
-turn_back Lower a b t = side_to_end a b t
-turn_back Upper a b t =
+-- an orientation by the steps to its middle point
+pub orient_on_by_last : (side : Side) (a b t : Pair) → orient_on side a b t ≡ wedge side (minus b t) (minus b a)
+orient_on_by_last Lower a b t = side_to_end a b t
+orient_on_by_last Upper a b t =
     orient_other a b t ∙ ap neg_ℤ (side_to_end a b t) ∙ sym (cross_swap (minus b a) (minus b t))
 
 -- the three points moved round
-pub turn_cycle : (side : Side) (a b c : Pair) → turn side a b c ≡ turn side b c a
-turn_cycle Lower a b c = sym (orient-cycle b c a)
-turn_cycle Upper a b c = sym (orient-cycle c b a ∙ orient-cycle a c b)
+pub orient_on_cycle : (side : Side) (a b c : Pair) → orient_on side a b c ≡ orient_on side b c a
+orient_on_cycle Lower a b c = sym (orient-cycle b c a)
+orient_on_cycle Upper a b c = sym (orient-cycle c b a ∙ orient-cycle a c b)
 
 -- two of them exchanged
-pub turn_swap : (side : Side) (a b c : Pair) → turn side a c b ≡ neg_ℤ (turn side a b c)
-turn_swap Lower a b c = orient_swap a c b
-turn_swap Upper a b c = sym (orient-cycle a b c) ∙ orient_other b a c
+pub orient_on_swap : (side : Side) (a b c : Pair) → orient_on side a c b ≡ neg_ℤ (orient_on side a b c)
+orient_on_swap Lower a b c = orient_swap a c b
+orient_on_swap Upper a b c = sym (orient-cycle a b c) ∙ orient_other b a c
 
 -- a line has its start on it
-pub turn_at_start : (side : Side) (a b : Pair) → turn side a b a ≡ pos 0
-turn_at_start Lower a b = orient_start a b
-turn_at_start Upper a b = orient_end b a
+pub orient_on_start : (side : Side) (a b : Pair) → orient_on side a b a ≡ pos 0
+orient_on_start Lower a b = orient_start a b
+orient_on_start Upper a b = orient_end b a
 
 -- and its end
-pub turn_at_end : (side : Side) (a b : Pair) → turn side a b b ≡ pos 0
-turn_at_end Lower a b = orient_end a b
-turn_at_end Upper a b = orient_start b a
+pub orient_on_end : (side : Side) (a b : Pair) → orient_on side a b b ≡ pos 0
+orient_on_end Lower a b = orient_end a b
+orient_on_end Upper a b = orient_start b a
 
--- where the chain turns at b, what is not outwards of the next edge is inwards of the edge before b
-pub turns_on : (side : Side) (a b c u : Pair) → IsBefore a b → IsBefore b c → IsBefore b u → pos 0 <ℤ turn side a b c
-    → pos 0 ≤ℤ turn side b c u → pos 0 <ℤ turn side a b u
-turns_on side a b c u ab bc bu h k =
-    above _ _ (sym (turn_middle side a b u))
+-- where the chain bends at b, what is not outwards of the next edge is inwards of the edge before b
+pub strict_on : (side : Side) (a b c u : Pair) → IsBefore a b → IsBefore b c → IsBefore b u → pos 0 <ℤ orient_on side a b c
+    → pos 0 ≤ℤ orient_on side b c u → pos 0 <ℤ orient_on side a b u
+strict_on side a b c u ab bc bu h k =
+    above _ _ (sym (orient_on_by_middle side a b u))
     (wedge_trans_first side (minus b a) (minus c b) (minus u b) (ahead_of a b ab) (ahead_of b c bc) (ahead_of b u bu)
-    (above _ _ (turn_middle side a b c) h) (at_least _ _ (turn_start side b c u) k))
+    (above _ _ (orient_on_by_middle side a b c) h) (at_least _ _ (orient_on_by_start side b c u) k))
 
--- where the chain turns at b, what stands before b and is not outwards of the edge to b is inwards of the next edge
-pub turns_back : (side : Side) (a b c t : Pair) → IsBefore a b → IsBefore b c → IsBefore t b → pos 0 ≤ℤ turn side a b t
-    → pos 0 <ℤ turn side a b c → pos 0 <ℤ turn side b c t
-turns_back side a b c t ab bc tb h k =
-    above _ _ (sym (turn_middle side t b c) ∙ turn_cycle side t b c)
+-- where the chain bends at b, what stands before b and is not outwards of the edge to b is inwards of the next edge
+pub strict_back : (side : Side) (a b c t : Pair) → IsBefore a b → IsBefore b c → IsBefore t b → pos 0 ≤ℤ orient_on side a b t
+    → pos 0 <ℤ orient_on side a b c → pos 0 <ℤ orient_on side b c t
+strict_back side a b c t ab bc tb h k =
+    above _ _ (sym (orient_on_by_middle side t b c) ∙ orient_on_cycle side t b c)
     (wedge_trans_second side (minus b t) (minus b a) (minus c b) (ahead_of t b tb) (ahead_of a b ab) (ahead_of b c bc)
-    (at_least _ _ (turn_back side a b t) h) (above _ _ (turn_middle side a b c) k))
+    (at_least _ _ (orient_on_by_last side a b t) h) (above _ _ (orient_on_by_middle side a b c) k))
 
 -- p outwards of the segment from a to c: what is inwards of it and stands after a is inwards of the line from a to p
 pub inwards_from : (side : Side) (a p c u : Pair) → IsBefore a p → IsBefore a c → IsBefore a u
-    → pos 0 <ℤ turn side a p c → pos 0 ≤ℤ turn side a c u → pos 0 <ℤ turn side a p u
+    → pos 0 <ℤ orient_on side a p c → pos 0 ≤ℤ orient_on side a c u → pos 0 <ℤ orient_on side a p u
 inwards_from side a p c u ap ac au h k =
-    above _ _ (sym (turn_start side a p u))
+    above _ _ (sym (orient_on_by_start side a p u))
     (wedge_trans_first side (minus p a) (minus c a) (minus u a) (ahead_of a p ap) (ahead_of a c ac) (ahead_of a u au)
-    (above _ _ (turn_start side a p c) h) (at_least _ _ (turn_start side a c u) k))
+    (above _ _ (orient_on_by_start side a p c) h) (at_least _ _ (orient_on_by_start side a c u) k))
 
 -- and what stands before c is inwards of the line from p to c
 pub inwards_to : (side : Side) (a p c u : Pair) → IsBefore p c → IsBefore a c → IsBefore u c
-    → pos 0 <ℤ turn side a p c → pos 0 ≤ℤ turn side a c u → pos 0 <ℤ turn side p c u
+    → pos 0 <ℤ orient_on side a p c → pos 0 ≤ℤ orient_on side a c u → pos 0 <ℤ orient_on side p c u
 inwards_to side a p c u pc ac uc h k =
-    above _ _ (sym (turn_back side p c u))
+    above _ _ (sym (orient_on_by_last side p c u))
     (wedge_trans_second side (minus c u) (minus c a) (minus c p) (ahead_of u c uc) (ahead_of a c ac) (ahead_of p c pc)
-    (at_least _ _ (turn_back side a c u) k)
-    (above _ _ (turn_cycle side a p c ∙ turn_back side p c a) h))
+    (at_least _ _ (orient_on_by_last side a c u) k)
+    (above _ _ (orient_on_cycle side a p c ∙ orient_on_by_last side p c a) h))
 
 -- from a the line to q is not inwards of the line to c, and t not outwards of that: t is not outwards of the line to q
-pub fans_from : (side : Side) (a c q t : Pair) → IsBefore a c → IsBefore a q → IsBefore a t → turn side a c q ≤ℤ pos 0
-    → pos 0 ≤ℤ turn side a c t → pos 0 ≤ℤ turn side a q t
+pub fans_from : (side : Side) (a c q t : Pair) → IsBefore a c → IsBefore a q → IsBefore a t → orient_on side a c q ≤ℤ pos 0
+    → pos 0 ≤ℤ orient_on side a c t → pos 0 ≤ℤ orient_on side a q t
 fans_from side a c q t ac aq at h k =
-    at_least _ _ (sym (turn_start side a q t))
+    at_least _ _ (sym (orient_on_by_start side a q t))
     (wedge_trans side (minus q a) (minus c a) (minus t a) (ahead_of a q aq) (ahead_of a c ac) (ahead_of a t at)
-    (nn_opposite _ _ (wedge_swap side (minus q a) (minus c a)) (np_by _ _ (sym (turn_start side a c q)) h))
-    (at_least _ _ (turn_start side a c t) k))
+    (nn_opposite _ _ (wedge_swap side (minus q a) (minus c a)) (np_by _ _ (sym (orient_on_by_start side a c q)) h))
+    (at_least _ _ (orient_on_by_start side a c t) k))
 
 -- to c the line from q is not inwards of the line from p, and t not outwards of that: t is not outwards of the line
 -- from q
-pub fans_to : (side : Side) (p c q t : Pair) → IsBefore p c → IsBefore q c → IsBefore t c → turn side p c q ≤ℤ pos 0
-    → pos 0 ≤ℤ turn side p c t → pos 0 ≤ℤ turn side q c t
+pub fans_to : (side : Side) (p c q t : Pair) → IsBefore p c → IsBefore q c → IsBefore t c → orient_on side p c q ≤ℤ pos 0
+    → pos 0 ≤ℤ orient_on side p c t → pos 0 ≤ℤ orient_on side q c t
 fans_to side p c q t pc qc tc h k =
-    at_least _ _ (sym (turn_back side q c t))
+    at_least _ _ (sym (orient_on_by_last side q c t))
     (wedge_trans side (minus c t) (minus c p) (minus c q) (ahead_of t c tc) (ahead_of p c pc) (ahead_of q c qc)
-    (at_least _ _ (turn_back side p c t) k)
-    (nn_opposite _ _ (wedge_swap side (minus c p) (minus c q)) (np_by _ _ (sym (turn_back side p c q)) h)))
+    (at_least _ _ (orient_on_by_last side p c t) k)
+    (nn_opposite _ _ (wedge_swap side (minus c p) (minus c q)) (np_by _ _ (sym (orient_on_by_last side p c q)) h)))
 
 -- a difference of negations
 negated : (x y u v z : ℤ) → x ≡ neg_ℤ u → y ≡ neg_ℤ v → u -ℤ v ≡ z → x -ℤ y ≡ neg_ℤ z
 negated x y u v z e f h = omega (arith, ints)
 
 -- how much more inwards of a line s is than q, by the step from s
-more_before : (side : Side) (a b q s : Pair) → turn side a b s -ℤ turn side a b q ≡ wedge side (minus q s) (minus b a)
+more_before : (side : Side) (a b q s : Pair) → orient_on side a b s -ℤ orient_on side a b q ≡ wedge side (minus q s) (minus b a)
 more_before Lower a b q s = side_less a b q s
 more_before Upper a b q s = negated _ _ _ _ _ (orient_other a b s) (orient_other a b q) (side_less a b q s)
     ∙ sym (cross_swap (minus b a) (minus q s))
 
 -- and t, by the step to t
-more_after : (side : Side) (a b q t : Pair) → turn side a b t -ℤ turn side a b q ≡ wedge side (minus b a) (minus t q)
+more_after : (side : Side) (a b q t : Pair) → orient_on side a b t -ℤ orient_on side a b q ≡ wedge side (minus b a) (minus t q)
 more_after Lower a b q t = side_more a b q t
 more_after Upper a b q t = negated _ _ _ _ _ (orient_other a b t) (orient_other a b q) (side_more a b q t)
     ∙ sym (cross_swap (minus t q) (minus b a))
 
 -- q outwards of a line of which s before it and t after it are not: q is outwards of their segment
 pub stays_outwards : (side : Side) (a b s q t : Pair) → IsBefore a b → IsBefore s q → IsBefore q t
-    → turn side a b q <ℤ pos 0 → pos 0 ≤ℤ turn side a b s → pos 0 ≤ℤ turn side a b t → turn side s t q <ℤ pos 0
+    → orient_on side a b q <ℤ pos 0 → pos 0 ≤ℤ orient_on side a b s → pos 0 ≤ℤ orient_on side a b t → orient_on side s t q <ℤ pos 0
 stays_outwards side a b s q t ab sq qt out hs ht =
-    below_opposite _ _ (turn_swap side s q t)
-    (above _ _ (sym (turn_middle side s q t))
+    below_opposite _ _ (orient_on_swap side s q t)
+    (above _ _ (sym (orient_on_by_middle side s q t))
     (wedge_trans_first side (minus q s) (minus b a) (minus t q) (ahead_of s q sq) (ahead_of a b ab) (ahead_of q t qt)
     (gap _ _ _ (more_before side a b q s) hs out) (nn_above _ (gap _ _ _ (more_after side a b q t) ht out))))
   where
@@ -169,18 +169,18 @@ rise_or_none x y z e h k = omega (arith, ints)
 
 -- q not inwards of a line, s before it inwards of it and t after it not outwards: q is outwards of their segment
 pub stays_first : (side : Side) (a b s q t : Pair) → IsBefore a b → IsBefore s q → IsBefore q t
-    → turn side a b q ≤ℤ pos 0 → pos 0 <ℤ turn side a b s → pos 0 ≤ℤ turn side a b t → turn side s t q <ℤ pos 0
+    → orient_on side a b q ≤ℤ pos 0 → pos 0 <ℤ orient_on side a b s → pos 0 ≤ℤ orient_on side a b t → orient_on side s t q <ℤ pos 0
 stays_first side a b s q t ab sq qt out hs ht =
-    below_opposite _ _ (turn_swap side s q t)
-    (above _ _ (sym (turn_middle side s q t))
+    below_opposite _ _ (orient_on_swap side s q t)
+    (above _ _ (sym (orient_on_by_middle side s q t))
     (wedge_trans_first side (minus q s) (minus b a) (minus t q) (ahead_of s q sq) (ahead_of a b ab) (ahead_of q t qt)
     (rise _ _ _ (more_before side a b q s) hs out) (rise_or_none _ _ _ (more_after side a b q t) ht out)))
 
 -- s before it not outwards of the line and t after it inwards: the same
 pub stays_second : (side : Side) (a b s q t : Pair) → IsBefore a b → IsBefore s q → IsBefore q t
-    → turn side a b q ≤ℤ pos 0 → pos 0 ≤ℤ turn side a b s → pos 0 <ℤ turn side a b t → turn side s t q <ℤ pos 0
+    → orient_on side a b q ≤ℤ pos 0 → pos 0 ≤ℤ orient_on side a b s → pos 0 <ℤ orient_on side a b t → orient_on side s t q <ℤ pos 0
 stays_second side a b s q t ab sq qt out hs ht =
-    below_opposite _ _ (turn_swap side s q t)
-    (above _ _ (sym (turn_middle side s q t))
+    below_opposite _ _ (orient_on_swap side s q t)
+    (above _ _ (sym (orient_on_by_middle side s q t))
     (wedge_trans_second side (minus q s) (minus b a) (minus t q) (ahead_of s q sq) (ahead_of a b ab) (ahead_of q t qt)
     (rise_or_none _ _ _ (more_before side a b q s) hs out) (rise _ _ _ (more_after side a b q t) ht out)))

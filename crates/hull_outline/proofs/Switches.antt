@@ -1,4 +1,4 @@
--- A place in a range where a test turns from true to false; and so, in each direction, a corner that is farthest.
+-- A place in a range where a test goes from true to false; and so, in each direction, a corner that is farthest.
 use Rattle.std.proofs.Common.{◌≡◌, ℕ, zero, suc, ◌+◌, ◌-◌, ◌≤◌, ◌<◌, ℤ, pos, ◌≤ℤ◌, ◌<ℤ◌, ◌⊎◌, inl, inr, List, length}
 use Rattle.std.proofs.Common.{refl, sym, subst, arith}
 use Rattle.std.specs.List.{Contains, All}
@@ -21,16 +21,16 @@ use Rattle.hull_outline.proofs.FarthestOf.{farthest_below, farthest_above}
 use Rattle.lattice.proofs.Numbers.{le_less_trans, less_le_trans}
 
 -- P is true before the place and false at it; the ends count as such
-pub record IsTurn (P : ℕ → Type 0) (low high at : ℕ) : Type 0 where
+pub record IsSwitch (P : ℕ → Type 0) (low high at : ℕ) : Type 0 where
   pub from : low ≤ at
   pub to : at ≤ high
   pub held : low < at → P (at - 1)
   pub fails : at < high → ¬ P at
 
 -- there is such a place
-pub turn_of : (P : ℕ → Type 0) → ((i : ℕ) → P i ⊎ ¬ P i) → (n low high : ℕ) → high ≡ low + n
-    → (at : ℕ) × IsTurn P low high at
-turn_of P told zero low high e = (
+pub switch_of : (P : ℕ → Type 0) → ((i : ℕ) → P i ⊎ ¬ P i) → (n low high : ℕ) → high ≡ low + n
+    → (at : ℕ) × IsSwitch P low high at
+switch_of P told zero low high e = (
   low,
   record {
     from = omega arith;
@@ -39,13 +39,13 @@ turn_of P told zero low high e = (
     fails = λ h. absurd (omega (arith, h, e));
   },
 )
-turn_of P told (suc n) low high e = elim (told low) [
+switch_of P told (suc n) low high e = elim (told low) [
   | inr f ↦ (
     low,
     record
         { from = omega arith; to = omega (arith, e); held = λ h. absurd (omega (arith, h)); fails = λ h. f },
   )
-  | inl p ↦ let r = turn_of P told n (low + 1) high (omega (arith, e)) in (
+  | inl p ↦ let r = switch_of P told n (low + 1) high (omega (arith, e)) in (
     r.0,
     record {
       from = omega (arith, r.1.from);
@@ -71,10 +71,10 @@ not_less_told a b = elim (less_told a b) [ inl h ↦ inr (λ n. n h) | inr h ↦
 pub farthest_corner : (S V : List Pair) (last : ℕ) (d : Pair) → IsOutlineOf S V → IsParted V last → 0 < length V
     → (i : ℕ) × IsFirstFarthest S d (corner V i)
 farthest_corner S V last d o p n = elim (le_or_lt d.y (pos 0)) [
-  | inl down ↦ let r = turn_of (λ i. product d (corner V i) <ℤ product d (corner V (i + 1)))
+  | inl down ↦ let r = switch_of (λ i. product d (corner V i) <ℤ product d (corner V (i + 1)))
       (λ i. less_told (product d (corner V i)) (product d (corner V (i + 1)))) last 0 last (omega arith) in
       (r.0, farthest_below S V last r.0 d o p n down r.1.to r.1.held r.1.fails)
-  | inr up ↦ let r = turn_of (λ i. ¬ (product d (corner V (i + 1)) <ℤ product d (corner V i)))
+  | inr up ↦ let r = switch_of (λ i. ¬ (product d (corner V (i + 1)) <ℤ product d (corner V i)))
       (λ i. not_less_told (product d (corner V (i + 1))) (product d (corner V i))) (length V - last) last (length V)
       (omega (arith, p.0 n)) in
       (r.0, farthest_above S V last r.0 d o p n up r.1.from r.1.to r.1.held (λ h. double _ _ (r.1.fails h)))
