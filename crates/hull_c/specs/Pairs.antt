@@ -23,6 +23,7 @@ use Rattle.hull_reply.specs.Told.{code_number, IsNumber}
 use Rattle.hull_reply.specs.declared.code.Code.{Code}
 use Rattle.hull_reply.specs.declared.code.Code.TheVariants as code
 use Rattle.hull_reply.specs.declared.reply.HullReply.{HullReply}
+use Rattle.hull_c.specs.declared.pairs.HullPoint.{HullPoint}
 use Rattle.hull_c.specs.declared.pairs.HullWitness.{HullWitness}
 
 -- whether they meet: 1 or 0
@@ -67,18 +68,18 @@ TellsWhetherWithin corners others length told =
     (is_within : Bool) × IsNumber code.Number (cond is_within 1 0) told
     × HoldsOfBoth corners others (λ S T. TellsWithin is_within length S T)
 
+-- a point or a direction, in numbers
+abbrev pub in_numbers : Pair → HullPoint
+in_numbers p = record { x = p.x; y = p.y }
+
 -- a code, with four points
 abbrev pub IsShown : Code → Pair → Pair → Pair → Pair → HullWitness → Type 0
 IsShown e a b c d w = w ≡ record {
   code = code_number e;
-  x = a.x;
-  y = a.y;
-  other_x = b.x;
-  other_y = b.y;
-  third_x = c.x;
-  third_y = c.y;
-  fourth_x = d.x;
-  fourth_y = d.y;
+  a = in_numbers a;
+  b = in_numbers b;
+  c = in_numbers c;
+  d = in_numbers d;
 }
 
 -- what shows how they stand to each other

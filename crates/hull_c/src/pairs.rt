@@ -5,11 +5,21 @@ ghost use Rattle.hull_outline.specs.Outlines.{IsShortOutline};
 ghost use Rattle.hull_outline.specs.declared.witnesses.Witness.TheVariants as witness;
 ghost use Rattle.hull_c.specs.Pairs.{IsDistanceTold, IsShown, IsStripTold, IsWitnessTold};
 ghost use Rattle.hull_c.specs.Pairs.{TellsContains, TellsContainsInside, TellsDistance, TellsLeastWidth, TellsMeets};
-ghost use Rattle.hull_c.specs.Pairs.{TellsRelation, TellsWhetherWithin, TellsWitness, relation_number};
+ghost use Rattle.hull_c.specs.Pairs.{TellsRelation, TellsWhetherWithin, TellsWitness, in_numbers, relation_number};
 
 use hull_outline::{Distance, Length, Meeting, Outline, Relation, Separation, Strip, Witness};
 use hull_reply::{Code, HullReply};
 use lattice::Point;
+
+/// A point or a direction, in numbers.
+#[repr(C)]
+#[derive(Clone, Copy)]
+pub struct HullPoint {
+    /// The first coordinate.
+    pub x: i64,
+    /// The second coordinate.
+    pub y: i64,
+}
 
 /// What shows that two outlines meet, or that they are apart: the number of a code, and up to four points,
 /// as the header says at its name; all else is 0.
@@ -19,37 +29,33 @@ pub struct HullWitness {
     /// The number.
     pub code: u32,
     /// A point.
-    pub x: i64,
-    /// Its other coordinate.
-    pub y: i64,
+    pub a: HullPoint,
     /// A second point, or a direction.
-    pub other_x: i64,
-    /// Its other coordinate.
-    pub other_y: i64,
+    pub b: HullPoint,
     /// A third point.
-    pub third_x: i64,
-    /// Its other coordinate.
-    pub third_y: i64,
+    pub c: HullPoint,
     /// A fourth point.
-    pub fourth_x: i64,
-    /// Its other coordinate.
-    pub fourth_y: i64,
+    pub d: HullPoint,
+}
+
+/// The point in numbers.
+fn numbers(p: Point) -> HullPoint
+    ensures { result ≡ in_numbers p }
+{
+    HullPoint { x: p.x(), y: p.y() }
 }
 
 /// A code alone.
 fn bare(code: Code) -> HullWitness
     ensures { IsShown code origin origin origin origin result }
 {
+    let none = HullPoint { x: 0, y: 0 };
     HullWitness {
         code: code.number(),
-        x: 0,
-        y: 0,
-        other_x: 0,
-        other_y: 0,
-        third_x: 0,
-        third_y: 0,
-        fourth_x: 0,
-        fourth_y: 0,
+        a: none,
+        b: none,
+        c: none,
+        d: none,
     }
 }
 
@@ -57,24 +63,22 @@ fn bare(code: Code) -> HullWitness
 fn at(code: Code, p: Point) -> HullWitness
     ensures { IsShown code p origin origin origin result }
 {
-    let mut shown = bare(code);
-    shown.x = p.x();
-    shown.y = p.y();
-    shown
+    HullWitness {
+        a: numbers(p),
+        ..bare(code)
+    }
 }
 
 /// Two segments that cross.
 fn crossing(a: Point, b: Point, c: Point, d: Point) -> HullWitness
     ensures { IsShown Code.Crossing a b c d result }
 {
-    let mut shown = at(Code::Crossing, a);
-    shown.other_x = b.x();
-    shown.other_y = b.y();
-    shown.third_x = c.x();
-    shown.third_y = c.y();
-    shown.fourth_x = d.x();
-    shown.fourth_y = d.y();
-    shown
+    HullWitness {
+        b: numbers(b),
+        c: numbers(c),
+        d: numbers(d),
+        ..at(Code::Crossing, a)
+    }
 }
 
 /// Where two outlines meet.
@@ -92,10 +96,14 @@ fn met(meeting: Meeting) -> HullWitness
 fn parted(found: Separation) -> HullWitness
     ensures { IsWitnessTold (Some (witness.Apart found)) result }
 {
-    let mut shown = at(Code::Apart, found.farthest);
-    shown.other_x = found.direction.x();
-    shown.other_y = found.direction.y();
-    shown
+    let direction = HullPoint {
+        x: found.direction.x(),
+        y: found.direction.y(),
+    };
+    HullWitness {
+        b: direction,
+        ..at(Code::Apart, found.farthest)
+    }
 }
 
 /// What was found.
@@ -197,20 +205,20 @@ pub(crate) fn is_within(corners: &[Point], others: &[Point], length: Length) -> 
 fn with_two(code: Code, a: Point, b: Point) -> HullWitness
     ensures { IsShown code a b origin origin result }
 {
-    let mut shown = at(code, a);
-    shown.other_x = b.x();
-    shown.other_y = b.y();
-    shown
+    HullWitness {
+        b: numbers(b),
+        ..at(code, a)
+    }
 }
 
 /// A code with three points.
 fn with_three(code: Code, a: Point, b: Point, c: Point) -> HullWitness
     ensures { IsShown code a b c origin result }
 {
-    let mut shown = with_two(code, a, b);
-    shown.third_x = c.x();
-    shown.third_y = c.y();
-    shown
+    HullWitness {
+        c: numbers(c),
+        ..with_two(code, a, b)
+    }
 }
 
 /// The strip of an edge.
