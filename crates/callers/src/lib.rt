@@ -5,24 +5,32 @@
 
 mod counts;
 mod free_ways;
+mod halves;
+mod joints;
 mod journals;
+mod latest_views;
 mod lists;
 mod loaded_zones;
 mod pictures;
 mod plain_hulls;
 mod sets;
+mod settled_zones;
 mod sides;
 mod texts;
 mod watched_zones;
 
 pub use counts::write_count;
 pub use free_ways::meets_way;
+pub use halves::seen_from;
+pub use joints::joined;
 pub use journals::serve_and_count;
+pub use latest_views::latest_view;
 pub use lists::list_of;
 pub use loaded_zones::place_among;
 pub use pictures::draw_tree;
 pub use plain_hulls::corners_of_three;
 pub use sets::area_without;
+pub use settled_zones::place_often;
 pub use sides::{lies_left, point_at};
 pub use texts::verdict_on;
 pub use watched_zones::add_and_look;
