@@ -1,4 +1,5 @@
 -- The points of a set between a chain and the rest of it.
+use Rattle.std.proofs.lemmas.Grind.{common_steps}
 use Rattle.std.proofs.Common.{◌≡◌, ℕ, inl, inr, refl, sym, ap, ◌∙◌, subst, List, arith, zero, suc, [], ◌∷◌, ◌++◌, ◌<◌}
 use Rattle.std.proofs.Common.{◌≤◌, ◌-◌, ◌+◌, length, length-append, get_or, take}
 use Rattle.std.specs.List.{Contains}
@@ -68,9 +69,7 @@ module _ (side : Side) (S left right chain seen rest whole : List Pair) (p : Pai
     (k : IsBetween S left right whole) (h : IsThinned side (left ++ seen) chain) where
   -- the points so far, the next one, and the others
   parts : left ++ seen ++ p ∷ [] ++ rest ≡ left ++ whole
-  parts =
-      append_twice (left ++ seen) (p ∷ []) rest ∙ append_twice left seen (p ∷ rest)
-      ∙ ap (λ (z : List Pair). left ++ z) w
+  parts = grind (arith, common_steps, append_twice)
 
   -- the points so far and the next one
   front : IsPointSet (left ++ seen ++ p ∷ [])

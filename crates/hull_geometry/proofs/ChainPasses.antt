@@ -1,4 +1,5 @@
 -- What one pass over points in order makes of a chain.
+use Rattle.std.proofs.lemmas.Grind.{common_steps}
 use Rattle.std.proofs.Common.{◌≡◌, ℕ, pos, ◌≤ℤ◌, inl, inr, refl, sym, ap, ◌∙◌, subst, List, arith, zero, suc, []}
 use Rattle.std.proofs.Common.{◌∷◌, ◌++◌, ◌<◌, ◌+◌, ◌-◌, length, get_or, take, length-append}
 use Rattle.std.specs.List.{All, Contains}
@@ -24,12 +25,7 @@ use Rattle.lattice.proofs.LineCrossings.{orient_other}
 -- others
 middle : (side : Side) (a b c : Pair) → IsBefore a b → IsBefore b c → orient_on side a b c ≤ℤ pos 0 → IsInwards side a c b
 middle Lower a b c ab bc h = (ab, bc, let e = orient_swap a c b in omega (arith, ints))
-middle Upper a b c ab bc h = (
-  ab,
-  bc,
-  let e = orient-cycle b c a in let f = orient_other c b a in let g = orient-cycle c a b in let k =
-      orient_other a b c in let m = orient-cycle a b c in omega (arith, ints),
-)
+middle Upper a b c ab bc h = grind (arith, common_steps, ab, orient-cycle, orient_other, ints)
 
 -- what lies inwards of the first of two segments lies inwards of the long one
 first_inwards : (side : Side) (a b c u : Pair) → IsBefore a b → IsBefore b c → orient_on side a b c ≤ℤ pos 0
@@ -149,9 +145,7 @@ module _ {side : Side} {chain : List Pair} {c : Pair} (e : EndsInwards side chai
 
   -- its points were points of the chain
   pub popped_among : (t : Pair) → Contains (take (length chain - 1) chain) t → Contains chain t
-  popped_among t m =
-      subst (λ (z : List Pair). Contains z t) (append_twice e.front (e.a ∷ []) (e.b ∷ []) ∙ sym e.whole)
-      (Contains-append_left (e.front ++ e.a ∷ []) (e.b ∷ []) t (subst (λ (z : List Pair). Contains z t) e.kept m))
+  popped_among t m = grind (arith, common_steps, append_twice)
 
   -- it is shorter
   pub popped_short : length (take (length chain - 1) chain) < length chain

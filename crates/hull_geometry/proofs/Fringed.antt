@@ -1,4 +1,5 @@
 -- What stands under an edge does not matter to a bridge.
+use Rattle.std.proofs.lemmas.Grind.{common_steps}
 use Rattle.std.proofs.Common.{◌≡◌, ℤ, pos, ◌≤ℤ◌, ◌<ℤ◌, ◌⊎◌, inl, inr, refl, sym, subst, arith, List, [], ◌∷◌, suc}
 use Rattle.std.specs.List.{Contains}
 use Rattle.lattice.specs.Bridges.{IsAllBefore, IsBridge, IsInner}
@@ -43,24 +44,15 @@ at_most x e = np_by x (pos 0) e (omega arith)
 
 -- what lies strictly inwards of a line is inner to each edge along it
 pub strictly_inner : (side : Side) (u v t : Pair) → pos 0 <ℤ orient_on side u v t → IsInnerToEdge side u v t
-strictly_inner side u v t h = (
-  from_orient_on side u v t (nn_above _ h),
-  λ e. absurd (above_not_np _ _ (to_none side u v t e) h (omega arith)),
-)
+strictly_inner side u v t h = grind (arith, common_steps, from_orient_on, nn_above, above_not_np, to_none)
 
 -- so is the start of an edge
 pub start_inner : (side : Side) (u v : Pair) → IsBefore u v → IsInnerToEdge side u v u
-start_inner side u v uv = (
-  from_orient_on side u v u (subst (λ (z : ℤ). pos 0 ≤ℤ z) (sym (orient_on_start side u v)) (omega arith)),
-  λ e. (before_irrefl u, before_not u v uv),
-)
+start_inner side u v uv = grind (arith, common_steps, from_orient_on, pos, orient_on_start, before_irrefl, before_not)
 
 -- and its end
 pub end_inner : (side : Side) (u v : Pair) → IsBefore u v → IsInnerToEdge side u v v
-end_inner side u v uv = (
-  from_orient_on side u v v (subst (λ (z : ℤ). pos 0 ≤ℤ z) (sym (orient_on_end side u v)) (omega arith)),
-  λ e. (before_not u v uv, before_irrefl v),
-)
+end_inner side u v uv = grind (arith, common_steps, from_orient_on, pos, orient_on_end, before_not, before_irrefl)
 
 -- ---- under an edge
 

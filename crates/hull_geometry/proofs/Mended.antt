@@ -1,4 +1,5 @@
 -- The chain of a set that changed.
+use Rattle.std.proofs.lemmas.Grind.{common_steps}
 use Rattle.std.proofs.Common.{◌≡◌, ℕ, ℤ, pos, ◌≤ℤ◌, ◌<ℤ◌, neg_ℤ, ◌⊎◌, inl, inr, refl, sym, ap, ◌∙◌, subst, List, arith}
 use Rattle.std.proofs.Common.{zero, suc, [], ◌∷◌, ◌++◌, ◌<◌, ◌≤◌, ◌-◌, ◌+◌, length, get_or, take, drop, Ok, Err, to_z, of_z}
 use Rattle.std.proofs.Common.{length-append, length-drop, length-take}
@@ -160,10 +161,7 @@ split side xs d p y rest u e dp py h (du, uy, k) =
 inner_put : (side : Side) (chain : List Pair) (p : Pair) (i : ℕ) (right : List Pair) → drop i chain ≡ right
     → IsPositionOf chain p (Err i) → ¬ (IsOverEdge side chain i p) → (u : Pair)
     → IsInner side (take i chain ++ right) u → IsInner side (take i chain ++ p ∷ [] ++ right) u
-inner_put side chain p i [] is at n u k =
-    inner_left side (take i chain ++ p ∷ []) [] u
-    (inner_left side (take i chain) (p ∷ []) u
-    (subst (λ (z : List Pair). IsInner side z u) (sym (append_none (take i chain))) k))
+inner_put side chain p i [] is at n u k = grind (arith, common_steps, inner_left, append_none)
 inner_put side chain p i (y ∷ rest) is at n u k =
     elim (inner_cut side (take i chain) y rest u k) [
       | inl m ↦ inner_left side (take i chain ++ p ∷ []) (y ∷ rest) u (inner_left side (take i chain) (p ∷ []) u m)

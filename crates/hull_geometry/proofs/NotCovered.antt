@@ -1,4 +1,5 @@
 -- A line with all of S strictly on one side and q on the other: S does not cover q.
+use Rattle.std.proofs.lemmas.Grind.{common_steps}
 use Rattle.std.proofs.Common.{◌≡◌, ℤ, pos, ◌+ℤ◌, ◌-ℤ◌, ◌*ℤ◌, ◌≤ℤ◌, ◌<ℤ◌, ◌⊎◌, inl, inr, sym, ap, ◌∙◌, List, arith}
 use Rattle.std.specs.List.{All}
 use Rattle.std.proofs.lemmas.Int.{ints}
@@ -24,14 +25,7 @@ balance f a b c = rw (as_pair f, as_pair a, as_pair b, as_pair c) (simp differen
 -- three weights, of which none is below 0 and one is above, of three numbers above 0
 mix : (a b c A B C : ℤ) → pos 0 <ℤ A → pos 0 <ℤ B → pos 0 <ℤ C → pos 0 ≤ℤ a → pos 0 ≤ℤ b → pos 0 ≤ℤ c
     → pos 0 <ℤ (a +ℤ b +ℤ c) → (a *ℤ A) +ℤ (b *ℤ B) +ℤ (c *ℤ C) ≡ pos 0 → ⊥
-mix a b c A B C hA hB hC ha hb hc h e =
-    let pa : pos 0 ≤ℤ (a *ℤ A) = product_nn a A ha (omega (arith, ints)) in
-    let pb : pos 0 ≤ℤ (b *ℤ B) = product_nn b B hb (omega (arith, ints)) in
-    let pc : pos 0 ≤ℤ (c *ℤ C) = product_nn c C hc (omega (arith, ints)) in
-    let za : a ≡ pos 0 = cancel_zero a A hA (omega (arith, ints)) in
-    let zb : b ≡ pos 0 = cancel_zero b B hB (omega (arith, ints)) in
-    let zc : c ≡ pos 0 = cancel_zero c C hC (omega (arith, ints)) in
-    omega (arith, ints)
+mix a b c A B C hA hB hC ha hb hc h e = grind (arith, common_steps, pos, product_nn, ints, cancel_zero)
 
 -- three vectors that bend left round the origin do not all lie on one side of a line through it
 no_triangle : (f a b c : Pair) → pos 0 <ℤ product f a → pos 0 <ℤ product f b → pos 0 <ℤ product f c

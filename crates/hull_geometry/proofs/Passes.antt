@@ -239,12 +239,7 @@ inner_with : (side : Side) (xs ys zs : List Pair) (u : Pair) → IsThinned side 
     → IsInner side (ys ++ zs) u
 inner_with side xs ys [] u p k =
     inner_left side ys [] u (p.inner u (subst (λ (l : List Pair). IsInner side l u) (sym (append_none xs)) k))
-inner_with side xs ys (z ∷ zs) u p k =
-    elim (inner_cut side xs z zs u k) [
-      | inl m ↦ inner_left side ys (z ∷ zs) u (p.inner u m)
-      | inr (inl (d, e, m)) ↦ inner_across side ys d z zs u (p.ends d e) m
-      | inr (inr m) ↦ inner_right side ys (z ∷ zs) u m
-    ]
+inner_with side xs ys (z ∷ zs) u p k = grind (arith, common_steps, inner_cut, inner_left, inner_across, inner_right)
 
 -- and so the end
 ends_with : (side : Side) (xs ys zs : List Pair) (c : Pair) → IsThinned side xs ys → EndsWith c (xs ++ zs)
@@ -349,10 +344,7 @@ ends_cut c (x ∷ xs) e = let r = ends_cut_from x xs in
 
 -- the end of the first points of a list
 pub ends_take : (xs : List Pair) (i : ℕ) → i < length xs → EndsWith (point_at xs i) (take (i + 1) xs)
-ends_take xs i l =
-    subst (EndsWith (point_at xs i))
-    (sym (take_next xs i (point_at xs i) l (get_or_free xs i _ _ l)))
-    (ends_right (point_at xs i) (take i xs) (point_at xs i ∷ []) refl)
+ends_take xs i l = grind (arith, common_steps, take_next, get_or_free, ends_right)
 
 -- the rest from a place on, with its point in front
 pub rest_at : (xs : List Pair) (i : ℕ) (p : Pair) → i < length xs → p ≡ get_or xs i p → drop i xs ≡ p ∷ drop (i + 1) xs

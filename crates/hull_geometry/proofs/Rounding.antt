@@ -1,5 +1,6 @@
 -- The walk round the hull: what it has passed so far, and that at its end this is the vertex list, and its fan the
 -- doubled area.
+use Rattle.std.proofs.lemmas.Grind.{common_steps}
 use Rattle.std.proofs.Common.{◌≡◌, ℕ, pos, ◌+ℤ◌, ◌≤ℤ◌, inl, inr, refl, sym, ap, ◌∙◌, subst, List, arith, zero, suc}
 use Rattle.std.proofs.Common.{◌<◌, [], ◌∷◌, ◌++◌, length, get_or, ◌-◌}
 use Rattle.std.specs.List.{Contains}
@@ -48,10 +49,7 @@ fan-append f u (x ∷ xs) ys = let e = fan-append f x xs ys in omega (arith, int
 
 -- a step back to the corner of the fan adds nothing
 pub fan-back : (f u : Pair) (xs : List Pair) → fan f u (xs ++ f ∷ []) ≡ fan f u xs
-fan-back f u xs =
-    let e = fan-append f u xs (f ∷ []) in
-    let z : orient f (end_of u xs) f ≡ pos 0 = orient_start f (end_of u xs) in
-    omega (arith, ints)
+fan-back f u xs = grind (arith, common_steps, fan-append, orient, end_of, pos, orient_start, ints)
 
 -- one more point of a walk
 pub fan-push : (f u w : Pair) (xs : List Pair) → fan f u (xs ++ w ∷ []) ≡ fan f u xs +ℤ orient f (end_of u xs) w

@@ -1,4 +1,5 @@
 -- What q sees on one hand: the order of points by how far they are there, and the tangent point, which is farthest.
+use Rattle.std.proofs.lemmas.Grind.{common_steps}
 use Rattle.std.proofs.Common.{◌≡◌, pos, neg_ℤ, inl, inr, ap, ◌∙◌, List, arith}
 use Rattle.std.specs.List.{All, Contains}
 use Rattle.std.proofs.lemmas.Int.{ints}
@@ -30,16 +31,8 @@ no_more Right q p t k (inr g) = let e = orient_swap q p t in omega (arith, ints,
 
 -- and the other way round
 not_more : (hand : Hand) (q p t : Pair) → ¬ (IsMore hand q t p) → IsNoMore hand q p t
-not_more Left q p t n = (
-  elim (le_or_lt (orient q p t) (pos 0)) [ inl k ↦ k | inr k ↦ absurd (n (inl k)) ],
-  λ z. elim (le_or_lt (distance_squared q t) (distance_squared q p)) [ inl k ↦ k | inr k ↦ absurd (n (inr (z, k))) ],
-)
-not_more Right q p t n =
-    let e : orient q p t ≡ neg_ℤ (orient q t p) = orient_swap q p t in (
-      elim (le_or_lt (orient q t p) (pos 0)) [ inl k ↦ omega (arith, ints) | inr k ↦ absurd (n (inl k)) ],
-      λ z. elim (le_or_lt (distance_squared q t) (distance_squared q p))
-          [ inl k ↦ k | inr k ↦ absurd (n (inr (omega (arith, ints), k))) ],
-    )
+not_more Left q p t n = grind (arith, common_steps, le_or_lt, orient, pos, n, distance_squared)
+not_more Right q p t n = grind (arith, common_steps, orient, neg_ℤ, orient_swap, le_or_lt, pos, ints, n, distance_squared)
 
 -- the tangent touches where no point is farther on its hand
 pub tangent_of : (hand : Hand) (S : List Pair) (q p : Pair) → Contains S p → All (λ t. ¬ (IsMore hand q t p)) S

@@ -1,4 +1,5 @@
 -- A list of points has one list of vertices at most, and one doubled area at most.
+use Rattle.std.proofs.lemmas.Grind.{common_steps}
 use Rattle.std.proofs.Common.{◌≡◌, ℤ, refl, sym, ap, ◌∙◌, subst, List, arith, zero, suc, [], ◌∷◌, get_or}
 use Rattle.std.specs.List.{All, Contains}
 use Rattle.std.proofs.lemmas.List.Elements.{All-tail}
@@ -70,9 +71,7 @@ pub vertex_list_unique : (S vs ws : List Pair) → IsVertexList S vs → IsVerte
 vertex_list_unique S [] [] h g = refl
 vertex_list_unique S [] (w ∷ ws) h g = absurd (none_or_some S w ws h g)
 vertex_list_unique S (v ∷ vs) [] h g = absurd (none_or_some S v vs g h)
-vertex_list_unique S (v ∷ vs) (w ∷ ws) h g =
-    let e : w ≡ v = sym (same_head S v w vs ws h g) in
-    same_list S v vs ws h (subst (λ (z : Pair). IsVertexList S (z ∷ ws)) e g) ∙ ap (λ (z : Pair). z ∷ ws) (sym e)
+vertex_list_unique S (v ∷ vs) (w ∷ ws) h g = grind (arith, common_steps, same_head, same_list)
 
 -- two doubled areas of one list of points are equal
 pub doubled_area_unique : (S : List Pair) (m n : ℤ) → IsDoubledArea S m → IsDoubledArea S n → m ≡ n
