@@ -15,7 +15,7 @@ use Rattle.lattice.proofs.Order.{before_trans, before_irrefl, before_not}
 use Rattle.lattice.proofs.UniqueBridge.{one_bridge, one_lower_bridge}
 use Rattle.hull_geometry.specs.Fringes.{UnderAnEdgeIsInner, IsFringe, BridgeIsOfFringes, ChainIsAFringe}
 use Rattle.hull_geometry.specs.Fringes.{BridgeEndsAtWhatCame}
-use Rattle.hull_geometry.specs.Monotone.{IsInwards, IsInnerFrom, IsChainOf}
+use Rattle.hull_geometry.specs.Monotone.{IsInwards, IsInnerFrom}
 use Rattle.hull_geometry.specs.Monotone as monotone
 use Rattle.hull_geometry.proofs.Orientations.{stays_outwards, stays_first, stays_second, orient_on_start, orient_on_end}
 use Rattle.lattice.proofs.LineCrossings.{orient_other}

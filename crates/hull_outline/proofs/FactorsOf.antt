@@ -1,13 +1,8 @@
 -- The square of a distance as a quotient: how large it is, and how two such compare.
-use Rattle.std.proofs.Common.{◌≡◌, ℕ, ◌*◌, ◌≤◌, ◌<◌, ℤ, pos, ◌+ℤ◌, ◌-ℤ◌, ◌*ℤ◌, ◌≤ℤ◌, ◌<ℤ◌, sym, subst, arith}
+use Rattle.std.proofs.Common.{◌≡◌, ℕ, ◌*◌, ◌≤◌, ℤ, pos, ◌+ℤ◌, ◌-ℤ◌, ◌*ℤ◌, ◌≤ℤ◌, sym, subst, arith}
 use Rattle.std.proofs.lemmas.Int.{ints}
 use Rattle.std.proofs.lemmas.Nat.{mul-le}
-use Rattle.std.specs.declared.cmp.Ordering.{Ordering}
-use Rattle.std.specs.declared.cmp.Ordering.TheVariants.{Less, Equal, Greater}
 use Rattle.lattice.specs.Plane.{Pair, orient, distance_squared}
-use Rattle.hull_outline.specs.Squares.{IsSquareOf, TellsNearer, TellsOrder, denominator_of, numerator_of}
-use Rattle.hull_outline.specs.declared.distance.Distance.{Distance}
-use Rattle.hull_outline.specs.declared.squares.SquaredDistance.{SquaredDistance}
 use Rattle.hull_outline.proofs.Cones.{square_nn}
 use Rattle.hull_outline.proofs.Distances.{lagrange}
 

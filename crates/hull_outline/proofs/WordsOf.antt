@@ -1,7 +1,6 @@
 -- Numbers in words of 64 bits, their products and sums.
-use Rattle.std.proofs.Common.{◌≡◌, ℕ, ◌+◌, ◌*◌, ◌/◌, ◌%◌, arith}
+use Rattle.std.proofs.Common.{◌≡◌, ℕ, ◌+◌, ◌*◌, arith}
 use Rattle.hull_outline.specs.Squares.{word}
-use Rattle.hull_outline.specs.Wide.{base}
 
 -- three words times one
 pub times_one : (h m l b carried first above second fourth third : ℕ) → carried * word + first ≡ l * b + 0

@@ -1,4 +1,5 @@
 -- What a draft of a list is after its last point went, and after a point came.
+use Rattle.std.proofs.lemmas.Grind.{common_steps}
 use Rattle.std.proofs.Common.{◌≡◌, ℕ, ◌≤◌, [], ◌∷◌, ◌++◌, sym, ap, ◌∙◌, List, arith, length, length-append}
 use Rattle.std.proofs.Common.{take}
 use Rattle.lattice.specs.Plane.{Pair}
@@ -13,10 +14,7 @@ fresh_few L d = let n = length-append (take d.kept L) d.fresh.items in omega (ar
 -- with a point pushed it is one point longer
 pub pushed : (L : List Pair) (old new : Draft) (c : Pair) → new.kept ≡ old.kept
     → new.fresh.items ≡ old.fresh.items ++ c ∷ [] → drafted L new ≡ drafted L old ++ c ∷ []
-pushed L old new c k f =
-    ap (λ (n : ℕ). take n L ++ new.fresh.items) k
-    ∙ ap (λ (z : List Pair). take old.kept L ++ z) f
-    ∙ sym (append_twice (take old.kept L) old.fresh.items (c ∷ []))
+pushed L old new c k f = grind (arith, common_steps, append_twice)
 
 -- when it begins it is the first points of the list
 pub started : (L : List Pair) (d : Draft) (n : ℕ) → d.kept ≡ n → d.fresh.items ≡ [] → drafted L d ≡ take n L

@@ -1,4 +1,5 @@
 -- The keys of a map between a chain and the rest of it.
+use Rattle.std.proofs.lemmas.Grind.{common_steps}
 use Rattle.std.proofs.Common.{◌≡◌, ℕ, inl, inr, refl, sym, ap, ◌∙◌, subst, List, arith, zero, suc, [], ◌∷◌, ◌++◌}
 use Rattle.std.proofs.Common.{◌-◌, ◌+◌, Bool, true, false, cond, not, ◌&&◌}
 use Rattle.std.specs.BTreeMap.Range.{entries_between, range_contains, is_from_start, is_past_end, IsLeBy, IsLtBy}
@@ -64,21 +65,11 @@ true_false e = absurd (false≢true e)
 
 -- a point that compares as less stands before
 less_told : (a q : Pair) → is_lt (point_cmp a q) ≡ true → IsBefore a q
-less_told a q h =
-    elim (before_total a q) [
-      | inl b ↦ b
-      | inr (inl e) ↦ true_false (sym (ap is_lt (ap (point_cmp a) (sym e) ∙ equal a)) ∙ h)
-      | inr (inr b) ↦ true_false (sym (ap is_lt (greater a q b)) ∙ h)
-    ]
+less_told a q h = grind (arith, common_steps, before_total, true_false, is_lt, point_cmp, equal, greater)
 
 -- a point that does not compare as at most another stands after it
 not_le_told : (b q : Pair) → is_le (point_cmp b q) ≡ false → IsBefore q b
-not_le_told b q h =
-    elim (before_total b q) [
-      | inl k ↦ true_false (sym h ∙ ap is_le (less b q k))
-      | inr (inl e) ↦ true_false (sym h ∙ ap is_le (ap (point_cmp b) (sym e) ∙ equal b))
-      | inr (inr k) ↦ k
-    ]
+not_le_told b q h = grind (arith, common_steps, before_total, true_false, is_le, less, point_cmp, equal)
 
 -- what a bound behind a chain lets through stands after the chain
 after_start : (left : List Pair) (start : Bound Pair) (t q : Pair) → IsPointSet left → IsBehind left start
@@ -155,10 +146,7 @@ between start end S = filter (range_contains point_cmp start end) S
 -- each passes both tests
 passes_both : (start end : Bound Pair) (S : List Pair) (t : Pair) → Contains (between start end S) t
     → (is_from_start point_cmp start t ≡ true) × (is_past_end point_cmp end t ≡ false)
-passes_both start end S t m =
-    let h = both _ _ (All-contains (λ x. range_contains point_cmp start end x ≡ true) (between start end S) t
-    (filter_passes (range_contains point_cmp start end) S) m) in
-    (h.0, negated _ h.1)
+passes_both start end S t m = grind (arith, common_steps, both, range_contains, point_cmp, true, filter_passes, negated)
 
 -- the points of a set between the bounds on the two sides of a chain are all that stand between
 all_between : (S left right : List Pair) (start end : Bound Pair) → IsPointSet S → IsPointSet (left ++ right)

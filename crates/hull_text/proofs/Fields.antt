@@ -1,8 +1,8 @@
 -- A field that is read is the field that was written, and what was written is read again.
 use Rattle.std.proofs.lemmas.Grind.{common_steps}
 use Rattle.std.proofs.Common.{◌≡◌, ◌<◌, ◌≤◌, ◌+◌, ◌-◌, ◌*◌, ◌^◌, ℕ, zero, suc, List, [], ◌∷◌, ◌++◌, Option, Some, None}
-use Rattle.std.proofs.Common.{Bool, true, false, cond, Ok, Err, decimal, refl, ap, subst, arith, inl, inr}
-use Rattle.std.specs.Prelude.{◌==◌, ◌&&◌, nat_le, nat_lt, ℤ, pos, negsuc}
+use Rattle.std.proofs.Common.{Bool, true, false, cond, Ok, Err, decimal, refl, ap, subst, arith}
+use Rattle.std.specs.Prelude.{◌&&◌, nat_le, nat_lt, ℤ, pos, negsuc}
 use Rattle.std.specs.Fmt.{signed_decimal}
 use Rattle.std.proofs.lemmas.Bool.{eqb-true, ne_eqb}
 use Rattle.lattice.specs.Plane.{Pair}

@@ -1,7 +1,7 @@
 -- Lines of a text by their numbers: what is read of one, and which is the first with a fault.
 use Rattle.std.proofs.lemmas.Grind.{common_steps}
-use Rattle.std.proofs.Common.{◌≡◌, ◌<◌, ◌≤◌, ◌+◌, ℕ, suc, List, [], ◌∷◌, ◌++◌, length, Result, Ok, Err, refl, sym, ap}
-use Rattle.std.proofs.Common.{subst, ◌∙◌, add-zero, arith, inl, inr}
+use Rattle.std.proofs.Common.{◌≡◌, ◌<◌, ◌≤◌, ◌+◌, ℕ, suc, List, [], ◌∷◌, ◌++◌, length, Result, Ok, Err, refl, ap}
+use Rattle.std.proofs.Common.{◌∙◌, add-zero, arith, inl, inr}
 use Rattle.std.specs.Prelude.{nat_le}
 use Rattle.hull_text.specs.declared.fault.FaultKind.{FaultKind}
 use Rattle.hull_text.specs.declared.fault.FaultKind.TheVariants.{Form}

@@ -1,7 +1,7 @@
 -- Reading a script line by line.
 use Rattle.std.proofs.lemmas.Grind.{common_steps}
 use Rattle.std.proofs.Common.{◌≡◌, ◌<◌, ◌+◌, ℕ, suc, List, [], ◌∷◌, ◌++◌, length, Option, Some, None, Result, Ok, Err}
-use Rattle.std.proofs.Common.{refl, sym, ap, subst, ◌∙◌, arith, add-one, append_assoc, inl, inr}
+use Rattle.std.proofs.Common.{refl, ap, ◌∙◌, arith, add-one, append_assoc, inl, inr}
 use Rattle.std.specs.Prelude.{◌==◌, MatchResult}
 use Rattle.std.proofs.lemmas.List.{append-nil}
 use Rattle.std.proofs.lemmas.List.Splits.{slice_split_at, slice_split_none, length-slice_split}
@@ -13,7 +13,7 @@ use Rattle.hull_text.specs.Field.{◌>>=◌}
 use Rattle.hull_text.specs.ScriptText.{numbered, kept, last_items, items_of, pieces, with_front, script_items}
 use Rattle.hull_text.specs.ScriptValue.{script_of}
 use Rattle.hull_text.specs.Reading.{HasNoNewline, ReadsOn, FailsIn}
-use Rattle.hull_text.specs.ScriptReading.{reading, AnswersItems, AnswersScript}
+use Rattle.hull_text.specs.ScriptReading.{reading, AnswersScript}
 use Rattle.hull_text.proofs.FaultPlaces.{reading_goes_on}
 
 -- What a line says stands before what the lines behind it say.

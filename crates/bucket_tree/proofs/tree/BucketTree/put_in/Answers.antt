@@ -1,11 +1,9 @@
 -- the root is well built and low, the point is not below it, and there is room for one more
-use Rattle.std.proofs.Common.{◌≡◌, ◌≤◌, ◌∙◌, ap, arith, length, subst, sym, Some}
-use Rattle.std.specs.Prelude.{Option}
+use Rattle.std.proofs.Common.{◌≡◌, ◌∙◌, ap, arith, length, subst, sym, Some}
 use Rattle.bucket_tree.specs.Counts.{HasGained}
 use Rattle.bucket_tree.specs.Nodes.{forks_above}
 use Rattle.bucket_tree.specs.Roots.{points_of_root}
-use Rattle.bucket_tree.specs.Sets.{LimitedTree, IsLimited}
-use Rattle.bucket_tree.specs.declared.node.Node.{Node}
+use Rattle.bucket_tree.specs.Sets.{LimitedTree}
 use Rattle.bucket_tree.proofs.MostTurns.{few_turns}
 use Rattle.bucket_tree.proofs.Rooted.{absent_below, built_root, limited_root, limited_with, low_root}
 use Rattle.bucket_tree.proofs.tree.BucketTree.put_in.Goals as goal

@@ -1,11 +1,9 @@
 -- the root is well built and low, and what is left is a tree of one point less
-use Rattle.std.proofs.Common.{◌≡◌, ◌≤◌, ◌∙◌, ap, arith, subst, sym, Some}
-use Rattle.std.specs.Prelude.{Option}
+use Rattle.std.proofs.Common.{◌≡◌, ◌∙◌, ap, arith, sym, Some}
 use Rattle.bucket_tree.specs.Counts.{times_at}
 use Rattle.bucket_tree.specs.Nodes.{forks_above}
 use Rattle.bucket_tree.specs.Roots.{times_of_root}
-use Rattle.bucket_tree.specs.Sets.{LimitedTree, IsLimited}
-use Rattle.bucket_tree.specs.declared.node.Node.{Node}
+use Rattle.bucket_tree.specs.Sets.{LimitedTree}
 use Rattle.bucket_tree.proofs.MostTurns.{few_turns}
 use Rattle.bucket_tree.proofs.Rooted.{limited_root, lost_limited, low_root}
 use Rattle.bucket_tree.proofs.tree.BucketTree.take_out.Goals as goal

@@ -1,9 +1,6 @@
 -- the root is well built and low, and what is left is a tree of one point less
-use Rattle.std.proofs.Common.{◌≡◌, ◌≤◌, arith, subst, Some}
-use Rattle.std.specs.Prelude.{Option}
+use Rattle.std.proofs.Common.{◌≡◌, arith, Some}
 use Rattle.bucket_tree.specs.Nodes.{forks_above}
-use Rattle.bucket_tree.specs.Sets.{IsLimited}
-use Rattle.bucket_tree.specs.declared.node.Node.{Node}
 use Rattle.bucket_tree.proofs.MostTurns.{few_turns}
 use Rattle.bucket_tree.proofs.Rooted.{limited_root, lost_limited, low_root}
 use Rattle.bucket_tree.proofs.tree.BucketTree.take_where_others.Goals as goal

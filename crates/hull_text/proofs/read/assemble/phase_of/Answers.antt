@@ -1,5 +1,5 @@
 -- an item puts its call behind those of its worker, if it has one
-use Rattle.std.proofs.Common.{◌≡◌, ℕ, ◌<◌, ◌∙◌, ◌++◌, [], ◌∷◌, List, length, map, get_or, Some, None, Vec, refl, ap, sym, arith}
+use Rattle.std.proofs.Common.{◌≡◌, ℕ, ◌<◌, ◌∙◌, [], ◌∷◌, List, length, map, get_or, Some, None, Vec, refl, ap, sym, arith}
 use Rattle.std.specs.Global.{Global}
 use Rattle.std.proofs.lemmas.Bool.{false≢true}
 use Rattle.std.proofs.lemmas.List.{length-map, length-replicate, length-set, get_or-replicate, take_all}
