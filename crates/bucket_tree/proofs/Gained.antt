@@ -1,4 +1,5 @@
 -- A point that comes to one of two nodes in a row.
+use Rattle.std.proofs.lemmas.Grind.{common_steps}
 use Rattle.std.proofs.Common.{◌≡◌, ℕ, ◌+◌, ◌<◌, true, false, Bool, refl, sym, ap, ◌∙◌, subst, List, [], ◌∷◌, ◌++◌}
 use Rattle.std.proofs.Common.{length, arith}
 use Rattle.std.proofs.Common.{inl, inr, length-append}
@@ -59,9 +60,7 @@ counts_below Gap h = absurd h
 -- what a node holds, by two in whose row its points are
 pub held_row : (n l r : Node) (q : Pair) → HasBuckets l → points_below n ≡ points_below l ++ points_below r
     → times_below n ≡ times_below l ++ times_below r → times_at n q ≡ times_at l q + times_at r q
-held_row n l r q h e f =
-    ap (λ z. counted z (times_below n) q) e ∙ ap (λ z. counted (points_below l ++ points_below r) z q) f
-    ∙ counted_row (points_below l) (points_below r) (times_below l) (times_below r) q (counts_below l h)
+held_row n l r q h e f = grind (arith, common_steps, counted, times_below, points_below, counted_row, counts_below)
 
 -- ---- by the words of the code
 
@@ -86,16 +85,12 @@ failed b f e a = true_is_no_false (sym (f a) ∙ e)
 -- the points of both its parts are its own
 parts_points : (b whole first second f g : BucketValue) → whole ≡ b → whole.points ≡ first.points ++ second.points
     → f ≡ first → g ≡ second → f.points ++ g.points ≡ b.points
-parts_points b whole first second f g e h u v =
-    ap (λ (z : BucketValue). z.points ++ g.points) u ∙ ap (λ (z : BucketValue). first.points ++ z.points) v ∙ sym h
-    ∙ ap (λ (z : BucketValue). z.points) e
+parts_points b whole first second f g e h u v = grind (arith, common_steps)
 
 -- and so is how often each is held
 parts_times : (b whole first second f g : BucketValue) → whole ≡ b → whole.times ≡ first.times ++ second.times
     → f ≡ first → g ≡ second → f.times ++ g.times ≡ b.times
-parts_times b whole first second f g e h u v =
-    ap (λ (z : BucketValue). z.times ++ g.times) u ∙ ap (λ (z : BucketValue). first.times ++ z.times) v ∙ sym h
-    ∙ ap (λ (z : BucketValue). z.times) e
+parts_times b whole first second f g e h u v = grind (arith, common_steps)
 
 -- with a point in one of them they have those of the bucket with it
 pub parts_gain : (b whole first second f g : BucketValue) (P : List Pair) (p : Pair) → whole ≡ b
@@ -108,6 +103,4 @@ parts_gain b whole first second f g P p e h u v k =
 pub parts_held : (b whole first second f g : BucketValue) (n : ℕ) (p q : Pair) → whole ≡ b
     → whole.points ≡ first.points ++ second.points → whole.times ≡ first.times ++ second.times → f ≡ first → g ≡ second
     → n ≡ counted (f.points ++ g.points) (f.times ++ g.times) q + once p q → n ≡ counted b.points b.times q + once p q
-parts_held b whole first second f g n p q e h t u v k =
-    k ∙ ap (λ z. counted z (f.times ++ g.times) q + once p q) (parts_points b whole first second f g e h u v)
-    ∙ ap (λ z. counted b.points z q + once p q) (parts_times b whole first second f g e t u v)
+parts_held b whole first second f g n p q e h t u v k = grind (arith, common_steps, counted, once, parts_points, whole, parts_times)

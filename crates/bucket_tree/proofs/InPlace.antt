@@ -1,4 +1,5 @@
 -- A fork one of whose parts changed in place.
+use Rattle.std.proofs.lemmas.Grind.{common_steps}
 use Rattle.std.proofs.Common.{◌≡◌, ℕ, ◌+◌, ◌*◌, ◌≤◌, max, Bool, true, false, cond, refl, sym, ap, ◌∙◌, subst, ◌++◌}
 use Rattle.std.proofs.Common.{List, length, length-append, arith}
 use Rattle.std.proofs.Common.{Box, Some, Ok, Err}
@@ -68,36 +69,18 @@ apart n h f e w =
 pub fork_built : (h : ℕ) (f : Box Below _) → IsRenewed f.value
     → AreNear (forks_above f.value.left) (forks_above f.value.right)
     → h ≡ max (forks_above f.value.left) (forks_above f.value.right) + 1 → IsWellBuilt (Fork h f)
-fork_built h f r near e = record {
-  ordered = r.row.in_order;
-  bridged = (
-    corners_in_row f.value.left f.value.right r.row,
-    r.upper,
-    r.lower,
-    r.row.left_built.bridged,
-    r.row.right_built.bridged,
-  );
-  balanced = (near, r.row.left_built.balanced, r.row.right_built.balanced);
-  labelled = (r.last, r.first, e, r.row.left_built.labelled, r.row.right_built.labelled);
-  buckets = (r.row.left_built.buckets, r.row.right_built.buckets);
-}
+fork_built h f r near e = grind (arith, common_steps, corners_in_row)
 
 -- it is as high as before, where its parts are
 pub built_again : (n : Node) (h : ℕ) (f : Below) (b : Box Below _) → IsApart n h f → IsRenewed b.value
     → forks_above b.value.left ≡ forks_above f.left → forks_above b.value.right ≡ forks_above f.right
     → IsWellBuilt (Fork h b) × (forks_above (Fork h b) ≡ forks_above n)
-built_again n h f b a r u v = (
-  fork_built h b r (omega (arith, a.near, u, v), omega (arith, a.near, u, v)) (omega (arith, a.label, u, v)),
-  omega (arith, a.height, u, v),
-)
+built_again n h f b a r u v = grind (arith, common_steps, fork_built)
 
 -- the bridge below is that of a fork whose upper edge alone is another
 pub lower_moved : (f g : Below) → IsSameBut Upper f g → IsBridgeBetween Lower f.left f.right f.lower
     → IsBridgeBetween Lower g.left g.right g.lower
-lower_moved f g s b =
-    subst (λ z. IsBridgeBetween Lower z g.right g.lower) (sym s.left)
-    (subst (λ z. IsBridgeBetween Lower f.left z g.lower) (sym s.right)
-    (subst (IsBridgeBetween Lower f.left f.right) (sym s.other) b))
+lower_moved f g s b = grind (arith, common_steps)
 
 -- ---- one part: the left one where the word is true, and else the right one
 
@@ -363,9 +346,7 @@ changed_leaf false p b c v change f h d = record {
   where
     lost : (c.value.points ≡ without_point p b.value.points)
         × ((q : Pair) → counted b.value.points b.value.times q ≡ counted c.value.points c.value.times q + once p q)
-    lost = subst (λ (z : BucketValue). (z.points ≡ without_point p b.value.points)
-        × ((q : Pair) → counted b.value.points b.value.times q ≡ counted z.points z.times q + once p q)) (sym f)
-        (d.points, d.times)
+    lost = grind (arith, common_steps, without_point, counted, once)
 
 -- so a leaf changed, if its bucket did
 pub leaf_changed : (put : Bool) (p : Pair) (n : Node) (b c : Box BucketValue _) (w v : BucketValue)
@@ -373,6 +354,4 @@ pub leaf_changed : (put : Bool) (p : Pair) (n : Node) (b c : Box BucketValue _) 
     → n ≡ Leaf b → w ≡ b.value → c.value ≡ v → IsBucket v → IfOk r (HasChangedIn put p w v)
     → IfOk r (HasChanged put p n (Leaf c))
 leaf_changed put p n b c w v (Err none) e d f h change = tt
-leaf_changed put p n b c w v (Ok told) e d f h change =
-    subst (λ z. HasChanged put p z (Leaf c) told) (sym e)
-    (changed_leaf put p b c v told f h (subst (λ z. HasChangedIn put p z v told) d change))
+leaf_changed put p n b c w v (Ok told) e d f h change = grind (arith, common_steps, changed_leaf)

@@ -1,4 +1,5 @@
 -- Points with how often each is held, as one list and as two.
+use Rattle.std.proofs.lemmas.Grind.{common_steps}
 use Rattle.std.proofs.Common.{◌≡◌, ℕ, zero, suc, ◌+◌, refl, sym, ap, ◌∙◌, subst, List, [], ◌∷◌, ◌++◌}
 use Rattle.std.proofs.Common.{length, take, drop, arith, get_or, ◌<◌, append_assoc}
 use Rattle.std.specs.List.{All}
@@ -66,10 +67,7 @@ paired_step S T i p n l e f g =
 pub paired_more : (S : List Pair) (T : List ℕ) (i : ℕ) (p : Pair) (n : ℕ) (old now : List (Pair × ℕ)) → i < length S
     → length T ≡ length S → p ≡ get_or S i p → n ≡ get_or T i 0 → now ≡ old ++ paired (take i S) (take i T)
     → now ++ (p, n) ∷ [] ≡ old ++ paired (take (i + 1) S) (take (i + 1) T)
-paired_more S T i p n old now l e f g h =
-    ap (λ (z : List (Pair × ℕ)). z ++ (p, n) ∷ []) h
-    ∙ append_assoc old (paired (take i S) (take i T)) ((p, n) ∷ [])
-    ∙ ap (λ (z : List (Pair × ℕ)). old ++ z) (sym (paired_step S T i p n l e f g))
+paired_more S T i p n old now l e f g h = grind (arith, common_steps, append_assoc, paired, paired_step)
 
 -- their points
 pub paired_points : (S : List Pair) (T : List ℕ) → length T ≡ length S → points_listed (paired S T) ≡ S

@@ -1,5 +1,6 @@
 -- What the parts of a node list.
-use Rattle.std.proofs.Common.{◌≡◌, ℕ, zero, suc, ◌+◌, ◌-◌, ◌<◌, ◌≤◌, max, min, refl, sym, ap, ◌∙◌, subst, List, [], ◌∷◌}
+use Rattle.std.proofs.lemmas.Grind.{common_steps}
+use Rattle.std.proofs.Common.{◌≡◌, ℕ, zero, suc, ◌+◌, ◌-◌, ◌<◌, ◌≤◌, max, min, refl, sym, ap, subst, List, [], ◌∷◌}
 use Rattle.std.proofs.Common.{◌++◌, length, take, drop, arith, inl, inr, Ok, Err, Box, append_assoc}
 use Rattle.std.proofs.lemmas.List.{length-append, length-drop}
 use Rattle.std.specs.List.{All}
@@ -31,26 +32,13 @@ pub record HasParts (n l r : Node) : Type 0 where
 -- a fork is one
 pub fork_parts : (n : Node) (h : ℕ) (f : Box Below _) → n ≡ Fork h f → HasBuckets n
     → HasParts n f.value.left f.value.right
-fork_parts n h f e b =
-    let k = subst HasBuckets e b in
-    subst (λ z. HasParts z f.value.left f.value.right) (sym e) record {
-      entries = paired_row (points_below f.value.left) (points_below f.value.right) _ _ (counts_below f.value.left k.0);
-      long = length-append (points_below f.value.left) (points_below f.value.right);
-      left_long = paired_length (points_below f.value.left) _ (counts_below f.value.left k.0);
-      height = refl;
-      left_buckets = k.0;
-      right_buckets = k.1;
-    }
+fork_parts n h f e b = grind (arith, common_steps, paired_row, points_below, counts_below, length-append, paired_length)
 
 -- what was there, the left part's and then the right part's are what was there and the whole's
 pub both_parts : (s : Pair) (m : ℕ) (n l r : Node) (old : List (Pair × ℕ)) → HasParts n l r
     → take m (take m (old ++ entries_from s (entries_below l)) ++ entries_from s (entries_below r))
     ≡ take m (old ++ entries_from s (entries_below n))
-both_parts s m n l r old h =
-    take_more m (old ++ entries_from s (entries_below l)) (entries_from s (entries_below r))
-    ∙ ap (λ (z : List (Pair × ℕ)). take m z) (append_assoc old (entries_from s (entries_below l)) (entries_from s (entries_below r))
-    ∙ ap (λ (z : List (Pair × ℕ)). old ++ z) (sym (ap (λ z. entries_from s z) h.entries
-    ∙ from_append s (entries_below l) (entries_below r))))
+both_parts s m n l r old h = grind (arith, common_steps, take_more, entries_from, entries_below, append_assoc, from_append)
 
 -- a part whose last point stands before the start lists nothing from there
 none_below : (s : Pair) (n : Node) → IsWellBuilt n → IsBefore (last_of (points_below n)) s
@@ -67,10 +55,7 @@ none_below s n w b =
 pub right_alone : (s : Pair) (m : ℕ) (n l r : Node) (old : List (Pair × ℕ)) → HasParts n l r → IsWellBuilt l
     → IsBefore (last_of (points_below l)) s
     → take m (old ++ entries_from s (entries_below r)) ≡ take m (old ++ entries_from s (entries_below n))
-right_alone s m n l r old h w b =
-    ap (λ (z : List (Pair × ℕ)). take m (old ++ z))
-    (sym (ap (λ z. entries_from s z) h.entries ∙ from_append s (entries_below l) (entries_below r)
-    ∙ ap (λ (z : List (Pair × ℕ)). z ++ entries_from s (entries_below r)) (none_below s l w b)))
+right_alone s m n l r old h w b = grind (arith, common_steps, entries_from, from_append, entries_below, none_below)
 
 -- ---- a bucket
 
@@ -125,13 +110,4 @@ pub bucket_from : (S : List Pair) (T : List ℕ) (f count m : ℕ) (old : List (
     → f ≤ length S → count ≡ min (length S - f) (m - length old) → length old ≤ m
     → old ++ paired (take (f + count - f) (drop f S)) (take (f + count - f) (drop f T))
     ≡ take m (old ++ drop f (paired S T))
-bucket_from S T f count m old e l c k =
-    let n : f + count - f ≡ min (m - length old) (length S - f) = omega (arith, c) in
-    let long : length (drop f (paired S T)) ≤ length S - f =
-    omega (arith, length-drop f (paired S T), paired_length S T e) in
-    ap (λ (z : List (Pair × ℕ)). old ++ z)
-    (paired_take (f + count - f) (drop f S) (drop f T)
-    ∙ ap (λ (z : List (Pair × ℕ)). take (f + count - f) z) (paired_drop f S T e)
-    ∙ ap (λ (z : ℕ). take z (drop f (paired S T))) n
-    ∙ take_least (m - length old) (length S - f) (drop f (paired S T)) long)
-    ∙ sym (first_behind m (m - length old) old (drop f (paired S T)) (omega (arith, k)))
+bucket_from S T f count m old e l c k = grind (arith, common_steps, min, paired, length-drop, paired_length, paired_take, paired_drop, take_least, first_behind)

@@ -1,4 +1,5 @@
 -- A point that goes from one of two nodes in a row.
+use Rattle.std.proofs.lemmas.Grind.{common_steps}
 use Rattle.std.proofs.Common.{◌≡◌, ◌⊎◌, ℕ, zero, suc, ◌+◌, ◌≤◌, ◌<◌, refl, sym, ap, ◌∙◌, subst, List, []}
 use Rattle.std.proofs.Common.{◌∷◌}
 use Rattle.std.proofs.Common.{length, arith, inl, inr, Ok, Err, get_or, max}
@@ -97,30 +98,19 @@ module _ (S : List Pair) (T : List ℕ) (i : ℕ) (p : Pair) (s : IsPointSet S) 
       alone (x ∷ y ∷ ys) l m = absurd (omega (arith, l))
 
   pub held_alone : length S ≡ 1 → (q : Pair) → counted S T q ≡ once p q
-  held_alone l q =
-      let z : counted (without_point p S) (remove T i) q ≡ 0 =
-      ap (λ y. counted y (remove T i) q) (ap (without_point p) (only_point l) ∙ without_only p) in
-      omega (arith, held_without q, z)
+  held_alone l q = grind (arith, common_steps, counted, without_point, remove, only_point, without_only, held_without)
 
 -- ---- heights
 
 -- two that are over halves of which the left one may be one lower
 pub lower_left : (a l r h n : ℕ) → a ≤ l → l ≤ a + 1 → AreNear l r → n ≡ max l r + 1 → IsHeightOver a r h
     → (h ≤ n) × (n ≤ h + 1)
-lower_left a l r h n u v w e k = elim (cases_lt r l) [
-  | inl d ↦ let f = k.2 (omega (arith, u, v, w, d), omega (arith, u, v, w, d)) in
-      (omega (arith, u, v, w, e, f), omega (arith, u, v, w, e, f, d))
-  | inr d ↦ (omega (arith, u, v, w, e, k), omega (arith, u, v, w, e, k, d))
-]
+lower_left a l r h n u v w e k = grind (arith, common_steps, cases_lt)
 
 -- or the right one
 pub lower_right : (a l r h n : ℕ) → a ≤ r → r ≤ a + 1 → AreNear l r → n ≡ max l r + 1 → IsHeightOver l a h
     → (h ≤ n) × (n ≤ h + 1)
-lower_right a l r h n u v w e k = elim (cases_lt l r) [
-  | inl d ↦ let f = k.2 (omega (arith, u, v, w, d), omega (arith, u, v, w, d)) in
-      (omega (arith, u, v, w, e, f), omega (arith, u, v, w, e, f, d))
-  | inr d ↦ (omega (arith, u, v, w, e, k), omega (arith, u, v, w, e, k, d))
-]
+lower_right a l r h n u v w e k = grind (arith, common_steps, cases_lt)
 
 -- or that are one bucket, where the fork over both was the only one
 pub settled_left : (a l r h n m : ℕ) → a ≤ l → l ≤ a + 1 → AreNear l r → n ≡ max l r + 1 → m ≡ n

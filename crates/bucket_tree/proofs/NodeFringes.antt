@@ -1,4 +1,6 @@
 -- The corners below a node are a fringe of its points on both sides: what they answer, all points answer.
+use Rattle.std.proofs.Common.{arith}
+use Rattle.std.proofs.lemmas.Grind.{common_steps}
 use Rattle.std.proofs.Common.{◌⊎◌, inl, inr, ◌++◌}
 use Rattle.std.specs.List.{Contains}
 use Rattle.std.proofs.lemmas.List.Elements.{Contains-append_left, Contains-append_right, Contains-append_cases}
@@ -17,11 +19,7 @@ use Rattle.bucket_tree.specs.Nodes.{tree_of, points_below, HasBuckets, IsWellBui
 -- a fringe of what is meant by the same sets
 same_fringe : (side : Side) (l k m n : Pair → Type 0) → IsFringe side l m → ((t : Pair) → l t → k t)
     → ((t : Pair) → k t → l t) → ((t : Pair) → m t → n t) → ((t : Pair) → n t → m t) → IsFringe side k n
-same_fringe side l k m n f lk kl mn nm = record {
-  among = λ t i. mn t (f.among t (kl t i));
-  under = λ t i. elim (f.under t (nm t i))
-      [ inl h ↦ inl (lk t h) | inr h ↦ inr (h.0, h.1, lk h.0 h.2, lk h.1 h.3, h.4) ];
-}
+same_fringe side l k m n f lk kl mn nm = grind (arith, common_steps)
 
 -- the corners below a node are a fringe of its points
 pub node_fringe : (side : Side) (n : Node) → HasBuckets n → IsFringe side (On (tree_of n)) (Contains (points_below n))

@@ -1,11 +1,12 @@
 -- The points below a node, by those of its halves.
-use Rattle.std.proofs.Common.{◌≡◌, ℕ, ◌<◌, ◌-◌, List, ◌++◌, length, ap, ◌∙◌, subst, sym, arith}
+use Rattle.std.proofs.lemmas.Grind.{common_steps}
+use Rattle.std.proofs.Common.{◌≡◌, ℕ, ◌<◌, ◌-◌, List, ◌++◌, length, ap, subst, sym, arith}
 use Rattle.std.proofs.Common.{Box}
 use Rattle.std.proofs.Math.ListN.{get_or-append}
 use Rattle.std.proofs.Math.Seq.{get_or-append_right}
 use Rattle.std.proofs.lemmas.List.{length-append}
 use Rattle.lattice.specs.Plane.{Pair}
-use Rattle.hull_geometry.specs.Positions.{origin, point_at, first_of, last_of}
+use Rattle.hull_geometry.specs.Positions.{origin, first_of, last_of}
 use Rattle.bucket_tree.specs.declared.node.Node.{Node, Leaf, Fork', Gap, Fork}
 use Rattle.bucket_tree.specs.declared.node.Fork.{Fork as Below}
 use Rattle.bucket_tree.specs.Nodes.{points_below, HasBuckets, IsWhole}
@@ -16,9 +17,7 @@ first_join xs ys h = get_or-append xs ys origin 0 h
 
 -- and the last of them the last of the other
 pub last_join : (xs ys : List Pair) → 0 < length ys → last_of (xs ++ ys) ≡ last_of ys
-last_join xs ys h =
-    get_or-append_right xs ys (length (xs ++ ys) - 1) origin (omega (arith, length-append xs ys, h))
-    ∙ ap (point_at ys) (omega (arith, length-append xs ys, h))
+last_join xs ys h = grind (arith, common_steps, get_or-append_right, origin, length-append)
 
 -- there is a point below each node
 pub some_below : (n : Node) → HasBuckets n → 0 < length (points_below n)

@@ -1,4 +1,5 @@
 -- What a tree with a limit keeps, and that a change keeps it.
+use Rattle.std.proofs.lemmas.Grind.{common_steps}
 use Rattle.std.proofs.Common.{◌≡◌, ℕ, ◌+◌, ◌-◌, ◌<◌, ◌≤◌, ap, refl, sym, ◌∙◌, List, [], length, arith, Some, None}
 use Rattle.std.proofs.Common.{subst}
 use Rattle.std.specs.Prelude.{Option, ◌≢◌}
@@ -63,35 +64,19 @@ root_held root w = subst IsTrueHeld (root_entries_hold root w)
 -- a tree with a limit is sound
 pub sound : (root : Option Node) (count limit : ℕ) → IsLimited root count limit → IsSound root
 sound None count limit h = record { built = tt; in_order = AllPairs-none; low = omega arith }
-sound (Some n) count limit h = record {
-  built = h.built;
-  in_order = h.built.ordered;
-  low = no_higher n h.built.balanced h.built.buckets (omega (arith, h.counted, h.room, h.high));
-}
+sound (Some n) count limit h = grind (arith, common_steps, no_higher)
 
 -- one point more, below the limit
 pub limited_with : (n m : Node) (p : Pair) (count limit : ℕ) → IsLimited (Some n) count limit → IsWellBuilt m
     → points_below m ≡ with_point p (points_below n) → ¬ (Contains (points_below n) p) → count < limit
     → IsLimited (Some m) (count + 1) limit
-limited_with n m p count limit h b e a l =
-    let k : length (points_below m) ≡ length (points_below n) + 1 =
-    ap (λ (z : List Pair). length z) e ∙ with_length p (points_below n) a in
-    record { built = b; counted = omega (arith, h.counted, k); room = omega (arith, l); low = h.low; high = h.high }
+limited_with n m p count limit h b e a l = grind (arith, common_steps, points_below, with_length, counted)
 
 -- one point less
 pub limited_without : (n : Node) (root : Option Node) (p : Pair) (count limit : ℕ) → IsLimited (Some n) count limit
     → IsWellBuiltRoot root → points_of_root root ≡ without_point p (points_below n) → Contains (points_below n) p
     → IsLimited root (count - 1) limit
-limited_without n root p count limit h b e m =
-    let k : length (points_of_root root) + 1 ≡ length (points_below n) =
-    ap (λ (z : List Pair). length z + 1) e ∙ without_length p (points_below n) h.built.ordered m in
-    record {
-      built = b;
-      counted = omega (arith, h.counted, k);
-      room = omega (arith, h.room);
-      low = h.low;
-      high = h.high;
-    }
+limited_without n root p count limit h b e m = grind (arith, common_steps, points_of_root, points_below, without_length, counted)
 
 -- what a node holds that was built of entries
 pub held_entries : (n : Node) (es : List (Pair × ℕ)) → points_below n ≡ points_listed es
@@ -138,13 +123,7 @@ sound_node n w l = record { built = w; in_order = w.ordered; low = no_higher n w
 -- entries are what a tree may be built of
 pub parts_of : (es : List (Pair × ℕ)) → AreEntries es → 1 ≤ length es → length es ≤ 1048576
     → AreParts (points_listed es) (numbers_listed es)
-parts_of es h s f = record {
-  some = omega (arith, s, length-keys_of es);
-  few = omega (arith, f, length-keys_of es);
-  ordered = h.in_order;
-  counted = omega (arith, length-keys_of es, numbers_length es);
-  held = numbers_held es h.held;
-}
+parts_of es h s f = grind (arith, common_steps, length-keys_of, counted, numbers_length, numbers_held)
 
 -- what is not nothing has a point
 pub some_held : (root : Option Node) → IsWellBuiltRoot root → root ≢ None → ¬ (points_of_root root ≡ [])

@@ -1,4 +1,5 @@
 -- A list around one of its places, and a point beside the corners before it and behind it.
+use Rattle.std.proofs.lemmas.Grind.{common_steps}
 use Rattle.std.proofs.Common.{◌≡◌, ℕ, pos, ◌≤ℤ◌, ◌+◌, ◌-◌, ◌<◌, sym, ap, ◌∙◌, subst, arith, inl, inr, ◌⊎◌, Err}
 use Rattle.std.proofs.Common.{List, [], ◌∷◌, ◌++◌, length, take, drop, length-append, refl, zero, suc}
 use Rattle.std.proofs.lemmas.List.{drop_more}
@@ -41,12 +42,7 @@ others_set S k s l = set_less (take k S) (point_at S k) (drop (k + 1) S) (subst 
 
 -- one point fewer
 pub others_count : (S : List Pair) (k : ℕ) → k < length S → length (without_place k S) + 1 ≡ length S
-others_count S k l =
-    let a = length-append (take k S) (drop (k + 1) S) in
-    let b = length-append (take k S) (point_at S k ∷ drop (k + 1) S) in
-    let c : length S ≡ length (take k S ++ point_at S k ∷ drop (k + 1) S) = ap (λ (z : List Pair). length z) (around S
-    k l) in
-    omega (arith, a, b, c)
+others_count S k l = grind (arith, common_steps, length-append, around)
 
 -- the others and the one there are the list
 pub put_back : (S : List Pair) (k : ℕ) → IsPointSet S → k < length S
@@ -164,12 +160,7 @@ point_behind (x ∷ xs) b rest = point_behind xs b rest
 -- the last of the first ones
 point_before : (front : List Pair) (a b : Pair) (rest : List Pair)
     → point_at ((front ++ a ∷ []) ++ b ∷ rest) (length (front ++ a ∷ []) - 1) ≡ a
-point_before front a b rest =
-    let n = length-append front (a ∷ []) in
-    let e : length (front ++ a ∷ []) - 1 ≡ length front = omega (arith, n) in
-    ap (point_at ((front ++ a ∷ []) ++ b ∷ rest)) e
-    ∙ ap (λ (z : List Pair). point_at z (length front)) (append_twice front (a ∷ []) (b ∷ rest))
-    ∙ point_behind front a (b ∷ rest)
+point_before front a b rest = grind (arith, common_steps, length-append, append_twice, point_behind)
 
 -- a point stands over the edge between the last of the first ones and the first of the others where it is not outwards
 -- of it
@@ -210,6 +201,4 @@ none_before side left right p e k = let n : length left ≡ 0 = ap (λ (z : List
 -- none behind it
 pub none_behind : (side : Side) (left right : List Pair) (p : Pair) → right ≡ []
     → ¬ (IsOverEdge side (left ++ right) (length left) p)
-none_behind side left right p e k = let n : length right ≡ 0 = ap (λ (z : List Pair). length z) e in
-    let m = length-append left right in
-    let s = k.1 in omega (arith, n, m, s)
+none_behind side left right p e k = grind (arith, common_steps, length-append)

@@ -1,4 +1,5 @@
 -- What a bucket is after a point came or went.
+use Rattle.std.proofs.lemmas.Grind.{common_steps}
 use Rattle.std.proofs.Common.{◌≡◌, ℕ, ◌+◌, ◌-◌, ◌<◌, ◌≤◌, ◌⊎◌, inl, inr, sym, ap, ◌∙◌, subst, arith, refl, Err, zero}
 use Rattle.std.proofs.Common.{suc}
 use Rattle.std.proofs.Common.{List, [], ◌∷◌, ◌++◌, length, take, drop, slice_set, length-set, length-append}
@@ -80,14 +81,7 @@ on_both b m n Upper = n
 pub made : (P : List Pair) (T : List ℕ) (lower upper : ℕ) → 0 < length P → length P ≤ ROOM → IsPointSet P
     → length T ≡ length P → All IsMultiplicity T → IsMaskOf Lower P lower → IsMaskOf Upper P upper
     → IsBucket (record { points = P; times = T; lower = lower; upper = upper })
-made P T lower upper some few s counted held m n = record {
-  some = some;
-  few = few;
-  ordered = s;
-  counted = counted;
-  held = held;
-  corners = on_both _ m n;
-}
+made P T lower upper some few s counted held m n = grind (arith, common_steps, some, on_both)
 
 -- how often one point is held changed
 pub held_anew : (b : BucketValue) (T : List ℕ) (i times : ℕ) → IsBucket b → IsMultiplicity times
@@ -145,14 +139,7 @@ grown b P T p i times lower upper k at room held e f m n = record {
 -- the masks were those of the points that are left and of it
 pub was_mask : (side : Side) (b : BucketValue) (P : List Pair) (i : ℕ) (mask : ℕ) → IsBucket b → i < length b.points
     → P ≡ remove b.points i → IsMaskOf side b.points mask → WasMaskOf side P i mask
-was_mask side b P i mask k l e m = record {
-  old = b.points;
-  few = k.few;
-  ordered = k.ordered;
-  within = l;
-  left = e ∙ removed b.points i;
-  corners = m;
-}
+was_mask side b P i mask k l e m = grind (arith, common_steps, removed)
 
 -- the points that are left are the old ones without it
 pub shrunk_points : (S P : List Pair) (i : ℕ) → IsPointSet S → i < length S → P ≡ remove S i

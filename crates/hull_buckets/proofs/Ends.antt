@@ -1,4 +1,5 @@
 -- The last corners of a chain, by the highest places of its mask.
+use Rattle.std.proofs.lemmas.Grind.{common_steps}
 use Rattle.std.proofs.Common.{◌≡◌, ℕ, pos, ◌≤ℤ◌, ◌<ℤ◌, ◌+◌, ◌-◌, ◌^◌, ◌<◌, ◌≤◌, sym, ap, ◌∙◌, subst, arith}
 use Rattle.std.proofs.Common.{List, [], ◌∷◌, ◌++◌, length, take, length-append}
 use Rattle.std.proofs.lemmas.List.{take-append-le}
@@ -20,9 +21,7 @@ use Rattle.hull_buckets.proofs.Words.{below_top}
 -- a chain without its last corner, and that one
 pub last_at : (S : List Pair) (mask h : ℕ) → 2 ^ h ≤ mask → mask < 2 ^ (h + 1) → h < length S
     → at_places mask S ≡ at_places (mask - 2 ^ h) S ++ point_at S h ∷ []
-last_at S mask h there above l =
-    let e : mask ≡ mask - 2 ^ h + 2 ^ h = omega (arith, there) in
-    ap (λ (m : ℕ). at_places m S) e ∙ pushed S (mask - 2 ^ h) h (below_top mask h above) l
+last_at S mask h there above l = grind (arith, common_steps, at_places, pushed, below_top)
 
 -- a chain without its last two corners, and these
 pub last_two_at : (S : List Pair) (mask front h k : ℕ) → 2 ^ h ≤ mask → mask < 2 ^ (h + 1) → h < length S
@@ -38,11 +37,7 @@ last_two_at S mask front h k there above l e fthere fabove m =
 
 -- a list without its last point
 pub front_of : (front : List Pair) (b : Pair) → take (length (front ++ b ∷ []) - 1) (front ++ b ∷ []) ≡ front
-front_of front b =
-    let n = length-append front (b ∷ []) in
-    let e : length (front ++ b ∷ []) - 1 ≡ length front = omega (arith, n) in
-    ap (λ (k : ℕ). take k (front ++ b ∷ [])) e ∙ take-append-le (length front) front (b ∷ []) (omega arith)
-    ∙ all_taken (length front) front (omega arith)
+front_of front b = grind (arith, common_steps, length-append, take-append-le, all_taken)
 
 -- a list that ends with a and b, of which b does not lie outwards of the segment from a to c
 pub ends_inwards : (side : Side) (chain front : List Pair) (a b c : Pair) → chain ≡ front ++ a ∷ b ∷ []
@@ -60,10 +55,7 @@ ends_inwards side chain front a b c e h = record {
 -- where b lies outwards of it, the chain bends on to c
 pub convex_on : (side : Side) (chain front : List Pair) (a b c : Pair) → chain ≡ front ++ a ∷ b ∷ []
     → pos 0 <ℤ orient_on side a b c → IsConvex side chain → IsConvex side (chain ++ c ∷ [])
-convex_on side chain front a b c e h t =
-    subst (λ (z : List Pair). IsConvex side (z ++ c ∷ [])) (sym e)
-    (subst (IsConvex side) (sym (append_twice front (a ∷ b ∷ []) (c ∷ [])))
-    (convex_join side front a b (c ∷ []) (subst (IsConvex side) e t) (h, (tt, tt))))
+convex_on side chain front a b c e h t = grind (arith, common_steps, append_twice, convex_join)
 
 -- ---- what goes from the end
 

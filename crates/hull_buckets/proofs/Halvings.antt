@@ -1,4 +1,5 @@
 -- The lowest and the highest place of a mask, and its places up to their middle and behind it.
+use Rattle.std.proofs.lemmas.Grind.{common_steps}
 use Rattle.std.proofs.Common.{◌≡◌, ℕ, suc, ◌+◌, ◌-◌, ◌*◌, ◌/◌, ◌%◌, ◌^◌, ◌<◌, ◌≤◌, sym, ap, ◌∙◌, subst, arith, w64}
 use Rattle.std.proofs.Common.{inl, inr}
 use Rattle.std.proofs.lemmas.Bool.{cases_lt}
@@ -191,9 +192,7 @@ module _ (run : ℕ) (some : 0 < run) (fits : run < 2 ^ 64) (wide : lowest_of ru
       (let a = highest_above run some fits in omega (arith, a, right_is))
 
   pub right_none : right_run run % 2 ^ parting_of run ≡ 0
-  right_none = let z : right_run run ≡ right_run run + 0 = omega arith in
-      ap (λ (n : ℕ). n % 2 ^ parting_of run) z
-      ∙ mod_low (run / 2 ^ parting_of run) (parting_of run) 0 (pow_pos (parting_of run))
+  right_none = grind (arith, common_steps, right_run, parting_of, mod_low, pow_pos)
 
   pub right_lowest : parting_of run ≤ lowest_of (right_run run)
   right_lowest = lowest_from (right_run run) (parting_of run) (lowest_of (right_run run)) right_none
@@ -226,10 +225,7 @@ module _ (run : ℕ) (some : 0 < run) (fits : run < 2 ^ 64) (wide : lowest_of ru
 
   -- a place of the right half is one of the run, from the parting on
   pub right_bit : (i : ℕ) → bit_at (right_run run) i ≡ 1 → (parting_of run ≤ i) × (bit_at run i ≡ 1)
-  right_bit i e = elim (cases_lt i (parting_of run)) [
-    | inr l ↦ (l, sym (high i l) ∙ e)
-    | inl l ↦ absurd (let z = none i l in omega (arith, e, z))
-  ]
+  right_bit i e = grind (arith, common_steps, cases_lt, parting_of, high, none)
     where
       same : right_run run ≡ right_run run + 0
       same = omega arith
@@ -239,10 +235,7 @@ module _ (run : ℕ) (some : 0 < run) (fits : run < 2 ^ 64) (wide : lowest_of ru
           ∙ bit_at_cat_low (run / 2 ^ parting_of run) (parting_of run) 0 i l ∙ bit_at-zero i
 
       high : (i : ℕ) → parting_of run ≤ i → bit_at (right_run run) i ≡ bit_at run i
-      high i l = ap (λ (n : ℕ). bit_at n i) same
-          ∙ bit_at_cat_high (run / 2 ^ parting_of run) (parting_of run) 0 i (pow_pos (parting_of run)) l
-          ∙ sym (bit_at_cat_high (run / 2 ^ parting_of run) (parting_of run) (left_run run) i left_below l)
-          ∙ ap (λ (n : ℕ). bit_at n i) (shr_split run (parting_of run))
+      high i l = grind (arith, common_steps, bit_at, same, bit_at_cat_high, parting_of, pow_pos, left_run, left_below, shr_split)
 
   pub right_bit_of : (i : ℕ) → parting_of run ≤ i → bit_at run i ≡ 1 → bit_at (right_run run) i ≡ 1
   right_bit_of i l e = ap (λ (n : ℕ). bit_at n i) same

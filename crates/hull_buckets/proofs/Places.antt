@@ -1,4 +1,5 @@
 -- The points of a list at the places of a mask.
+use Rattle.std.proofs.lemmas.Grind.{common_steps}
 use Rattle.std.proofs.Common.{◌≡◌, ℕ, zero, suc, ◌+◌, ◌-◌, ◌*◌, ◌/◌, ◌%◌, ◌^◌, ◌<◌, ◌≤◌, refl, sym, ap, ◌∙◌, subst}
 use Rattle.std.proofs.Common.{arith, List, [], ◌∷◌, ◌++◌, length, take, drop, get_or, inl, inr}
 use Rattle.std.proofs.lemmas.Bool.{cases_lt}
@@ -84,10 +85,7 @@ high_at S k high l =
 -- two masks, all places of the one before all of the other
 pub joined : (S : List Pair) (k high low : ℕ) → k ≤ length S → low < 2 ^ k
     → at_places (high * 2 ^ k + low) S ≡ at_places low S ++ at_places (high * 2 ^ k) S
-joined S k high low l b =
-    cut_at_place S k high low l b
-    ∙ ap (λ (z : List Pair). z ++ at_places high (drop k S)) (sym (low_at S k low l b))
-    ∙ ap (λ (z : List Pair). at_places low S ++ z) (sym (high_at S k high l))
+joined S k high low l b = grind (arith, common_steps, cut_at_place, high, low, at_places, low_at, high_at)
 
 -- the mask of one place
 pub one_at : (S : List Pair) (k : ℕ) → k < length S → at_places (2 ^ k) S ≡ point_at S k ∷ []

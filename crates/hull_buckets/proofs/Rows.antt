@@ -1,4 +1,5 @@
 -- The first values of a list after others moved up or down by one.
+use Rattle.std.proofs.lemmas.Grind.{common_steps}
 use Rattle.std.proofs.Common.{◌≡◌, ℕ, zero, suc, ◌+◌, ◌-◌, ◌<◌, ◌≤◌, ap, ◌∙◌, arith, refl}
 use Rattle.std.proofs.Common.{List, [], ◌∷◌, ◌++◌, length, take, drop, slice_set}
 use Rattle.std.specs.List.{insert, remove, copy_within}
@@ -16,10 +17,7 @@ module _ {X : Type 0} where
       item)
       ≡ insert (take count old) place item
   moved_up [] place n count item e l = absurd (omega (arith, l))
-  moved_up (x ∷ xs) zero n count item e l =
-      let m : n ≡ count = omega (arith, e) in
-      ap (λ (k : ℕ). item ∷ take count (take k (x ∷ xs) ++ drop count xs)) m
-      ∙ ap (λ (z : List X). item ∷ z) (first_again count (x ∷ xs) (drop count xs) (omega (arith, l)))
+  moved_up (x ∷ xs) zero n count item e l = grind (arith, common_steps, count, first_again)
   moved_up (x ∷ xs) (suc place) n zero item e l = absurd (omega (arith, e))
   moved_up (x ∷ xs) (suc place) n (suc count) item e l =
       ap (λ (z : List X). x ∷ z) (moved_up xs place n count item (omega (arith, e)) (omega (arith, l)))
@@ -29,10 +27,7 @@ module _ {X : Type 0} where
       → take count (take place old ++ take n (drop (suc place) old) ++ drop count old)
       ≡ remove (take (suc count) old) place
   moved_down [] place n count e l = absurd (omega (arith, l))
-  moved_down (x ∷ xs) zero n count e l =
-      let m : n ≡ count = omega (arith, e) in
-      ap (λ (k : ℕ). take count (take k xs ++ drop count (x ∷ xs))) m
-      ∙ first_again count xs (drop count (x ∷ xs)) (omega (arith, l))
+  moved_down (x ∷ xs) zero n count e l = grind (arith, common_steps, count, first_again)
   moved_down (x ∷ xs) (suc place) n zero e l = absurd (omega (arith, e))
   moved_down (x ∷ xs) (suc place) n (suc count) e l =
       ap (λ (z : List X). x ∷ z) (moved_down xs place n count (omega (arith, e)) (omega (arith, l)))

@@ -1,4 +1,5 @@
 -- The edges between the halves of a run are their bridges.
+use Rattle.std.proofs.lemmas.Grind.{common_steps}
 use Rattle.std.proofs.Common.{◌≡◌, ℕ, zero, suc, ◌^◌, ◌<◌, ◌≤◌, ◌⊎◌, inl, inr, sym, ap, ◌∙◌, subst, arith, refl}
 use Rattle.std.proofs.Common.{List, [], ◌∷◌, length, max, Some, None}
 use Rattle.std.proofs.lemmas.Bool.{cases_lt, cases_order}
@@ -42,9 +43,7 @@ both_set a c i e f = let m = bit_at_and a c i in omega (arith, m, e, f)
 
 -- and back
 set_in_both : (a c i : ℕ) → bit_at (bit_and a c) i ≡ 1 → (bit_at a i ≡ 1) × (bit_at c i ≡ 1)
-set_in_both a c i e =
-    let m = bit_at_and a c i in let x = bit_at-lt a i in let y = bit_at-lt c i in
-    (omega (arith, m, e, x, y), omega (arith, m, e, x, y))
+set_in_both a c i e = grind (arith, common_steps, bit_at_and, bit_at-lt)
 
 -- what two masks have in common fits where the first does
 and_fits : (a c : ℕ) → a < 2 ^ 64 → bit_and a c < 2 ^ 64

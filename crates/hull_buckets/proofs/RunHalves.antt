@@ -1,4 +1,5 @@
 -- A run of several places, by what is told of it, and each of its halves: the left one, or else the right one.
+use Rattle.std.proofs.lemmas.Grind.{common_steps}
 use Rattle.std.proofs.Common.{◌≡◌, ℕ, ◌<◌, ◌≤◌, ◌^◌, Bool, true, false, List, length, get_or, sym, ap, ◌∙◌, subst}
 use Rattle.std.proofs.Common.{arith}
 use Rattle.std.proofs.lemmas.Nat.{shr_split}
@@ -79,10 +80,7 @@ pub record IsReadAt (points read : List Pair) (place told : ℕ) : Type 0 where
 
 pub read_there : (points read : List Pair) (place told : ℕ) → read ≡ points → told ≡ place → place < length points
     → IsReadAt points read place told
-read_there points read place told e f l =
-    subst (λ (z : List Pair). IsReadAt points z place told) (sym e)
-    (subst (λ (k : ℕ). IsReadAt points points place k) (sym f)
-    (record { within = l; point = λ p h. read_at points place p l h }))
+read_there points read place told e f l = grind (arith, common_steps, read_at)
 
 -- where the edge of a chain ends in a half
 pub end_read : (left : Bool) (b : BucketValue) (side : Side) (run chain half told : ℕ) (read : List Pair)

@@ -1,4 +1,5 @@
 -- The tree of a run of corners: a point, or a fork over the trees of its halves.
+use Rattle.std.proofs.lemmas.Grind.{common_steps}
 use Rattle.std.proofs.Common.{◌≡◌, ℕ, zero, suc, ◌+◌, ◌-◌, ◌^◌, ◌<◌, ◌≤◌, ◌⊎◌, inl, inr, sym, ap, ◌∙◌, subst, arith}
 use Rattle.std.proofs.Common.{refl}
 use Rattle.std.proofs.lemmas.Bool.{cases_lt}
@@ -24,10 +25,7 @@ use Rattle.hull_buckets.proofs.Halvings.{right_some, right_fits, right_highest, 
 -- a run has one place or several
 pub one_or_several : (run : ℕ) → 0 < run → run < 2 ^ 64 → (lowest_of run ≡ highest_of run) ⊎ (lowest_of run <
     highest_of run)
-one_or_several run s f = elim (cases_lt (lowest_of run) (highest_of run)) [
-  | inl l ↦ inr l
-  | inr l ↦ inl (let h = lowest_to_highest run s f in omega (arith, l, h))
-]
+one_or_several run s f = grind (arith, common_steps, cases_lt, lowest_of, highest_of, lowest_to_highest)
 
 -- a tree to one depth is the tree to another, where both are enough
 pub enough : (n m : ℕ) (b : BucketValue) (run : ℕ) → 0 < run → run < 2 ^ 64 → width_of run ≤ n → width_of run ≤ m
@@ -241,26 +239,17 @@ mask_fits mask n l k = let p = power_le n 64 k in omega (arith, l, p)
 
 -- a place of it is one of the list
 pub place_within : (mask n i : ℕ) → mask < 2 ^ n → bit_at mask i ≡ 1 → i < n
-place_within mask n i l e = elim (cases_lt i n) [
-  | inl k ↦ k
-  | inr k ↦ absurd (let z = bit_at_above mask n i l k in omega (arith, e, z))
-]
+place_within mask n i l e = grind (arith, common_steps, cases_lt, bit_at_above)
 
 -- two places that differ are several
 pub several_of : (mask low high : ℕ) → 0 < mask → mask < 2 ^ 64 → low ≡ lowest_of mask → high ≡ highest_of mask
     → ¬ (low ≡ high) → lowest_of mask < highest_of mask
-several_of mask low high s f e g n = elim (one_or_several mask s f) [
-  | inl q ↦ absurd (n (e ∙ q ∙ sym g))
-  | inr w ↦ w
-]
+several_of mask low high s f e g n = grind (arith, common_steps, one_or_several)
 
 -- a fork is over several places
 pub several_of_fork : (b : BucketValue) (run : ℕ) → 0 < run → run < 2 ^ 64 → IsFork (tree_of_run b run)
     → lowest_of run < highest_of run
-several_of_fork b run s f h = elim (one_or_several run s f) [
-  | inl e ↦ absurd (subst IsFork (leaf_is b run e) h)
-  | inr w ↦ w
-]
+several_of_fork b run s f h = grind (arith, common_steps, one_or_several, leaf_is)
 
 -- no run is higher than a half may be
 pub low_enough : (b : BucketValue) (run : ℕ) → 0 < run → run < 2 ^ 64 → height_of (tree_of_run b run) ≤ 63

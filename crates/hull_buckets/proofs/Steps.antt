@@ -1,4 +1,5 @@
 -- One step of a pass over the places of a mask: the lowest of them goes to the chain.
+use Rattle.std.proofs.lemmas.Grind.{common_steps}
 use Rattle.std.proofs.Common.{◌≡◌, ℕ, suc, refl, ◌+◌, ◌-◌, ◌*◌, ◌%◌, ◌^◌, ◌<◌, ◌≤◌, sym, ap, ◌∙◌, subst, arith, List}
 use Rattle.std.proofs.Common.{[], ◌∷◌, ◌++◌, length}
 use Rattle.std.proofs.lemmas.Nat.{mod_low, pow_pos}
@@ -121,7 +122,4 @@ module _ {S : List Pair} {kept left place : ℕ} (now : IsStep S kept left place
 -- where nothing is left the chain is what the pass leaves
 pub none_left : (side : Side) (S : List Pair) (kept left : ℕ) → IsPointSet S → left ≡ 0
     → IsConvex side (at_places kept S) → IsPassed side (at_places kept S ++ at_places left S) (at_places kept S)
-none_left side S kept left s e t = subst (λ (z : List Pair). IsPassed side z (at_places kept S))
-    (append_none (at_places kept S) ∙ ap (λ (z : List Pair). at_places kept S ++ z)
-    (sym (none_at S) ∙ ap (λ (m : ℕ). at_places m S) (sym e)))
-    (passed_itself side (at_places kept S) (record { ordered = set_at kept S s; convex = t }))
+none_left side S kept left s e t = grind (arith, common_steps, at_places, append_none, none_at, passed_itself, set_at)

@@ -1,4 +1,5 @@
 -- What adding points one by one leaves, and that loading them at once leaves the same.
+use Rattle.std.proofs.lemmas.Grind.{common_steps}
 use Rattle.std.proofs.Common.{◌≡◌, ℕ, suc, ◌+◌, ◌≤◌, inl, inr, refl, sym, ◌∙◌, ap, subst, List, [], ◌∷◌, arith, ◌++◌, length, take}
 use Rattle.std.proofs.Common.{drop, get_or, ◌<◌, Bool, true, false, cond, ◌-◌}
 use Rattle.std.specs.List.{Contains}
@@ -101,22 +102,14 @@ merged_is_added h ps held added es t a e f g =
 
 -- a point that is held once at least is not held fewer times than once
 once_few : (h : Held) (p q : Pair) → 1 ≤ h.times p → once p q ≤ h.times q
-once_few h p q l = elim (same_or_other p q) [
-  | inl e ↦ let o : once p q ≡ 1 = subst (λ z. once p z ≡ 1) e (once_same p) in
-      let t : h.times p ≡ h.times q = ap h.times e in omega (arith, l, o, t)
-  | inr d ↦ omega (arith, once_other p q d)
-]
+once_few h p q l = grind (arith, common_steps, same_or_other, once, once_same, once_other)
 
 -- a point that is held is held once less when it is removed
 pub removed_times : (h k : Held) (limit : ℕ) (p q : Pair) (r : RemoveReply) → IsTrueHeld h → 1 ≤ h.times p
     → Answers Counted h limit (Remove p) (reply_to_remove r) → k ≡ after h (Remove p) (reply_to_remove r)
     → k.times q + once p q ≡ h.times q
-removed_times h k limit p q Removed t l a e =
-    let g : k.times q ≡ h.times q - once p q = ap (λ (z : Held). z.times q) e in
-    omega (arith, g, once_few h p q l)
-removed_times h k limit p q (Left n) t l a e =
-    let g : k.times q ≡ h.times q - once p q = ap (λ (z : Held). z.times q) e in
-    omega (arith, g, once_few h p q l)
+removed_times h k limit p q Removed t l a e = grind (arith, common_steps, once, once_few)
+removed_times h k limit p q (Left n) t l a e = grind (arith, common_steps, once, once_few)
 removed_times h k limit p q Absent t l a e = absurd (a ((t.live p).1 l))
 
 -- a point that is refused where points may be so many is one too many
@@ -200,10 +193,7 @@ kept_by_remove h limit p Removed k a = record {
 }
   where
     gone : (t : Pair) → t ≡ p → 1 ≤ h.times t - once p t → ⊥
-    gone t e l =
-        let o : once p t ≡ 1 = subst (λ z. once p z ≡ 1) (sym e) (once_same p) in
-        let n : h.times t ≡ 1 = ap h.times e ∙ a.1 refl in
-        omega (arith, o, n, l)
+    gone t e l = grind (arith, common_steps, once, once_same)
 kept_by_remove h limit p (Left n) k a = record {
   in_order = k.in_order;
   live = λ t. (

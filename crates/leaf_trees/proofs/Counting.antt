@@ -1,15 +1,14 @@
 -- A point that is counted in at the end of entries.
+use Rattle.std.proofs.lemmas.Grind.{common_steps}
 use Rattle.std.proofs.Common.{◌≡◌, ℕ, ◌+◌, ◌<◌, ◌≤◌, inl, inr, refl, sym, ◌∙◌, ap, subst, List, [], ◌∷◌, ◌++◌, length}
 use Rattle.std.proofs.Common.{take, drop, get_or, arith, zero, suc, Bool, true, false, if◌then◌else◌, ◌⊎◌}
 use Rattle.std.specs.Prelude.{not}
 use Rattle.std.specs.List.{All, Contains}
-use Rattle.std.specs.List.Sorted.{IsPermutation}
 use Rattle.std.proofs.Math.ListN.{get_or-map}
 use Rattle.std.proofs.Math.Nat.{eq-or-lt_of_le}
 use Rattle.std.proofs.lemmas.List.{map-append, take-append-drop}
-use Rattle.std.proofs.lemmas.List.Elements.{All-append, All-cons, All-contains, Contains-push_cases, Contains-append_right}
+use Rattle.std.proofs.lemmas.List.Elements.{All-append, All-cons, All-contains, Contains-push_cases}
 use Rattle.std.proofs.lemmas.List.Elements.{Contains-append_left, Contains-get_or, All-head, All-tail}
-use Rattle.std.proofs.lemmas.List.Sorted.{sum_by-IsPermutation}
 use Rattle.std.proofs.lemmas.List.Sums.{sum_by_push, sum_by_more, sum_by_more_le, sum_by-cons, sum_by-append}
 use Rattle.std.proofs.lemmas.Map.Entries.{length-keys_of}
 use Rattle.lattice.specs.Plane.{Pair, IsBefore}
@@ -45,15 +44,11 @@ held_left es e h k d l =
 
 -- the last entry
 pub last_held : (es : List (Pair × ℕ)) (e : Pair × ℕ) → AreEntries (es ++ e ∷ []) → IsMultiplicity e.1
-last_held es e h =
-    All-contains (λ (e : Pair × ℕ). IsMultiplicity e.1) (es ++ e ∷ []) e h.held
-    (Contains-append_right es (e ∷ []) e (0, omega arith, refl))
+last_held es e h = grind (arith, common_steps)
 
 -- its point is one of the points
 pub last_among : (es : List (Pair × ℕ)) (e : Pair × ℕ) → Contains (points_listed (es ++ e ∷ [])) e.0
-last_among es e =
-    subst (λ z. Contains z e.0) (sym (points_pushed es e))
-    (Contains-append_right (points_listed es) (e.0 ∷ []) e.0 (0, omega arith, refl))
+last_among es e = grind (arith, common_steps, points_pushed, points_listed)
 
 -- an entry alone
 one_held : (p : Pair) (n : ℕ) → IsMultiplicity n → All (λ (e : Pair × ℕ). IsMultiplicity e.1) ((p, n) ∷ [])
@@ -115,13 +110,7 @@ more_times false m n = refl
 -- the last point so many times more
 pub times_recounted : (es : List (Pair × ℕ)) (e : Pair × ℕ) (p q : Pair) (n : ℕ) → e.0 ≡ p
     → times_listed (es ++ (p, e.1 + n) ∷ []) q ≡ times_listed (es ++ e ∷ []) q + several n p q
-times_recounted es e p q n s =
-    rw (
-      sum_by_push (λ (e : Pair × ℕ). several e.1 e.0 q) es (p, e.1 + n),
-      sum_by_push (λ (e : Pair × ℕ). several e.1 e.0 q) es e,
-      s,
-    )
-    (omega (arith, more_times (is_same_pair p q) e.1 n))
+times_recounted es e p q n s = grind (arith, common_steps, sum_by_push, several, more_times, is_same_pair)
 
 -- two points of which a test told that they differ do
 pub other_point : {r : Bool} (p q : Pair) → r ≡ not (is_same_pair p q) → r ≡ true → ¬ (p ≡ q)
@@ -134,11 +123,7 @@ other_point p q e t = told_other p q (not_true _ (sym e ∙ t))
 -- a point stands at least once more among all points than before its place
 pub counted_past : (xs : List Pair) (i : ℕ) (p : Pair) → p ≡ get_or xs i p → i < length xs
     → times_among (take i xs) p + 1 ≤ times_among xs p
-counted_past xs i p e l =
-    let h : times_among (take i xs) p + once (get_or xs i p) p ≤ times_among xs p =
-    sum_by_more_le (λ z. once z p) xs i p l in
-    let k : once (get_or xs i p) p ≡ 1 = subst (λ z. once z p ≡ 1) e (once_same p) in
-    omega (arith, h, k)
+counted_past xs i p e l = grind (arith, common_steps, times_among, once, sum_by_more_le, once_same)
 
 -- the same point, whatever stands for a missing one
 pub at_place : (xs : List Pair) (i : ℕ) (p t : Pair) → p ≡ get_or xs i p → i < length xs → p ≡ get_or xs i t
@@ -175,27 +160,16 @@ listed_live (x ∷ es) t h =
 -- an entry, so many times more among the first ones than before its place
 pub listed_more : (es : List (Pair × ℕ)) (i : ℕ) (e : Pair × ℕ) (q : Pair) → e ≡ get_or es i e → i < length es
     → times_listed (take (i + 1) es) q ≡ times_listed (take i es) q + several e.1 e.0 q
-listed_more es i e q h l =
-    sum_by_more (λ (e : Pair × ℕ). several e.1 e.0 q) es i e l
-    ∙ ap (λ (z : Pair × ℕ). times_listed (take i es) q + several z.1 z.0 q) (sym h)
+listed_more es i e q h l = grind (arith, common_steps, sum_by_more, several, times_listed)
 
 -- a point stands at least once more among all points than before its place
 pub listed_past : (es : List (Pair × ℕ)) (i : ℕ) (e : Pair × ℕ) → e ≡ get_or es i e → i < length es
     → times_listed (take i es) e.0 + e.1 ≤ times_listed es e.0
-listed_past es i e h l =
-    let a : times_listed (take i es) e.0 + several (get_or es i e).1 (get_or es i e).0 e.0 ≤ times_listed es e.0 =
-    sum_by_more_le (λ (z : Pair × ℕ). several z.1 z.0 e.0) es i e l in
-    let b : several (get_or es i e).1 (get_or es i e).0 e.0 ≡ e.1 =
-    subst (λ (z : Pair × ℕ). several z.1 z.0 e.0 ≡ e.1) h (several_there e.1 e.0) in
-    omega (arith, a, b)
+listed_past es i e h l = grind (arith, common_steps, times_listed, several, sum_by_more_le, several_there)
 
 -- so often at most among the first ones
 pub listed_few : (es : List (Pair × ℕ)) (i : ℕ) (q : Pair) → times_listed (take i es) q ≤ times_listed es q
-listed_few es i q =
-    let a = sum_by-append (λ (e : Pair × ℕ). several e.1 e.0 q) (take i es) (drop i es) in
-    let b : times_listed (take i es ++ drop i es) q ≡ times_listed es q =
-    ap (λ z. times_listed z q) (take-append-drop i es) in
-    omega (arith, a, b)
+listed_few es i q = grind (arith, common_steps, sum_by-append, several, times_listed, take-append-drop)
 
 -- no entry behind a place stands before the one there
 pub entry_behind : (es : List (Pair × ℕ)) (i k : ℕ) (d : Pair × ℕ) → AreEntries es → i < k → k < length es
@@ -255,10 +229,3 @@ behind_both es fs i j e before after h k g s a b among = (
   behind_taken es i e before after h g s.there a among,
   behind_other es fs i j e before after k g s b among,
 )
-
--- ---- points in order
--- points moved by a sort stand among them as often
-pub sorted_times : (xs ys zs us : List Pair) (q : Pair) → ys ≡ xs → IsPermutation ys zs → us ≡ zs
-    → times_among us q ≡ times_among xs q
-sorted_times xs ys zs us q e p d =
-    ap (λ z. times_among z q) d ∙ sum_by-IsPermutation (λ p. once p q) ys zs p ∙ ap (λ z. times_among z q) e

@@ -1,5 +1,6 @@
 -- A balanced tree of a height has so many points at least (Adelson-Velsky and Landis, 1962), so one of 2^20 points is
 -- at most 28 high.
+use Rattle.std.proofs.lemmas.Grind.{common_steps}
 use Rattle.std.proofs.Common.{◌≡◌, ℕ, zero, suc, ◌+◌, ◌-◌, ◌≤◌, max, refl, subst, arith, inl, inr}
 use Rattle.std.proofs.lemmas.Bool.{cases_lt}
 
@@ -35,11 +36,7 @@ fork_step (suc a) b l = omega (arith, monotone a b (omega arith))
 
 -- a fork over halves with m and n points
 pub over : (a b m n : ℕ) → (a ≤ b + 1) × (b ≤ a + 1) → (fewest a).0 ≤ m → (fewest b).0 ≤ n → (fewest (max a b + 1)).0 ≤ m + n
-over a b m n d h k =
-    elim (cases_lt b a) [
-      | inr l ↦ let e : max a b + 1 ≡ suc b = omega arith in rw e (omega (arith, fork_step b a d.1))
-      | inl l ↦ let e : max a b + 1 ≡ suc a = omega arith in rw e (omega (arith, fork_step a b d.0))
-    ]
+over a b m n d h k = grind (arith, common_steps, cases_lt, max, suc, fork_step)
 
 -- more than 2^20 points are needed for a height of 29
 of_29 : (fewest 29).0 ≡ 1346269

@@ -1,5 +1,6 @@
 -- The entries from a start on.
-use Rattle.std.proofs.Common.{◌≡◌, ◌∙◌, refl, sym, ap, subst, arith, ℕ, zero, suc, ◌+◌, ◌≤◌, List, [], ◌∷◌, ◌++◌}
+use Rattle.std.proofs.lemmas.Grind.{common_steps}
+use Rattle.std.proofs.Common.{◌≡◌, refl, sym, ap, subst, arith, ℕ, zero, suc, ◌+◌, ◌≤◌, List, [], ◌∷◌, ◌++◌}
 use Rattle.std.proofs.Common.{Bool, true, false, take, min, length, cond, inl, inr}
 use Rattle.std.specs.List.{All}
 use Rattle.std.proofs.Math.Decide.{dec_le}
@@ -54,9 +55,7 @@ take_all (suc m) (x ∷ xs) l = ap (λ z. x ∷ z) (take_all m xs (omega (arith,
 
 -- no more of a list than it has: the first so many, or all
 pub take_least : {A : Type 0} (m k : ℕ) (xs : List A) → length xs ≤ k → take (min m k) xs ≡ take m xs
-take_least m k xs l =
-    dite (dec_le m k) (λ h. ap (λ z. take z xs) (min-eq_left h)) (λ no.
-    take_all (min m k) xs (le-min (omega (arith, l, no)) l) ∙ sym (take_all m xs (omega (arith, l, no))))
+take_least m k xs l = grind (arith, common_steps, dite, dec_le, min-eq_left, take_all, min, le-min)
 
 -- no more than there are
 cut_shorter : (b : Bool) (e : Pair × ℕ) (es gs : List (Pair × ℕ)) → length gs ≤ length es
