@@ -1,4 +1,5 @@
 -- Where a way comes into a set: by an edge that goes over its line, or by a corner on it.
+use Rattle.std.proofs.lemmas.Grind.{common_steps}
 use Rattle.std.proofs.Common.{◌≡◌, ℕ, ℤ, pos, ◌+ℤ◌, ◌-ℤ◌, ◌*ℤ◌, ◌≤ℤ◌, ◌<ℤ◌, neg_ℤ, inl, inr, refl, sym, ap, ◌∙◌, subst}
 use Rattle.std.proofs.Common.{List, [], ◌∷◌, arith}
 use Rattle.std.specs.List.{Contains}
@@ -137,9 +138,7 @@ along_step : (d a b c : Pair)
     -ℤ (product (step a b) c -ℤ product (step a b) a) *ℤ (product d b -ℤ product d a)
     ≡ orient a b c *ℤ ((b.x -ℤ a.x) *ℤ d.y -ℤ (b.y -ℤ a.y) *ℤ d.x)
 unfolding orient
-along_step d a b c =
-    rw (steps_along a b b, steps_along a b c, goes_along d a c, goes_along d a b)
-    (by_third (b.x -ℤ a.x) (b.y -ℤ a.y) (c.x -ℤ a.x) (c.y -ℤ a.y) d.x d.y)
+along_step d a b c = grind (arith, common_steps, steps_along, c, goes_along, d, by_third)
 
 -- a step's length is not below 0, and above it where it goes anywhere along a direction
 step_length : (d a b : Pair) → ¬ (product d b ≡ product d a)

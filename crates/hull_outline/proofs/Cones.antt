@@ -1,6 +1,7 @@
 -- Three corners in a row: what lies left of both edges lies no farther than the middle one in each direction in which
 -- the others lie no farther.
-use Rattle.std.proofs.Common.{◌≡◌, ℤ, pos, negsuc, ◌+ℤ◌, ◌-ℤ◌, ◌*ℤ◌, ◌≤ℤ◌, ◌<ℤ◌, ◌⊎◌, inl, inr, sym, ap, ◌∙◌, arith}
+use Rattle.std.proofs.lemmas.Grind.{common_steps}
+use Rattle.std.proofs.Common.{◌≡◌, ℤ, pos, negsuc, ◌+ℤ◌, ◌-ℤ◌, ◌*ℤ◌, ◌≤ℤ◌, ◌<ℤ◌, ◌⊎◌, inl, inr, arith}
 use Rattle.std.proofs.lemmas.Int.{ints}
 use Rattle.lattice.specs.Plane.{Pair, orient, product}
 use Rattle.lattice.specs.Polynomials.{difference-eq, as_difference, difference-add, difference-mul, difference_rules}
@@ -55,15 +56,7 @@ weigh_two b a u v w z x y =
 pub cone : (f p c n x : Pair)
     → orient p c n *ℤ (product f x -ℤ product f c)
     ≡ orient p c x *ℤ (product f n -ℤ product f c) +ℤ orient c n x *ℤ (product f p -ℤ product f c)
-cone f p c n x =
-    ap (λ (z : ℤ). orient p c n *ℤ z) (step_along f c x)
-    ∙ weigh (orient p c n) f.x f.y (x.x -ℤ c.x) (x.y -ℤ c.y)
-    ∙ ap (λ (z : ℤ). f.x *ℤ z +ℤ f.y *ℤ (orient p c n *ℤ (x.y -ℤ c.y))) (cone_x p c n x)
-    ∙ ap (λ (z : ℤ). f.x *ℤ (orient p c x *ℤ (n.x -ℤ c.x) +ℤ orient c n x *ℤ (p.x -ℤ c.x)) +ℤ f.y *ℤ z) (cone_y p c n x)
-    ∙ weigh_two (orient p c x) (orient c n x) f.x f.y (n.x -ℤ c.x) (n.y -ℤ c.y) (p.x -ℤ c.x) (p.y -ℤ c.y)
-    ∙ ap (λ (z : ℤ). orient p c x *ℤ z +ℤ orient c n x *ℤ (f.x *ℤ (p.x -ℤ c.x) +ℤ f.y *ℤ (p.y -ℤ c.y)))
-    (sym (step_along f c n))
-    ∙ ap (λ (z : ℤ). orient p c x *ℤ (product f n -ℤ product f c) +ℤ orient c n x *ℤ z) (sym (step_along f c p))
+cone f p c n x = grind (arith, common_steps, orient, c, n, step_along, f, weigh, cone_x, cone_y, weigh_two, product)
 
 -- ---- signs
 

@@ -1,4 +1,5 @@
 -- On which sides of a way's line a set lies, by its farthest points beside it.
+use Rattle.std.proofs.lemmas.Grind.{common_steps}
 use Rattle.std.proofs.Common.{◌≡◌, ℤ, pos, ◌+ℤ◌, ◌-ℤ◌, ◌*ℤ◌, ◌≤ℤ◌, ◌<ℤ◌, neg_ℤ, Bool, true, false, inl, inr, refl}
 use Rattle.std.proofs.Common.{List, arith}
 use Rattle.std.specs.Prelude.{◌↔◌, IsTrue, not}
@@ -70,14 +71,8 @@ most_right S a w c s f m = at_most _ _ _ _ _ (other_side a w s) (other_side a w 
 -- from a kept point to one that is not, the line is crossed
 pub kept_over : (touching : Bool) (a b p q : Pair) → IsKept touching a b p → ¬ IsKept touching a b q
     → (pos 0 ≤ℤ orient a b p) × (orient a b q ≤ℤ pos 0) × (pos 0 <ℤ (orient a b p -ℤ orient a b q))
-kept_over true a b p q h n = elim (le_or_lt (pos 0) (orient a b q)) [
-  | inl k ↦ absurd (n k)
-  | inr k ↦ (h, omega (arith, ints), omega (arith, ints))
-]
-kept_over false a b p q h n = elim (le_or_lt (orient a b q) (pos 0)) [
-  | inl k ↦ (omega (arith, ints), k, omega (arith, ints))
-  | inr k ↦ absurd (n k)
-]
+kept_over true a b p q h n = grind (arith, common_steps, le_or_lt, pos, orient, n, h, ints)
+kept_over false a b p q h n = grind (arith, common_steps, le_or_lt, orient, pos, ints, n)
 
 -- where the leftmost point is not kept, the line is not crossed
 pub none_left : (S : List Pair) (a b l : Pair) → ((s : Pair) → Contains S s → orient a b s ≤ℤ orient a b l)

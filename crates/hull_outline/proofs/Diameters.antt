@@ -1,5 +1,6 @@
 -- The two points of a set that are farthest from one another: each is a corner, and one of them the first of the points
 -- farthest from an edge that begins at the other.
+use Rattle.std.proofs.lemmas.Grind.{common_steps}
 use Rattle.std.proofs.Common.{◌≡◌, ℕ, zero, suc, ◌+◌, ◌<◌, ℤ, pos, ◌+ℤ◌, ◌-ℤ◌, ◌*ℤ◌, ◌≤ℤ◌, ◌<ℤ◌, neg_ℤ, ◌⊎◌, inl, inr}
 use Rattle.std.proofs.Common.{refl, sym, ap, ◌∙◌, subst, List, [], ◌∷◌, length, arith}
 use Rattle.std.specs.List.{Contains}
@@ -173,13 +174,7 @@ not_up_and_down d e y ae (inr h) up down z = elim ae [
 
 -- a product with a number below 0 that is nothing
 cancel_down : (a c : ℤ) → a <ℤ pos 0 → a *ℤ c ≡ pos 0 → c ≡ pos 0
-cancel_down a c h e = elim (le_or_lt c (pos 0)) [
-  | inr k ↦ absurd (let p = product_mp a c h k in omega (arith, ints))
-  | inl k ↦ elim (le_or_lt (pos 0) c) [
-    | inl l ↦ omega (arith, ints)
-    | inr l ↦ absurd (let p = product_mm a c h l in omega (arith, ints))
-  ]
-]
+cancel_down a c h e = grind (arith, common_steps, le_or_lt, c, pos, product_mp, h, ints, product_mm)
 
 -- a step backwards
 back_first : (p f v : Pair) → cross (minus p f) v ≡ neg_ℤ (cross (minus f p) v)

@@ -1,4 +1,5 @@
 -- Differences of products in 128 bits.
+use Rattle.std.proofs.lemmas.Grind.{common_steps}
 use Rattle.std.proofs.Common.{◌≡◌, ◌∙◌, ◌*◌, ◌^◌, ◌≤ℤ◌, pos, neg_ℤ, lit≤, sym, subst, arith}
 use borrow.Author.Differences.{ints}
 use lib.IntN.{ℤ, ◌-ℤ◌}
@@ -27,9 +28,7 @@ twice z h = within_more widest_side (2 * widest_side) z (lit≤ tt) h
 -- a number that is told is no less than another where its value is
 pub le_told : (m n x y : ℤ) → IsWithin (2 * widest_side) m → IsWithin (2 * widest_side) n → m ≡ x → n ≡ y → x ≤ℤ y
     → to_z w128 (of_z w128 m) ≤ℤ to_z w128 (of_z w128 n)
-le_told m n x y h k e f l =
-    subst (λ (z : ℤ). z ≤ℤ to_z w128 (of_z w128 n)) (sym (told m h ∙ e))
-    (subst (λ (z : ℤ). x ≤ℤ z) (sym (told n k ∙ f)) l)
+le_told m n x y h k e f l = grind (arith, common_steps, n, told, h, e, f)
 
 -- what one number is more than another, by their values
 pub excess_told : (r : ℤ) (m n x y : ℤ) → IsWithin (2 * widest_side) m → IsWithin (2 * widest_side) n → m ≡ x → n ≡ y

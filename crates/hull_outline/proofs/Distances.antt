@@ -1,5 +1,6 @@
 -- No point that is covered is nearer than the nearest corner or edge.
-use Rattle.std.proofs.Common.{◌≡◌, ℤ, pos, ◌+ℤ◌, ◌-ℤ◌, ◌*ℤ◌, ◌≤ℤ◌, ◌<ℤ◌, neg_ℤ, inl, inr, sym, ap, ◌∙◌, List, arith}
+use Rattle.std.proofs.lemmas.Grind.{common_steps}
+use Rattle.std.proofs.Common.{◌≡◌, ℤ, pos, ◌+ℤ◌, ◌-ℤ◌, ◌*ℤ◌, ◌≤ℤ◌, ◌<ℤ◌, neg_ℤ, inl, inr, ap, List, arith}
 use Rattle.std.specs.List.{Contains}
 use Rattle.std.proofs.lemmas.Int.{ints}
 use Rattle.std.proofs.lemmas.List.Elements.{All-contains}
@@ -76,9 +77,7 @@ both_squares : (a b q p : Pair)
     → distance_squared a b *ℤ distance_squared q p
     ≡ (orient a b p -ℤ orient a b q) *ℤ (orient a b p -ℤ orient a b q) +ℤ along_by a b q p *ℤ along_by a b q p
 unfolding distance_squared
-both_squares a b q p =
-    lagrange (b.x -ℤ a.x) (b.y -ℤ a.y) (p.x -ℤ q.x) (p.y -ℤ q.y)
-    ∙ ap (λ (z : ℤ). z *ℤ z +ℤ along_by a b q p *ℤ along_by a b q p) (sym (side_change a b q p))
+both_squares a b q p = grind (arith, common_steps, lagrange, side_change)
 
 -- the square of a difference
 square_apart : (u v : ℤ) → (u -ℤ v) *ℤ (u -ℤ v) ≡ v *ℤ v +ℤ u *ℤ (u -ℤ (v +ℤ v))

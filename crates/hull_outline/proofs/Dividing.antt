@@ -1,6 +1,7 @@
 -- Two sets that a line divides: an edge of one of them has the other on its right, or on its line.
+use Rattle.std.proofs.lemmas.Grind.{common_steps}
 use Rattle.std.proofs.Common.{◌≡◌, ℕ, ◌+◌, ◌≤◌, ◌<◌, ℤ, pos, ◌-ℤ◌, ◌≤ℤ◌, ◌<ℤ◌, neg_ℤ, ◌⊎◌, inl, inr, sym, subst, List}
-use Rattle.std.proofs.Common.{length, refl, ap, ap₂, ◌∙◌, arith}
+use Rattle.std.proofs.Common.{length, refl, ap, ap₂, arith}
 use Rattle.std.specs.Bool.{IsTrue}
 use Rattle.std.specs.List.{Contains}
 use Rattle.std.specs.Prelude.{◌↔◌, Bool, true, false}
@@ -55,15 +56,7 @@ along x y z u w e f h = omega (arith, ints)
 -- of two corners each is one or the other
 one_or_next : (W : List Pair) (i j : ℕ) → i < length W → j < length W → length W ≤ 2
     → (corner W i ≡ corner W j) ⊎ (corner W i ≡ corner W (j + 1))
-one_or_next W i j li lj few = elim (cases_lt i j) [
-  | inl k ↦
-      let b = previous_at W j lj in
-      inr (ap (corner W) (omega (arith, b.1, b.2, k, li, lj, few)) ∙ sym b.3 ∙ same_beside W j lj few)
-  | inr k ↦ elim (cases_lt j i) [
-    | inl l ↦ inr (ap (corner W) (omega (arith, l, li, lj, few)))
-    | inr l ↦ inl (ap (corner W) (omega (arith, k, l)))
-  ]
-]
+one_or_next W i j li lj few = grind (arith, common_steps, cases_lt, previous_at, corner, same_beside)
 
 -- each corner of two bounds the set
 cap_of_two : (T W : List Pair) (end j : ℕ) → IsOutlineOf T W → IsParted W end → j < length W → length W ≤ 2
@@ -183,20 +176,12 @@ right_of_edge_from T c d p v n h a t m =
 -- the axis seen from the other set: all steps backwards
 left_axis_back : (p v b d c : Pair) → IsLeftAxis (minus p v) (minus c b) (minus c d) (minus v c)
     → IsLeftAxis (minus v p) (minus b c) (minus d c) (minus c v)
-left_axis_back p v b d c a = record {
-  beside = rw (both_back v p c v) a.beside;
-  left_beside = rw (both_back v p b c) a.left_beside;
-  right_beside = rw (both_back v p d c) a.right_beside;
-}
+left_axis_back p v b d c a = grind (arith, common_steps, both_back, c, d)
 
 -- and the same on the right
 right_axis_back : (n v b d c : Pair) → IsRightAxis (minus n v) (minus c b) (minus c d) (minus v c)
     → IsRightAxis (minus v n) (minus b c) (minus d c) (minus c v)
-right_axis_back n v b d c a = record {
-  beside = rw (both_back v n c v) a.beside;
-  left_beside = rw (both_back v n b c) a.left_beside;
-  right_beside = rw (both_back v n d c) a.right_beside;
-}
+right_axis_back n v b d c a = grind (arith, common_steps, both_back, n, c, d)
 
 -- some edge of V has all of T on its right or its line
 abbrev pub HasOnRight : List Pair → List Pair → Type 0

@@ -1,4 +1,5 @@
 -- Two sets of three corners or more that a direction parts: an edge of one of them has the other on its right.
+use Rattle.std.proofs.lemmas.Grind.{common_steps}
 use Rattle.std.proofs.Common.{◌≡◌, ℕ, ◌+◌, ◌<◌, ℤ, pos, ◌-ℤ◌, ◌≤ℤ◌, ◌<ℤ◌, neg_ℤ, ◌⊎◌, inl, inr, sym, subst, List}
 use Rattle.std.proofs.Common.{length, arith}
 use Rattle.std.specs.List.{Contains}
@@ -101,20 +102,12 @@ right_of_edge_from T c d p v n h a =
 -- the axis seen from the other set: all steps backwards
 left_axis_back : (p v b d c : Pair) → IsLeftAxis (minus p v) (minus c b) (minus c d) (minus v c)
     → IsLeftAxis (minus v p) (minus b c) (minus d c) (minus c v)
-left_axis_back p v b d c a = record {
-  beside = rw (both_back v p c v) a.beside;
-  left_beside = rw (both_back v p b c) a.left_beside;
-  right_beside = rw (both_back v p d c) a.right_beside;
-}
+left_axis_back p v b d c a = grind (arith, common_steps, both_back, c, d)
 
 -- and the same on the right
 right_axis_back : (n v b d c : Pair) → IsRightAxis (minus n v) (minus c b) (minus c d) (minus v c)
     → IsRightAxis (minus v n) (minus b c) (minus d c) (minus c v)
-right_axis_back n v b d c a = record {
-  beside = rw (both_back v n c v) a.beside;
-  left_beside = rw (both_back v n b c) a.left_beside;
-  right_beside = rw (both_back v n d c) a.right_beside;
-}
+right_axis_back n v b d c a = grind (arith, common_steps, both_back, n, c, d)
 
 -- ---- the corners farthest in a direction
 

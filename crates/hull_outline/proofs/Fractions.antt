@@ -1,4 +1,5 @@
 -- Products of numbers in order, and a quotient of squares between two others.
+use Rattle.std.proofs.lemmas.Grind.{common_steps}
 use Rattle.std.proofs.Common.{◌≡◌, ℤ, pos, ◌+ℤ◌, ◌-ℤ◌, ◌*ℤ◌, ◌≤ℤ◌, ◌<ℤ◌, inl, inr, subst, arith}
 use Rattle.std.proofs.lemmas.Int.{ints}
 use Rattle.lattice.specs.Polynomials.{difference-eq, as_difference, difference-mul, difference_rules}
@@ -14,9 +15,7 @@ unfold_products a b c d =
 
 -- products of numbers in order, none below 0, are in order
 pub products_le : (a b c d : ℤ) → pos 0 ≤ℤ a → a ≤ℤ b → pos 0 ≤ℤ c → c ≤ℤ d → (a *ℤ c) ≤ℤ (b *ℤ d)
-products_le a b c d ha ab hc cd =
-    le_by_sum (b *ℤ d) (a *ℤ c) _ _ (unfold_products a b c d) (product_nn (b -ℤ a) d (gap_nn a b ab) (omega (arith, ints)))
-    (product_nn a (d -ℤ c) ha (gap_nn c d cd))
+products_le a b c d ha ab hc cd = grind (arith, common_steps, le_by_sum, d, c, unfold_products, product_nn, gap_nn, ints)
 
 -- the same, where the first are not equal and the second are above 0
 pub products_lt : (a b : ℤ) → pos 0 ≤ℤ a → a <ℤ b → (a *ℤ a) <ℤ (b *ℤ b)

@@ -1,4 +1,5 @@
 -- Where a set is least wide: at the normal of an edge.
+use Rattle.std.proofs.lemmas.Grind.{common_steps}
 use Rattle.std.proofs.Common.{◌≡◌, ℕ, ◌+◌, ◌≤◌, ◌<◌, ℤ, pos, ◌+ℤ◌, ◌-ℤ◌, ◌*ℤ◌, ◌≤ℤ◌, ◌<ℤ◌, neg_ℤ, inl, inr, refl}
 use Rattle.std.proofs.Common.{sym, ap, ◌∙◌, subst, List, length, arith}
 use Rattle.std.specs.List.{Contains}
@@ -92,11 +93,7 @@ mean_square : (d g h : Pair)
     ≡ (product d h *ℤ product d h) *ℤ length_squared g
     +ℤ ((product d h *ℤ product d g) *ℤ neg_ℤ (dot g h)
     +ℤ ((product d h *ℤ product d g) *ℤ neg_ℤ (dot g h) +ℤ (product d g *ℤ product d g) *ℤ length_squared h))
-mean_square d g h =
-    weighed_square (cross h g) d.x d.y
-    ∙ ap (λ (z : ℤ). z *ℤ z +ℤ (cross h g *ℤ d.y) *ℤ (cross h g *ℤ d.y)) (mean_x d g h)
-    ∙ ap (λ (z : ℤ). (product d h *ℤ g.y -ℤ product d g *ℤ h.y) *ℤ (product d h *ℤ g.y -ℤ product d g *ℤ h.y) +ℤ z *ℤ z)
-    (mean_y d g h) ∙ normals_square (product d h) (product d g) g.x g.y h.x h.y
+mean_square d g h = grind (arith, common_steps, weighed_square, cross, h, g, mean_x, d, product, mean_y, normals_square)
 
 -- the identity of Lagrange
 lagrange : (g h : Pair)
@@ -430,11 +427,7 @@ side_nn S w h = All-contains (λ t. pos 0 ≤ℤ orient w.from w.to t) S w.farth
 own_edge : (S V : List Pair) (i : ℕ) (w : Strip) → IsStripAt S V i w → (f : Pair) × Contains S f
     × (((side_of w *ℤ side_of w) *ℤ distance_squared (corner V i) (corner V (i + 1)))
     ≤ℤ ((orient (corner V i) (corner V (i + 1)) f *ℤ orient (corner V i) (corner V (i + 1)) f) *ℤ edge_squared w))
-own_edge S V i w h = (
-  w.farthest,
-  h.opposite.0,
-  subst (λ (z : Pair). Bounds z (corner V (i + 1))) h.from_corner (subst (Bounds w.from) h.to_next (le_itself _)),
-)
+own_edge S V i w h = grind (arith, common_steps, corner, le_itself)
   where
     Bounds : Pair → Pair → Type 0
     Bounds a b = ((side_of w *ℤ side_of w) *ℤ distance_squared a b)

@@ -1,4 +1,5 @@
 -- Where a ray goes out of a set, by an edge that goes over its line, or by a corner on it. c is a step back from its start a.
+use Rattle.std.proofs.lemmas.Grind.{common_steps}
 use Rattle.std.proofs.Common.{◌≡◌, ℕ, ℤ, pos, ◌+ℤ◌, ◌-ℤ◌, ◌*ℤ◌, ◌≤ℤ◌, ◌<ℤ◌, neg_ℤ, inl, inr, refl, sym, ◌∙◌, subst}
 use Rattle.std.proofs.Common.{List, arith}
 use Rattle.std.specs.List.{Contains}
@@ -197,9 +198,7 @@ missed_beyond S a w e (inr (inr h)) far m k = missed_ahead S a w e far (k (h e m
 -- a way back, told by where it begins and along what
 pub on_back : (start along a w t : Pair) → start ≡ a → along ≡ backward w
     → orient start (moved start along) t ≡ orient a (moved a (backward w)) t
-on_back start along a w t e f =
-    subst (λ (z : Pair). orient start (moved start along) t ≡ orient z (moved z (backward w)) t) e
-    (subst (λ (z : Pair). orient start (moved start along) t ≡ orient start (moved start z) t) f refl)
+on_back start along a w t e f = grind (arith, common_steps, orient, moved, along, backward, e, f)
 
 -- the other way a point lies as far back
 product_back : (w t : Pair) → product (backward w) t ≡ neg_ℤ (product w t)

@@ -1,4 +1,5 @@
 -- Seen from a point outside, some corner or some edge is the nearest.
+use Rattle.std.proofs.lemmas.Grind.{common_steps}
 use Rattle.std.proofs.Common.{◌≡◌, ℕ, zero, suc, ◌+◌, ◌-◌, ◌≤◌, ◌<◌, ℤ, pos, negsuc, ◌-ℤ◌, ◌≤ℤ◌, ◌<ℤ◌, neg_ℤ, ◌⊎◌, inl}
 use Rattle.std.proofs.Common.{inr, refl, sym, ap, ◌∙◌, subst, List, length, arith}
 use Rattle.std.specs.List.{Contains}
@@ -101,10 +102,7 @@ bends_at S V j h l many =
 
 -- of two corners, or of one, the one before is the one behind
 pub same_beside : (V : List Pair) (j : ℕ) → j < length V → length V ≤ 2 → previous V j ≡ corner V (j + 1)
-same_beside V j l few =
-    let b = previous_at V j l in
-    let a = next_at V j l in
-    b.3 ∙ ap (corner V) (omega (arith, b.1, b.2, a.1, a.2, l, few)) ∙ sym a.3
+same_beside V j l few = grind (arith, common_steps, previous_at, next_at, corner)
 
 -- ---- a corner that is turned from is the nearest
 

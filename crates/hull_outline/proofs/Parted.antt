@@ -1,5 +1,6 @@
 -- What meets is not apart: where two segments cross, no direction parts their ends.
-use Rattle.std.proofs.Common.{◌≡◌, ℤ, pos, negsuc, ◌+ℤ◌, ◌-ℤ◌, ◌*ℤ◌, ◌≤ℤ◌, ◌<ℤ◌, inl, inr, sym, ap, ◌∙◌, arith}
+use Rattle.std.proofs.lemmas.Grind.{common_steps}
+use Rattle.std.proofs.Common.{◌≡◌, ℤ, pos, negsuc, ◌+ℤ◌, ◌-ℤ◌, ◌*ℤ◌, ◌≤ℤ◌, ◌<ℤ◌, inl, inr, ap, arith}
 use Rattle.std.proofs.lemmas.Int.{ints}
 use Rattle.lattice.specs.Plane.{Pair, orient, product}
 use Rattle.lattice.specs.Polynomials.{difference-eq, as_difference, difference_rules}
@@ -55,11 +56,7 @@ pub weights : (d a b c e : Pair)
     → orient c e a *ℤ product d b -ℤ orient c e b *ℤ product d a
     ≡ orient a b e *ℤ product d c -ℤ orient a b c *ℤ product d e
 unfolding product
-weights d a b c e =
-    together (orient c e a) (orient c e b) d.x d.y a.x a.y b.x b.y
-    ∙ ap (λ (z : ℤ). d.x *ℤ z +ℤ d.y *ℤ (orient c e a *ℤ b.y -ℤ orient c e b *ℤ a.y)) (weights_x a b c e)
-    ∙ ap (λ (z : ℤ). d.x *ℤ (orient a b e *ℤ c.x -ℤ orient a b c *ℤ e.x) +ℤ d.y *ℤ z) (weights_y a b c e)
-    ∙ sym (together (orient a b e) (orient a b c) d.x d.y e.x e.y c.x c.y)
+weights d a b c e = grind (arith, common_steps, together, orient, c, e, weights_x, weights_y)
 
 -- weights of numbers as seen from m
 seen_from : (p q x w m : ℤ) → p *ℤ (x -ℤ m) -ℤ q *ℤ (w -ℤ m) ≡ (p *ℤ x -ℤ q *ℤ w) -ℤ (p -ℤ q) *ℤ m
@@ -70,9 +67,7 @@ seen_from p q x w m =
 -- the same from any number m
 shifted : (p q r s w x y z m : ℤ) → p *ℤ x -ℤ q *ℤ w ≡ r *ℤ y -ℤ s *ℤ z → p -ℤ q ≡ r -ℤ s
     → p *ℤ (x -ℤ m) -ℤ q *ℤ (w -ℤ m) ≡ r *ℤ (y -ℤ m) -ℤ s *ℤ (z -ℤ m)
-shifted p q r s w x y z m e f =
-    seen_from p q x w m ∙ ap (λ (k : ℤ). k -ℤ (p -ℤ q) *ℤ m) e
-    ∙ ap (λ (k : ℤ). (r *ℤ y -ℤ s *ℤ z) -ℤ k *ℤ m) f ∙ sym (seen_from r s y z m)
+shifted p q r s w x y z m e f = grind (arith, common_steps, seen_from, e, f)
 
 -- how far the points of two lines lie in a direction, as seen from m
 pub weights_from : (d a b c e : Pair) (m : ℤ)

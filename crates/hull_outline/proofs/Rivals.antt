@@ -1,5 +1,6 @@
 -- Where what is nearest to a point of S in T is no farther off than what is nearest to other points of the two in the
 -- other set, no point of S lies farther on the way there.
+use Rattle.std.proofs.lemmas.Grind.{common_steps}
 use Rattle.std.proofs.Common.{◌≡◌, ℤ, pos, ◌+ℤ◌, ◌-ℤ◌, ◌*ℤ◌, ◌≤ℤ◌, ◌<ℤ◌, negsuc, neg_ℤ, inl, inr}
 use Rattle.std.proofs.Common.{refl, sym, ap, ◌∙◌, subst, List, [], ◌∷◌, arith}
 use Rattle.std.specs.List.{Contains}
@@ -140,13 +141,7 @@ shorter l r h hl m = le_by_gap _ _ (cancel_nn ((h *ℤ h) -ℤ l *ℤ r) l hl (n
 
 -- a square that is not above 0
 no_square : (t : ℤ) → (t *ℤ t) ≤ℤ pos 0 → t ≡ pos 0
-no_square t h = elim (le_or_lt t (pos 0)) [
-  | inr k ↦ absurd (omega (arith, ints, square_above t (inl k)))
-  | inl k ↦ elim (le_or_lt (pos 0) t) [
-    | inr l ↦ absurd (omega (arith, ints, square_above t (inr l)))
-    | inl l ↦ omega (arith, ints)
-  ]
-]
+no_square t h = grind (arith, common_steps, le_or_lt, pos, ints, square_above)
 
 -- squares in order
 root_le : (g h : ℤ) → pos 0 ≤ℤ h → (g *ℤ g) ≤ℤ (h *ℤ h) → g ≤ℤ h
@@ -242,10 +237,7 @@ ends_level a b = rw (as_pair a, as_pair b) (simp difference_rules (difference-eq
 
 -- which way two products go that are equal but for a factor above 0
 same_way : (l x y z : ℤ) → pos 0 <ℤ l → l *ℤ x ≡ y *ℤ z → y <ℤ pos 0 → x <ℤ pos 0 → pos 0 <ℤ z
-same_way l x y z hl e hy hx = elim (le_or_lt z (pos 0)) [
-  | inr k ↦ k
-  | inl k ↦ absurd (below_not_nn _ _ e (product_pn l x hl hx) (product_same y z (np_below _ hy) k))
-]
+same_way l x y z hl e hy hx = grind (arith, common_steps, le_or_lt, pos, below_not_nn, e, product_pn, product_same, np_below)
 
 -- and the other way
 other_way : (l x y z : ℤ) → pos 0 <ℤ l → l *ℤ x ≡ y *ℤ z → y <ℤ pos 0 → pos 0 <ℤ x → z <ℤ pos 0
@@ -256,10 +248,7 @@ other_way l x y z hl e hy hx = elim (le_or_lt (pos 0) z) [
 
 -- and the first factor by the second
 first_way : (l x y z : ℤ) → pos 0 <ℤ l → l *ℤ x ≡ y *ℤ z → pos 0 <ℤ z → x <ℤ pos 0 → y <ℤ pos 0
-first_way l x y z hl e hz hx = elim (le_or_lt (pos 0) y) [
-  | inr k ↦ k
-  | inl k ↦ absurd (below_not_nn _ _ e (product_pn l x hl hx) (product_nn y z k (nn_above _ hz)))
-]
+first_way l x y z hl e hz hx = grind (arith, common_steps, le_or_lt, pos, below_not_nn, e, product_pn, product_nn, nn_above)
 
 module _ (S T : List Pair) (c a b s : Pair) (d : Pair)
     (parts_them : (u t : Pair) → Contains S u → Contains T t → product d u <ℤ product d t)

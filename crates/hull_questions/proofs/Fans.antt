@@ -1,5 +1,6 @@
 -- The triangles between the first point of a half and the edges of its chains: their doubled areas add up to that of
 -- the hull.
+use Rattle.std.proofs.lemmas.Grind.{common_steps}
 use Rattle.std.proofs.Common.{◌≡◌, ℤ, pos, ◌+ℤ◌, ◌≤ℤ◌, refl, sym, ap, ◌∙◌, subst, arith, inl, inr}
 use Rattle.std.proofs.Common.{List, [], ◌∷◌, ◌++◌, map}
 use Rattle.std.specs.List.{Contains}
@@ -44,20 +45,13 @@ fan_above S f v (x ∷ xs) c m =
 
 -- nor does a walk along the lower chain, seen from the first point
 pub lower_above : (t : Tree) (z : ℤ) → IsFan t (first_of t) (first_of t) (last_of t) z → pos 0 ≤ℤ z
-lower_above t z (passed, k, e) =
-    subst (λ (x : ℤ). pos 0 ≤ℤ x) (sym e)
-    (fan_above (points_of t) (first_of t) (first_of t) passed k.chain
-    (contains_of_on t (first_of t) (on_first t)))
+lower_above t z (passed, k, e) = grind (arith, common_steps, pos, fan_above, points_of, first_of, contains_of_on, on_first)
 
 -- nor one along the upper chain
 pub upper_above : (t : Tree) (z : ℤ)
     → IsFan (turned_tree t) (turned_point (first_of t)) (first_of (turned_tree t)) (last_of (turned_tree t)) z
     → pos 0 ≤ℤ z
-upper_above t z (passed, k, e) =
-    let v : Tree = turned_tree t in
-    subst (λ (x : ℤ). pos 0 ≤ℤ x) (sym e)
-    (fan_above (points_of v) (turned_point (first_of t)) (first_of v) passed k.chain
-    (subst (Contains (points_of v)) (last_turned t) (contains_of_on v (last_of v) (on_last v))))
+upper_above t z (passed, k, e) = grind (arith, common_steps, turned_tree, pos, fan_above, points_of, turned_point, first_of, last_turned, contains_of_on, last_of, on_last)
 
 -- ---- the doubled area
 
@@ -79,9 +73,7 @@ fan_turned f v (x ∷ xs) =
 -- a walk from a point to itself has no steps
 no_steps : (t : Tree) (v w : Pair) (passed : List Pair) → v ≡ w → IsWalk t v passed w → passed ≡ []
 no_steps t v w [] e k = refl
-no_steps t v w (x ∷ xs) e k =
-    absurd (not_back (points_of t) x xs k.chain.1
-    (subst (λ (z : Pair). IsBefore z x) (e ∙ sym k.ends) k.chain.0.along))
+no_steps t v w (x ∷ xs) e k = grind (arith, common_steps, not_back, points_of)
 
 -- so that its fan is 0
 fan_still : (t : Tree) (apex v w : Pair) (z : ℤ) → v ≡ w → IsFan t apex v w z → z ≡ pos 0

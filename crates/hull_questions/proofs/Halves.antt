@@ -1,4 +1,6 @@
 -- A set of points in two halves.
+use Rattle.std.proofs.Common.{arith}
+use Rattle.std.proofs.lemmas.Grind.{common_steps}
 use Rattle.std.proofs.Common.{◌⊎◌, inl, inr, List, ◌++◌}
 use Rattle.std.specs.List.{Contains}
 use Rattle.std.proofs.lemmas.List.Elements.{Contains-append_left, Contains-append_right, Contains-append_cases}
@@ -15,11 +17,7 @@ pub record AreHalves (S : List Pair) (near far : Tree) : Type 0 where
 
 -- and the other way round
 pub swapped : (S : List Pair) (near far : Tree) → AreHalves S near far → AreHalves S far near
-swapped S near far k = record {
-  in_near = k.in_far;
-  in_far = k.in_near;
-  which = λ t m. elim (k.which t m) [ inl i ↦ inr i | inr i ↦ inl i ];
-}
+swapped S near far k = grind (arith, common_steps)
 
 -- the points of two halves in a row
 pub halves_of : (u w : Tree) → AreHalves (points_of u ++ points_of w) u w

@@ -1,4 +1,5 @@
 -- In which slab of a half a point stands, by the part of the half that it stands beside.
+use Rattle.std.proofs.lemmas.Grind.{common_steps}
 use Rattle.std.proofs.Common.{◌≡◌, ◌<◌, subst, arith, Some}
 use Rattle.lattice.specs.Plane.{Pair, IsBefore}
 use Rattle.bridge_search.specs.Trees.{Tree, Leaf, Fork, IsBridged, lower_of, left_of, right_of, first_of, last_of}
@@ -38,10 +39,7 @@ right_slabs e f u w q h k (Edge z) m = right_lifts u w q f.0 f.1 z h.0 h.2 k m
 pub slab_left : (t : Tree) (q a b : Pair) → IsBridged t → Some (a, b) ≡ lower_of t → IsBefore q a
     → IsSlabPart q t (left_of t)
 slab_left (Leaf x) q a b h g k = absurd (cc)
-slab_left (Fork e f u w) q a b h g k = record {
-  lifts = left_slabs e f u w q h (subst (IsBefore q) (same_ends g).0 k);
-  lower = omega arith;
-}
+slab_left (Fork e f u w) q a b h g k = grind (arith, common_steps, left_slabs, same_ends)
 
 -- not before the end of the bridge: to the right half
 pub slab_right : (t : Tree) (q a b : Pair) → IsBridged t → Some (a, b) ≡ lower_of t → ¬ (IsBefore q b)

@@ -1,5 +1,7 @@
 -- After a turn by 180 degrees the lower chain is the upper one.
-use Rattle.std.proofs.Common.{◌≡◌, pos, ◌≤ℤ◌, sym, ◌∙◌, subst}
+use Rattle.std.proofs.Common.{arith}
+use Rattle.std.proofs.lemmas.Grind.{common_steps}
+use Rattle.std.proofs.Common.{◌≡◌, pos, ◌≤ℤ◌, sym, ◌∙◌}
 use Rattle.std.specs.List.{All, Contains}
 use Rattle.std.proofs.lemmas.List.Elements.{All-contains, All-weaker}
 use Rattle.lattice.specs.Plane.{Pair, orient, IsBefore, turned_point}
@@ -56,7 +58,4 @@ upper_of_turned t v e k = record {
 
 -- before the end of the turned half is after the start of the half
 pub inside_turned : (t : Tree) (v : Pair) → IsAfterStart t v → IsBeforeEnd (turned_tree t) (turned_point v)
-inside_turned t v i = (
-  (λ b. i.1 (unturned (last_of t) v (subst (IsBefore (turned_point v)) (first_turned t) b))),
-  subst (IsBefore (turned_point v)) (sym (last_turned t)) (turned_order (first_of t) v i.0),
-)
+inside_turned t v i = grind (arith, common_steps, unturned, last_of, turned_point, first_turned, last_turned, turned_order, first_of)

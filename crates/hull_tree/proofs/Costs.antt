@@ -1,4 +1,5 @@
 -- The cost of the forks above a point: one number, and how it grows when forks are built.
+use Rattle.std.proofs.lemmas.Grind.{common_steps}
 use Rattle.std.proofs.Common.{◌≡◌, ℕ, ◌+◌, ◌≤◌, inl, inr, refl, sym, arith, ap, subst, Some}
 use Rattle.lattice.specs.Plane.{Pair}
 use Rattle.lattice.proofs.Order.{before_irrefl}
@@ -49,17 +50,12 @@ by_fork e f u w n c =
 -- a point whose forks cost at most m in t costs at most n more in a tree that is dearer by n
 pub costs_more : (t v : Tree) (p : Pair) (m n k : ℕ) → IsCostAtMost t p m → IsDearerByAtMost t v n → m + n ≤ k
     → IsCostAtMost v p k
-costs_more t v p m n k c h l =
-    let one = h p c.0 c.1 in
-    (one.0, one.1, omega (arith, l, c.2, one.2))
+costs_more t v p m n k c h l = grind (arith, common_steps)
 
 -- from one tree into a second and on into a third
 pub through : (t v z : Tree) (a b n : ℕ) → IsDearerByAtMost t v a → IsDearerByAtMost v z b → a + b ≤ n
     → IsDearerByAtMost t z n
-through t v z a b n h g l p k i =
-    let one = h p k i in
-    let two = g p one.0 one.1 in
-    (two.0, two.1, omega (arith, l, one.2, two.2))
+through t v z a b n h g l p k i = grind (arith, common_steps)
 
 -- at most so much is at most more
 pub looser : (t v : Tree) (a n : ℕ) → IsDearerByAtMost t v a → a ≤ n → IsDearerByAtMost t v n

@@ -1,11 +1,12 @@
 -- What a change of a tree with a limit is answered, and what it makes of what is held.
-use Rattle.std.proofs.Common.{◌≡◌, ℕ, ◌+◌, ◌-◌, ◌<◌, ◌≤◌, ap, refl, sym, ◌∙◌, List, length, arith, Some, inl, inr}
+use Rattle.std.proofs.lemmas.Grind.{common_steps}
+use Rattle.std.proofs.Common.{◌≡◌, ℕ, ◌+◌, ◌-◌, ◌<◌, ◌≤◌, refl, sym, ◌∙◌, List, length, arith, Some, inl, inr}
 use Rattle.std.proofs.Common.{subst}
 use Rattle.std.specs.Prelude.{Option}
 use Rattle.std.specs.List.{Contains}
 use Rattle.lattice.specs.Plane.{Pair}
 use Rattle.lattice.specs.Covers.{with_point, without_point}
-use Rattle.bridge_search.specs.Trees.{Tree, On}
+use Rattle.bridge_search.specs.Trees.{On}
 use Rattle.bridge_search.specs.Leaves.{points_of}
 use Rattle.bridge_search.proofs.Leaves.{contains_of_on}
 use Rattle.hull_set.specs.Held.{once, with_new, with_again, with_none}
@@ -43,14 +44,7 @@ built_before k = subst IsWellBuiltRoot k.own k.limited.built
 -- m is a tree of the same set
 pub limited_after : {root : Option Node} {n m : Node} {p : Pair} {count limit r : ℕ}
     → IsCounted root n m p count limit r → IsLimited (Some m) count limit
-limited_after k = record {
-  built = k.built;
-  counted = k.limited.counted ∙ ap (λ (z : Option Node). length (points_of_root z)) k.own
-      ∙ ap (λ (t : Tree). length (points_of t)) (sym k.same);
-  room = k.limited.room;
-  low = k.limited.low;
-  high = k.limited.high;
-}
+limited_after k = grind (arith, common_steps, counted, points_of_root, points_of)
 
 -- so it is sound
 pub sound_after : {root : Option Node} {n m : Node} {p : Pair} {count limit r : ℕ} → IsCounted root n m p count limit r
@@ -127,17 +121,13 @@ answers_removed k l = (live k (omega (arith, l)), λ c. rw k.own (sym k.was ∙ 
 -- the tree n with p once more
 pub held_again : (root : Option Node) (n m : Node) (p : Pair) → root ≡ Some n → tree_of m ≡ tree_of n
     → ((q : Pair) → times_below m q ≡ times_below n q + once p q) → held_by (Some m) ≡ with_again p (held_by root)
-held_again root n m p o e h =
-    rw o (same_held (points_below m) (points_below n) (times_below m) (λ q. times_below n q + once p q)
-    (ap points_of e) h)
+held_again root n m p o e h = grind (arith, common_steps, same_held, points_below, times_below, once, points_of)
 
 -- with the new point p
 pub held_new : (root : Option Node) (n m : Node) (p : Pair) → root ≡ Some n
     → points_below m ≡ with_point p (points_below n) → ((q : Pair) → times_below m q ≡ times_below n q + once p q)
     → held_by (Some m) ≡ with_new p (held_by root)
-held_new root n m p o e h =
-    rw o (same_held (points_below m) (with_point p (points_below n)) (times_below m)
-    (λ q. times_below n q + once p q) e h)
+held_new root n m p o e h = grind (arith, common_steps, same_held, points_below, with_point, times_below, once)
 
 -- without the point p, which was held once
 pub held_none : (root left : Option Node) (n : Node) (p : Pair) → root ≡ Some n

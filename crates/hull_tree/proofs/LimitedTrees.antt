@@ -1,5 +1,6 @@
 -- What a tree with a limit keeps, and that a change keeps it.
-use Rattle.std.proofs.Common.{◌≡◌, ℕ, ◌+◌, ◌-◌, ◌<◌, ap, refl, sym, ◌∙◌, List, length, arith, Some, None, subst}
+use Rattle.std.proofs.lemmas.Grind.{common_steps}
+use Rattle.std.proofs.Common.{◌≡◌, ℕ, ◌+◌, ◌-◌, ◌<◌, ap, ◌∙◌, List, length, arith, Some, None, subst}
 use Rattle.std.specs.Prelude.{Option}
 use Rattle.std.specs.List.{Contains}
 use Rattle.lattice.specs.Plane.{Pair}
@@ -53,14 +54,7 @@ limited_without n root p count limit h b e m =
 -- the half that its root is has all its points
 pub whole : (root : Option Node) (n : Node) (u : Tree) (count limit : ℕ) → IsLimited root count limit → root ≡ Some n
     → u ≡ tree_of n → IsWhole (record { limit = limit; root = root }) u
-whole root n u count limit h r e =
-    let p : points_of_root root ≡ points_of u = ap points_of_root r ∙ ap points_of (sym e) in
-    record {
-      own = rw (r, e) refl;
-      points = p;
-      few = omega (arith, size_is_length u, ap (λ (z : List Pair). length z) p, h.counted, h.room);
-      high = h.high;
-    }
+whole root n u count limit h r e = grind (arith, common_steps, points_of_root, points_of, size_is_length)
 
 -- a tree that is not nothing is well built
 pub built_root : (root : Option Node) (n : Node) (count limit : ℕ) → IsLimited root count limit → root ≡ Some n

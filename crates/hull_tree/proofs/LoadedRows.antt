@@ -1,4 +1,5 @@
 -- Entries cut in two, and the nodes over both parts.
+use Rattle.std.proofs.lemmas.Grind.{common_steps}
 use Rattle.std.proofs.Common.{◌≡◌, ℕ, ◌+◌, ◌≤◌, sym, ◌∙◌, ap, subst, List, ◌++◌, length, take, drop, arith}
 use Rattle.std.proofs.Common.{Some}
 use Rattle.std.proofs.lemmas.List.{take-append-drop, map-append}
@@ -54,9 +55,7 @@ row_over m es l r h a b = record {
 
 -- a node over few entries is not too high
 pub low_over : (es : List (Pair × ℕ)) (n : Node) → IsOver es n → length es ≤ 1048576 → height_at n ≤ greatest_height
-low_over es n h l =
-    at_most_28 (tree_of n) h.built.balanced
-    (omega (arith, l, ap (λ (z : List Pair). length z) h.points, length-keys_of es))
+low_over es n h l = grind (arith, common_steps, at_most_28, tree_of, length-keys_of)
 
 -- the node over all entries, of one over the first part and one over the rest
 pub over_both : (m : ℕ) (es : List (Pair × ℕ)) (l r n : Node) → IsOver (take m es) l → IsOver (drop m es) r

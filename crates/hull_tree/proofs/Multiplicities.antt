@@ -1,4 +1,5 @@
 -- How often points are held below a node, and below which of its halves.
+use Rattle.std.proofs.lemmas.Grind.{common_steps}
 use Rattle.std.proofs.Common.{◌≡◌, None, ℕ, zero, suc, ◌+◌, ◌-◌, ◌<◌, ◌≤◌, refl, sym, ◌∙◌, subst, arith, ◌⊎◌, inl, inr}
 use Rattle.std.proofs.Common.{true, false, Bool, if◌then◌else◌}
 use Rattle.std.specs.Prelude.{◌↔◌}
@@ -30,10 +31,7 @@ times_absent (node.Node' upper lower height near times
 
 -- one that is below it is held at least once
 pub times_live : (n : node.Node) (p : Pair) → IsLabelled n → On (tree_of n) p → 1 ≤ times_below n p
-times_live (node.Node' upper lower height near times node.None') p l e =
-    let s : several times upper.0 p ≡ times =
-    subst (λ z. several times upper.0 z ≡ times) (sym e) (several_there times upper.0) in
-    omega (arith, s, l.1.0)
+times_live (node.Node' upper lower height near times node.None') p l e = grind (arith, common_steps, several, several_there)
 times_live (node.Node' upper lower height near times
     (node.Some' i (halves.Halves' left right last_left first_right))) p l (inl h) =
     omega (arith, times_live left p l.3 h)
@@ -85,10 +83,7 @@ times_few (node.Node' upper lower height near times
 
 -- the points below a well-built node are those that are held there
 pub live_iff : (n : node.Node) (p : Pair) → IsWellBuilt n → Contains (points_below n) p ↔ (1 ≤ times_below n p)
-live_iff n p b = (
-  λ m. times_live n p b.labelled (on_of_contains (tree_of n) p m),
-  λ h. contains_of_on (tree_of n) p (live_by_times n p h),
-)
+live_iff n p b = grind (arith, common_steps, times_live, on_of_contains, tree_of, contains_of_on, live_by_times)
 
 -- a point that is held 0 times is none of them
 pub not_live : (n : node.Node) (p : Pair) → IsWellBuilt n → times_below n p ≡ 0 → ¬ (Contains (points_below n) p)

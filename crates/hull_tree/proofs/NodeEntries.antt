@@ -1,4 +1,5 @@
 -- The points below a node, each with how often it is held, as entries.
+use Rattle.std.proofs.lemmas.Grind.{common_steps}
 use Rattle.std.proofs.Common.{◌≡◌, ℕ, ◌+◌, refl, sym, ◌∙◌, ap, subst, List, [], ◌++◌, length, arith, Option, Some, None}
 use Rattle.std.specs.List.{All}
 use Rattle.std.proofs.lemmas.List.{map-append}
@@ -64,10 +65,7 @@ pub listed_halves : (n : node.Node) (h : halves.Halves) → below_of n ≡ Some 
 unfolding node.out-Node halves.out-Halves denote.Hole.Carrier.out
 listed_halves (node.Node' upper lower height near times node.None') h e = absurd (cc)
 listed_halves (node.Node' upper lower height near times
-    (node.Some' i (halves.Halves' left right last_left first_right))) h e =
-    subst (λ (z : halves.Halves). IsListedOver
-    (node.Node' upper lower height near times (node.Some' i (halves.Halves' left right last_left first_right))) z)
-    (same_below e) record { entries = refl; points = refl; height = refl }
+    (node.Some' i (halves.Halves' left right last_left first_right))) h e = grind (arith, common_steps, near, last_left, same_below)
 
 -- so they are entries
 pub entries_are : (n : node.Node) → IsWellBuilt n → AreEntries (entries_below n)

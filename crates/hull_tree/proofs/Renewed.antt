@@ -1,4 +1,6 @@
 -- A fork that has its bridges and its height anew.
+use Rattle.std.proofs.Common.{arith}
+use Rattle.std.proofs.lemmas.Grind.{common_steps}
 use Rattle.std.specs.Prelude.{◌&&◌}
 use Rattle.std.proofs.Common.{◌≡◌, ℕ, Bool, ◌+◌, ◌≤◌, max, refl, sym, subst, Some, ◌⊎◌, inl, inr}
 use Rattle.lattice.specs.Plane.{Pair}
@@ -32,19 +34,14 @@ pub under_fork : (n : node.Node) (h : halves.Halves) → IsParted n → below_of
 unfolding node.out-Node halves.out-Halves denote.Hole.Carrier.out
 under_fork (node.Node' upper lower height near times node.None') h p e = absurd (cc)
 under_fork (node.Node' upper lower height near times
-    (node.Some' i (halves.Halves' left right last_left first_right))) h p e =
-    subst (λ (z : halves.Halves). IsUnder
-    (node.Node' upper lower height near times (node.Some' i (halves.Halves' left right last_left first_right))) z)
-    (same_below e)
-    record { parted = p; left = refl; right = refl }
+    (node.Some' i (halves.Halves' left right last_left first_right))) h p e = grind (arith, common_steps, near, last_left, same_below)
 
 -- a fork over two halves that are parted is yet to be renewed
 pub parted_fork : (n : node.Node) (h : halves.Halves) → below_of n ≡ Some h → AreParted h → IsParted n
 unfolding node.out-Node halves.out-Halves denote.Hole.Carrier.out
 parted_fork (node.Node' upper lower height near times node.None') h e p = absurd (cc)
 parted_fork (node.Node' upper lower height near times
-    (node.Some' i (halves.Halves' left right last_left first_right))) h e p =
-    subst AreParted (sym (same_below e)) p
+    (node.Some' i (halves.Halves' left right last_left first_right))) h e p = grind (arith, common_steps, same_below)
 
 -- with its bridges and its height it is well built
 pub renewed_well : (n : node.Node) (h : halves.Halves) (e f : Pair × Pair) (k : ℕ) (c : Bool) → IsParted n
