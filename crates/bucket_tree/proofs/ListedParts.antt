@@ -1,6 +1,5 @@
 -- What the parts of a node list.
-use Rattle.std.proofs.lemmas.Grind.{common_steps}
-use Rattle.std.proofs.Common.{◌≡◌, ℕ, zero, suc, ◌+◌, ◌-◌, ◌<◌, ◌≤◌, max, min, refl, sym, ap, subst, List, [], ◌∷◌}
+use Rattle.std.proofs.Common.{◌≡◌, ℕ, zero, suc, ◌+◌, ◌-◌, ◌<◌, ◌≤◌, max, min, refl, sym, ap, ◌∙◌, subst, List, [], ◌∷◌}
 use Rattle.std.proofs.Common.{◌++◌, length, take, drop, arith, inl, inr, Ok, Err, Box, append_assoc}
 use Rattle.std.proofs.lemmas.List.{length-append, length-drop}
 use Rattle.std.specs.List.{All}
@@ -19,6 +18,7 @@ use Rattle.bucket_tree.specs.declared.node.Node.{Node, Fork}
 use Rattle.bucket_tree.proofs.Gained.{counts_below}
 use Rattle.bucket_tree.proofs.Listed.{paired_row, paired_length, paired_points, paired_take, paired_drop}
 use Rattle.bucket_tree.proofs.SetEnds.{by_last}
+use Rattle.std.proofs.lemmas.Grind.{common_steps}
 
 -- a node over two parts
 pub record HasParts (n l r : Node) : Type 0 where
@@ -38,7 +38,8 @@ fork_parts n h f e b = grind (arith, common_steps, paired_row, points_below, cou
 pub both_parts : (s : Pair) (m : ℕ) (n l r : Node) (old : List (Pair × ℕ)) → HasParts n l r
     → take m (take m (old ++ entries_from s (entries_below l)) ++ entries_from s (entries_below r))
     ≡ take m (old ++ entries_from s (entries_below n))
-both_parts s m n l r old h = grind (arith, common_steps, take_more, entries_from, entries_below, append_assoc, from_append)
+both_parts s m n l r old h =
+    grind (arith, common_steps, take_more, entries_from, entries_below, append_assoc, from_append)
 
 -- a part whose last point stands before the start lists nothing from there
 none_below : (s : Pair) (n : Node) → IsWellBuilt n → IsBefore (last_of (points_below n)) s
@@ -110,4 +111,13 @@ pub bucket_from : (S : List Pair) (T : List ℕ) (f count m : ℕ) (old : List (
     → f ≤ length S → count ≡ min (length S - f) (m - length old) → length old ≤ m
     → old ++ paired (take (f + count - f) (drop f S)) (take (f + count - f) (drop f T))
     ≡ take m (old ++ drop f (paired S T))
-bucket_from S T f count m old e l c k = grind (arith, common_steps, min, paired, length-drop, paired_length, paired_take, paired_drop, take_least, first_behind)
+bucket_from S T f count m old e l c k =
+    let n : f + count - f ≡ min (m - length old) (length S - f) = omega (arith, c) in
+    let long : length (drop f (paired S T)) ≤ length S - f =
+    omega (arith, length-drop f (paired S T), paired_length S T e) in
+    ap (λ (z : List (Pair × ℕ)). old ++ z)
+    (paired_take (f + count - f) (drop f S) (drop f T)
+    ∙ ap (λ (z : List (Pair × ℕ)). take (f + count - f) z) (paired_drop f S T e)
+    ∙ ap (λ (z : ℕ). take z (drop f (paired S T))) n
+    ∙ take_least (m - length old) (length S - f) (drop f (paired S T)) long)
+    ∙ sym (first_behind m (m - length old) old (drop f (paired S T)) (omega (arith, k)))

@@ -33,7 +33,8 @@ pub moved : {A B C D : Type 0}
     (taken : List D) (whole : List D) → xs ≡ xs' ++ x ∷ [] → ys ≡ ys' ++ y ∷ [] → zs ≡ zs' ++ z ∷ []
     → length ys ≡ length xs → length zs ≡ length xs → team make xs ys zs ++ reverse taken ≡ whole
     → team make xs' ys' zs' ++ reverse (taken ++ make x y z ∷ []) ≡ whole
-moved {A} {B} {C} {D} make xs xs' ys ys' zs zs' x y z taken whole ex ey ez ly lz is = grind (arith, common_steps, reverse-append, append_assoc, team-append_one, length-append, same_team)
+moved {A} {B} {C} {D} make xs xs' ys ys' zs zs' x y z taken whole ex ey ez ly lz is =
+    grind (arith, common_steps, reverse-append, append_assoc, team-append_one, length-append, same_team)
 
 -- what was taken last goes to the end of each list
 pub moved_back : {A B C D : Type 0}
@@ -41,7 +42,8 @@ pub moved_back : {A B C D : Type 0}
     (taken taken' whole : List D) → xs' ≡ xs ++ x ∷ [] → ys' ≡ ys ++ y ∷ [] → zs' ≡ zs ++ z ∷ []
     → length ys ≡ length xs → length zs ≡ length xs → taken ≡ taken' ++ w ∷ [] → w ≡ make x y z
     → team make xs ys zs ++ reverse taken ≡ whole → team make xs' ys' zs' ++ reverse taken' ≡ whole
-moved_back {A} {B} {C} {D} make xs xs' ys ys' zs zs' x y z w taken taken' whole ex ey ez ly lz split same is = grind (arith, common_steps, reverse-append, append_assoc, team-append_one, same_team)
+moved_back {A} {B} {C} {D} make xs xs' ys ys' zs zs' x y z w taken taken' whole ex ey ez ly lz split same is =
+    grind (arith, common_steps, reverse-append, append_assoc, team-append_one, same_team)
 
 -- a worker is what its seat, its answers and its ledger make
 pub whole_worker : {B H L : Type 0} → (w : Worker B H L) (s : Seat B H L) → w.seat ≡ Some s

@@ -17,9 +17,9 @@ pub fn answers_are_of_lines<S: HullSet + Drop>()
     partitioned_schedules_are_linearizable::<Box<Book<S>>>();
 }
 
-/// The same of calls on a shared book that may be drained, as
-/// [`serve_and_hand_on`](crate::serve_and_hand_on) serves one: the journal is the whole of it, what was taken out, in order, and then what is held; and a line that comes
-/// after a call that was answered that the journal is full was added to a book with more room.
+/// The same of calls on a shared book that may be drained, as [`serve_and_hand_on`](crate::serve_and_hand_on)
+/// serves one: the journal is the whole of it, what was taken out, in order, and then what is held; and a line that
+/// comes after a call that was answered that the journal is full was added to a book with more room.
 pub fn long_answers_are_of_lines<S: HullSet + Drop>()
     ensures { LongAnswersAreOfLines (drained S.HullSet) (λ head. head) }
 {

@@ -1,6 +1,5 @@
 -- The triangles between the first point of a half and the edges of its chains: their doubled areas add up to that of
 -- the hull.
-use Rattle.std.proofs.lemmas.Grind.{common_steps}
 use Rattle.std.proofs.Common.{◌≡◌, ℤ, pos, ◌+ℤ◌, ◌≤ℤ◌, refl, sym, ap, ◌∙◌, subst, arith, inl, inr}
 use Rattle.std.proofs.Common.{List, [], ◌∷◌, ◌++◌, map}
 use Rattle.std.specs.List.{Contains}
@@ -22,6 +21,7 @@ use Rattle.hull_geometry.proofs.Rounding.{fan-append, fan-back, lower_triangle}
 use Rattle.hull_questions.specs.Walks.{IsWalk, IsFan}
 use Rattle.hull_questions.proofs.Stretched.{not_back}
 use Rattle.hull_questions.proofs.Walked.{walk_turned, upper_front, round, vertices_alone}
+use Rattle.std.proofs.lemmas.Grind.{common_steps}
 
 -- a stretch of the left half, the bridge, and a stretch of the right half
 pub fan_over : (t u w : Tree) (apex from a b to : Pair) (m n k : ℤ)
@@ -45,13 +45,18 @@ fan_above S f v (x ∷ xs) c m =
 
 -- nor does a walk along the lower chain, seen from the first point
 pub lower_above : (t : Tree) (z : ℤ) → IsFan t (first_of t) (first_of t) (last_of t) z → pos 0 ≤ℤ z
-lower_above t z (passed, k, e) = grind (arith, common_steps, pos, fan_above, points_of, first_of, contains_of_on, on_first)
+lower_above t z (passed, k, e) =
+    grind (arith, common_steps, pos, fan_above, points_of, first_of, contains_of_on, on_first)
 
 -- nor one along the upper chain
 pub upper_above : (t : Tree) (z : ℤ)
     → IsFan (turned_tree t) (turned_point (first_of t)) (first_of (turned_tree t)) (last_of (turned_tree t)) z
     → pos 0 ≤ℤ z
-upper_above t z (passed, k, e) = grind (arith, common_steps, turned_tree, pos, fan_above, points_of, turned_point, first_of, last_turned, contains_of_on, last_of, on_last)
+upper_above t z (passed, k, e) =
+    let v : Tree = turned_tree t in
+    subst (λ (x : ℤ). pos 0 ≤ℤ x) (sym e)
+    (fan_above (points_of v) (turned_point (first_of t)) (first_of v) passed k.chain
+    (subst (Contains (points_of v)) (last_turned t) (contains_of_on v (last_of v) (on_last v))))
 
 -- ---- the doubled area
 

@@ -1,8 +1,7 @@
 -- A field that is read is the field that was written, and what was written is read again.
-use Rattle.std.proofs.lemmas.Grind.{common_steps}
 use Rattle.std.proofs.Common.{◌≡◌, ◌<◌, ◌≤◌, ◌+◌, ◌-◌, ◌*◌, ◌^◌, ℕ, zero, suc, List, [], ◌∷◌, ◌++◌, Option, Some, None}
-use Rattle.std.proofs.Common.{Bool, true, false, cond, Ok, Err, decimal, refl, ap, subst, arith}
-use Rattle.std.specs.Prelude.{◌&&◌, nat_le, nat_lt, ℤ, pos, negsuc}
+use Rattle.std.proofs.Common.{Bool, true, false, cond, Ok, Err, decimal, refl, ap, subst, arith, inl, inr}
+use Rattle.std.specs.Prelude.{◌==◌, ◌&&◌, nat_le, nat_lt, ℤ, pos, negsuc}
 use Rattle.std.specs.Fmt.{signed_decimal}
 use Rattle.std.proofs.lemmas.Bool.{eqb-true, ne_eqb}
 use Rattle.lattice.specs.Plane.{Pair}
@@ -19,6 +18,7 @@ use Rattle.hull_text.proofs.Versions.{limit_small}
 use Rattle.hull_text.proofs.Binds.{chosen, bind_ok, ok_is, guard_ok, guard_err, low_le, low_lt, le_test, lt_test}
 use Rattle.hull_text.proofs.Joined.{decimal_field, signed_field}
 use Rattle.hull_text.proofs.Formats.{Format, one, both}
+use Rattle.std.proofs.lemmas.Grind.{common_steps}
 
 -- ---- signed numbers
 
@@ -44,7 +44,18 @@ signed_text : (limit : ℕ) (f : List ℕ) (z : ℤ) → limit ≤ 2 ^ 40 → Is
     → f ≡ signed_decimal z
 unfolding signed_of
 signed_text limit [] z small fits e = absurd cc
-signed_text limit (b ∷ bs) z small fits e = grind (arith, common_steps, chosen, negated, number_of, positive, negated_some, negsuc, eqb-true, number_text, suc, positive_some, pos)
+signed_text limit (b ∷ bs) z small fits e =
+    elim (chosen (b == 45) (negated (number_of bs)) (positive (number_of (b ∷ bs))) (Some z) e) [
+      | inl h ↦
+          let g = negated_some (number_of bs) z h.1 in
+          let size : IsSized limit (negsuc g.0) = subst (IsSized limit) g.2 fits in
+          let minus : b ≡ 45 = eqb-true b 45 h.0 in
+          rw (g.2, minus) (ap (λ (t : List ℕ). 45 ∷ t) (number_text bs (suc g.0) (omega (arith, size)) g.1))
+      | inr h ↦
+          let g = positive_some (number_of (b ∷ bs)) z h.1 in
+          let size : IsSized limit (pos g.0) = subst (IsSized limit) g.2 fits in
+          rw g.2 (number_text (b ∷ bs) g.0 (omega (arith, size)) g.1)
+    ]
 
 -- an unsigned number is a signed one
 unsigned_signed : (f : List ℕ) (n : ℕ) → number_of f ≡ Some n → signed_of f ≡ Some (pos n)
@@ -75,7 +86,15 @@ in_coordinate limit (negsuc n) fits = rw (lt_test n limit fits) refl
 pub coordinates : (v : Version)
     → Format (IsSized (coordinate_limit v)) (λ z. signed_decimal z ∷ []) (coordinate_at v)
 unfolding coordinate_at
-coordinates v = grind (arith, common_steps, one, coordinate_limit, signed_decimal, coordinate_in, signed_of, coordinate_some, signed_text, limit_small, text_signed, in_coordinate, signed_field)
+coordinates v =
+    one (IsSized (coordinate_limit v)) signed_decimal (λ f. coordinate_in (coordinate_limit v) (signed_of f))
+    (λ f z e.
+    let s = coordinate_some (coordinate_limit v) (signed_of f) z e in
+    (signed_text (coordinate_limit v) f z (limit_small v) s.1 s.0, s.1))
+    (λ z fits. (
+      rw (text_signed (coordinate_limit v) z (limit_small v) fits, in_coordinate (coordinate_limit v) z fits) refl,
+      signed_field v z fits,
+    ))
 
 -- ---- points and directions
 
@@ -127,7 +146,12 @@ up_to_some limit beyond (Some m) n e = grind (arith, common_steps, guard_ok, nat
 -- the numbers up to a limit are a format, whatever the fault of one beyond it
 limited : (limit : ℕ) (beyond : FaultKind) → limit < 10 ^ 64
     → Format (λ n. n ≤ limit) (λ n. decimal n ∷ []) (field_at (λ f. up_to limit beyond (number_of f)))
-limited limit beyond small = grind (arith, common_steps, one, decimal, up_to, number_of, up_to_some, number_text, text_number, le_test, decimal_field)
+limited limit beyond small =
+    one (λ n. n ≤ limit) decimal (λ f. up_to limit beyond (number_of f))
+    (λ f n e.
+    let s = up_to_some limit beyond (number_of f) n e in
+    (number_text f n (omega (arith, s.1)) s.0, s.1))
+    (λ n fits. (rw (text_number n (omega arith), le_test n limit fits) refl, decimal_field n (omega arith)))
 
 -- The numbers up to a limit are a format.
 pub numbers : (limit : ℕ) → limit < 10 ^ 64 → Format (λ n. n ≤ limit) (λ n. decimal n ∷ []) (number_at limit)
