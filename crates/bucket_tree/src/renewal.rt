@@ -16,7 +16,7 @@ ghost use Rattle.bucket_tree.specs.Nodes.{IsHeightOver};
 use crate::join::{rotate_left, rotate_right, search_one};
 use crate::node::{Fork, Node, first_of, height_of, last_of};
 use heap::Heap;
-use lattice::{Point, Side, before, turn};
+use lattice::{Point, Side, before, orient_on};
 
 /// The sides on which a point that came or went may matter to the bridges above: it does not where it stands under an edge of
 /// two points that stay.
@@ -49,16 +49,16 @@ pub(crate) enum Standing {
 
 /// Whether a point does not lie outwards of the line of an edge.
 fn is_inner(side: Side, edge: &(Point, Point), p: Point) -> bool
-    ensures { IsTrue result ↔ (pos 0 ≤ℤ turns.turn side edge.now.0 edge.now.1 p) }
+    ensures { IsTrue result ↔ (pos 0 ≤ℤ orientations.orient_on side edge.now.0 edge.now.1 p) }
 {
-    turn(side, edge.0, edge.1, p) >= 0
+    orient_on(side, edge.0, edge.1, p) >= 0
 }
 
 /// Whether a point lies inwards of the line of an edge.
 fn is_inwards(side: Side, edge: &(Point, Point), p: Point) -> bool
-    ensures { IsTrue result ↔ (pos 0 <ℤ turns.turn side edge.now.0 edge.now.1 p) }
+    ensures { IsTrue result ↔ (pos 0 <ℤ orientations.orient_on side edge.now.0 edge.now.1 p) }
 {
-    turn(side, edge.0, edge.1, p) > 0
+    orient_on(side, edge.0, edge.1, p) > 0
 }
 
 /// How a point stands to an edge on a side.

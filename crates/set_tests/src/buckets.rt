@@ -5,7 +5,7 @@ use hull_buckets::{Bucket, ROOM, Run, bridges_of};
 use hull_plain::PlainSet;
 use hull_questions::{area2, extreme, place, tangents, vertices};
 use hull_set::{HullSet, POINT_LIMIT};
-use lattice::{Direction, Point, Side, before, turn};
+use lattice::{Direction, Point, Side, before, orient_on};
 use std::alloc::{AllocError, Global};
 use std::process::Abort;
 use std::test::Fail;
@@ -21,7 +21,7 @@ fn at(rt: &impl Abort, x: i64, y: i64) -> Point {
 fn is_corner(side: Side, points: &[Point], place: usize) -> bool {
     for ahead in 0..place {
         for behind in place + 1..points.len() {
-            if turn(side, points[ahead], points[place], points[behind]) <= 0 {
+            if orient_on(side, points[ahead], points[place], points[behind]) <= 0 {
                 return false;
             }
         }
@@ -148,7 +148,7 @@ fn all_corners_parted_and_merged(rt: HostRuntime) {
 fn is_edge_of(side: Side, points: &[Point], edge: (Point, Point)) -> bool {
     for point in points {
         let beyond = before(*point, edge.0) || before(edge.1, *point);
-        let inwards = turn(side, edge.0, edge.1, *point);
+        let inwards = orient_on(side, edge.0, edge.1, *point);
         if inwards < 0 || inwards == 0 && beyond {
             return false;
         }
