@@ -23,7 +23,6 @@ use Rattle.hull_reply.specs.Told.{code_number, IsNumber}
 use Rattle.hull_reply.specs.declared.code.Code.{Code}
 use Rattle.hull_reply.specs.declared.code.Code.TheVariants as code
 use Rattle.hull_reply.specs.declared.reply.HullReply.{HullReply}
-use Rattle.hull_c.specs.declared.pairs.HullPoint.{HullPoint}
 use Rattle.hull_c.specs.declared.pairs.HullWitness.{HullWitness}
 
 -- whether they meet: 1 or 0
@@ -68,19 +67,9 @@ TellsWhetherWithin corners others length told =
     (is_within : Bool) × IsNumber code.Number (cond is_within 1 0) told
     × HoldsOfBoth corners others (λ S T. TellsWithin is_within length S T)
 
--- a point or a direction, in numbers
-abbrev pub in_numbers : Pair → HullPoint
-in_numbers p = record { x = p.x; y = p.y }
-
 -- a code, with four points
 abbrev pub IsShown : Code → Pair → Pair → Pair → Pair → HullWitness → Type 0
-IsShown e a b c d w = w ≡ record {
-  code = code_number e;
-  a = in_numbers a;
-  b = in_numbers b;
-  c = in_numbers c;
-  d = in_numbers d;
-}
+IsShown e a b c d w = w ≡ record { code = code_number e; a = a; b = b; c = c; d = d }
 
 -- what shows how they stand to each other
 abbrev pub IsWitnessTold : Option Witness → HullWitness → Type 0

@@ -59,7 +59,7 @@ use hull_outline::Length;
 pub use hull_reply::HullPoint;
 use hull_reply::{HullReply, Kind};
 use lattice::Point;
-pub use pairs::{HullPoint, HullWitness};
+pub use pairs::HullWitness;
 pub use requests::HullRequest;
 pub use threads::hulls_go_to_any_thread;
 

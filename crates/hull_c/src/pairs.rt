@@ -5,21 +5,11 @@ ghost use Rattle.hull_outline.specs.Outlines.{IsShortOutline};
 ghost use Rattle.hull_outline.specs.declared.witnesses.Witness.TheVariants as witness;
 ghost use Rattle.hull_c.specs.Pairs.{IsDistanceTold, IsShown, IsStripTold, IsWitnessTold};
 ghost use Rattle.hull_c.specs.Pairs.{TellsContains, TellsContainsInside, TellsDistance, TellsLeastWidth, TellsMeets};
-ghost use Rattle.hull_c.specs.Pairs.{TellsRelation, TellsWhetherWithin, TellsWitness, in_numbers, relation_number};
+ghost use Rattle.hull_c.specs.Pairs.{TellsRelation, TellsWhetherWithin, TellsWitness, relation_number};
 
 use hull_outline::{Distance, Length, Meeting, Outline, Relation, Separation, Strip, Witness};
-use hull_reply::{Code, HullReply};
+use hull_reply::{Code, HullPoint, HullReply};
 use lattice::Point;
-
-/// A point or a direction, in numbers.
-#[repr(C)]
-#[derive(Clone, Copy)]
-pub struct HullPoint {
-    /// The first coordinate.
-    pub x: i64,
-    /// The second coordinate.
-    pub y: i64,
-}
 
 /// What shows that two outlines meet, or that they are apart: the number of a code, and up to four points,
 /// as the header says at its name; all else is 0.
@@ -36,13 +26,6 @@ pub struct HullWitness {
     pub c: HullPoint,
     /// A fourth point.
     pub d: HullPoint,
-}
-
-/// The point in numbers.
-fn numbers(p: Point) -> HullPoint
-    ensures { result ≡ in_numbers p }
-{
-    HullPoint { x: p.x(), y: p.y() }
 }
 
 /// A code alone.
@@ -64,7 +47,7 @@ fn at(code: Code, p: Point) -> HullWitness
     ensures { IsShown code p origin origin origin result }
 {
     HullWitness {
-        a: numbers(p),
+        a: HullPoint::of(p),
         ..bare(code)
     }
 }
@@ -74,9 +57,9 @@ fn crossing(a: Point, b: Point, c: Point, d: Point) -> HullWitness
     ensures { IsShown Code.Crossing a b c d result }
 {
     HullWitness {
-        b: numbers(b),
-        c: numbers(c),
-        d: numbers(d),
+        b: HullPoint::of(b),
+        c: HullPoint::of(c),
+        d: HullPoint::of(d),
         ..at(Code::Crossing, a)
     }
 }
@@ -206,7 +189,7 @@ fn with_two(code: Code, a: Point, b: Point) -> HullWitness
     ensures { IsShown code a b origin origin result }
 {
     HullWitness {
-        b: numbers(b),
+        b: HullPoint::of(b),
         ..at(code, a)
     }
 }
@@ -216,7 +199,7 @@ fn with_three(code: Code, a: Point, b: Point, c: Point) -> HullWitness
     ensures { IsShown code a b c origin result }
 {
     HullWitness {
-        c: numbers(c),
+        c: HullPoint::of(c),
         ..with_two(code, a, b)
     }
 }
