@@ -37,11 +37,11 @@
 
 #include <errno.h>
 
-/* the proved calls themselves */
-#undef hull_shared_seat_size
-#undef hull_shared_make_seat
-#undef hull_shared_lend
-#undef hull_shared_give_back
+/* the proved functions below those of the same name here, as tools/product.sh names them: they know no line */
+size_t hull_proved_shared_seat_size(void);
+void hull_proved_shared_make_seat(hull_shared_seat *room);
+uint32_t hull_proved_shared_lend(hull_shared_desk *desk, hull_shared_seat *room, uint32_t number);
+uint32_t hull_proved_shared_give_back(hull_shared_desk *desk, hull_shared_seat *room);
 
 enum {
     INSIDE = 255,      /* the bits of the door that count who is inside */
@@ -52,6 +52,9 @@ enum {
     LOOKS = 20,        /* so often one looks near its turn, or outside, before it sleeps */
     NAMED_LOOKS = 200  /* and the named one, since who leaves has to wake one again */
 };
+
+/* How long a thread waits before it drains again after memory was refused to a drain, in nanoseconds. */
+#define RETRY 10000000
 
 /* A place to sleep for who has a number; apart from the next one by a line of the cache. */
 struct place {
@@ -100,7 +103,8 @@ struct line {
     uint32_t for_room; /* how many do */
     uint32_t draining; /* the seat that drains for the hook, plus 1, or 0 */
     uint64_t draining_since;
-    unsigned char apart_4[40];
+    uint32_t refused; /* whether memory was refused to the drain before this one */
+    unsigned char apart_4[36];
     struct place places[HULL_SHARED_SEATS_MAX];
     struct bed beds[HULL_SHARED_SEATS_MAX];
 };
@@ -115,19 +119,19 @@ struct lent {
 
 static size_t lent_at(void) {
     const size_t unit = sizeof(void *);
-    return (hull_shared_seat_size() + unit - 1) / unit * unit;
+    return (hull_proved_shared_seat_size() + unit - 1) / unit * unit;
 }
 
 static struct lent *lent_of(hull_shared_seat *room) {
     return (struct lent *)((unsigned char *)room + lent_at());
 }
 
-size_t hull_shared_seat_size_with_line(void) {
+size_t hull_shared_seat_size(void) {
     return lent_at() + sizeof(struct lent);
 }
 
-void hull_shared_make_seat_with_line(hull_shared_seat *room) {
-    hull_shared_make_seat(room);
+void hull_shared_make_seat(hull_shared_seat *room) {
+    hull_proved_shared_make_seat(room);
     memset(lent_of(room), 0, sizeof(struct lent));
 }
 
@@ -145,7 +149,7 @@ static void let_go(struct line *line) {
     }
 }
 
-uint32_t hull_shared_lend_with_line(hull_shared_desk *desk, hull_shared_line *waiting, hull_shared_seat *room, uint32_t number) {
+uint32_t hull_shared_lend(hull_shared_desk *desk, hull_shared_line *waiting, hull_shared_seat *room, uint32_t number) {
     struct line *line = (struct line *)waiting;
     uint32_t code;
     if (line != NULL) {
@@ -154,7 +158,7 @@ uint32_t hull_shared_lend_with_line(hull_shared_desk *desk, hull_shared_line *wa
             return HULL_OTHER_LINE;
         }
     }
-    code = hull_shared_lend(desk, room, number);
+    code = hull_proved_shared_lend(desk, room, number);
     if (code == HULL_LENT) {
         lent_of(room)->line = line;
         lent_of(room)->number = number;
@@ -166,9 +170,9 @@ uint32_t hull_shared_lend_with_line(hull_shared_desk *desk, hull_shared_line *wa
     return code;
 }
 
-uint32_t hull_shared_give_back_with_line(hull_shared_desk *desk, hull_shared_seat *room) {
+uint32_t hull_shared_give_back(hull_shared_desk *desk, hull_shared_seat *room) {
     struct lent *lent = lent_of(room);
-    uint32_t code = hull_shared_give_back(desk, room);
+    uint32_t code = hull_proved_shared_give_back(desk, room);
     if (code == HULL_RETURNED && lent->line != NULL) {
         __atomic_fetch_sub(&lent->line->out, 1, __ATOMIC_RELAXED);
         let_go(lent->line);
@@ -479,10 +483,12 @@ static void room_again(struct line *line) {
     }
 }
 
-/* Sleeps until there may be room again, unless there has been a drain since the word of drains was `seen`. */
+/* Sleeps until there may be room again, unless there has been a drain since the word of drains was `seen`. While drains are refused memory
+ * nothing changes that word, so that the sleepers don't wake one another in turn: each tries to drain after a while. */
 static void waits_for_drain(struct line *line, uint32_t seen, uint64_t until) {
+    uint64_t again = __atomic_load_n(&line->refused, __ATOMIC_SEQ_CST) != 0 ? hull_now() + RETRY : HULL_NEVER;
     __atomic_fetch_add(&line->for_room, 1, __ATOMIC_SEQ_CST);
-    hull_sleep(&line->drains, seen, until);
+    hull_sleep(&line->drains, seen, again < until ? again : until);
     __atomic_fetch_sub(&line->for_room, 1, __ATOMIC_SEQ_CST);
 }
 
@@ -621,17 +627,20 @@ static int is_drainer(const struct call *call) {
            __atomic_compare_exchange_n(&line->draining, &nobody, call->number, 0, __ATOMIC_SEQ_CST, __ATOMIC_RELAXED);
 }
 
-/* Drains for the hook as the one that does: whether there is room again. Behind the hook those are woken who wait for room, since
- * another of them may have to drain. */
+/* Drains for the hook as the only thread that does: whether there is room again. After the hook the threads that wait for room are woken,
+ * since another of them may have to drain; and so they are when memory is refused for the first time, to try again from then on. */
 static int drains_for_hook(const struct call *call) {
     struct line *line = call->line;
-    int has_room;
+    int has_room, was_refused;
     __atomic_store_n(&line->draining_since, hull_lately(), __ATOMIC_RELAXED);
     hull_is_behind(&line->draining);
     has_room = is_drained(call);
     hull_is_before(&line->draining);
+    was_refused = __atomic_exchange_n(&line->refused, !has_room, __ATOMIC_SEQ_CST) != 0;
     __atomic_store_n(&line->draining, 0, __ATOMIC_SEQ_CST);
-    room_again(line);
+    if (has_room || !was_refused) {
+        room_again(line);
+    }
     return has_room;
 }
 
@@ -673,6 +682,9 @@ hull_shared_reply hull_shared_call_into(hull_shared_line *waiting, hull_shared_s
     hull_shared_reply reply;
     if (call.line == NULL || lent->line != call.line) {
         return refused(lent->line == NULL && hull_shared_capacity(seat) == 0 ? HULL_VACANT : HULL_OTHER_LINE);
+    }
+    if (to.part != NULL && hull_shared_part_room(to.part) < hull_shared_capacity(seat)) {
+        return refused(HULL_NO_ROOM);
     }
     reply = made(&call, to);
     errno = kept;

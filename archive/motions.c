@@ -56,7 +56,7 @@ static int is_in_range(int64_t d) {
 
 hull_motion hull_outline_first_meeting(const hull_point *corners, size_t count, const hull_point *others, size_t other_count, int64_t dx,
                                        int64_t dy) {
-    hull_motion found = {hull_hit_refusal(HULL_APART), {0, 0}, 0};
+    hull_motion found = {{.code = HULL_APART}, {0, 0}, 0};
     if (!is_in_range(dx) || !is_in_range(dy)) {
         found.hit.code = HULL_OUT_OF_RANGE;
     } else if (count == 0 || other_count == 0) {

@@ -67,20 +67,48 @@ static inline void hull_wake(uint32_t *word, int many) {
 static struct {
     pthread_mutex_t lock;
     pthread_cond_t changed;
-} hull_bed = {PTHREAD_MUTEX_INITIALIZER, PTHREAD_COND_INITIALIZER};
+    pthread_once_t once;
+} hull_bed = {PTHREAD_MUTEX_INITIALIZER, PTHREAD_COND_INITIALIZER, PTHREAD_ONCE_INIT};
+
+#if defined(__APPLE__)
+
+static inline void hull_begin_sleeping(void) {
+}
+
+static inline void hull_sleep_until(uint64_t until) {
+    uint64_t now = hull_now();
+    struct timespec t = hull_timespec(until > now ? until - now : 0);
+    pthread_cond_timedwait_relative_np(&hull_bed.changed, &hull_bed.lock, &t);
+}
+
+#else
+
+/* Makes the condition one whose deadlines are of the clock that is never set. */
+static inline void hull_begin_sleeping(void) {
+    pthread_condattr_t attributes;
+    pthread_condattr_init(&attributes);
+    pthread_condattr_setclock(&attributes, CLOCK_MONOTONIC);
+    pthread_cond_init(&hull_bed.changed, &attributes);
+    pthread_condattr_destroy(&attributes);
+}
+
+static inline void hull_sleep_until(uint64_t until) {
+    struct timespec t = hull_timespec(until);
+    pthread_cond_timedwait(&hull_bed.changed, &hull_bed.lock, &t);
+}
+
+#endif
 
 static inline void hull_sleep(uint32_t *word, uint32_t seen, uint64_t until) {
     int before;
     pthread_setcancelstate(PTHREAD_CANCEL_DISABLE, &before);
+    pthread_once(&hull_bed.once, hull_begin_sleeping);
     pthread_mutex_lock(&hull_bed.lock);
     if (__atomic_load_n(word, __ATOMIC_SEQ_CST) == seen) {
         if (until == HULL_NEVER) {
             pthread_cond_wait(&hull_bed.changed, &hull_bed.lock);
         } else {
-            /* by the other clock, which may be set: so for a second at most */
-            uint64_t now = hull_now(), left = until > now ? until - now : 0;
-            struct timespec t = hull_timespec(hull_clock(CLOCK_REALTIME) + (left < 1000000000 ? left : 1000000000));
-            pthread_cond_timedwait(&hull_bed.changed, &hull_bed.lock, &t);
+            hull_sleep_until(until);
         }
     }
     pthread_mutex_unlock(&hull_bed.lock);
@@ -90,6 +118,7 @@ static inline void hull_sleep(uint32_t *word, uint32_t seen, uint64_t until) {
 static inline void hull_wake(uint32_t *word, int many) {
     (void)word;
     (void)many;
+    pthread_once(&hull_bed.once, hull_begin_sleeping);
     pthread_mutex_lock(&hull_bed.lock);
     pthread_cond_broadcast(&hull_bed.changed);
     pthread_mutex_unlock(&hull_bed.lock);

@@ -7,7 +7,7 @@ trap 'rm -rf "$room"' EXIT
 for tool in generate measure rival; do
     rustc -O --edition 2021 -o "$room/$tool" "$here/$tool.rs"
 done
-hullbook=$("$top/tools/become.sh" --path hullbook)
+hullbook=$("$top/tools/program.sh" --path hullbook)
 ln -s "$hullbook" "$room/hullbook"
 
 # the least wall seconds, and the peak kilobytes, of some rounds of a command

@@ -1,17 +1,17 @@
-// A convex hull of points with whole coordinates, for C++17: the classes over hull.h and hull_shared.h.
+// An exact convex hull of points with integer coordinates, for C++17: classes over hull.h and hull_shared.h.
 //
-//     hull::Hull zone;                                  // for HULL_LIMIT_MAX points; ends itself, and can be moved
+//     hull::Hull zone;                                  // for HULL_LIMIT_MAX points; frees itself, and can be moved
 //     zone.add({0, 0});
 //     zone.place({5, 5}) == hull::Place::outside;
-//     for (hull::Point corner : zone.vertices()) ..
+//     for (hull::Point vertex : zone.vertices()) ..
 //
 //     hull::SharedHull shared({1000, 0, 4096, 2});      // points, first number, calls, seats
 //     hull::Seat seat = shared.lend(0);                 // one for each thread
 //     seat.add({3, 4});
 //
-// What a call answers is its value: std::optional where there may be none. What refuses it is an exception, hull::Fault, whose
-// code() tells why; the hull is as it was then. Without exceptions (-fno-exceptions) a refusal ends the program, and says why. Link
-// with libhull.a, and with libhull_shared.a and the library of threads where SharedHull is used.
+// A call returns its value: std::optional if there may be none. A call that fails throws hull::Fault, whose code() says why, and changes
+// nothing. Without exceptions (-fno-exceptions) a failure ends the program, and says why. Link with libhull.a, and with libhull_shared.a
+// and the library of threads if you use SharedHull.
 #ifndef HULL_HPP
 #define HULL_HPP
 
@@ -42,7 +42,7 @@
 
 namespace hull {
 
-// A point, or a direction, by its coordinates; in order by x and then y.
+// A point, or a direction, by its coordinates; ordered by x and then y.
 struct Point : hull_point {
     constexpr Point() noexcept : hull_point{0, 0} {}
     constexpr Point(std::int64_t x, std::int64_t y) noexcept : hull_point{x, y} {}
@@ -60,34 +60,34 @@ constexpr bool operator>=(const Point &a, const Point &b) noexcept { return !(a 
 // As (3, -4).
 inline std::ostream &operator<<(std::ostream &out, const Point &p) { return out << '(' << p.x << ", " << p.y << ')'; }
 
-// A point that is held, and how often.
+// A point and its multiplicity.
 using Held = hull_held;
 
 // Twice an area may take 84 bits.
 __extension__ typedef unsigned __int128 Area;
 
-// Why a call was refused.
+// Why a call failed.
 enum class Refusal : std::uint32_t {
     out_of_range = HULL_OUT_OF_RANGE,       // a coordinate is larger than HULL_COORDINATE_MAX in size
     zero_direction = HULL_ZERO_DIRECTION,   // both components of a direction are 0
-    too_many = HULL_TOO_MANY,               // there are as many points as the limit, or the point is held as often as may be
+    too_many = HULL_TOO_MANY,               // there are as many points as the limit, or the multiplicity is the greatest
     no_memory = HULL_NO_MEMORY,             // memory was refused
-    out_of_order = HULL_OUT_OF_ORDER,       // a held point does not stand behind the one before it, by x and then y
-    no_outline = HULL_NO_OUTLINE,           // the points are not the corners of a hull, in their order
+    out_of_order = HULL_OUT_OF_ORDER,       // a point does not follow the one before it, by x and then y
+    no_outline = HULL_NO_OUTLINE,           // the points are not a convex polygon
     out_of_limits = HULL_OUT_OF_LIMITS,     // a limit, a capacity or a number of seats is 0 or too great
-    no_seat = HULL_NO_SEAT,                 // the seat is out, or there is none of this number
+    no_seat = HULL_NO_SEAT,                 // the seat is acquired, or there is none of this number
     not_open = HULL_NOT_OPEN,               // the shared hull is closed
-    seats_out = HULL_SEATS_OUT,             // a seat of the shared hull is out: it stays open
-    full = HULL_FULL,                       // as many lines are held as may be: the call was not made
-    vacant = HULL_VACANT,                   // the seat was given back, or moved away
+    seats_out = HULL_SEATS_OUT,             // a seat of the shared hull is acquired: it stays open
+    full = HULL_FULL,                       // the journal is full: the call was not made
+    vacant = HULL_VACANT,                   // the seat was released, or moved away
     ended = HULL_ENDED,                     // the hull, shared hull or part was moved away
-    busy = HULL_BUSY,                       // the shared hull was in use by others for as long as the seat waits
-    no_journal = HULL_NO_JOURNAL,           // the text is none of a journal: number() tells its first line that is wrong, from 1
-    old_rules = HULL_OLD_RULES,             // the journal is of version 1 or 2, in which points are not counted
-    illegal = HULL_ILLEGAL,                 // the journal is no legal history: number() tells its first line that is wrong, from 1
+    busy = HULL_BUSY,                       // the call was not admitted for as long as the seat waits
+    no_journal = HULL_NO_JOURNAL,           // the text is not a journal: number() is its first wrong line, from 1
+    old_rules = HULL_OLD_RULES,             // the journal is of version 1 or 2, which does not count points
+    illegal = HULL_ILLEGAL,                 // the journal is not a legal history: number() is its first wrong line, from 1
     too_few_seats = HULL_TOO_FEW_SEATS,     // the journal has lines by number() seats, more than were asked for
-    no_file = HULL_NO_FILE,                 // the system refused a call on the file of the journal: number() is errno
-    damaged = HULL_DAMAGED                  // the file is none of a journal, or more of it is wrong than its end, from line number() on
+    no_file = HULL_NO_FILE,                 // the system refused a call on the journal file: number() is errno
+    damaged = HULL_DAMAGED                  // the file is not a journal, or damaged, from line number() on
 };
 
 class Fault : public std::runtime_error {
@@ -96,7 +96,7 @@ public:
         std::snprintf(text_, sizeof text_, number == 0 ? "%s" : "%s: %llu", words(code), static_cast<unsigned long long>(number));
     }
     Refusal code() const noexcept { return code_; }
-    // The line of a text, or how many seats are wanted, where the code says so; else 0.
+    // The line of a text, the number of seats, or errno, if the code says so; else 0.
     std::uint64_t number() const noexcept { return number_; }
     const char *what() const noexcept override { return text_; }
 
@@ -105,24 +105,24 @@ private:
         switch (code) {
         case Refusal::out_of_range: return "a coordinate is out of range";
         case Refusal::zero_direction: return "a direction is zero";
-        case Refusal::too_many: return "there are as many points as the limit, or the point is held as often as may be";
+        case Refusal::too_many: return "there are as many points as the limit, or the multiplicity is the greatest";
         case Refusal::no_memory: return "memory was refused";
-        case Refusal::out_of_order: return "the held points are not in order";
-        case Refusal::no_outline: return "the points are not the corners of a hull, in their order";
+        case Refusal::out_of_order: return "the points are not in order";
+        case Refusal::no_outline: return "the points are not a convex polygon";
         case Refusal::out_of_limits: return "a limit of a hull is out of range";
         case Refusal::no_seat: return "there is no such seat at the hull";
         case Refusal::not_open: return "the hull is closed";
-        case Refusal::seats_out: return "a seat of the hull is out";
+        case Refusal::seats_out: return "a seat of the hull is acquired";
         case Refusal::full: return "the journal of the hull is full";
-        case Refusal::busy: return "the hull is in use by others";
-        case Refusal::vacant: return "the seat was given back";
+        case Refusal::busy: return "the hull was in use by others for too long";
+        case Refusal::vacant: return "the seat was released";
         case Refusal::ended: return "it was moved away";
-        case Refusal::no_journal: return "the text is none of a journal, from this line on";
-        case Refusal::old_rules: return "points are not counted in journals before version 3";
-        case Refusal::illegal: return "the journal is no legal history, from this line of its text on";
-        case Refusal::too_few_seats: return "the journal has lines by as many seats as this";
-        case Refusal::no_file: return "a call on the file of the journal was refused, with this errno";
-        case Refusal::damaged: return "the file is damaged, or none of a journal, from this line on";
+        case Refusal::no_journal: return "the text is not a journal, from this line on";
+        case Refusal::old_rules: return "journals before version 3 do not count points";
+        case Refusal::illegal: return "the journal is not a legal history, from this line of its text on";
+        case Refusal::too_few_seats: return "the journal has lines by this many seats";
+        case Refusal::no_file: return "a call on the journal file failed, with this errno";
+        case Refusal::damaged: return "the file is damaged, or not a journal, from this line on";
         }
         return "the call was refused";
     }
@@ -132,61 +132,61 @@ private:
     char text_[128]; // in the exception itself, which so needs no memory
 };
 
-// Where a point lies.
+// The location of a point.
 enum class Place : std::uint32_t {
     inside = HULL_INSIDE,  // the hull covers the point, which is not on its boundary
-    on = HULL_ON,          // a corner, on an edge, or on a hull of one point or one line
+    on = HULL_ON,          // a vertex, on an edge, or on a hull that is a point or a segment
     outside = HULL_OUTSIDE // the hull does not cover the point
 };
 
-// The points that bound a hull as it is seen from a point.
+// The two tangent points of a hull, as seen from a point.
 struct Tangents {
     Point left, right;
 };
 
-// A direction that parts an outline from a segment: no corner has a greater product with it than `farthest`, a corner, and both ends
+// A direction that separates a polygon from a segment: no vertex has a greater product with it than `farthest`, a vertex, and both ends
 // of the segment have. Its components are at most 2^41 in size, so a product takes 128 bits.
 struct Separation {
     Point farthest, direction;
 };
 
-// Where the point of an outline is that is nearest to another point.
+// The point of a polygon that is nearest to another point.
 struct Nearest {
     enum class Where : std::uint32_t {
-        covered = HULL_COVERED, // the outline covers the point: it is its own nearest
-        corner = HULL_CORNER,   // at the corner `from`, which `to` is, too
-        edge = HULL_EDGE        // at its foot on the edge from `from` to the next corner, `to`, strictly between them
+        covered = HULL_COVERED, // the polygon covers the point, which is its own nearest
+        corner = HULL_CORNER,   // at the vertex `from`, which is also `to`
+        edge = HULL_EDGE        // at its foot on the edge from `from` to the next vertex, `to`, strictly between them
     };
     Where where;
     Point from, to;
 };
 
-// The smallest box with sides along the axes.
+// A bounding box.
 struct Box {
     Point least, greatest;
 };
 
-// What shows that two outlines meet or are apart.
+// Why two polygons intersect, or what separates them.
 struct Witness {
     enum class Shows : std::uint32_t {
-        covered = HULL_COVERED,   // the first outline covers `a`, a corner of the second
-        within = HULL_WITHIN,     // the second covers `a`, a corner of the first
-        crossing = HULL_CROSSING, // the segment from `a` to `b`, corners of the first, crosses the one from `c` to `d`, of the second
-        apart = HULL_APART        // no corner of the first has a greater product with the direction `b` than `a`, a corner of it, and
-                                  // each corner of the second has; a product takes 128 bits
+        covered = HULL_COVERED,   // the first polygon covers `a`, a vertex of the second
+        within = HULL_WITHIN,     // the second covers `a`, a vertex of the first
+        crossing = HULL_CROSSING, // the segment from `a` to `b`, vertices of the first, crosses the one from `c` to `d`, of the second
+        apart = HULL_APART        // no vertex of the first has a greater product with the direction `b` than `a`, a vertex of it, and
+                                  // each vertex of the second has; a product takes 128 bits
     };
     Shows shows;
     Point a, b, c, d;
 };
 
-// A strip that holds an outline: the outline lies left of the line of the edge from `from` to `to`, and `farthest` is a corner farthest
-// from it. Its width is the side of that corner, up to 84 bits, divided by the length of the edge.
+// A strip that contains a polygon: the polygon is left of the line of the edge from `from` to `to`, and `farthest` is a vertex farthest
+// from it. Its width is the side of that vertex, up to 84 bits, divided by the length of the edge.
 struct Strip {
     Point from, to, farthest;
 };
 
-// How one outline stands to another: apart; touching, with a point in common and a line that has them on its two sides; overlapping;
-// within the other; covering it; or equal to it.
+// How one polygon is related to another: apart (disjoint); touching, with a point in common and a line that has them on its two sides;
+// overlapping; within the other; covering it; or equal to it.
 enum class Relation : std::uint32_t {
     // written by tools/table.py: relations
     apart = HULL_RELATION_APART,
@@ -198,25 +198,25 @@ enum class Relation : std::uint32_t {
     // end of what tools/table.py writes
 };
 
-// Where two outlines are nearest to one another. Of two corners the squared distance is that of the two; of a corner and an edge it is
-// the square of the side of the corner at the edge, up to 84 bits, divided by the squared length of the edge.
+// Where two polygons are nearest to one another. Between two vertices the squared distance is that of the two; between a vertex and an
+// edge it is the square of the side of the vertex at the edge, up to 84 bits, divided by the squared length of the edge.
 struct Distance {
     enum class Where : std::uint32_t {
-        zero = HULL_MEETING,           // they have a point in common
-        corners = HULL_POINTS,         // at the corner `a` of the first and the corner `b` of the second
-        corner_and_edge = HULL_CORNER, // at the corner `a` of the first and its foot on the edge from `b` to `c` of the second
-        edge_and_corner = HULL_EDGE    // at the foot on the edge from `a` to `b` of the first, and the corner `c` of the second
+        zero = HULL_MEETING,           // they intersect
+        corners = HULL_POINTS,         // at the vertex `a` of the first and the vertex `b` of the second
+        corner_and_edge = HULL_CORNER, // at the vertex `a` of the first and its foot on the edge from `b` to `c` of the second
+        edge_and_corner = HULL_EDGE    // at the foot on the edge from `a` to `b` of the first, and the vertex `c` of the second
     };
     Where where;
     Point a, b, c;
 };
 
-// How far an outline is from another one, or from a segment. Two are compared exactly; so one is no number that was rounded.
+// A distance of two polygons, or of a polygon and a segment. Distances are compared exactly, without rounding.
 class Clearance {
 public:
     explicit Clearance(const hull_clearance &told) noexcept : told_(told) {}
 
-    // The greatest double that is not above it, and the least that is not below it: one where it is a double.
+    // The greatest double that is not above it, and the least that is not below it: equal if it is a double.
     double down() const noexcept { return hull_clearance_down(&told_); }
     double up() const noexcept { return hull_clearance_up(&told_); }
 
@@ -236,26 +236,26 @@ private:
     hull_clearance told_;
 };
 
-// Where a ray or a segment first comes into an outline, or a ray leaves it.
+// Where a ray or a segment enters a polygon, or a ray leaves it.
 struct Hit {
     enum class Where : std::uint32_t {
-        start = HULL_COVERED, // at its start, which the outline covers
-        edge = HULL_EDGE,     // across the edge from `from` to the next corner, `to`, or at one of these
-        corner = HULL_CORNER  // at the corner `from`, of an outline that lies on its line
+        start = HULL_COVERED, // at its start, which the polygon covers
+        edge = HULL_EDGE,     // across the edge from `from` to the next vertex, `to`, or at one of these
+        corner = HULL_CORNER  // at the vertex `from`, of a polygon that is on its line
     };
     Where where;
     Point from, to;
-    Area part, whole; // it has gone part / whole of its way until then, exactly: of the segment, or in lengths of the direction
+    Area part, whole; // how far along: part / whole, exactly, of the segment, or in lengths of the direction
 };
 
-// When an outline that moves straight first meets one that stands.
+// When a polygon that moves straight first intersects one that does not move.
 struct Motion {
-    std::optional<Hit> hit; // where the corner arrives, and how far on the way; Hit::Where::start where they meet before; none where they don't
-    Point corner;           // a corner that arrives first:
-    bool moves;             // one of the outline that moves; or of the one that stands, at the other as it lay before it moved
+    std::optional<Hit> hit; // where the vertex arrives, and how far along; Hit::Where::start if they intersect before; none if they never do
+    Point corner;           // a vertex that arrives first:
+    bool moves;             // one of the polygon that moves; else of the other, at the moving one as it was before
 };
 
-// What a reply tells, as a value; what refuses the call is thrown.
+// The value of a reply; throws if the call failed.
 namespace told {
 
 [[noreturn]] inline void fault(std::uint32_t code, std::uint64_t number = 0) {
@@ -268,7 +268,7 @@ namespace told {
 #endif
 }
 
-// What `make` makes, which asks for memory: where that is refused, it is told as by the library.
+// Returns what `make` makes, which allocates: if memory is refused, it fails as the library does.
 template <class Make> auto with_memory(Make make) -> decltype(make()) {
 #if defined(__cpp_exceptions)
     try {
@@ -287,7 +287,7 @@ template <class Vector> void resize(Vector &array, std::uint64_t length) {
     with_memory([&] { array.resize(static_cast<std::size_t>(length)); });
 }
 
-// The text that `write`, a call with an array and its length, writes.
+// Returns the text that `write` writes, a call with an array and its length.
 template <class Write> std::string text(Write write) {
     std::string out;
     resize(out, 1);
@@ -304,7 +304,7 @@ template <class Write> std::string text(Write write) {
     }
 }
 
-// Writes a text to a stream, some thousand bytes at a time, of which `write`, a call with a line, an array and its length, writes pieces:
+// Writes a text to a stream, some thousand bytes at a time, in blocks that `write` makes, a call with a line, an array and its length:
 // no more than those and the longest line are in memory.
 template <class Write> void pieces(std::ostream &out, Write write) {
     std::vector<std::uint8_t> piece;
@@ -445,7 +445,7 @@ inline std::optional<Distance> distance(const hull_witness &w) {
     return Distance{static_cast<Distance::Where>(w.code), w.a, w.b, w.c};
 }
 
-// The corners that `ask`, a call with an array and its length, writes; asked again with room for all where there are more.
+// Returns the vertices that `ask` writes, a call with an array and its length; asks again with space for all if there are more.
 template <class Ask> std::vector<Point> corners(std::size_t room, Ask ask) {
     std::vector<Point> out;
     resize(out, room > 0 ? room : 1);
@@ -459,7 +459,7 @@ template <class Ask> std::vector<Point> corners(std::size_t room, Ask ask) {
     }
 }
 
-// One kind of call at each of the points, in their order: `serve` makes some of them, and tells how many it made; `each` takes a reply.
+// Makes one kind of call at each of the points, in order: `serve` makes some of them, and returns how many; `each` takes a reply.
 template <class Serve, class Each>
 void at_each(std::uint32_t kind, const std::vector<Point> &points, Serve serve, Each each) {
     constexpr std::size_t at_once = 256;
@@ -475,7 +475,7 @@ void at_each(std::uint32_t kind, const std::vector<Point> &points, Serve serve, 
     }
 }
 
-// What `tell` makes of each of the replies.
+// Returns what `tell` makes of each of the replies.
 template <class Answer, class Serve, class Tell>
 std::vector<Answer> all(std::uint32_t kind, const std::vector<Point> &points, Serve serve, Tell tell) {
     std::vector<Answer> answers;
@@ -486,7 +486,7 @@ std::vector<Answer> all(std::uint32_t kind, const std::vector<Point> &points, Se
 
 } // namespace told
 
-// From one point to another, which may be the same.
+// A segment from one point to another, which may be equal.
 struct Segment {
     Point from, to;
 };
@@ -494,8 +494,8 @@ static_assert(sizeof(Segment) == sizeof(hull_segment), "an array of the one is a
 
 class Outline;
 
-// What is asked of an outline, the corners of a hull: as that hull was when they were taken. Self has data() and size(), where its
-// corners lie and how many they are. Nothing of it is written by a question: any number of threads ask one outline at once.
+// The questions of a polygon, the vertices of a hull: the answers are those of that hull when they were taken. Self has data() and
+// size(), the vertices and their number. A question writes nothing: any number of threads query one polygon at once.
 template <class Self> class OutlineQuestions {
     auto serve() const {
         return [this](const hull_request *requests, hull_reply *replies, std::size_t count) {
@@ -514,16 +514,16 @@ public:
         return told::extreme(hull_outline_extreme(data(), size(), direction.x, direction.y));
     }
 
-    // The point that lies farthest in a direction of two doubles, taken to whole numbers as hull_direction_from_doubles tells; in the
-    // direction (0, 0) the first point. Refusal::out_of_range where one is not finite.
+    // Returns the farthest point in a direction of two doubles, scaled to integers as hull_direction_from_doubles; for the direction (0,
+    // 0) the first point. Fails with Refusal::out_of_range if one is not finite.
     std::optional<Point> extreme_d(double dx, double dy) const {
         return told::extreme(hull_outline_extreme_d(data(), size(), dx, dy));
     }
 
-    // Twice the area, 0 for a point and a line.
+    // Returns twice the area, 0 for a point and a segment.
     Area doubled_area() const { return told::number(hull_outline_area(data(), size())); }
 
-    // Each of many points, or directions, in their order.
+    // The same for each of many points, or directions, in order.
     std::vector<Place> place_all(const std::vector<Point> &points) const {
         return told::all<Place>(HULL_KIND_PLACE, points, serve(), told::place);
     }
@@ -534,68 +534,68 @@ public:
         return told::all<std::optional<Point>>(HULL_KIND_EXTREME, directions, serve(), told::extreme);
     }
 
-    // Whether the outline and the segment from `a` to `b`, which may be one point, have a point in common.
+    // Returns whether the polygon intersects the segment from `a` to `b`, which may be one point.
     bool meets_segment(Point a, Point b) const {
         return told::number(hull_outline_meets_segment(data(), size(), a.x, a.y, b.x, b.y)) == 1;
     }
 
-    // What parts the outline from the segment; none where they meet, and for an outline of no corners.
+    // Returns what separates the polygon from the segment; none if they intersect, and for a polygon without vertices.
     std::optional<Separation> apart_from_segment(Point a, Point b) const {
         return told::separation(hull_outline_apart(data(), size(), a.x, a.y, b.x, b.y));
     }
 
-    // Where the nearest point is; none for an outline of no corners.
+    // Returns where the nearest point is; none for a polygon without vertices.
     std::optional<Nearest> nearest(Point p) const {
         return told::nearest(hull_outline_nearest(data(), size(), p.x, p.y), p);
     }
 
-    // The smallest box; none for an outline of no corners.
+    // Returns the bounding box; none for a polygon without vertices.
     std::optional<Box> bounding_box() const { return told::box(hull_outline_box(data(), size())); }
 
-    // How far the outline reaches in a direction: the greatest product of a corner with it less the least; none for an outline of no
-    // corners. Divided by the length of the direction it is the width along it.
+    // Returns the extent of the polygon in a direction: the greatest product of a vertex with it less the least; none for a polygon
+    // without vertices. Divide it by the length of the direction for the width along it.
     std::optional<Area> width_along(Point direction) const {
         const hull_reply r = hull_outline_width(data(), size(), direction.x, direction.y);
         return r.code == HULL_EMPTY ? std::nullopt : std::optional<Area>(told::number(r));
     }
 
-    // The two corners that are farthest from one another; none for an outline of no corners.
+    // Returns the two vertices that are farthest from one another; none for a polygon without vertices.
     std::optional<std::pair<Point, Point>> diameter() const {
         return told::points(hull_outline_diameter(data(), size()));
     }
 
-    // Where the outline is least wide: no direction has a narrower strip; none where there are fewer than two corners.
+    // Returns where the polygon is least wide: no direction has a narrower strip; none if there are fewer than two vertices.
     std::optional<Strip> least_width() const {
         const hull_witness w = hull_outline_least_width(data(), size());
         return w.code == HULL_EDGE ? std::optional<Strip>(Strip{w.a, w.b, w.c}) : std::nullopt;
     }
 
-    // Whether the two outlines have a point in common, boundaries included.
+    // Returns whether the two polygons intersect, boundaries included.
     template <class Other> bool meets(const OutlineQuestions<Other> &other) const {
         return told::number(hull_outline_meets(data(), size(), other.data(), other.size())) == 1;
     }
 
-    // Whether this outline covers whatever the other one covers.
+    // Returns whether this polygon contains the other one.
     template <class Other> bool contains(const OutlineQuestions<Other> &other) const {
         return told::number(hull_outline_contains(data(), size(), other.data(), other.size())) == 1;
     }
 
-    // How this outline stands to the other one.
+    // Returns how this polygon is related to the other one.
     template <class Other> Relation relation(const OutlineQuestions<Other> &other) const {
         return static_cast<Relation>(told::number(hull_outline_relation(data(), size(), other.data(), other.size())));
     }
 
-    // Whether all of the other outline lies inside this one, with no point of it on the boundary.
+    // Returns whether this polygon contains the other one with no point of it on the boundary.
     template <class Other> bool contains_inside(const OutlineQuestions<Other> &other) const {
         return told::number(hull_outline_contains_inside(data(), size(), other.data(), other.size())) == 1;
     }
 
-    // Whether the two are no farther apart than numerator / denominator, exactly; false where one of them has no corners.
+    // Returns whether their distance is at most numerator / denominator, exactly; false if one of them has no vertices.
     template <class Other> bool within(const OutlineQuestions<Other> &other, std::uint64_t numerator, std::uint32_t denominator = 1) const {
         return told::number(hull_outline_within(data(), size(), other.data(), other.size(), numerator, denominator)) == 1;
     }
 
-    // The same of the segment from `a` to `b`, which may be one point, and of a point.
+    // The same for the segment from `a` to `b`, which may be one point, and for a point.
     bool within_segment(Point a, Point b, std::uint64_t numerator, std::uint32_t denominator = 1) const {
         return told::number(hull_outline_within_segment(data(), size(), a.x, a.y, b.x, b.y, numerator, denominator)) == 1;
     }
@@ -603,12 +603,12 @@ public:
         return within_segment(p, p, numerator, denominator);
     }
 
-    // How this outline stands to the segment from `a` to `b`, which may be one point.
+    // Returns how this polygon is related to the segment from `a` to `b`, which may be one point.
     Relation relation_to_segment(Point a, Point b) const {
         return static_cast<Relation>(told::number(hull_outline_relation_to_segment(data(), size(), a.x, a.y, b.x, b.y)));
     }
 
-    // How far the other outline, the segment from `a` to `b`, or a point is from this outline; none where there are no corners.
+    // Returns the distance of the other polygon, the segment from `a` to `b`, or a point; none if there are no vertices.
     template <class Other> std::optional<Clearance> clearance(const OutlineQuestions<Other> &other) const {
         return told::clearance(hull_outline_clearance(data(), size(), other.data(), other.size()));
     }
@@ -617,29 +617,30 @@ public:
     }
     std::optional<Clearance> clearance_to_point(Point p) const { return clearance_to_segment(p, p); }
 
-    // Where the ray from a point in a direction first comes in; none where it misses.
+    // Returns where the ray from a point in a direction enters; none if it misses.
     std::optional<Hit> cast_ray(Point from, Point direction) const {
         return told::hit(hull_outline_cast_ray(data(), size(), from.x, from.y, direction.x, direction.y));
     }
 
-    // The last point of that ray in the outline; none where it misses.
+    // Returns the last point of that ray in the polygon; none if it misses.
     std::optional<Hit> last_on_ray(Point from, Point direction) const {
         return told::hit(hull_outline_last_on_ray(data(), size(), from.x, from.y, direction.x, direction.y));
     }
 
-    // Where the segment from `a` to `b` first comes in; none where it misses. Its last point in the outline is where that from `b` to
-    // `a` comes in.
+    // Returns where the segment from `a` to `b` enters; none if it misses. Its last point in the polygon is where that from `b` to `a`
+    // enters.
     std::optional<Hit> cast_segment(Point a, Point b) const {
         return told::hit(hull_outline_cast_segment(data(), size(), a.x, a.y, b.x, b.y));
     }
 
-    // When the other outline, which moves straight by `way`, each component at most HULL_COORDINATE_MAX in size, first meets this one.
+    // Returns when the other polygon, which moves straight by `way`, each component at most HULL_COORDINATE_MAX in size, first
+    // intersects this one.
     template <class Other> Motion first_meeting(const OutlineQuestions<Other> &other, Point way) const {
         const hull_motion m = hull_outline_first_meeting(data(), size(), other.data(), other.size(), way.x, way.y);
         return {told::hit(m.hit), m.corner, m.moves == 1};
     }
 
-    // Whether the outline meets each of many segments, and how it stands to each of many outlines, in their order.
+    // Returns whether the polygon intersects each of many segments, and how it is related to each of many polygons, in order.
     std::vector<bool> meets_segments(const std::vector<Segment> &segments) const {
         std::vector<std::uint8_t> told;
         told::with_memory([&] { told.resize(segments.size()); });
@@ -651,7 +652,7 @@ public:
     }
     std::vector<Relation> relations(const std::vector<Outline> &others) const;
 
-    // For each corner the place of the first of the points that is there; how many the points are where none is.
+    // Returns for each vertex the index of the first of the points that is equal to it; the number of points if none is.
     std::vector<std::size_t> indices(const std::vector<Point> &points) const {
         std::vector<std::size_t> places;
         told::with_memory([&] { places.resize(size()); });
@@ -659,12 +660,12 @@ public:
         return places;
     }
 
-    // Where the two meet, or what parts them; none where one of them has no corners.
+    // Returns where the two intersect, or what separates them; none if one of them has no vertices.
     template <class Other> std::optional<Witness> witness(const OutlineQuestions<Other> &other) const {
         return told::witness(hull_outline_witness(data(), size(), other.data(), other.size()));
     }
 
-    // Where the two are nearest to one another; none where one of them has no corners.
+    // Returns where the two are nearest to one another; none if one of them has no vertices.
     template <class Other> std::optional<Distance> distance(const OutlineQuestions<Other> &other) const {
         return told::distance(hull_outline_distance(data(), size(), other.data(), other.size()));
     }
@@ -678,21 +679,21 @@ private:
     std::size_t size() const noexcept { return static_cast<const Self *>(this)->size(); }
 };
 
-// The corners of a hull, as Hull::vertices tells them.
+// A convex polygon that owns its vertices, as Hull::vertices returns them.
 class Outline : public OutlineQuestions<Outline> {
 public:
-    // The outline of no point.
+    // The polygon without vertices.
     Outline() = default;
 
-    // The outline of these corners: counterclockwise from the first by x and then by y, none inside an edge, at most
-    // HULL_LIMIT_MAX; Refusal::no_outline where they are not.
+    // The polygon of these vertices: counterclockwise from the first by x and then by y, none inside an edge, at most HULL_LIMIT_MAX.
+    // Fails with Refusal::no_outline if they are not.
     explicit Outline(std::vector<Point> corners) : corners_(std::move(corners)) {
         if (told::number(hull_is_outline(data(), size())) != 1) {
             told::fault(HULL_NO_OUTLINE);
         }
     }
 
-    // The outline of any points; Refusal::out_of_range, and too_many (as Hull::load refuses them).
+    // Returns the convex polygon of any points. Fails with Refusal::out_of_range, and too_many (as Hull::load).
     static Outline of(const std::vector<Point> &points) {
         Outline made;
         made.corners_ = told::corners(64, [&](Point *out, std::size_t room) {
@@ -703,7 +704,7 @@ public:
 
     const std::vector<Point> &corners() const noexcept { return corners_; }
 
-    // The outline moved by a vector; Refusal::out_of_range where a coordinate would be.
+    // Returns the polygon translated by a vector. Fails with Refusal::out_of_range if a coordinate would be.
     Outline moved(Point by) const {
         Outline other;
         told::with_memory([&] { other.corners_ = corners_; });
@@ -711,7 +712,7 @@ public:
         return other;
     }
 
-    // The same of this one, with no memory asked for.
+    // The same in place, without allocating.
     void move(Point by) {
         const hull_reply r = hull_outline_moved(data(), size(), by.x, by.y, corners_.data());
         if (r.code != HULL_CORNERS) {
@@ -719,8 +720,8 @@ public:
         }
     }
 
-    // The outline turned about the origin by the angle of `by`, and magnified by its length: by a rational angle, as of (3, 4), all others
-    // are to be magnified as much, which (5, 0) does. Refusal::out_of_range, zero_direction.
+    // Returns the polygon rotated about the origin by the angle of `by`, and scaled by its length: for a rational angle, as of (3, 4),
+    // scale all others alike, which (5, 0) does. Fails with Refusal::out_of_range, zero_direction.
     Outline turned(Point by) const {
         Outline other;
         told::with_memory([&] { other.corners_.resize(size()); });
@@ -731,7 +732,7 @@ public:
         return other;
     }
 
-    // Where the corners lie, and how many they are.
+    // The vertices, and their number.
     const Point *data() const noexcept { return corners_.data(); }
     std::size_t size() const noexcept { return corners_.size(); }
 
@@ -744,7 +745,7 @@ private:
 
 namespace told {
 
-// Where the corners of outlines lie.
+// The vertices of polygons.
 inline std::vector<hull_corners> all_corners(const std::vector<Outline> &outlines) {
     std::vector<hull_corners> all;
     with_memory([&] { all.reserve(outlines.size()); });
@@ -768,8 +769,8 @@ template <class Self> std::vector<Relation> OutlineQuestions<Self>::relations(co
     return relations;
 }
 
-// Which outlines are no farther apart than numerator / denominator, exactly; with 0, which have a point in common: the pairs of their
-// places, the lesser first, in their order.
+// Returns which polygons have a distance of at most numerator / denominator, exactly; with 0, which intersect: the pairs of their
+// indices, the lesser first, in order.
 inline std::vector<std::pair<std::size_t, std::size_t>> pairs_within(const std::vector<Outline> &outlines, std::uint64_t numerator = 0,
                                                                      std::uint32_t denominator = 1) {
     const std::vector<hull_corners> all = told::all_corners(outlines);
@@ -792,7 +793,7 @@ inline std::vector<std::pair<std::size_t, std::size_t>> pairs_within(const std::
     });
 }
 
-// Corners that lie elsewhere, as those of a view that a Reader holds; to be asked as long as they lie there.
+// A convex polygon that borrows its vertices, such as those of a Reader's snapshot; use it only as long as they are there.
 class OutlineView : public OutlineQuestions<OutlineView> {
 public:
     OutlineView() = default;
@@ -809,9 +810,8 @@ private:
     std::size_t count_ = 0;
 };
 
-// A hull, which holds each of its points at least once; questions are over the points, each taken once. It may go to another
-// thread, and be used by one at a time; that goes for const calls, too. One that was moved from can be assigned to or end: its calls are
-// refused (Refusal::ended).
+// A set of points, each with a multiplicity; questions are about their convex hull. It may go to another thread, and be used by one at a
+// time; that goes for const calls, too. One that was moved from can be assigned to or destroyed: its calls fail with Refusal::ended.
 class Hull {
     auto serve() const {
         return [h = alive()](const hull_request *requests, hull_reply *replies, std::size_t count) {
@@ -820,7 +820,7 @@ class Hull {
     }
 
 public:
-    // An empty hull for at most `limit` different points, 1 to HULL_LIMIT_MAX.
+    // An empty set for at most `limit` different points, 1 to HULL_LIMIT_MAX.
     explicit Hull(std::uint32_t limit = HULL_LIMIT_MAX) : at_(hull_new(limit)) {
         if (!at_) {
             const bool is_limit = limit >= 1 && limit <= HULL_LIMIT_MAX;
@@ -828,20 +828,20 @@ public:
         }
     }
 
-    // A hull of the points of a range, each as often as it stands there.
+    // A set of the points of a range, with their multiplicities.
     template <class Iterator>
     Hull(Iterator first, Iterator last, std::uint32_t limit = HULL_LIMIT_MAX) : Hull(limit) {
         load(first, last);
     }
 
-    // Holds a point once more; how often it is held now: 1 where it is new.
+    // Adds a point; returns its multiplicity now: 1 if it is new.
     std::uint32_t add(Point p) { return told::times_added(hull_add(alive(), p.x, p.y)); }
 
-    // Holds a point once less; how often it is still held, none where it was not there.
+    // Removes a point once; returns the multiplicity that is left, none if it was not there.
     std::optional<std::uint32_t> remove(Point p) { return told::times_left(hull_remove(alive(), p.x, p.y)); }
 
-    // Holds just these points, each as often as it stands there, in the place of all that was held, in a small part of the
-    // time that adding them takes; how many different points that are.
+    // Replaces all points by these, with their multiplicities, in a small part of the time that adding them takes; returns how many
+    // different points there are.
     std::size_t load(const std::vector<Point> &points) {
         return static_cast<std::size_t>(told::number(hull_load(alive(), points.data(), points.size())));
     }
@@ -849,13 +849,13 @@ public:
         return load(told::with_memory([&] { return std::vector<Point>(first, last); }));
     }
 
-    // Holds just these points, which stand in order by x and then y, each as often as it says, in the place of all that was held:
-    // what `held` told, of this hull or another.
+    // Replaces all points by these, which are in order by x and then y, each with its multiplicity, as `held` returned them, of this set
+    // or another.
     void load_held(const std::vector<Held> &points) {
         told::number(hull_load_held(alive(), points.data(), points.size()));
     }
 
-    // The points that are held, in order by x and then y, each with how often.
+    // Returns the points, in order by x and then y, each with its multiplicity.
     std::vector<Held> held() const {
         std::vector<Held> all;
         told::resize(all, size());
@@ -864,26 +864,26 @@ public:
         return all;
     }
 
-    // The held point that is nearest to a point, of several the first by x and then y, and the square of how far it is; none where none is
-    // held. All points are looked at that are not much farther along x.
+    // Returns the point that is nearest to a point, of several the first by x and then y, and the square of its distance; none if there
+    // is none. It reads all points that are not much farther along x.
     std::optional<std::pair<Point, Area>> nearest_held(Point p) const {
         const hull_reply r = hull_nearest_held(alive(), p.x, p.y);
         const std::optional<Point> nearest = told::extreme(r);
         return nearest ? std::optional(std::pair<Point, Area>(*nearest, static_cast<Area>(r.high) << 64 | r.number)) : std::nullopt;
     }
 
-    // Another hull that holds the same, each point as often, with the same limit.
+    // Returns another set with the same points, multiplicities and limit.
     Hull copy() const {
         Hull other(limit());
         told::number(hull_copy(other.alive(), alive()));
         return other;
     }
 
-    // Lets all points go. The limit stays.
+    // Removes all points. The limit stays.
     void clear() { hull_clear(alive()); }
 
-    // Holds each of the points once more, in their order; for each how often it is held then, 0 where it was refused, since there are
-    // too many or for want of memory: those behind it are added still. Refusal::out_of_range of any of them leaves the hull as it was.
+    // Adds each of the points, in order; returns for each its multiplicity then, 0 if it failed, since there are too many or for want of
+    // memory: those after it are still added. Refusal::out_of_range for any of them changes nothing.
     std::vector<std::uint32_t> add_all(const std::vector<Point> &points) {
         check(points);
         return told::all<std::uint32_t>(HULL_KIND_ADD, points, serve(), [](const hull_reply &r) {
@@ -891,7 +891,7 @@ public:
         });
     }
 
-    // Holds each of the points once less, in their order; how many of them were there. Refusal::out_of_range as for add_all.
+    // Removes each of the points once, in order; returns how many of them were there. Refusal::out_of_range as for add_all.
     std::size_t remove_all(const std::vector<Point> &points) {
         check(points);
         std::size_t there = 0;
@@ -899,7 +899,7 @@ public:
         return there;
     }
 
-    // Each of many points, or directions, in their order.
+    // The same for each of many points, or directions, in order.
     std::vector<Place> place_all(const std::vector<Point> &points) const {
         return told::all<Place>(HULL_KIND_PLACE, points, serve(), told::place);
     }
@@ -912,42 +912,42 @@ public:
 
     Place place(Point p) const { return told::place(hull_place(counted(), p.x, p.y)); }
 
-    // The tangent points seen from a point, of several on one line the farthest; none where there is no point, or the hull
-    // covers the one asked about.
+    // Returns the tangent points seen from a point, of several on one line the farthest; none if there is no point, or the hull covers
+    // the one asked about.
     std::optional<Tangents> tangents(Point p) const { return told::tangents(hull_tangents(counted(), p.x, p.y)); }
 
-    // The point that lies farthest in a direction, of several the first by x and then by y; none where there is none.
+    // Returns the farthest point in a direction, of several the first by x and then by y; none if there is none.
     std::optional<Point> extreme(Point direction) const {
         return told::extreme(hull_extreme(counted(), direction.x, direction.y));
     }
 
-    // The same in a direction of two doubles, as Outline::extreme_d.
+    // The same for a direction of two doubles, as Outline::extreme_d.
     std::optional<Point> extreme_d(double dx, double dy) const { return told::extreme(hull_extreme_d(counted(), dx, dy)); }
 
-    // How often a point is held: 0 where it is not there.
+    // Returns the multiplicity of a point: 0 if it is not there.
     std::uint32_t multiplicity(Point p) const {
         return static_cast<std::uint32_t>(told::number(hull_multiplicity(alive(), p.x, p.y)));
     }
 
-    // The corners, counterclockwise from the first by x and then by y, each once and none inside an edge.
+    // Returns the vertices, counterclockwise from the first by x and then by y, each once and none inside an edge.
     std::vector<Point> vertices() const {
         return told::corners(64, [this](Point *out, std::size_t room) { return hull_vertices(alive(), out, room); });
     }
 
-    // The outline that the hull has now.
+    // Returns the convex polygon of the hull now.
     Outline outline() const { return Outline(vertices()); }
 
-    // Twice the area, 0 for a point and a line.
+    // Returns twice the area, 0 for a point and a segment.
     Area doubled_area() const { return told::number(hull_area(counted())); }
 
-    // How many different points there are.
+    // Returns how many different points there are.
     std::size_t size() const { return static_cast<std::size_t>(hull_count(alive()).number); }
     bool empty() const { return size() == 0; }
 
-    // How many different points the hull takes.
+    // Returns how many different points the set may have.
     std::uint32_t limit() const { return static_cast<std::uint32_t>(hull_limit(alive()).number); }
 
-    // The hull of hull.h; null where it was moved away.
+    // The set of hull.h; null if it was moved away.
     hull_set *get() noexcept { return at_.get(); }
     const hull_set *get() const noexcept { return at_.get(); }
 
@@ -958,7 +958,7 @@ private:
         }
         return at_.get();
     }
-    // The hull, of which a question is asked: see hull_settle.
+    // The set, after a hint that a question follows: see hull_settle.
     hull_set *counted() const {
         hull_set *const h = alive();
         hull_settle(h);
@@ -977,16 +977,16 @@ private:
     std::unique_ptr<hull_set, End> at_;
 };
 
-// What a shared hull is opened with.
+// The limits that a shared hull is opened with.
 struct Limits {
-    std::uint32_t points;   // how many different points it may hold, 1 to HULL_LIMIT_MAX
+    std::uint32_t points;   // how many different points it may have, 1 to HULL_LIMIT_MAX
     std::uint64_t first;    // the number of the first call
-    std::uint32_t capacity; // how many lines of the journal are held at most, 1 to HULL_SHARED_CAPACITY_MAX
+    std::uint32_t capacity; // how many lines the journal may have, 1 to HULL_SHARED_CAPACITY_MAX
     std::uint32_t seats;    // how many seats there are, 1 to HULL_SHARED_SEATS_MAX
-    std::uint32_t readers = 0; // for how many readers calls publish, 0 to HULL_SHARED_READERS_MAX
+    std::uint32_t readers = 0; // how many readers it may have, 0 to HULL_SHARED_READERS_MAX
 };
 
-// A desk with its line: it ends when the hull and all seats that are out let it go.
+// A desk with its line: it ends when the hull and all seats have dropped it.
 class Desk {
 public:
     Desk() : at_(hull_shared_desk_new()) {
@@ -1012,9 +1012,11 @@ private:
     friend class Seat;
     friend class Reader;
     std::mutex lock_; // one call at a time on the desk; calls of seats don't take it
-    // What is safe of the journal in the file, as a call of hull_shared_journal tells it.
+    // Which lines of the journal file are durable, as a call of hull_shared_journal returns it.
     template <class Ask> std::uint64_t safe(const Ask &ask) {
+        std::unique_lock<std::mutex> first(before_journal_lock_);
         const std::shared_lock<std::shared_mutex> kept(journal_lock_);
+        first.unlock();
         if (journal_ == nullptr) {
             told::fault(HULL_NOT_OPEN);
         }
@@ -1027,14 +1029,15 @@ private:
 
     hull_shared_desk *at_;
     hull_shared_line line_;
-    std::shared_mutex journal_lock_; // taken by close alone; shared by who asks what is safe
+    std::mutex before_journal_lock_; // taken first, so that a close waits for threads that asked before, and for no later ones
+    std::shared_mutex journal_lock_; // taken by close; shared by threads that ask what is durable
     hull_shared_journal *journal_ = nullptr;
 };
 
-// Lines that a drain took out of a journal. They are kept until the part ends.
+// A segment of a journal: lines that a drain took. They are kept until the part is destroyed.
 class JournalPart {
 public:
-    // The text of the lines, which has the number of the first as its own first number.
+    // Returns the text of the lines, with the number of the first as its own first number.
     std::string text() const {
         return told::text([at = alive()](std::uint8_t *out, std::size_t room) { return hull_shared_part_text(at, out, room); });
     }
@@ -1068,7 +1071,7 @@ private:
     std::unique_ptr<hull_shared_part, End> at_;
 };
 
-// A seat at a shared hull, by which one thread at a time makes calls. It goes back to its hull when it ends.
+// A seat of a shared hull, by which one thread at a time makes calls. It is released when it is destroyed.
 class Seat {
 public:
     Seat(Seat &&) noexcept = default;
@@ -1083,7 +1086,7 @@ public:
     }
     ~Seat() { give_back(); }
 
-    // Gives the seat back to its hull, as its end does; calls throw from then on.
+    // Releases the seat, as its destructor does; calls throw from then on.
     void give_back() noexcept {
         if (desk_ && at_) {
             const std::lock_guard<std::mutex> lock(desk_->lock_);
@@ -1095,11 +1098,11 @@ public:
 
     std::uint32_t number() const noexcept { return number_; }
 
-    // The number of the seat's last call that was served, under which it has its line in the journal.
+    // Returns the number of the journal line of the seat's last call.
     std::optional<std::uint64_t> turn() const noexcept { return turn_; }
 
-    // How long calls of the seat wait until they come in, or for room: for ever, as a seat begins, with nothing, and not at all with no
-    // time. Where they have not come in by then: Refusal::busy, and no call was made.
+    // Sets how long calls of the seat wait for admission, or for space: for ever, which is the default, with nothing, and not at all
+    // with no time. If they were not admitted by then, they fail with Refusal::busy, and no call was made.
     void wait_at_most(std::optional<std::chrono::nanoseconds> time) noexcept { patience_ = time; }
 
     std::uint32_t add(Point p) { return told::times_added(call(HULL_KIND_ADD, p)); }
@@ -1110,8 +1113,8 @@ public:
     Area doubled_area() { return told::number(call(HULL_KIND_AREA, {0, 0})); }
     std::size_t count() { return static_cast<std::size_t>(told::number(call(HULL_KIND_COUNT, {0, 0}))); }
 
-    // Asks how many points there are, and takes all lines that the hull holds then out of its journal: that of this call is
-    // the last. The room for them is asked for before: Refusal::no_memory, and then no call is made.
+    // Asks how many points there are, and drains all lines of the journal: that of this call is the last. Space for them is allocated
+    // before: with Refusal::no_memory no call is made.
     JournalPart drain() {
         if (!at_) {
             told::fault(HULL_VACANT);
@@ -1121,8 +1124,8 @@ public:
         return part;
     }
 
-    // Waits until the lines of all calls of the seat are in the file of a hull that keeps one (SharedHull::keep), for as long as calls of
-    // the seat wait: Refusal::busy, no_file; not_open where there is no file.
+    // Waits until the lines of all calls of the seat are durable in a journal file (SharedHull::keep), for as long as calls of the seat
+    // wait. Fails with Refusal::busy, no_file; not_open if there is no file.
     void wait_safe() {
         if (!at_) {
             told::fault(HULL_VACANT);
@@ -1132,8 +1135,8 @@ public:
         });
     }
 
-    // The corners. They are asked for with room for as many as there were before, and again where there are more: each asking
-    // has its line in the journal.
+    // Returns the vertices. It asks with space for as many as there were before, and again if there are more: each question has its line
+    // in the journal.
     std::vector<Point> vertices() {
         std::vector<Point> all = told::corners(corners_, [this](Point *out, std::size_t room) {
             corners_ = room;
@@ -1200,9 +1203,9 @@ private:
     std::optional<std::chrono::nanoseconds> patience_;
 };
 
-// A reader of a shared hull (SharedHull::lend_reader), which holds a view: the corners as they were behind one line of the journal. It
-// takes no lock, no turn and no line, waits for nobody, and nobody waits for it. One thread at a time uses it; it may go to another one,
-// and goes back when it ends.
+// A reader of a shared hull (SharedHull::lend_reader), which has a snapshot: the vertices as of one line of the journal. It takes no
+// lock, no turn and no line, and waits for no call. One thread at a time uses it; it may go to another one, and is released when it is
+// destroyed.
 class Reader {
 public:
     Reader(Reader &&) noexcept = default;
@@ -1216,7 +1219,7 @@ public:
     }
     ~Reader() { give_back(); }
 
-    // Gives the reader back to its hull, as its end does; calls throw from then on.
+    // Releases the reader, as its destructor does; calls throw from then on.
     void give_back() noexcept {
         if (desk_ && at_) {
             const std::lock_guard<std::mutex> lock(desk_->lock_);
@@ -1226,8 +1229,8 @@ public:
         desk_.reset();
     }
 
-    // Takes the newest view, where this is not it: it shows what each call did that had returned before. What was told of the view before
-    // is over then. Where others were in the way a thousand times, the view is the one from before, and this is false.
+    // Takes the newest snapshot, if this is not it: it shows what each call did that had returned before. Vertices of the snapshot
+    // before are no longer valid. If others were in the way a thousand times, the snapshot is the one from before, and this is false.
     bool read() {
         const hull_shared_view v = hull_shared_read(alive());
         if (!is_copied_ || v.lines != lines_) {
@@ -1242,14 +1245,14 @@ public:
         return v.code == HULL_VIEWED;
     }
 
-    // Whether the view is still the newest: one look.
+    // Returns whether the snapshot is still the newest: one load.
     bool is_newest() const { return is_copied_ && hull_shared_is_newest(alive()) == 1; }
 
-    // The view, and the number of the line behind which it is true; none where it is that of a hull with no line.
+    // Returns the snapshot, and the number of its line; none if it is that of a hull with no line.
     OutlineView view() const noexcept { return OutlineView(corners_.data(), count_); }
     std::optional<std::uint64_t> line() const noexcept { return line_; }
 
-    // The newest view: this one, or another that is taken.
+    // Returns the newest snapshot: this one, or another that is taken.
     OutlineView newest() {
         if (!is_newest()) {
             read();
@@ -1288,16 +1291,16 @@ private:
 
     std::shared_ptr<Desk> desk_;
     std::unique_ptr<hull_shared_reader, Free> at_;
-    std::vector<Point> corners_; // those of the view at its front
+    std::vector<Point> corners_; // those of the snapshot at its front
     std::size_t count_ = 0;
     std::uint64_t lines_ = 0;
-    bool is_copied_ = false; // they are those of the view that the room holds
+    bool is_copied_ = false; // they are those of the current snapshot
     std::optional<std::uint64_t> line_;
 };
 
-// One hull that up to HULL_SHARED_SEATS_MAX threads change and question at once, each by a seat of its own. Each call takes
-// effect at one moment between its beginning and its end, in the order of the calls' numbers, and has its line in a journal.
-// The hull may be moved, and used by several threads at once.
+// One hull that up to HULL_SHARED_SEATS_MAX threads change and query at once, each by a seat of its own. Each call takes effect at one
+// moment between its beginning and its end, in the order of the calls' numbers, and has its line in a journal. The hull may be moved,
+// and used by several threads at once.
 class SharedHull {
 public:
     explicit SharedHull(Limits limits) : SharedHull(new_desk(limits.readers)) {
@@ -1306,24 +1309,25 @@ public:
     SharedHull(SharedHull &&) noexcept = default;
     SharedHull &operator=(SharedHull &&) noexcept = default;
 
-    // The same, but the line of each call is let go with its answer: the text of the journal has none. limits.capacity is not read.
+    // The same, but each line is discarded after its reply is returned: the text of the journal has none. limits.capacity is not read.
     static SharedHull open_without_journal(Limits limits) {
         SharedHull hull(new_desk(limits.readers));
         opened(hull_shared_open_without_journal(hull.desk_->at_, limits.points, limits.first, limits.seats));
         return hull;
     }
 
-    // The same, but questions are answered also where as many lines are held as may be: by what is held, with no line.
+    // The same, but questions are answered also when the journal is full, with no line.
     static SharedHull open_answering(Limits limits) {
         SharedHull hull(new_desk(limits.readers));
         opened(hull_shared_open_answering(hull.desk_->at_, limits.points, limits.first, limits.capacity, limits.seats));
         return hull;
     }
 
-    // A hull whose journal is kept in a file, which is made, or gone on with: the hull holds what it left then, and the limit is its own.
-    // Its thread writes the lines to the file when it is asked to (sync, Seat::wait_safe), each `every` unless that is 0, and where half of
-    // limits.capacity are held; calls wait for room. limits.first is not read, and limits.seats is at most HULL_SHARED_SEATS_MAX - 1.
-    // Refusal::no_file, damaged, illegal, and those of opening. No seat of such a hull is drained by its caller.
+    // Opens a hull whose journal is kept in a file, which is made, or read: then the hull has the points that it left, and its limit.
+    // Its thread writes the lines to the file when a thread waits for one (sync, Seat::wait_safe), each `every` unless that is 0, and
+    // when half of limits.capacity are used; calls wait for space. limits.first is not read, and limits.seats is at most
+    // HULL_SHARED_SEATS_MAX - 1. Fails with Refusal::no_file, damaged, illegal, and those of opening. Do not drain a seat of such a
+    // hull.
     static SharedHull keep(const std::string &path, Limits limits, std::chrono::nanoseconds every = std::chrono::nanoseconds(0)) {
         SharedHull hull(new_desk(limits.readers));
         Desk &desk = *hull.desk_;
@@ -1340,8 +1344,9 @@ public:
         return hull;
     }
 
-    // Makes such a file short that no hull keeps now: the additions that leave the same points, up to the same number, which is told.
-    // Refusal::no_file, damaged, illegal, no_memory, and the file is as it was.
+    // Compacts such a file, of a hull that is not open: to the additions that leave the same points, up to the same number, which is
+    // returned. Fails with Refusal::no_file, damaged, illegal, no_memory, and the file is as it was, or leaves the same points
+    // (hull_shared_journal_compact).
     static std::uint64_t compact(const std::string &path) {
         const hull_reply r = hull_shared_journal_compact(path.c_str());
         if (r.code != HULL_SAFE) {
@@ -1350,19 +1355,19 @@ public:
         return r.number;
     }
 
-    // The number of the first line that is not safe in the file: those before it are there for good. Refusal::no_file where a write was
-    // refused: nothing more will be safe; not_open where the hull keeps no file, or is closed.
+    // Returns the number of the first line that is not durable. Fails with Refusal::no_file if a write failed: no later line will be
+    // durable; not_open if the hull has no file, or is closed.
     std::uint64_t safe() const { return desk()->safe(hull_shared_journal_safe); }
 
-    // Waits until the lines of all calls are safe that were answered before; the number of the first line that is not.
+    // Waits until the lines of all calls that have returned are durable; returns the number of the first line that is not.
     std::uint64_t sync() const {
         return desk()->safe([](hull_shared_journal *at) { return hull_shared_journal_sync(at, HULL_SHARED_NEVER); });
     }
 
-    // Whether a call that finds no room waits until a drain has made some. Before a seat is lent.
+    // Decides whether a call that finds the journal full waits until a drain has made space. Call it before a seat is acquired.
     void wait_for_room(bool waits) { hull_shared_line_wait_for_room(&desk()->line_, waits ? 1 : 0); }
 
-    // Has the hull drained by itself, as hull_shared_line_on_half_full says; the hook throws nothing. Before a seat is lent.
+    // Has the hull drain itself, as hull_shared_line_on_half_full; the hook throws nothing. Call it before a seat is acquired.
     void on_half_full(hull_shared_hook *hook, void *context) {
         if (desk()->journal_ != nullptr) {
             told::fault(HULL_SEATS_OUT); // that of its file
@@ -1372,11 +1377,11 @@ public:
         }
     }
 
-    // How the calls of the hull's seats stand, as hull_shared_stats says. It waits for nothing.
+    // Returns the state of the hull's calls, as hull_shared_stats. It waits for nothing.
     hull_shared_state stats() const { return hull_shared_stats(&desk()->line_); }
 
-    // A hull that goes on where a journal ends, with the points that it left: `text` is the journal's, whole, whose lines count as
-    // taken out. Refusal::no_journal, old_rules, too_few_seats, illegal, and those of opening.
+    // Opens a hull that continues a journal, with the points that it left: `text` is the whole journal, whose lines count as drained.
+    // Fails with Refusal::no_journal, old_rules, too_few_seats, illegal, and those of opening.
     static SharedHull reopen(const std::string &text, std::uint32_t capacity, std::uint32_t seats, std::uint32_t readers = 0) {
         SharedHull hull(new_desk(readers));
         const hull_reply r = hull_shared_reopen(hull.desk_->at_, reinterpret_cast<const std::uint8_t *>(text.data()),
@@ -1385,15 +1390,16 @@ public:
         return hull;
     }
 
-    // Lends the seat of a number, 0 and up.
+    // Acquires the seat of a number, 0 and up.
     Seat lend(std::uint32_t number) { return Seat(desk(), number); }
 
-    // Lends a reader, of those that the hull was opened for (Limits::readers); Refusal::no_seat where as many are out.
+    // Acquires a reader, of those that the hull was opened for (Limits::readers). Fails with Refusal::no_seat if as many are acquired.
     Reader lend_reader() { return Reader(desk()); }
 
-    // Closes the hull, unless it is closed; the text of its journal, which the program hullbook judges, and which stands last in the file
-    // that the hull keeps, if it does (Refusal::no_file where it does not). Refusal::seats_out where a seat is out: the hull stays open.
-    // Refusal::no_memory where there is none for the text: this may be called again.
+    // Closes the hull, unless it is closed; returns the text of its journal, which `hullbook check` judges, and which is the last
+    // segment of its file, if it has one (Refusal::no_file if it could not be written). Fails with Refusal::seats_out if a seat or a
+    // reader is acquired: the hull stays open, and keeps its file. Threads that wait for the file (sync, Seat::wait_safe) return first.
+    // After Refusal::no_memory, which says that there is none for the text, you may call it again.
     std::string close() {
         const std::lock_guard<std::mutex> lock(desk()->lock_);
         end();
@@ -1412,10 +1418,11 @@ public:
 private:
     // Closes the desk, whose lock is taken, and its file, unless they are closed.
     void end() {
+        const std::lock_guard<std::mutex> first(desk_->before_journal_lock_);
         const std::lock_guard<std::shared_mutex> kept(desk_->journal_lock_);
         if (desk_->journal_ != nullptr) {
             const hull_reply r = hull_shared_journal_close(desk_->journal_);
-            if (r.code != HULL_SEATS_OUT) {
+            if (r.code != HULL_SEATS_OUT && r.code != HULL_IN_USE) {
                 desk_->journal_ = nullptr;
             }
             if (r.code != HULL_CLOSED) {
@@ -1460,8 +1467,8 @@ private:
 struct Lattice {
     int power;
 
-    // The point next to two doubles, of two coordinates as near the even one; `rounded`, if it is not null, is set where one
-    // was rounded, and left as it is else. Refusal::out_of_range where one is not finite, or too great.
+    // Returns the point nearest to two doubles, ties to even; `rounded`, if it is not null, is set to true if one was rounded, and else
+    // unchanged. Fails with Refusal::out_of_range if one is not finite, or too great.
     Point point(double x, double y, bool *rounded = nullptr) const {
         Point p{0, 0};
         const hull_rounding at_x = hull_from_double(x, power, &p.x), at_y = hull_from_double(y, power, &p.y);
@@ -1474,14 +1481,14 @@ struct Lattice {
         return p;
     }
 
-    // The doubles of a point: exact for powers from -960 to 1000.
+    // Returns the doubles of a point: exact for powers from -960 to 1000.
     std::pair<double, double> doubles(Point p) const {
         return {hull_to_double(p.x, power), hull_to_double(p.y, power)};
     }
 };
 
-// The direction in whole numbers of one in two doubles, as hull_direction_from_doubles tells; `rounded`, if it is not null, is set where
-// it is not the very same direction, and left as it is else. Refusal::out_of_range where one is not finite.
+// Returns the direction of two doubles in integers, as hull_direction_from_doubles; `rounded`, if it is not null, is set to true if it
+// is not the same direction, and else unchanged. Fails with Refusal::out_of_range if one is not finite.
 inline Point direction_of(double dx, double dy, bool *rounded = nullptr) {
     Point d{0, 0};
     const hull_rounding told = hull_direction_from_doubles(dx, dy, &d.x, &d.y);
@@ -1494,7 +1501,7 @@ inline Point direction_of(double dx, double dy, bool *rounded = nullptr) {
     return d;
 }
 
-// Corners as well-known text, their coordinates divided by 2^power: as hull_wkt tells it.
+// Returns vertices as well-known text, their coordinates divided by 2^power: as hull_wkt.
 inline std::string wkt(const std::vector<Point> &corners, int power = 0) {
     std::string text;
     told::resize(text, hull_wkt(corners.data(), corners.size(), power, nullptr, 0));

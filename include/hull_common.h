@@ -1,4 +1,4 @@
-/* What hull.h and hull_shared.h have in common: the numbers of kinds and of codes, limits, points and replies. */
+/* What hull.h and hull_shared.h share: the numbers of kinds and of codes, limits, points and replies. */
 #ifndef HULL_COMMON_H
 #define HULL_COMMON_H
 
@@ -7,123 +7,127 @@
 #include <stdlib.h>
 #include <string.h>
 
+#if UINTPTR_MAX < UINT64_MAX
+#error "The hull libraries need a machine with 64-bit pointers"
+#endif
+
 /* The version of these headers, and of the archives that are installed with them. */
-#define HULL_VERSION "2.3.0"
+#define HULL_VERSION "2.4.0"
 
 /* The greatest size of a coordinate, of a point and of a direction: 2^40. */
 #define HULL_COORDINATE_MAX INT64_C(1099511627776)
-/* The greatest limit of a hull: how many different points one may hold. */
+/* The greatest limit of a set: how many different points it may have. */
 #define HULL_LIMIT_MAX 1048576
-/* How often a point may be held. */
+/* The greatest multiplicity of a point. */
 #define HULL_MULTIPLICITY_MAX 65535
 
-/* What a call asks for, with what it may be answered. The numbers will not change. */
+/* The kinds of calls, each with the codes that it may return. The numbers will not change. */
 typedef enum hull_kind {
     /* written by tools/table.py: kinds */
-    HULL_KIND_ADD = 1,         /* holds the point once more: ADDED, AGAIN, TOO_MANY, NO_MEMORY */
-    HULL_KIND_REMOVE = 2,      /* holds the point once less: REMOVED, LEFT, ABSENT */
-    HULL_KIND_PLACE = 3,       /* where the point lies: INSIDE, ON, OUTSIDE */
+    HULL_KIND_ADD = 1,         /* adds the point, or 1 to its multiplicity: ADDED, AGAIN, TOO_MANY, NO_MEMORY */
+    HULL_KIND_REMOVE = 2,      /* takes 1 from the multiplicity of the point: REMOVED, LEFT, ABSENT */
+    HULL_KIND_PLACE = 3,       /* the location of the point: INSIDE, ON, OUTSIDE */
     HULL_KIND_TANGENTS = 4,    /* the tangent points seen from the point: TANGENTS, NO_TANGENT */
     HULL_KIND_EXTREME = 5,     /* the first of the farthest points in the direction: POINT, EMPTY */
-    HULL_KIND_VERTICES = 6,    /* how many corners there are: CORNERS, NO_MEMORY; `x` and `y` are not read */
-    HULL_KIND_AREA = 7,        /* the doubled area: NUMBER; `x` and `y` are not read */
+    HULL_KIND_VERTICES = 6,    /* how many vertices there are: CORNERS, NO_MEMORY; `x` and `y` are not read */
+    HULL_KIND_AREA = 7,        /* twice the area: NUMBER; `x` and `y` are not read */
     HULL_KIND_COUNT = 8,       /* how many different points there are: NUMBER; `x` and `y` are not read */
-    HULL_KIND_MULTIPLICITY = 9 /* how often the point is held, 0 where it is not there: NUMBER; a seat can't ask for it */
+    HULL_KIND_MULTIPLICITY = 9 /* the multiplicity of the point, 0 if it is not there: NUMBER; a seat can't ask for it */
     /* end of what tools/table.py writes */
 } hull_kind;
 
-/* What a call was answered. The numbers will not change. Where nothing else is said, nothing changed. */
+/* What a call returns. The numbers will not change. If a code does not say otherwise, nothing changed. */
 typedef enum hull_code {
     /* written by tools/table.py: codes */
-    HULL_OK = 0,             /* an empty hull lies in the room; or the hull was ended */
+    HULL_OK = 0,             /* there is an empty set in the storage; or the set was ended */
     HULL_OUT_OF_RANGE = 1,   /* a coordinate is larger than 2^40 in size, or a double is not finite */
     HULL_ZERO_DIRECTION = 2, /* both components of the direction are 0 */
     HULL_ADDED = 3,          /* the point is new, and is there now */
-    HULL_AGAIN = 4,          /* the point was there, and is now held `number` times, at least 2 */
-    HULL_TOO_MANY = 5,       /* the point is new and there are as many as the limit, or it is held 65,535 times */
+    HULL_AGAIN = 4,          /* the point was there, and now has multiplicity `number`, at least 2 */
+    HULL_TOO_MANY = 5,       /* the point is new and there are as many as the limit, or its multiplicity is 65,535 */
     HULL_NO_MEMORY = 6,      /* malloc refused; the call may be made again */
-    HULL_REMOVED = 7,        /* the point was held once, and is no more */
-    HULL_LEFT = 8,           /* the point is still held `number` times, at least once */
+    HULL_REMOVED = 7,        /* the point had multiplicity 1, and is gone */
+    HULL_LEFT = 8,           /* the point is still there, with multiplicity `number` */
     HULL_ABSENT = 9,         /* the point is not there */
     HULL_POINT = 10,         /* the point (`x`, `y`) */
-    HULL_EMPTY = 11,         /* the hull holds no point */
+    HULL_EMPTY = 11,         /* there is no point */
     HULL_INSIDE = 12,        /* the hull covers the point, which is not on its boundary */
-    HULL_ON = 13,            /* the point is on the boundary: a corner, on an edge, or on a hull of one point or one line */
+    HULL_ON = 13,            /* the point is on the boundary: a vertex, on an edge, or on a hull that is a point or a segment */
     HULL_OUTSIDE = 14,       /* the hull does not cover the point */
     HULL_TANGENTS = 15,      /* the left point (`x`, `y`) and the right one (`other_x`, `other_y`) */
-    HULL_NO_TANGENT = 16,    /* the hull holds no point, or covers the one asked about */
+    HULL_NO_TANGENT = 16,    /* there is no point, or the hull covers the one asked about */
     HULL_NUMBER = 17,        /* `number`; an area is 2^64 times `high` more */
-    HULL_CORNERS = 18,       /* there are `number` corners, which stand at the front of the array, if one was passed */
-    HULL_TOO_SMALL = 19,     /* `number` corners or bytes are to be written, more than the array has room for */
-    HULL_CLEARED = 20,       /* no point is held any more */
-    HULL_OUT_OF_ORDER = 21,  /* a point of an array in order does not stand behind the one before it, by x and then y */
+    HULL_CORNERS = 18,       /* there are `number` vertices, which are at the front of the array if one was passed */
+    HULL_TOO_SMALL = 19,     /* the array is too small for the `number` vertices or bytes that are to be written */
+    HULL_CLEARED = 20,       /* there is no point any more */
+    HULL_OUT_OF_ORDER = 21,  /* a point of an array in order does not follow the one before it, by x and then y */
     HULL_UNKNOWN_KIND = 22,  /* no kind that can be asked here has this number */
 
-    /* of outlines alone */
+    /* of convex polygons only */
     HULL_MEETING = 23,       /* they have a point in common */
-    HULL_APART = 24,         /* a direction (`other_x`, `other_y`), at most 2^41 in size, parts them: no corner lies farther in it than
-                              * (`x`, `y`), and each of the others does */
-    HULL_COVERED = 25,       /* the outline covers the point: it is its own nearest */
-    HULL_CORNER = 26,        /* the corner (`x`, `y`) is the nearest */
-    HULL_EDGE = 27,          /* the foot on the edge from (`x`, `y`) to the next corner, (`other_x`, `other_y`), is the nearest */
+    HULL_APART = 24,         /* a direction (`other_x`, `other_y`), at most 2^41 in size, separates them: of the one, no vertex is farther
+                              * in it than (`x`, `y`), and each vertex of the other is */
+    HULL_COVERED = 25,       /* the polygon covers the point, which is its own nearest */
+    HULL_CORNER = 26,        /* the vertex (`x`, `y`) is the nearest */
+    HULL_EDGE = 27,          /* the foot on the edge from (`x`, `y`) to the next vertex, (`other_x`, `other_y`), is the nearest */
     HULL_BOX = 28,           /* the box from its least point (`x`, `y`) to its greatest, (`other_x`, `other_y`) */
-    HULL_WITHIN = 29,        /* the other outline covers a corner of this one */
-    HULL_CROSSING = 30,      /* a segment between two corners of this outline crosses one between two of the other */
-    HULL_POINTS = 31,        /* the two corners (`x`, `y`) and (`other_x`, `other_y`) */
+    HULL_WITHIN = 29,        /* the other polygon covers a vertex of this one */
+    HULL_CROSSING = 30,      /* a segment between two vertices of this polygon crosses one between two of the other */
+    HULL_POINTS = 31,        /* the two vertices (`x`, `y`) and (`other_x`, `other_y`) */
 
-    /* of desks and seats alone */
-    HULL_OPEN = 32,          /* the desk is open now */
+    /* of shared hulls and seats only */
+    HULL_OPEN = 32,          /* the shared hull is open now */
     HULL_OUT_OF_LIMITS = 33, /* a limit, a capacity or a number of seats is 0 or too great (a limit in hull_init, too) */
-    HULL_WAS_OPENED = 34,    /* the desk is open or closed */
-    HULL_LENT = 35,          /* the seat is in the room now */
-    HULL_NO_SEAT = 36,       /* no seat of this number is at the desk: it is out, or there never was one */
-    HULL_ROOM_IN_USE = 37,   /* the room has a seat already */
-    HULL_NOT_OPEN = 38,      /* the desk is not open */
-    HULL_RETURNED = 39,      /* the seat is at its desk again, and the room has none */
-    HULL_VACANT = 40,        /* the room has no seat */
-    HULL_WAITING = 41,       /* the seat has a number, whose call is still to be looked for */
-    HULL_PLACE_IN_USE = 42,  /* the seat's place at the desk is not free */
+    HULL_WAS_OPENED = 34,    /* the shared hull was opened before */
+    HULL_LENT = 35,          /* the seat is in the storage now */
+    HULL_NO_SEAT = 36,       /* no seat of this number is free: it is acquired, or there never was one */
+    HULL_ROOM_IN_USE = 37,   /* the storage has a seat already */
+    HULL_NOT_OPEN = 38,      /* the shared hull is not open */
+    HULL_RETURNED = 39,      /* the seat is released, and the storage has none */
+    HULL_VACANT = 40,        /* the storage has no seat */
+    HULL_WAITING = 41,       /* the seat has a number, whose call is not finished */
+    HULL_PLACE_IN_USE = 42,  /* the seat's slot of the shared hull is not free */
     HULL_TAKEN = 43,         /* the seat has a number now */
     HULL_NOT_YET = 44,       /* another number is served: look again */
     HULL_NO_NUMBER = 45,     /* the seat has no number to look for */
-    HULL_FULL = 46,          /* as many lines are held as may be, until they are drained: the call was not made, and the seat has no number
-                              * any more */
-    HULL_SEATS_OUT = 47,     /* a seat is out: the desk stays open */
-    HULL_CLOSED = 48,        /* the desk is closed, and has its journal */
-    HULL_NOT_CLOSED = 49,    /* the desk is not closed */
+    HULL_FULL = 46,          /* the journal has as many lines as it may have until it is drained: the call was not made, and the seat has no
+                              * number any more */
+    HULL_SEATS_OUT = 47,     /* a seat is acquired: the shared hull stays open */
+    HULL_CLOSED = 48,        /* the shared hull is closed, and has its journal */
+    HULL_NOT_CLOSED = 49,    /* the shared hull is not closed */
     HULL_TEXT = 50,          /* the text was written to the front of the array: `number` bytes */
-    HULL_ENDED = 51,         /* the desk holds nothing any more */
-    HULL_IN_USE = 52,        /* no seat is out, and yet a call on the desk or a seat is under way: the desk stays open */
-    HULL_RESERVED = 53,      /* the part has room for lines now */
-    HULL_PART_IN_USE = 54,   /* the part has room or lines already */
-    HULL_NO_ROOM = 55,       /* the part has no room for as many lines as the desk holds at most: no look was made */
-    HULL_NO_LINES = 56,      /* the part has no lines */
-    HULL_NO_JOURNAL = 57,    /* the text is none of a journal: line `number` of it, from 1, has the first fault, `high`: 1 its form, 2 a
-                              * number, 3 a coordinate, 4 a seat, 5 a word, 6 the text ends before its end line, 7 no header */
-    HULL_OLD_RULES = 58,     /* the journal is of version 1 or 2, in which points are not counted: it can't be gone on with */
-    HULL_ILLEGAL = 59,       /* the journal is no legal history: line `number` of its text, from 1, is the first that is not right */
+    HULL_ENDED = 51,         /* the shared hull is ended */
+    HULL_IN_USE = 52,        /* no seat is acquired, but a call on the shared hull or a seat is under way: it stays open */
+    HULL_RESERVED = 53,      /* the segment has space for lines now */
+    HULL_PART_IN_USE = 54,   /* the segment has space or lines already */
+    HULL_NO_ROOM = 55,       /* the segment has too little space for the lines that the journal may have: no look was made */
+    HULL_NO_LINES = 56,      /* the segment has no lines */
+    HULL_NO_JOURNAL = 57,    /* the text is not a journal: line `number` of it, from 1, has the first fault, `high`: 1 its form, 2 a number,
+                              * 3 a coordinate, 4 a seat, 5 a word, 6 the text ends before its end line, 7 no header */
+    HULL_OLD_RULES = 58,     /* the journal is of version 1 or 2, which does not count points, so it can't be continued */
+    HULL_ILLEGAL = 59,       /* the journal is not a legal history: line `number` of its text, from 1, is the first that is wrong */
     HULL_TOO_FEW_SEATS = 60, /* the journal has lines by `number` seats (0 to `number` - 1), more than were asked for */
 
-    /* of checked builds alone */
-    HULL_NO_OUTLINE = 61,    /* the array is no outline (where HULL_CHECKED is defined) */
+    /* of checked arrays only */
+    HULL_NO_OUTLINE = 61,    /* the array is not a convex polygon (only if arrays are checked) */
 
-    /* of lines, in which calls of seats wait, alone */
-    HULL_BUSY = 62,          /* the door did not open in time: no number was taken, and no call made */
-    HULL_OTHER_LINE = 63,    /* the line is that of another desk, or the seat was lent with another: no call was made */
+    /* of admission, in which calls of seats wait, only */
+    HULL_BUSY = 62,          /* the call was not admitted in time: no number was taken, and no call made */
+    HULL_OTHER_LINE = 63,    /* the line is that of another desk, or the seat was acquired with another: no call was made */
 
-    /* of files that keep a journal alone */
-    HULL_NO_FILE = 64,       /* the system refused a call on the file: errno is told with it */
-    HULL_DAMAGED = 65,       /* line `number` of the file, from 1, is wrong, and more than a torn part stands from there on */
-    HULL_SAFE = 66,          /* the lines before line `number` are in the file for good */
+    /* of journal files only */
+    HULL_NO_FILE = 64,       /* the system refused a call on the file, for the reason in errno */
+    HULL_DAMAGED = 65,       /* line `number` of the file, from 1, is wrong, and it is not the torn end of a segment */
+    HULL_SAFE = 66,          /* the lines before line `number` are durable */
 
-    /* of readers alone */
-    HULL_ADMITTED = 67,      /* the desk is opened for so many readers */
-    HULL_VIEWED = 68,        /* the reader holds this view, and had the newest */
-    HULL_OLD = 69            /* it holds the view that it held before: others were in the way of a newer one */
+    /* of readers only */
+    HULL_ADMITTED = 67,      /* the shared hull takes so many readers */
+    HULL_VIEWED = 68,        /* the reader has this snapshot, which was the newest */
+    HULL_OLD = 69            /* the reader has the snapshot that it had before: others delayed a newer one */
     /* end of what tools/table.py writes */
 } hull_code;
 
-/* What a call was answered: a code (hull_code), and what belongs to it (told above); all else is 0. */
+/* The result of a call: a code (hull_code), and the fields that it names above; all others are 0. */
 typedef struct hull_reply {
     uint32_t code;
     int64_t x;
@@ -139,14 +143,14 @@ typedef struct hull_point {
     int64_t y;
 } hull_point;
 
-/* A point that is held, and how often. */
+/* A point and its multiplicity. */
 typedef struct hull_held {
     int64_t x;
     int64_t y;
     uint32_t times;
 } hull_held;
 
-/* The same, for who loads a library that was built with these headers. */
+/* Returns the same, for a library that was built with these headers and is loaded at run time. */
 static inline const char *hull_version(void) {
     return HULL_VERSION;
 }
@@ -231,32 +235,43 @@ static inline const char *hull_code_name(uint32_t code) {
     }
 }
 
-/* The address of an array of so many elements; where it has none, one that is not null, as the library asks for. Each call of the
- * headers that is passed an array goes through this, by an inline function to which its name leads (`#define`). */
+/* Returns the address of an array, or if it has no elements one that is not null, which the proved functions of hull_shared.h
+ * require. */
 static inline void *hull_array(const void *array, size_t count) {
     static const uint64_t none = 0;
-    return (void *)(count == 0 ? (const void *)&none : array);
+    const void *chosen = &none;
+    void *address;
+    if (count > 0) {
+        chosen = array;
+    }
+    memcpy(&address, &chosen, sizeof address); /* the proved functions take arrays that they only read as const again */
+    return address;
 }
 
-/* Memory from malloc of so many bytes, which begins at a multiple of the alignment (a power of 2), for hull_room_free; null
- * where malloc refuses. It needs no aligned_alloc, which C99 and C++ need not have. */
+/* Returns memory from malloc, of so many bytes at a multiple of the alignment (a power of 2), for hull_room_free; null if malloc
+ * refuses. (C99 and C++ need not have aligned_alloc.) */
 static inline void *hull_room_new(size_t size, size_t alignment) {
-    unsigned char *block = (unsigned char *)malloc(sizeof(void *) + alignment - 1 + size);
+    void *block = malloc(sizeof(void *) + alignment - 1 + size);
     unsigned char *room;
+    uintptr_t address;
     if (block == NULL) {
         return NULL;
     }
-    room = block + sizeof(void *);
-    room += (alignment - (uintptr_t)room % alignment) % alignment;
+    memcpy(&room, &block, sizeof room);
+    room += sizeof(void *);
+    memcpy(&address, &room, sizeof address);
+    room += (alignment - address % alignment) % alignment;
     memcpy(room - sizeof(void *), &block, sizeof(void *));
     return room;
 }
 
-/* Gives memory of hull_room_new back to free; nothing where it is null. */
+/* Frees memory of hull_room_new; does nothing for null. */
 static inline void hull_room_free(void *room) {
+    unsigned char *begin;
     void *block;
     if (room != NULL) {
-        memcpy(&block, (unsigned char *)room - sizeof(void *), sizeof(void *));
+        memcpy(&begin, &room, sizeof begin);
+        memcpy(&block, begin - sizeof(void *), sizeof(void *));
         free(block);
     }
 }

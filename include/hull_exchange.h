@@ -1,8 +1,8 @@
-/* Points from doubles and back, and corners as well-known text. It needs no library but that of C.
+/* Points from doubles and back, and vertices as well-known text. It needs no library but that of C.
  *
- * Whoever has coordinates in doubles names a power of two: a double v becomes the coordinate v * 2^power. With power 20, say, a
- * lattice of steps of 2^-20 covers -2^20 to 2^20. What was not on the lattice is rounded to the nearest coordinate, and that is
- * told: answers are exact for the points after rounding. */
+ * If your coordinates are doubles, choose a power of two: a double v becomes the coordinate v * 2^power. With power 20, for
+ * example, a lattice of steps of 2^-20 covers -2^20 to 2^20. A double that is not on the lattice is rounded to the nearest
+ * coordinate, and the call says so: answers are exact for the rounded points. */
 #ifndef HULL_EXCHANGE_H
 #define HULL_EXCHANGE_H
 
@@ -14,15 +14,14 @@
 extern "C" {
 #endif
 
-/* What came of a double. */
+/* What became of a double. */
 typedef enum hull_rounding {
     HULL_EXACT = 0,        /* the coordinate is v * 2^power */
     HULL_ROUNDED = 1,      /* the nearest coordinate to it; of two as near the even one */
     HULL_NO_COORDINATE = 2 /* none is: v is not finite, or too great for a coordinate with this power */
 } hull_rounding;
 
-/* The coordinate v * 2^power of a double, by way of `coordinate`, which stays as it was where there is none. The power may be
- * any. */
+/* Writes the coordinate v * 2^power of a double to `coordinate`, which is unchanged if there is none. The power may be any. */
 static inline hull_rounding hull_from_double(double v, int power, int64_t *coordinate) {
     uint64_t bits, size, rest, half;
     int shift;
@@ -65,10 +64,10 @@ static inline hull_rounding hull_from_double(double v, int power, int64_t *coord
     return rest == 0 ? HULL_EXACT : HULL_ROUNDED;
 }
 
-/* The direction (x, y) in whole numbers of one in doubles, (dx, dy), by way of `x` and `y`: both are multiplied by the power of two that
- * takes the one greater in size to at least 2^39 and below 2^40. HULL_EXACT where both are whole then: it is the very same direction.
- * Else each is rounded as by hull_from_double: HULL_ROUNDED. Of (0, 0) it is (0, 0). HULL_NO_COORDINATE, and `x` and `y` stay as
- * they were, where one is not finite. */
+/* Scales a direction (dx, dy) of doubles to integers and writes it to `x` and `y`: both are multiplied by the power of two that
+ * makes the greater one at least 2^39 and less than 2^40 in size. Returns HULL_EXACT if both are integers then, so that it is the
+ * same direction; else each is rounded as by hull_from_double: HULL_ROUNDED. (0, 0) stays (0, 0). Returns HULL_NO_COORDINATE, and
+ * leaves `x` and `y` unchanged, if one is not finite. */
 static inline hull_rounding hull_direction_from_doubles(double dx, double dy, int64_t *x, int64_t *y) {
     uint64_t first, second, greatest;
     int64_t at_x = 0, at_y = 0;
@@ -99,20 +98,25 @@ static inline hull_rounding hull_direction_from_doubles(double dx, double dy, in
     return of_x == HULL_ROUNDED || of_y == HULL_ROUNDED ? HULL_ROUNDED : HULL_EXACT;
 }
 
-/* The double of a coordinate, which is coordinate / 2^power: exact for powers from -960 to 1000. */
+/* Returns whether two doubles are equal, without a warning of compilers that distrust `==`. */
+static inline int hull_is_equal_double(double a, double b) {
+    return a <= b && a >= b;
+}
+
+/* Returns coordinate / 2^power, exact for powers from -960 to 1000. */
 static inline double hull_to_double(int64_t coordinate, int power) {
     double v = (double)coordinate;
     int i;
-    for (i = 0; i < power && v != 0; i++) {
+    for (i = 0; i < power && !hull_is_equal_double(v, 0); i++) {
         v /= 2;
     }
-    for (i = 0; i > power && v != 0 && v - v == 0; i--) {
+    for (i = 0; i > power && !hull_is_equal_double(v, 0) && hull_is_equal_double(v - v, 0); i--) {
         v *= 2;
     }
     return v;
 }
 
-/* A number as text: a whole one as it is, else with as few digits as tell that double from all others. Returns its length. */
+/* Writes a number as text: an integer as it is, else with the fewest digits that give that double again. Returns its length. */
 static inline size_t hull_number_text(int64_t coordinate, int power, char text[32]) {
     double v = hull_to_double(coordinate, power);
     int digits, length;
@@ -122,16 +126,15 @@ static inline size_t hull_number_text(int64_t coordinate, int power, char text[3
     digits = 15;
     do {
         length = snprintf(text, 32, "%.*g", digits, v);
-    } while (strtod(text, NULL) != v && digits++ < 17);
+    } while (!hull_is_equal_double(strtod(text, NULL), v) && digits++ < 17);
     return (size_t)length;
 }
 
-/* Writes the corners that hull_vertices tells as well-known text (OGC 06-103r4), which GEOS, PostGIS and QGIS read: POLYGON
- * EMPTY, a POINT, a LINESTRING, or a POLYGON whose ring is closed and runs counterclockwise. Coordinates are divided by
- * 2^power. As snprintf, it writes what has room with a 0 behind it, and returns how long the whole text is without that;
- * `out` may be null where `room` is 0. It takes the decimal point of the locale, as printf does: leave the locale for numbers
- * at "C". */
-static inline size_t hull_wkt(const hull_point *corners, size_t count, int power, char *out, size_t room) {
+/* Writes vertices as well-known text (OGC 06-103r4), which GEOS, PostGIS and QGIS read: POLYGON EMPTY, a POINT, a LINESTRING, or a
+ * POLYGON whose ring is closed and runs counterclockwise. Coordinates are divided by 2^power. Like snprintf, it writes at most
+ * `room` bytes with a 0 at their end, and returns the length of the whole text without that; `out` may be null if `room` is 0. It
+ * uses the decimal point of the locale, as printf does: leave the locale for numbers at "C". */
+static inline size_t hull_wkt(const hull_point *vertices, size_t count, int power, char *out, size_t room) {
     const char *begin = count == 0 ? "POLYGON EMPTY" : count == 1 ? "POINT (" : count == 2 ? "LINESTRING (" : "POLYGON ((";
     const char *end = count == 0 ? "" : count < 3 ? ")" : "))";
     size_t points = count < 3 ? count : count + 1, length = 0, i, j, k;
@@ -139,7 +142,7 @@ static inline size_t hull_wkt(const hull_point *corners, size_t count, int power
         char text[72];
         const char *piece = i == 0 ? begin : i == points + 1 ? end : text;
         if (piece == text) {
-            hull_point p = corners[i - 1 < count ? i - 1 : 0];
+            hull_point p = vertices[i - 1 < count ? i - 1 : 0];
             j = i == 1 ? 0 : (memcpy(text, ", ", 2), (size_t)2);
             j += hull_number_text(p.x, power, text + j);
             text[j++] = ' ';

@@ -1,16 +1,15 @@
-"""A convex hull of points with whole coordinates, which takes points in and lets them go, exact and proved.
+"""An exact convex hull of points with integer coordinates that come and go, over verified code.
 
     from hull import Hull, Place
     hull = Hull([(0, 0), (10, 0), (10, 10), (0, 10)])
     hull.place(5, 5) is Place.INSIDE
     hull.place_all([(5, 5), (10, 5), (11, 5)])     # three of Place, as bytes
 
-A hull holds points, each at least once; questions are over the points, each taken once. A coordinate is a whole number
-from -COORDINATE_LIMIT to COORDINATE_LIMIT. Many points at once are a list of pairs, or an array of integers in two
-columns, a point in each row: one of numpy, whose answers are then arrays of numpy too, or any other that shows its
-memory so (the buffer protocol, as arrays of ctypes). Arrays of floats and bools, masked ones, and those of two rows and
-another number of columns than two are refused. A call that raises leaves the hull as it was. Calls on one hull from
-several threads wait for each other; a signal's handler and a `__del__` may make calls on any hull.
+A hull contains points, each with a multiplicity; questions are about their convex hull. A coordinate is an integer from -COORDINATE_LIMIT to
+COORDINATE_LIMIT. Many points at once are a list of pairs, or an array of integers in two columns, a point in each row: of numpy, and then results
+are arrays of numpy too, or any other with the buffer protocol, as arrays of ctypes. Arrays of floats and bools, masked ones, and those of two rows
+and another number of columns than two are refused. A call that raises leaves the hull as it was. Calls on one hull from several threads wait for
+each other; a signal handler and a `__del__` may make calls on any hull.
 
     from hull import SharedHull
     with SharedHull(capacity=1000, seats=2) as shared:
@@ -18,7 +17,7 @@ several threads wait for each other; a signal's handler and a `__del__` may make
             seat.add(3, 4)
         text = shared.close()                      # the journal of all calls, which `hullbook check` judges
 
-Coordinates that are floats come to the lattice by a power of two that the caller names:
+Floats are mapped to the lattice by a power of two that you choose:
 
     from hull import FloatHull, from_floats, to_floats
     points, rounded = from_floats([(0.5, 1.25), (0.1, 3)], power=20)     # rounded is 1: 0.1 is between two
@@ -26,13 +25,11 @@ Coordinates that are floats come to the lattice by a power of two that the calle
     Hull(points).wkt(power=20)                                           # "LINESTRING (..)", "POLYGON ((..))"
     FloatHull([(0.5, 1.25), (0.1, 3)], power=20).area()                  # or all in floats
 
-A hull lives as long as something refers to it: it ends behind the last `__del__` of a cycle that it is in, and behind
-all `atexit` handlers. A child of a fork has the hulls of its parent; one in which another thread was just then, and
-each SharedHull, is ended there: calls raise Ended.
+A hull lives as long as something refers to it: it is freed after the last `__del__` of a cycle that it is in, and after all `atexit` handlers. A forked
+child has the hulls of its parent; one in which another thread was at that moment, and each SharedHull, is ended there: calls raise Ended.
 
-The calls go to the shared objects `libhull.so` and `libhull_shared.so` (loaded for the first SharedHull), which
-`bin/install` links from the archives and puts beside this file; the variables HULL_LIBRARY and HULL_SHARED_LIBRARY of
-the environment may name others. It runs under Python 3.8 and later.
+The calls go to the shared objects `libhull.so` and `libhull_shared.so` (loaded for the first SharedHull), which `bin/install` puts beside this file;
+the environment variables HULL_LIBRARY and HULL_SHARED_LIBRARY may name others. It runs under Python 3.8 and later.
 """
 from __future__ import annotations
 
@@ -54,7 +51,7 @@ from typing import SupportsIndex, Tuple, Union, overload
 if sys.version_info < (3, 8):
     raise ImportError("the module hull needs Python 3.8 or later")
 
-__version__ = "2.3.0"
+__version__ = "2.4.0"
 __all__ = [
     "CAPACITY_LIMIT", "COORDINATE_LIMIT", "MULTIPLICITY_LIMIT", "POINT_LIMIT", "READER_LIMIT", "SEAT_LIMIT", "Busy", "Ended",
     "FloatHull", "Hull", "JournalFault", "JournalFull", "JournalPart", "Lattice", "Motion", "NoSeat", "OutOfRange", "Outline", "Place",
@@ -101,37 +98,36 @@ class ZeroDirection(ValueError):
 
 
 class TooMany(ValueError):
-    """The point is new and there are as many as the limit, or it is held as often as may be."""
+    """The point is new and there are as many as the limit, or its multiplicity is the greatest."""
 
 
 class NoSeat(LookupError):
-    """The seat is out, or the shared hull has none of this number."""
+    """The seat is acquired, or the shared hull has none of this number."""
 
 
 class SeatsOut(RuntimeError):
-    """A seat of the shared hull is out: it stays open."""
+    """A seat or a reader of the shared hull is acquired: it stays open."""
 
 
 class JournalFull(RuntimeError):
-    """The shared hull holds as many lines as it may, until it is drained: the call was not made."""
+    """The journal of the shared hull is full until it is drained: the call was not made."""
 
 
 class Busy(Exception):
-    """The shared hull was in use by others for as long as the seat waits (`Seat.wait_at_most`): the call was not made."""
+    """The call was not admitted for as long as the seat waits (`Seat.wait_at_most`), and was not made."""
 
 
 class Ended(RuntimeError):
-    """This process is the child of a fork, in which the hull can't be used: another thread was in it, or it is a shared one."""
+    """This process is a forked child, in which the hull can't be used: another thread was in it, or it is a shared one."""
 
 
 class JournalFault(ValueError):
-    """A text can't be gone on with: it is none of a journal, or the journal is of an older version, or no legal history, or has lines
-    by more seats than were asked for. The message says which, and names the line of the text, from 1.
-    """
+    """A text can't be continued: it is not a journal, or the journal is of an older version, or not a legal history, or has lines by more
+    seats than were asked for. The message says which, and names the line of the text, from 1."""
 
 
 class _Code(enum.IntEnum):
-    """What a call was answered, by the numbers of the headers."""
+    """What a call returns, by the numbers of the headers."""
 
     # written by tools/table.py: codes
     OK = 0
@@ -208,7 +204,7 @@ class _Code(enum.IntEnum):
 
 
 class Place(enum.IntEnum):
-    """Where a point lies."""
+    """The location of a point."""
 
     #: The hull covers the point, which is not on its boundary.
     INSIDE = _Code.INSIDE
@@ -259,7 +255,7 @@ class _Witness(ctypes.Structure):
     code: int
 
     def point(self, name: str) -> Pair:
-        """The point of this name."""
+        """Returns the point of this name."""
         x, y = getattr(self, name)
         return x, y
 
@@ -273,7 +269,7 @@ class _Clearance(ctypes.Structure):
     upper: int
 
     def number(self, name: str) -> int:
-        """The whole number in these words, the highest of which is the first."""
+        """Returns the integer of these words, the highest first."""
         words: List[int] = list(getattr(self, name))
         return functools.reduce(lambda above, word: above << 64 | word, words, 0)
 
@@ -298,34 +294,34 @@ class _Motion(ctypes.Structure):
 _FAULTS: Dict[int, Callable[[], Exception]] = {
     _Code.OUT_OF_RANGE: lambda: OutOfRange("a coordinate is out of range"),
     _Code.ZERO_DIRECTION: lambda: ZeroDirection("a direction is zero"),
-    _Code.TOO_MANY: lambda: TooMany("there are as many points as the limit, or the point is held as often as may be"),
+    _Code.TOO_MANY: lambda: TooMany("there are as many points as the limit, or the multiplicity is the greatest"),
     _Code.NO_MEMORY: lambda: MemoryError("memory was refused"),
-    _Code.OUT_OF_ORDER: lambda: ValueError("the held points are not in order"),
+    _Code.OUT_OF_ORDER: lambda: ValueError("the points are not in order"),
     _Code.OUT_OF_LIMITS: lambda: ValueError("a limit, a capacity or a number of seats is out of range"),
     _Code.NO_SEAT: lambda: NoSeat("there is no such seat at the hull"),
     _Code.NOT_OPEN: lambda: ValueError("the hull is closed"),
-    _Code.VACANT: lambda: ValueError("the seat was given back"),
-    _Code.SEATS_OUT: lambda: SeatsOut("a seat of the hull is out"),
+    _Code.VACANT: lambda: ValueError("the seat was released"),
+    _Code.SEATS_OUT: lambda: SeatsOut("a seat of the hull is acquired"),
     _Code.FULL: lambda: JournalFull("the journal of the hull is full"),
-    _Code.BUSY: lambda: Busy("the hull is in use by others"),
+    _Code.BUSY: lambda: Busy("the hull was in use by others for too long"),
     _Code.ENDED: lambda: Ended("the hull was ended by a fork"),
 }
 
 
 def _out_of_range() -> Exception:
-    """The fault of a coordinate that is."""
+    """Returns the exception of a coordinate that is out of range."""
     return _FAULTS[_Code.OUT_OF_RANGE]()
 
 
 def _told(code: int) -> None:
-    """Raises the fault of a code that is one's."""
+    """Raises the exception of a code, if it has one."""
     fault = _FAULTS.get(code)
     if fault is not None:
         raise fault()
 
 
 def _refused(code: int) -> NoReturn:
-    """Raises the fault of a code that is none of a call's answers."""
+    """Raises the exception of a code that is no reply of a call."""
     _told(code)
     raise RuntimeError(f"the library answered {code}")
 
@@ -404,11 +400,11 @@ _LIBRARY = _library()
 
 
 def _kind(free: Any) -> Any:
-    """A class of places, whole numbers, at each of which something lies that a function of the library frees.
+    """A class of addresses, integers, at each of which something is that a function of the library frees.
 
-    It goes with the last object that refers to the place. The collector of garbage does not know the place (`_at`), so that in
-    a cycle it goes behind every `__del__` of the cycle. No step of Python's lies between the last reference and the function,
-    so that no handler of a signal can raise before it.
+    It is freed with the last object that refers to the address. The garbage collector does not know the address (`_at`), so that in a cycle
+    it goes after every `__del__` of the cycle. No step of Python's is between the last reference and the function, so that no signal
+    handler can raise before it.
     """
     bound = ctypes.PYFUNCTYPE(ctypes.py_object, ctypes.py_object)(("PyInstanceMethod_New", ctypes.pythonapi))
     return type("_At", (int,), {"__slots__": (), "__del__": bound(free)})
@@ -419,14 +415,14 @@ _HullAt = _kind(_LIBRARY.hull_python_free)
 
 @functools.lru_cache(maxsize=None)
 def _shared_kinds() -> Tuple[Any, Any, Any, Any]:
-    """The classes of where a desk, a seat, a part and a reader lie."""
+    """The classes of addresses of a desk, a seat, a part and a reader."""
     library = _shared_library()
     return (_kind(library.hull_python_desk_free), _kind(library.hull_python_seat_free), _kind(library.hull_python_part_free),
             _kind(library.hull_python_reader_free))
 
 
 def _at(kind: Any, place: Optional[int]) -> Any:
-    """The place of what was made there, if memory was not refused; it refers to nothing that the collector looks for."""
+    """Returns the address of what was made there, if memory was not refused; it refers to nothing that the collector looks for."""
     if place is None:
         _told(_Code.NO_MEMORY)
     at = kind(place)
@@ -435,14 +431,14 @@ def _at(kind: Any, place: Optional[int]) -> Any:
 
 
 def _index(number: SupportsIndex) -> int:
-    """A whole number; True and False are none."""
+    """Returns an integer; True and False are none."""
     if isinstance(number, bool):
         raise TypeError("a coordinate is a whole number, and not a bool")
     return operator.index(number)
 
 
 def _whole(coordinate: SupportsIndex) -> int:
-    """A coordinate that is in range: ctypes would cut a larger one off."""
+    """Returns a coordinate that is in range: ctypes would cut a larger one off."""
     coordinate = _index(coordinate)
     if not -COORDINATE_LIMIT <= coordinate <= COORDINATE_LIMIT:
         raise _out_of_range()
@@ -450,7 +446,7 @@ def _whole(coordinate: SupportsIndex) -> int:
 
 
 def _of_numpy(points: object) -> Any:
-    """The module numpy where the points are an array of its, else None."""
+    """Returns the module numpy if the points are an array of its, else None."""
     numpy: Any = sys.modules.get("numpy")
     return numpy if numpy is not None and isinstance(points, numpy.ndarray) else None
 
@@ -466,7 +462,7 @@ def _check_shape(shape: Sequence[int], kind: object) -> None:
 
 def _numpy_rows(numpy: Any, points: Any, kinds: str = "iu", wanted: str = "integers",
                 help: str = "; from_floats takes floats") -> Any:
-    """The array, if it has one point in each row, and its numbers are of these kinds."""
+    """Returns the array, if it has one point in each row, and its numbers are of these kinds."""
     if isinstance(points, numpy.ma.MaskedArray):
         raise TypeError("an array of points has no mask: fill or compress it first")
     if points.dtype.kind not in kinds:
@@ -477,7 +473,7 @@ def _numpy_rows(numpy: Any, points: Any, kinds: str = "iu", wanted: str = "integ
 
 
 def _flat_of_numpy(numpy: Any, points: Any) -> "array[int]":
-    """The coordinates of an array of numpy, as `_flat` tells them, before any is cut off by a cast."""
+    """Returns the coordinates of an array of numpy, as `_flat`, before any is cut off by a cast."""
     rows = _numpy_rows(numpy, points)
     if rows.size and not -COORDINATE_LIMIT <= int(rows.min()) <= int(rows.max()) <= COORDINATE_LIMIT:
         raise _out_of_range()
@@ -485,7 +481,7 @@ def _flat_of_numpy(numpy: Any, points: Any) -> "array[int]":
 
 
 def _flat_of_memory(view: memoryview) -> "Optional[array[int]]":
-    """The coordinates of an array that shows its memory, none of them looked at yet; None where it shows no numbers."""
+    """Returns the coordinates of an array with the buffer protocol, none of them tested yet; None if it has no numbers."""
     shape, order, kind = view.shape or (), view.format[:-1], view.format[-1:]
     if len(shape) < 2 and 0 not in shape:
         return None
@@ -502,7 +498,7 @@ def _flat_of_memory(view: memoryview) -> "Optional[array[int]]":
 
 
 def _flat(points: Any) -> "array[int]":
-    """The coordinates of many points, all in range, those of each point beside one another."""
+    """Returns the coordinates of many points, all in range, those of each point as neighbours."""
     numpy = _of_numpy(points)
     if numpy is not None:
         return _flat_of_numpy(numpy, points)
@@ -523,12 +519,12 @@ def _flat(points: Any) -> "array[int]":
 
 
 def _pairs(flat: "array[int]") -> List[Pair]:
-    """The points of such coordinates."""
+    """Returns the points of such coordinates."""
     return list(zip(flat[0::2], flat[1::2]))
 
 
 def _like(points: object, numbers: Any) -> Any:
-    """The numbers, as an array of numpy where the points were one."""
+    """Returns the numbers, as an array of numpy if the points were one."""
     numpy = _of_numpy(points)
     if numpy is not None:
         return numpy.frombuffer(numbers, dtype=numpy.uint8 if isinstance(numbers, bytes) else numpy.uint32)
@@ -536,7 +532,7 @@ def _like(points: object, numbers: Any) -> Any:
 
 
 class Motion(NamedTuple):
-    """When an outline that moves straight first meets one that stands."""
+    """When a polygon that moves straight first intersects one that does not move."""
 
     #: How much of its way it has gone; 0 where they meet before it moves.
     part: Fraction
@@ -549,18 +545,18 @@ class Motion(NamedTuple):
 
 
 class Relation(enum.IntEnum):
-    """How one outline stands to another."""
+    """How one polygon is related to another."""
 
     # written by tools/table.py: relations
-    #: They have no point in common.
+    #: They are disjoint.
     APART = 0
-    #: They have, and a line has them on its two sides: nothing inside the one is covered by the other.
+    #: They intersect, and a line has them on its two sides: nothing inside the one is covered by the other.
     TOUCHING = 1
-    #: They have, and no line has them on its two sides.
+    #: They intersect, and no line has them on its two sides.
     OVERLAPPING = 2
-    #: The second covers whatever the first covers, and not the other way.
+    #: The second covers all that the first covers, and not the other way.
     WITHIN = 3
-    #: The first covers whatever the second covers, and not the other way.
+    #: The first covers all that the second covers, and not the other way.
     COVERS = 4
     #: Each covers the other.
     EQUAL = 5
@@ -568,7 +564,7 @@ class Relation(enum.IntEnum):
 
 
 class Shows(enum.IntEnum):
-    """What a `Witness` shows of two outlines."""
+    """Why two polygons intersect, or what separates them."""
 
     #: No corner of the first has a greater product with the direction points[1] than its corner points[0]; those of the
     #: second have.
@@ -582,21 +578,21 @@ class Shows(enum.IntEnum):
 
 
 class Witness(NamedTuple):
-    """What `Outline.witness` tells: what is shown, and the points of it, as a tuple of pairs."""
+    """The result of `Outline.witness`: what is shown, and its points, as a tuple of pairs."""
 
     shows: Shows
     points: Tuple[Pair, ...]
 
 
 class Lattice(NamedTuple):
-    """What `from_floats` makes: the points, and how many of their coordinates had to be rounded."""
+    """The result of `from_floats`: the points, and how many of their coordinates had to be rounded."""
 
     points: Any
     rounded: int
 
 
 def _from_ratio(number: Any, power: int) -> Tuple[int, bool]:
-    """The coordinate next to number * 2**power, of two as near the even one, and whether it was rounded, with no float between."""
+    """Returns the coordinate nearest to number * 2**power, ties to even, and whether it was rounded, with no float between."""
     try:
         above, below = number.as_integer_ratio() if hasattr(number, "as_integer_ratio") else (operator.index(number), 1)
     except (OverflowError, ValueError):  # not finite
@@ -611,7 +607,7 @@ def _from_ratio(number: Any, power: int) -> Tuple[int, bool]:
 
 
 def _from_float(number: Any, power: int) -> Tuple[int, bool]:
-    """The coordinate next to number * 2**power, of two as near the even one; and whether it was rounded."""
+    """Returns the coordinate nearest to number * 2**power, ties to even; and whether it was rounded."""
     if not isinstance(number, float):
         return _from_ratio(number, power)
     try:
@@ -638,11 +634,10 @@ def _from_numpy(numpy: Any, rows: Any, power: int) -> Lattice:
 
 
 def from_floats(points: Any, power: SupportsIndex) -> Lattice:
-    """The points of the lattice next to x * 2**power, y * 2**power, of two as near the even one: a Lattice.
+    """Returns the points of the lattice nearest to x * 2**power, y * 2**power, ties to even: a Lattice.
 
-    The points are pairs of numbers (floats, integers of any size, fractions, decimals), or an array of numpy with a point in
-    each row, and come back as such. All answers are exact for the points after rounding. OutOfRange where a number is not
-    finite, or too great for the lattice.
+    The points are pairs of numbers (floats, integers of any size, fractions, decimals), or an array of numpy with a point in each row, and
+    are returned as such. All answers are exact for the rounded points. OutOfRange if a number is not finite, or too great for the lattice.
     """
     power = operator.index(power)
     numpy = _of_numpy(points)
@@ -653,11 +648,10 @@ def from_floats(points: Any, power: SupportsIndex) -> Lattice:
 
 
 def direction_of(dx: float, dy: float) -> Tuple[Pair, bool]:
-    """The direction in whole numbers of one in two floats, and whether it was rounded: ((x, y), rounded).
+    """Returns the direction of two floats in integers, and whether it was rounded: ((x, y), rounded).
 
-    Both are multiplied by the power of two that takes the one greater in size to at least 2^39 and below 2^40. Where both
-    are whole then, the direction is the very same; else each is rounded to the nearest, of two as near to the even one.
-    Of (0, 0) it is (0, 0). OutOfRange where one is not finite.
+    Both are multiplied by the power of two that makes the greater one at least 2^39 and less than 2^40 in size. If both are integers then,
+    it is the same direction; else each is rounded to the nearest, ties to even. (0, 0) stays (0, 0). OutOfRange if one is not finite.
     """
     greatest = max(abs(dx), abs(dy))
     power = 0 if greatest == 0 or not math.isfinite(greatest) else 40 - math.frexp(greatest)[1]
@@ -666,7 +660,7 @@ def direction_of(dx: float, dy: float) -> Tuple[Pair, bool]:
 
 
 def to_floats(points: Any, power: SupportsIndex) -> Any:
-    """The pairs (x / 2**power, y / 2**power), as floats or as an array of them: exact for powers from -960 to 1000."""
+    """Returns the pairs (x / 2**power, y / 2**power), as floats or as an array of them: exact for powers from -960 to 1000."""
     power = operator.index(power)
     numpy = _of_numpy(points)
     if numpy is not None:
@@ -675,18 +669,18 @@ def to_floats(points: Any, power: SupportsIndex) -> Any:
 
 
 def _floats(point: Tuple[SupportsIndex, SupportsIndex], power: int) -> Floats:
-    """The floats of a point."""
+    """Returns the floats of a point."""
     x, y = point
     return math.ldexp(_whole(x), -power), math.ldexp(_whole(y), -power)
 
 
 def wkt(corners: Points, power: SupportsIndex = 0) -> str:
-    """Corners, as `vertices` tells them, as well-known text (OGC 06-103r4), which GEOS, PostGIS and QGIS read.
+    """Returns vertices as well-known text (OGC 06-103r4), which GEOS, PostGIS and QGIS read.
 
-    POLYGON EMPTY, a POINT, a LINESTRING, or a POLYGON whose ring is closed and runs counterclockwise. Coordinates are
-    divided by 2**power, and are written with as few digits as tell the float from all others.
+    POLYGON EMPTY, a POINT, a LINESTRING, or a POLYGON whose ring is closed and runs counterclockwise. Coordinates are integers (TypeError
+    for floats), divided by 2**power, and are written with the fewest digits that give that float again.
     """
-    whole = [(int(x), int(y)) for x, y in corners]
+    whole = [(_index(x), _index(y)) for x, y in corners]
     pairs = whole if operator.index(power) == 0 else to_floats(whole, power)
     texts = [f"{x!r} {y!r}" for x, y in pairs]
     if not texts:
@@ -697,37 +691,37 @@ def wkt(corners: Points, power: SupportsIndex = 0) -> str:
 
 
 def _times_added(reply: _Reply) -> int:
-    """How often a point is held that was added."""
+    """Returns the multiplicity of a point that was added."""
     return 1 if reply.code == _Code.ADDED else reply.number
 
 
 def _times_left(reply: _Reply) -> Optional[int]:
-    """How often a point is still held that was removed; None where it was not there."""
+    """Returns the multiplicity that is left of a point that was removed; None if it was not there."""
     return None if reply.code == _Code.ABSENT else reply.number
 
 
 def _two_pairs(reply: _Reply) -> Tuple[Pair, Pair]:
-    """The two points of a reply."""
+    """Returns the two points of a reply."""
     return (reply.x, reply.y), (reply.other_x, reply.other_y)
 
 
 def _tangents(reply: _Reply) -> Optional[Tuple[Pair, Pair]]:
-    """The left and the right tangent point; None where no such are."""
+    """Returns the left and the right tangent point; None if there are none."""
     return None if reply.code == _Code.NO_TANGENT else _two_pairs(reply)
 
 
 def _farthest(reply: _Reply) -> Optional[Pair]:
-    """The farthest point; None where there is none."""
+    """Returns the farthest point; None if there is none."""
     return None if reply.code == _Code.EMPTY else (reply.x, reply.y)
 
 
 def _area(reply: _Reply) -> int:
-    """An area in two words."""
+    """Returns an area of two words."""
     return reply.high << 64 | reply.number
 
 
 def _squared_distance(places: Sequence[Tuple[Pair, ...]]) -> Fraction:
-    """The squared distance of two places, each a point or an edge with the foot of the other on it; 0 where both are none."""
+    """Returns the squared distance of two features, each a point or an edge with the foot of the other on it; 0 if both are none."""
     if not places[0]:
         return Fraction(0)
     (point,), ends = sorted(places, key=len)
@@ -740,61 +734,61 @@ def _squared_distance(places: Sequence[Tuple[Pair, ...]]) -> Fraction:
 
 
 class _Questions:
-    """What a hull and an outline can be asked. Each tells how one call is made, how many are, and its corners."""
+    """The questions of a hull and of a polygon. A subclass says how one call is made, how many are, and its vertices."""
 
     __slots__ = ()
 
     def _call(self, kind: int, x: int = 0, y: int = 0) -> _Reply:
-        """The reply of a call, or the fault that it told."""
+        """Returns the reply of a call, or raises its exception."""
         raise NotImplementedError
 
     def _serve(self, requests: int, replies: int, count: int) -> None:
-        """Makes so many calls, whose requests and replies stand at these places."""
+        """Makes so many calls, whose requests and replies are at these addresses."""
         raise NotImplementedError
 
     def _corner_array(self) -> "array[int]":
-        """The coordinates of the corners, those of each beside one another."""
+        """Returns the coordinates of the vertices, those of each as neighbours."""
         raise NotImplementedError
 
     def place(self, x: SupportsIndex, y: SupportsIndex) -> Place:
-        """Where the point lies: one of Place."""
+        """Returns the location of the point: one of Place."""
         return Place(self._call(_Kind.PLACE, _whole(x), _whole(y)).code)
 
     def tangents(self, x: SupportsIndex, y: SupportsIndex) -> Optional[Tuple[Pair, Pair]]:
-        """The left and the right point that bound the hull as it is seen from (x, y); None where no such are."""
+        """Returns the left and the right tangent point seen from (x, y); None if there are none."""
         return _tangents(self._call(_Kind.TANGENTS, _whole(x), _whole(y)))
 
     def extreme(self, x: SupportsIndex, y: SupportsIndex) -> Optional[Pair]:
-        """The point farthest in the direction (x, y), of several the first by x and then by y; None where none is."""
+        """Returns the farthest point in the direction (x, y), of several the first by x and then by y; None if there is none."""
         return _farthest(self._call(_Kind.EXTREME, _whole(x), _whole(y)))
 
     def extreme_d(self, dx: float, dy: float) -> Optional[Pair]:
-        """The point farthest in a direction of two floats, by whole numbers as `direction_of` tells them.
+        """Returns the farthest point in a direction of two floats, scaled to integers by `direction_of`.
 
-        In the direction (0, 0) it is the first point by x and then y.
+        For the direction (0, 0) it is the first point by x and then y.
         """
         (x, y), _ = direction_of(dx, dy)
         return self.extreme(-1, 0) if x == 0 == y else self.extreme(x, y)
 
     def doubled_area(self) -> int:
-        """Twice the area, 0 for a point and a line."""
+        """Returns twice the area, 0 for a point and a segment."""
         return _area(self._call(_Kind.AREA))
 
     def vertices(self) -> List[Pair]:
-        """The corners as pairs, counterclockwise from the first by x and then y, each once and none inside an edge."""
+        """Returns the vertices as pairs, counterclockwise from the first by x and then y, each once and none inside an edge."""
         return _pairs(self._corner_array())
 
     def vertex_array(self) -> Any:
-        """The corners as `vertices` tells them, as an array of numpy of shape (n, 2)."""
+        """Returns the vertices as an array of numpy of shape (n, 2)."""
         numpy: Any = importlib.import_module("numpy")  # so that the module needs none
         return numpy.array(self._corner_array(), dtype=numpy.int64).reshape(-1, 2)
 
     def wkt(self, power: SupportsIndex = 0) -> str:
-        """The hull as well-known text, its coordinates divided by 2**power: see the function `wkt`."""
+        """Returns the hull as well-known text, its coordinates divided by 2**power: see the function `wkt`."""
         return wkt(self.vertices(), power)
 
     def _replies(self, kind: int, flat: "array[int]") -> memoryview:
-        """The replies to one kind of call at each point, as an array that shows its memory."""
+        """Returns the replies to one kind of call at each point, as an array with the buffer protocol."""
         count = len(flat) // 2
         requests = array("q", (kind, 0, 0)) * max(count, 1)
         requests[1:3 * count:3], requests[2:3 * count:3] = flat[0::2], flat[1::2]
@@ -803,7 +797,7 @@ class _Questions:
         return memoryview(replies).cast("B")[:ctypes.sizeof(_Reply) * count]
 
     def _ask_all(self, kind: int, points: Any) -> memoryview:
-        """The replies to one kind of call at each of the points, as words of 32 bits, 14 a reply."""
+        """Returns the replies to one kind of call at each of the points, as words of 32 bits, 14 a reply."""
         return self._replies(kind, _flat(points)).cast("I")
 
     @overload
@@ -812,7 +806,7 @@ class _Questions:
     def place_all(self, points: Points) -> bytes: ...
 
     def place_all(self, points: Any) -> Any:
-        """Where each of the points lies, as bytes with the numbers of Place."""
+        """Returns the location of each of the points, as bytes with the numbers of Place."""
         return _like(points, bytes(self._ask_all(_Kind.PLACE, points)[0::14].tolist()))
 
     @overload
@@ -821,10 +815,10 @@ class _Questions:
     def extreme_all(self, directions: Points) -> List[Optional[Pair]]: ...
 
     def extreme_all(self, directions: Any) -> Any:
-        """The point farthest in each of the directions, of several the first by x and then by y.
+        """Returns the farthest point in each of the directions, of several the first by x and then by y.
 
-        Pairs in a list, or an array of numpy of shape (n, 2) where the directions were one. Where the hull holds no
-        point, None for each, and for an array ValueError.
+        Pairs in a list, or an array of numpy of shape (n, 2) if the directions were one. If there is no point, None for each, and for an
+        array ValueError.
         """
         flat = _flat(directions)
         if (0, 0) in zip(flat[0::2], flat[1::2]):
@@ -845,10 +839,10 @@ class _Questions:
     def tangents_all(self, points: Points) -> List[Optional[Tuple[Pair, Pair]]]: ...
 
     def tangents_all(self, points: Any) -> Any:
-        """The left and the right tangent point seen from each of the points, None where no such are.
+        """Returns the left and the right tangent point seen from each of the points, None if there are none.
 
-        Pairs of points in a list; or where the points were an array of numpy, two arrays: the tangent points, of shape
-        (n, 2, 2), and which of them are there, of shape (n,): those that are not are 0.
+        Pairs of points in a list; or if the points were an array of numpy, two arrays: the tangent points, of shape (n, 2, 2), and which of
+        them are there, of shape (n,): those that are not are 0.
         """
         memory = self._replies(_Kind.TANGENTS, _flat(points))
         numpy = _of_numpy(points)
@@ -861,9 +855,9 @@ class _Questions:
 
 
 class Hull(_Questions):
-    """A hull for at most `limit` different points, 1 to POINT_LIMIT, which holds the points given, as by `load`.
+    """A set of at most `limit` different points, 1 to POINT_LIMIT, with the points given, as by `load`.
 
-    Two are equal where they hold the same points, each as often.
+    Two are equal if they have the same points with the same multiplicities.
     """
 
     __slots__ = ("_at", "__weakref__")
@@ -896,7 +890,7 @@ class Hull(_Questions):
         return f"<Hull of {len(self)} points, limit {self.limit()}>"
 
     def _ask(self, function: Callable[..., Any], *words: int) -> _Reply:
-        """The reply of a function of the library, or the fault that it told."""
+        """Returns the reply of a function of the library, or raises its exception."""
         reply: _Reply = function(self._at, *words)
         _told(reply.code)
         return reply
@@ -905,31 +899,30 @@ class Hull(_Questions):
         return self._ask(_LIBRARY.hull_python_call, kind, x, y)
 
     def add(self, x: SupportsIndex, y: SupportsIndex) -> int:
-        """Holds the point once more, and returns how often it is held now: 1 where it is new."""
+        """Adds the point, and returns its multiplicity now: 1 if it is new."""
         return _times_added(self._call(_Kind.ADD, _whole(x), _whole(y)))
 
     def remove(self, x: SupportsIndex, y: SupportsIndex) -> Optional[int]:
-        """Holds the point once less, and returns how often it is still held; None where it was not there."""
+        """Removes the point once, and returns the multiplicity that is left; None if it was not there."""
         return _times_left(self._call(_Kind.REMOVE, _whole(x), _whole(y)))
 
     def multiplicity(self, x: SupportsIndex, y: SupportsIndex) -> int:
-        """How often the point is held: 0 where it is not there."""
+        """Returns the multiplicity of the point: 0 if it is not there."""
         return self._call(_Kind.MULTIPLICITY, _whole(x), _whole(y)).number
 
     def limit(self) -> int:
-        """How many different points the hull takes."""
+        """Returns how many different points the hull may have."""
         return self._ask(_LIBRARY.hull_python_limit).number
 
     def clear(self) -> None:
-        """Lets all points go. The limit stays."""
+        """Removes all points. The limit stays."""
         self._ask(_LIBRARY.hull_python_clear)
 
     def load(self, points: Any) -> int:
-        """Holds just these points, in the place of all that was held; returns how many different points that are.
+        """Replaces all points by these; returns how many different points there are.
 
-        Each is held as often as it stands among them, or as a mapping (a Counter) says: what adding them one by one to an
-        empty hull makes, in a small part of the time. TooMany where there are more than the limit, or one of them stands
-        there too often.
+        Each gets the multiplicity that it has there, or that a mapping (a Counter) gives: as adding them one by one to an empty hull, in a
+        small part of the time. TooMany if there are more than the limit, or a multiplicity is too great.
         """
         if isinstance(points, Mapping):
             return self.load_items(sorted(((_whole(x), _whole(y)), times) for (x, y), times in points.items()))
@@ -938,10 +931,10 @@ class Hull(_Questions):
         return self._ask(_LIBRARY.hull_python_load, flat.buffer_info()[0], count).number
 
     def load_items(self, items: Iterable[Tuple[Tuple[SupportsIndex, SupportsIndex], SupportsIndex]]) -> int:
-        """Holds just these points, in the place of all that was held; returns how many they are.
+        """Replaces all points by these; returns how many they are.
 
-        An item is a point and how often it is held, as `items` tells them: ((x, y), times). They stand in order by x and then
-        y, each point once, or it is a ValueError.
+        An item is a point and its multiplicity, as `items` gives them: ((x, y), times). They are in order by x and then y, each point once,
+        or it is a ValueError.
         """
         held: List[Any] = [(_whole(x), _whole(y), _index(times)) for (x, y), times in items]
         if any(not 1 <= times <= MULTIPLICITY_LIMIT for _, _, times in held):
@@ -950,9 +943,9 @@ class Hull(_Questions):
         return self._ask(_LIBRARY.hull_python_load_held, ctypes.addressof(room), len(held)).number
 
     def items(self) -> Iterator[Item]:
-        """The points that are held, in order by x and then y, each with how often: ((x, y), times), one after another.
+        """Yields the points, in order by x and then y, each with its multiplicity: ((x, y), times).
 
-        They are taken a piece at a time: where the hull changes meanwhile, what lies behind the piece is as it is then.
+        They are taken a block at a time: if the hull changes meanwhile, what comes after the block is as it is then.
         """
         room = (_Held * 1024)()
         x = y = -COORDINATE_LIMIT
@@ -966,20 +959,20 @@ class Hull(_Questions):
             x, y = (x, y + 1) if y < COORDINATE_LIMIT else (x + 1, -COORDINATE_LIMIT)
 
     def nearest_held(self, x: SupportsIndex, y: SupportsIndex) -> Optional[Tuple[Pair, int]]:
-        """The held point that is nearest to (x, y), of several the first by x and then y, and the square of how far it is.
+        """Returns the point that is nearest to (x, y), of several the first by x and then y, and the square of its distance.
 
-        None where none is held. All points are looked at that are not much farther along x.
+        None if there is none. It reads all points that are not much farther along x.
         """
         reply = self._ask(_LIBRARY.hull_python_nearest_held, _whole(x), _whole(y))
         nearest = _farthest(reply)
         return None if nearest is None else (nearest, reply.high << 64 | reply.number)
 
     def __iter__(self) -> Iterator[Pair]:
-        """The points that are held, in order by x and then y, each once."""
+        """Yields the points, in order by x and then y, each once."""
         return (point for point, _ in self.items())
 
     def outline(self) -> Outline:
-        """The outline that the hull has now."""
+        """Returns the convex polygon of the hull now."""
         flat = self._corner_array()
         return Outline(memoryview(flat).cast("B").cast("q", (len(flat) // 2, 2)) if flat else ())
 
@@ -987,11 +980,11 @@ class Hull(_Questions):
         return _written_corners(lambda out, room: self._ask(_LIBRARY.hull_python_vertices, out, room))
 
     def __len__(self) -> int:
-        """How many different points there are."""
+        """Returns how many different points there are."""
         return self._call(_Kind.COUNT).number
 
     def __contains__(self, point: Tuple[SupportsIndex, SupportsIndex]) -> bool:
-        """Whether the hull holds the point, which may well lie inside and be no corner. None out of range is held."""
+        """Returns whether the point is in the set; it need not be a vertex. No point out of range is."""
         x, y = point
         try:
             return self.multiplicity(x, y) > 0
@@ -1008,9 +1001,9 @@ class Hull(_Questions):
     def add_all(self, points: Points) -> "array[int]": ...
 
     def add_all(self, points: Any) -> Any:
-        """Holds each of the points once more, in their order; returns for each how often it was held then.
+        """Adds each of the points, in order; returns for each its multiplicity then.
 
-        That is 0 where it was refused, since there are too many or for want of memory: those behind it are added still.
+        That is 0 if it failed, since there are too many or for want of memory: those after it are still added.
         """
         words = self._ask_all(_Kind.ADD, points)
         times: Dict[int, int] = {_Code.ADDED: 1, _Code.TOO_MANY: 0, _Code.NO_MEMORY: 0}
@@ -1018,13 +1011,13 @@ class Hull(_Questions):
         return _like(points, array("I", held))
 
     def remove_all(self, points: Any) -> int:
-        """Holds each of the points once less, in their order; returns how many of them were there."""
+        """Removes each of the points once, in order; returns how many of them were there."""
         codes = self._ask_all(_Kind.REMOVE, points)[0::14].tolist()
         return len(codes) - codes.count(_Code.ABSENT)
 
 
 def _written_corners(write: Callable[[int, int], _Reply]) -> "array[int]":
-    """The coordinates of the corners that a call writes to an array, which may be too short for them."""
+    """Returns the coordinates of the vertices that a call writes to an array, which may be too short for them."""
     count = 64
     while True:
         room = array("q", (0, 0)) * count
@@ -1036,7 +1029,7 @@ def _written_corners(write: Callable[[int, int], _Reply]) -> "array[int]":
 
 
 def _corners_of(flat: "array[int]") -> "array[int]":
-    """The coordinates of the corners of any points."""
+    """Returns the coordinates of the vertices of any points."""
     count = len(flat) // 2
     flat.extend((0, 0))  # so that no points have a place in memory, too
     write: Any = _LIBRARY.hull_outline_of
@@ -1044,52 +1037,75 @@ def _corners_of(flat: "array[int]") -> "array[int]":
 
 
 def _hull_of(items: Iterable[Item], limit: int) -> Hull:
-    """The hull with these items."""
+    """Returns the hull with these items."""
     hull = Hull(limit=limit)
     hull.load_items(items)
     return hull
 
 
-class Outline(_Questions):
-    """The corners of a hull, as `vertices` tells them, to be asked as that hull was when they were taken.
+class _Corners(ctypes.c_void_p):
+    """Vertices in memory, for the library. The array stays as long as this does, which a call has to its end."""
 
-    Nothing of it is ever written: any number of threads ask one outline at once, with no lock. ValueError where the points
-    are not the corners of a hull: counterclockwise from the first by x and then y, and none inside an edge. Its length, its
-    iteration, `in` and `==` are those of its corners.
+    array: "array[int]"
+
+
+_NO_CORNERS = (ctypes.c_int64 * 2)()
+
+
+def _held_at(corners: "array[int]") -> Tuple[_Corners, int]:
+    """Returns the address of the vertices of an array, and their number; if there are none, an address that has memory."""
+    at = _Corners(corners.buffer_info()[0] if corners else ctypes.addressof(_NO_CORNERS))
+    at.array = corners
+    return at, len(corners) // 2
+
+
+class Outline(_Questions):
+    """A convex polygon: the vertices of a hull, as `vertices` returns them, which answers as that hull did then.
+
+    Nothing of it is ever written: any number of threads query one at once, without a lock. ValueError if the points are not a convex
+    polygon: counterclockwise from the first by x and then y, and none inside an edge. Its length, its iteration, `in` and `==` are those of
+    its vertices.
     """
 
-    __slots__ = ("_corners", "_count", "__weakref__")
+    __slots__ = ("_held", "__weakref__")
 
     def __init__(self, corners: Any) -> None:
-        self._hold(_flat(corners))
-        told = _LIBRARY.hull_is_outline(*self._there())
+        held = _held_at(_flat(corners))
+        told = _LIBRARY.hull_is_outline(*held)
         _told(told.code)
         if told.number != 1:
-            raise ValueError("the points are not the corners of a hull, in their order")
+            raise ValueError("the points are not a convex polygon")
+        self._held = held
 
     @classmethod
     def of(cls, points: Any) -> Outline:
-        """The outline of any points, in whatever order; TooMany as `Hull.load` tells it.
+        """Returns the convex polygon of any points, in any order; TooMany as `Hull.load`.
 
-        Where they are the corners of a convex polygon in their order, from whatever corner on and in either sense, that takes
-        a few passes over them; else they are sorted.
+        If they are the vertices of a convex polygon in order, from any vertex on and in either sense, that takes a few passes over them;
+        else they are sorted.
         """
         made = cls(())
         made._hold(_corners_of(_flat(points)))
         return made
 
     def _hold(self, corners: "array[int]") -> None:
-        """Keeps the coordinates of corners."""
-        self._corners, self._count = corners, len(corners) // 2
+        """Keeps the coordinates of vertices."""
+        self._held = _held_at(corners)
+
+    def _as_it_is(self) -> Outline:
+        """Returns another polygon of the same vertices, which no other object has."""
+        made = Outline.__new__(Outline)
+        made._held = self._held
+        return made
 
     def __reduce__(self) -> Any:
-        return _outline_again, (self._corners,)
+        return _outline_again, (self._corner_array(),)
 
     def __repr__(self) -> str:
-        return f"<Outline of {self._count} corners>"
+        return f"<Outline of {len(self)} corners>"
 
     def __len__(self) -> int:
-        return self._count
+        return self._held[1]
 
     def __iter__(self) -> Iterator[Pair]:
         return iter(self.vertices())
@@ -1100,20 +1116,20 @@ class Outline(_Questions):
     def __eq__(self, other: object) -> bool:
         if not isinstance(other, Outline):
             return NotImplemented
-        return bool(self._corners == other._corners)
+        return bool(self._corner_array() == other._corner_array())
 
     def __hash__(self) -> int:
-        return hash(self._corners.tobytes())
+        return hash(self._corner_array().tobytes())
 
-    def _there(self) -> Tuple[int, int]:
-        """Where the corners are, and how many; where there are none, some place that has memory."""
-        return self._corners.buffer_info()[0] if self._count else ctypes.addressof(_NO_CORNERS), self._count
+    def _there(self) -> Tuple[_Corners, int]:
+        """Returns the address of the vertices, and their number. They stay there as long as the caller has what is returned."""
+        return self._held
 
     def _corner_array(self) -> "array[int]":
-        return self._corners
+        return self._held[0].array
 
     def _found(self, ask: Callable[..., Any], *words: int) -> _Reply:
-        """The reply of a call, or the fault that it told."""
+        """Returns the reply of a call, or raises its exception."""
         reply: _Reply = ask(*self._there(), *words)
         _told(reply.code)
         return reply
@@ -1125,22 +1141,22 @@ class Outline(_Questions):
         _LIBRARY.hull_outline_calls(*self._there(), requests, count, replies, count)
 
     def meets_segment(self, ax: SupportsIndex, ay: SupportsIndex, bx: SupportsIndex, by: SupportsIndex) -> bool:
-        """Whether the outline and the segment from (ax, ay) to (bx, by), which may be one point, have a point in common."""
+        """Returns whether the polygon intersects the segment from (ax, ay) to (bx, by), which may be one point."""
         return self._found(_LIBRARY.hull_outline_meets_segment, _whole(ax), _whole(ay), _whole(bx), _whole(by)).number == 1
 
     def apart_from_segment(self, ax: SupportsIndex, ay: SupportsIndex, bx: SupportsIndex,
                            by: SupportsIndex) -> Optional[Tuple[Pair, Pair]]:
-        """A corner and a direction that parts the outline from the segment; None where they meet, or there is no corner.
+        """Returns a vertex and a direction that separates the polygon from the segment; None if they intersect, or there is no vertex.
 
-        No corner has a greater product with the direction than that one, and both ends of the segment have.
+        No vertex has a greater product with the direction than that one, and both ends of the segment have.
         """
         reply = self._found(_LIBRARY.hull_outline_apart, _whole(ax), _whole(ay), _whole(bx), _whole(by))
         return _two_pairs(reply) if reply.code == _Code.APART else None
 
     def nearest(self, x: SupportsIndex, y: SupportsIndex) -> Optional[Tuple[Pair, ...]]:
-        """Where the point is that is nearest to (x, y): None where there is no corner.
+        """Returns where the point is that is nearest to (x, y): None if there is no vertex.
 
-        Of one pair it is at that corner; of two, at the foot on the edge between them; of none the outline covers (x, y).
+        Of one pair it is at that vertex; of two, at the foot on the edge between them; of none the polygon covers (x, y).
         """
         reply = self._found(_LIBRARY.hull_outline_nearest, _whole(x), _whole(y))
         if reply.code == _Code.EMPTY:
@@ -1150,80 +1166,82 @@ class Outline(_Questions):
         return ((reply.x, reply.y),) if reply.code == _Code.CORNER else ()
 
     def squared_distance_to(self, x: SupportsIndex, y: SupportsIndex) -> Optional[Fraction]:
-        """The squared distance to (x, y), 0 where the outline covers it; None where there is no corner."""
+        """Returns the squared distance to (x, y), 0 if the polygon covers it; None if there is no vertex."""
         place = self.nearest(x, y)
         return None if place is None else _squared_distance((place, ((_whole(x), _whole(y)),) if place else ()))
 
     def bounding_box(self) -> Optional[Tuple[Pair, Pair]]:
-        """The least and the greatest point of the smallest box with sides along the axes; None where there is no corner."""
+        """Returns the least and the greatest point of the bounding box; None if there is no vertex."""
         reply = self._found(_LIBRARY.hull_outline_box)
         return _two_pairs(reply) if reply.code == _Code.BOX else None
 
     def width_along(self, dx: SupportsIndex, dy: SupportsIndex) -> Optional[int]:
-        """The greatest product of a corner with the direction (dx, dy) less the least; None where there is no corner.
+        """Returns the greatest product of a vertex with the direction (dx, dy) less the least; None if there is no vertex.
 
-        Divided by the length of the direction it is the width along it.
+        Divide it by the length of the direction for the width along it.
         """
         reply = self._found(_LIBRARY.hull_outline_width, _whole(dx), _whole(dy))
         return None if reply.code == _Code.EMPTY else _area(reply)
 
     def diameter(self) -> Optional[Tuple[Pair, Pair]]:
-        """The two corners that are farthest from one another; None where there is no corner."""
+        """Returns the two vertices that are farthest from one another; None if there is no vertex."""
         reply = self._found(_LIBRARY.hull_outline_diameter)
         return _two_pairs(reply) if reply.code == _Code.POINTS else None
 
     def least_width(self) -> Optional[Tuple[Pair, Pair, Pair]]:
-        """Where the outline is least wide: the ends of an edge and a corner farthest from it; None where there is no edge.
+        """Returns where the polygon is least wide: the ends of an edge and a vertex farthest from it; None if there is no edge.
 
-        No direction has a narrower strip. The width is the side of that corner at the edge by the edge's length.
+        No direction has a narrower strip. The width is the side of that vertex at the edge by the edge's length.
         """
         told: _Witness = _LIBRARY.hull_outline_least_width(*self._there())
         return (told.point("a"), told.point("b"), told.point("c")) if told.code == _Code.EDGE else None
 
     def _beside(self, ask: Callable[..., Any], other: Outline) -> Any:
-        """What a call with another outline tells."""
+        """Returns what a call with another polygon returns."""
         if not isinstance(other, Outline):
             raise TypeError(f"the other one is an Outline, and not {type(other).__name__}")
         return ask(*self._there(), *other._there())
 
     def meets(self, other: Outline) -> bool:
-        """Whether the two outlines have a point in common, boundaries included."""
+        """Returns whether the two polygons intersect, boundaries included."""
         reply: _Reply = self._beside(_LIBRARY.hull_outline_meets, other)
         return reply.number == 1
 
     def contains(self, other: Outline) -> bool:
-        """Whether this outline covers whatever the other one covers."""
+        """Returns whether this polygon contains the other one."""
         reply: _Reply = self._beside(_LIBRARY.hull_outline_contains, other)
         return reply.number == 1
 
     def relation(self, other: Outline) -> Relation:
-        """How this outline stands to the other one."""
+        """Returns how this polygon is related to the other one."""
         reply: _Reply = self._beside(_LIBRARY.hull_outline_relation, other)
         return Relation(reply.number)
 
     def turned(self, a: SupportsIndex, b: SupportsIndex) -> Outline:
-        """The outline turned about (0, 0) by the angle of (a, b), and magnified by its length; OutOfRange where a coordinate would be.
+        """Returns the polygon rotated about (0, 0) by the angle of (a, b), and scaled by its length; OutOfRange if a coordinate would be.
 
-        By a rational angle, as (3, 4), all others are to be magnified as much, which (5, 0) does.
+        For a rational angle, such as (3, 4), scale all others alike, which (5, 0) does.
         """
-        made, corners = Outline(()), array("q", self._corners)
+        made, (at, count) = Outline(()), self._there()
+        corners = array("q", at.array)
         corners.extend((0, 0))
-        _told(_LIBRARY.hull_outline_turned(*self._there(), _whole(a), _whole(b), corners.buffer_info()[0]).code)
-        made._hold(corners[:2 * self._count])
+        _told(_LIBRARY.hull_outline_turned(at, count, _whole(a), _whole(b), corners.buffer_info()[0]).code)
+        made._hold(corners[:2 * count])
         return made
 
     def moved(self, dx: SupportsIndex, dy: SupportsIndex) -> Outline:
-        """The outline moved by (dx, dy); OutOfRange where a coordinate would be."""
+        """Returns the polygon translated by (dx, dy); OutOfRange if a coordinate would be."""
         x, y, made = _index(dx), _index(dy), Outline(())
         if max(abs(x), abs(y)) > 2 * COORDINATE_LIMIT:
             raise _out_of_range()
-        corners = array("q", self._corners)
-        _told(_LIBRARY.hull_outline_moved(*self._there(), x, y, corners.buffer_info()[0] if corners else 0).code)
+        at, count = self._there()
+        corners = array("q", at.array)
+        _told(_LIBRARY.hull_outline_moved(at, count, x, y, corners.buffer_info()[0] if corners else 0).code)
         made._hold(corners)
         return made
 
     def first_meeting(self, other: Outline, dx: SupportsIndex, dy: SupportsIndex) -> Optional[Motion]:
-        """When the other outline, which moves straight by (dx, dy), first meets this one, which stands; None where they don't meet."""
+        """Returns when the other polygon, which moves straight by (dx, dy), first intersects this one; None if it never does."""
         told: _Motion = self._beside(lambda *there: _LIBRARY.hull_outline_first_meeting(*there, _whole(dx), _whole(dy)), other)
         hit = self._hit_of(told.hit)
         if hit is None:
@@ -1231,10 +1249,11 @@ class Outline(_Questions):
         return Motion(hit[0], hit[1], (told.corner[0], told.corner[1]) if hit[1] else None, told.moves == 1)
 
     def relations(self, others: Sequence[Outline]) -> List[Relation]:
-        """How this outline stands to each of the others, in their order."""
-        there, told = _there_of(others), bytearray(len(others) + 1)
+        """Returns how this polygon is related to each of the others, in order."""
+        kept = _as_they_are(others)
+        there, told = _there_of(kept), bytearray(len(kept) + 1)
         room = (ctypes.c_uint8 * len(told)).from_buffer(told)
-        _LIBRARY.hull_outline_relations(*self._there(), there.buffer_info()[0], len(others), ctypes.addressof(room))
+        _LIBRARY.hull_outline_relations(*self._there(), there.buffer_info()[0], len(kept), ctypes.addressof(room))
         return [Relation(relation) for relation in told[:-1]]
 
     @overload
@@ -1243,37 +1262,34 @@ class Outline(_Questions):
     def meets_segments(self, segments: Iterable[Tuple[Tuple[SupportsIndex, SupportsIndex], Tuple[SupportsIndex, SupportsIndex]]]) -> bytes: ...
 
     def meets_segments(self, segments: Any) -> Any:
-        """Whether the outline meets each of the segments, as bytes of 1 and 0.
+        """Returns whether the polygon intersects each of the segments, as bytes of 1 and 0.
 
-        A segment is a pair of points; an array of numpy has shape (n, 4) or (n, 2, 2), and then so are the answers an array.
+        A segment is a pair of points; an array of numpy has shape (n, 4) or (n, 2, 2), and then the result is an array. ValueError for any
+        other shape.
         """
-        numpy = _of_numpy(segments)
-        ends = segments.reshape(-1, 2) if numpy is not None else [point for segment in segments for point in segment]
-        flat = _flat(ends)
+        flat = _flat(_ends_of(segments))
         count, room = len(flat) // 4, ctypes.create_string_buffer(max(len(flat) // 4, 1))
-        if len(flat) != 4 * count:
-            raise ValueError("a segment has two ends")
         flat.append(0)  # so that no segments have a place in memory, too
         _LIBRARY.hull_outline_meets_segments(*self._there(), flat.buffer_info()[0], count, ctypes.addressof(room))
         return _like(segments, room.raw[:count])
 
     def indices(self, points: Any) -> List[Optional[int]]:
-        """For each corner the place of the first of the points that is there, which input it is; None where none is."""
-        flat, room = _flat(points), array("Q", (0,)) * (self._count + 1)
-        count = len(flat) // 2
+        """Returns for each vertex the index of the first of the points that is equal to it; None if none is."""
+        flat, (at, corners) = _flat(points), self._there()
+        count, room = len(flat) // 2, array("Q", (0,)) * (corners + 1)
         flat.append(0)
-        _LIBRARY.hull_outline_indices(*self._there(), flat.buffer_info()[0], count, room.buffer_info()[0])
-        return [place if place < count else None for place in room[:self._count]]
+        _LIBRARY.hull_outline_indices(at, corners, flat.buffer_info()[0], count, room.buffer_info()[0])
+        return [place if place < count else None for place in room[:corners]]
 
     def contains_inside(self, other: Outline) -> bool:
-        """Whether all of the other outline lies inside this one, with no point of it on the boundary."""
+        """Returns whether this polygon contains the other one with no point of it on the boundary."""
         reply: _Reply = self._beside(_LIBRARY.hull_outline_contains_inside, other)
         return reply.number == 1
 
     def within(self, other: Outline, distance: Union[int, float, Fraction]) -> bool:
-        """Whether the two outlines are no farther apart than that, exactly; False where one of them has no corner.
+        """Returns whether their distance is at most that, exactly; False if one of them has no vertex.
 
-        A float is taken for the fraction that it is. OutOfRange where the distance is below 0, or is not finite.
+        A float is taken as the fraction that it is. OutOfRange if the distance is below 0, or is not finite.
         """
         length, short = _length(distance)
         if not short:
@@ -1284,7 +1300,8 @@ class Outline(_Questions):
 
     def within_segment(self, ax: SupportsIndex, ay: SupportsIndex, bx: SupportsIndex, by: SupportsIndex,
                        distance: Union[int, float, Fraction]) -> bool:
-        """Whether the segment from (ax, ay) to (bx, by), which may be one point, is no farther than that, exactly, as `within`."""
+        """Returns whether the distance of the segment from (ax, ay) to (bx, by), which may be one point, is at most that, exactly, as
+        `within`."""
         length, short = _length(distance)
         if not short:
             squared = self.squared_distance_to_segment(ax, ay, bx, by)
@@ -1293,41 +1310,42 @@ class Outline(_Questions):
         return self._found(_LIBRARY.hull_outline_within_segment, *ends, length.numerator, length.denominator).number == 1
 
     def within_point(self, x: SupportsIndex, y: SupportsIndex, distance: Union[int, float, Fraction]) -> bool:
-        """Whether the point (x, y) is no farther than that, exactly, as `within`."""
+        """Returns whether the distance of the point (x, y) is at most that, exactly, as `within`."""
         return self.within_segment(x, y, x, y, distance)
 
     def relation_to_segment(self, ax: SupportsIndex, ay: SupportsIndex, bx: SupportsIndex, by: SupportsIndex) -> Relation:
-        """How this outline stands to the segment from (ax, ay) to (bx, by), which may be one point.
+        """Returns how this polygon is related to the segment from (ax, ay) to (bx, by), which may be one point.
 
-        A segment that runs along an edge touches; one that goes through the inside, or ends there, overlaps.
+        A segment that the polygon contains gives COVERS, also along an edge; one that leaves the polygon touches if it has no point inside,
+        and else overlaps.
         """
         ends = _whole(ax), _whole(ay), _whole(bx), _whole(by)
         return Relation(self._found(_LIBRARY.hull_outline_relation_to_segment, *ends).number)
 
     def cast_ray(self, x: SupportsIndex, y: SupportsIndex, dx: SupportsIndex, dy: SupportsIndex) -> Optional[Tuple[Fraction, Tuple[Pair, ...]]]:
-        """Where the ray from (x, y) in the direction (dx, dy) first comes in; None where it misses.
+        """Returns where the ray from (x, y) in the direction (dx, dy) enters; None if it misses.
 
-        That is how far it has gone, in lengths of the direction, and where: of two pairs across the edge between them, or at one of
-        them; of one at that corner of an outline on its line; of none at its start, which the outline covers.
+        That is how far along, in lengths of the direction, and where: of two pairs across the edge between them, or at one of them; of one
+        at that vertex of a polygon on its line; of none at its start, which the polygon covers.
         """
         return self._hit(_LIBRARY.hull_outline_cast_ray, x, y, dx, dy)
 
     def last_on_ray(self, x: SupportsIndex, y: SupportsIndex, dx: SupportsIndex, dy: SupportsIndex) -> Optional[Tuple[Fraction, Tuple[Pair, ...]]]:
-        """The last point of that ray in the outline, told in the same way; None where it misses."""
+        """Returns the last point of that ray in the polygon, in the same way; None if it misses."""
         return self._hit(_LIBRARY.hull_outline_last_on_ray, x, y, dx, dy)
 
     def cast_segment(self, ax: SupportsIndex, ay: SupportsIndex, bx: SupportsIndex,
                      by: SupportsIndex) -> Optional[Tuple[Fraction, Tuple[Pair, ...]]]:
-        """The same of the segment from (ax, ay) to (bx, by), in its lengths; its last point is where that from (bx, by) comes in."""
+        """The same for the segment from (ax, ay) to (bx, by), in its lengths; its last point is where that from (bx, by) enters."""
         return self._hit(_LIBRARY.hull_outline_cast_segment, ax, ay, bx, by)
 
     def _hit(self, ask: Callable[..., Any], *numbers: SupportsIndex) -> Optional[Tuple[Fraction, Tuple[Pair, ...]]]:
-        """Where and how far on its way a way comes in."""
+        """Returns where and how far along a segment or a ray enters."""
         return self._hit_of(ask(*self._there(), *map(_whole, numbers)))
 
     @staticmethod
     def _hit_of(told: _Hit) -> Optional[Tuple[Fraction, Tuple[Pair, ...]]]:
-        """The same, of what was told."""
+        """The same, of a reply."""
         _told(told.code)
         if told.code in (_Code.APART, _Code.EMPTY):
             return None
@@ -1336,7 +1354,7 @@ class Outline(_Questions):
         return part, points[:{int(_Code.EDGE): 2, int(_Code.CORNER): 1}.get(told.code, 0)]
 
     def witness(self, other: Outline) -> Optional[Witness]:
-        """Where the two outlines meet, or what parts them: a `Witness`; None where one of them has no corner."""
+        """Returns where the two polygons intersect, or what separates them: a `Witness`; None if one of them has no vertex."""
         told: _Witness = self._beside(_LIBRARY.hull_outline_witness, other)
         if told.code == _Code.EMPTY:
             return None
@@ -1345,10 +1363,10 @@ class Outline(_Questions):
         return Witness(shows, tuple(map(told.point, "abcd"[:count])))
 
     def distance(self, other: Outline) -> Optional[Tuple[Tuple[Pair, ...], Tuple[Pair, ...]]]:
-        """Where the two outlines are nearest to one another: a place on this one and one on the other; None where one has no corner.
+        """Returns where the two polygons are nearest to one another: a feature of this one and one of the other; None if one has no vertex.
 
-        Of one pair a place is that corner; of two it is a foot on the edge between them; of none the outlines have a point in
-        common. `squared_distance` has the number.
+        Of one pair a feature is that vertex; of two it is a foot on the edge between them; of none the polygons intersect.
+        `squared_distance` has the number.
         """
         told: _Witness = self._beside(_LIBRARY.hull_outline_distance, other)
         if told.code == _Code.EMPTY:
@@ -1358,33 +1376,33 @@ class Outline(_Questions):
         return points[:ours], points[ours:ours + theirs]
 
     def squared_distance(self, other: Outline) -> Optional[Fraction]:
-        """The squared distance of the two outlines, 0 where they meet; None where one has no corner."""
+        """Returns the squared distance of the two polygons, 0 if they intersect; None if one has no vertex."""
         places = self.distance(other)
         return None if places is None else _squared_distance(places)
 
     def distance_bounds(self, other: Outline) -> Optional[Floats]:
-        """The greatest float that is not above the distance of the two outlines, and the least that is not below it.
+        """Returns the greatest float that is not above the distance of the two polygons, and the least that is not below it.
 
-        They are one where the distance is a float, and else follow one another. None where one has no corner.
+        They are equal if the distance is a float, else neighbours. None if one has no vertex.
         """
         return _bounds(self._beside(_LIBRARY.hull_outline_clearance, other))
 
     def squared_distance_to_segment(self, ax: SupportsIndex, ay: SupportsIndex, bx: SupportsIndex,
                                     by: SupportsIndex) -> Optional[Fraction]:
-        """The squared distance of the segment from (ax, ay) to (bx, by), which may be one point; None where there is no corner."""
+        """Returns the squared distance of the segment from (ax, ay) to (bx, by), which may be one point; None if there is no vertex."""
         told = self._clearance_to_segment(ax, ay, bx, by)
         return None if told.code == _Code.EMPTY else Fraction(told.number("numerator"), told.number("denominator"))
 
     def distance_bounds_to_segment(self, ax: SupportsIndex, ay: SupportsIndex, bx: SupportsIndex, by: SupportsIndex) -> Optional[Floats]:
-        """The same two floats of the distance of a segment, which may be one point."""
+        """Returns the same two floats for a segment, which may be one point."""
         return _bounds(self._clearance_to_segment(ax, ay, bx, by))
 
     def distance_bounds_to(self, x: SupportsIndex, y: SupportsIndex) -> Optional[Floats]:
-        """The same two floats of the distance of the point (x, y)."""
+        """Returns the same two floats for the point (x, y)."""
         return self.distance_bounds_to_segment(x, y, x, y)
 
     def _clearance_to_segment(self, ax: SupportsIndex, ay: SupportsIndex, bx: SupportsIndex, by: SupportsIndex) -> _Clearance:
-        """How far a segment is."""
+        """Returns the distance of a segment."""
         ends = _whole(ax), _whole(ay), _whole(bx), _whole(by)
         told: _Clearance = _LIBRARY.hull_outline_clearance_to_segment(*self._there(), *ends)
         _told(told.code)
@@ -1392,34 +1410,38 @@ class Outline(_Questions):
 
 
 def _length(distance: Union[int, float, Fraction]) -> Tuple[Fraction, bool]:
-    """A distance as the fraction that it is, and whether the library takes it."""
-    length = Fraction(distance) if math.isfinite(distance) else Fraction(-1)
+    """Returns a distance as the fraction that it is, and whether the library takes it."""
+    if isinstance(distance, str):
+        raise TypeError("a distance is a number, and not a str")
+    try:
+        length = Fraction(distance)
+    except (OverflowError, ValueError):  # not finite
+        length = Fraction(-1)
     if length < 0:
         raise OutOfRange(f"a distance is 0 or more, and not {distance}")
     return length, length.numerator < 2 ** 64 and length.denominator < 2 ** 32
 
 
 def _bounds(told: _Clearance) -> Optional[Floats]:
-    """The floats next to a distance; None where there is none."""
+    """Returns the floats below and above a distance; None if there is none."""
     if told.code == _Code.EMPTY:
         return None
     return math.ldexp(told.lower, -told.shift), math.ldexp(told.upper, -told.shift)
 
 
-_NO_CORNERS = (ctypes.c_int64 * 2)()
 
 
 def _outline_again(corners: "array[int]") -> Outline:
-    """The outline of a pickle, which is judged as any other."""
+    """Returns the polygon of a pickle, which is tested like any other."""
     return Outline(memoryview(corners).cast("B").cast("q", (len(corners) // 2, 2)) if corners else ())
 
 
 def merge(outlines: Iterable[Outline]) -> Outline:
-    """The outline of all that outlines were taken of: the corners of a union are those of the corners.
+    """Returns the convex polygon of the union of polygons: its vertices are among theirs.
 
-    So points that lie in many blocks, files or machines are never brought together: of each block an outline is made and passed on
-    (it is pickled as its corners, 16 bytes each), and outlines are merged in any order. TooMany where more corners than POINT_LIMIT
-    meet: those of one outline and those of all before it.
+    So you never have to bring points together that are in many blocks, files or machines: make a polygon of each block and pass it on (it
+    is pickled as its vertices, 16 bytes each), and merge polygons in any order. TooMany if more vertices than POINT_LIMIT meet: those of
+    one polygon and those of all before it.
     """
     flat, gathered = array("q"), 0
     for outline in outlines:
@@ -1427,49 +1449,68 @@ def merge(outlines: Iterable[Outline]) -> Outline:
             raise TypeError(f"what is merged is an Outline, and not {type(outline).__name__}")
         if gathered == MULTIPLICITY_LIMIT or len(flat) // 2 + len(outline) > POINT_LIMIT:
             flat, gathered = _corners_of(flat), 1
-        flat.extend(outline._corners)
+        flat.extend(outline._corner_array())
         gathered += 1
     made = Outline(())
     made._hold(_corners_of(flat))
     return made
 
 
-def _there_of(outlines: Sequence[Outline]) -> "array[int]":
-    """Where the corners of outlines lie, and how many they are, one behind the other."""
-    there = array("Q")
+def _ends_of(segments: Any) -> Any:
+    """Returns the ends of segments, two of each one after the other."""
+    if _of_numpy(segments) is None:
+        return [end for first, second in segments for end in (first, second)]
+    if segments.size and segments.shape[1:] not in ((4,), (2, 2)):
+        raise ValueError(f"an array of segments has shape (n, 4) or (n, 2, 2), and this one has {segments.shape}")
+    return segments.reshape(-1, 2)
+
+
+def _as_they_are(outlines: Iterable[Outline]) -> List[Outline]:
+    """Returns the polygons that a sequence has now, as they are now, whatever the caller does to both meanwhile."""
+    kept = []
     for outline in outlines:
         if not isinstance(outline, Outline):
             raise TypeError(f"an Outline was wanted, and not {type(outline).__name__}")
-        there.extend(outline._there())
+        kept.append(outline._as_it_is())
+    return kept
+
+
+def _there_of(outlines: List[Outline]) -> "array[int]":
+    """Returns the addresses of the vertices of polygons, and their numbers, one after the other; the caller keeps the polygons."""
+    there = array("Q")
+    for outline in outlines:
+        at, count = outline._there()
+        there.extend((at.value or 0, count))
     there.append(0)  # so that no outlines have a place in memory, too
     return there
 
 
 def pairs_within(outlines: Sequence[Outline], distance: Union[int, float, Fraction] = 0) -> List[Tuple[int, int]]:
-    """Which outlines are no farther apart than that, exactly; with 0, which have a point in common.
+    """Returns the pairs of polygons whose distance is at most that, exactly; with 0, those that intersect.
 
-    The pairs (i, j) of their places, i < j, in their order: found by a sweep over their boxes. OutOfRange as `Outline.within` has it.
+    The pairs (i, j) of their indices, i < j, in order: found by a sweep over their boxes. OutOfRange as `Outline.within`.
     """
     length, short = _length(distance)
     asked = length if short else Fraction(min(math.ceil(length), 2 ** 64 - 1))
-    there, room = _there_of(outlines), len(outlines) + 1
+    kept = _as_they_are(outlines)
+    there, room = _there_of(kept), len(kept) + 1
     while True:
         pairs = array("Q", (0, 0)) * room
-        told = _LIBRARY.hull_pairs_within(there.buffer_info()[0], len(outlines), asked.numerator, asked.denominator,
+        told = _LIBRARY.hull_pairs_within(there.buffer_info()[0], len(kept), asked.numerator, asked.denominator,
                                           pairs.buffer_info()[0], room)
         if told.code != _Code.TOO_SMALL:
             break
         room = told.number
     _told(told.code)
     found = list(zip(pairs[0:2 * told.number:2], pairs[1:2 * told.number:2]))
-    return found if short else [(i, j) for i, j in found if outlines[i].within(outlines[j], distance)]
+    return found if short else [(i, j) for i, j in found if kept[i].within(kept[j], distance)]
 
 
 class FloatHull:
-    """A hull of points in floats, which answers in floats: a Hull on the lattice of steps of 2**-power.
+    """A set of points in floats, with results in floats: a Hull on the lattice of steps of 2**-power.
 
-    Each number goes to the nearest step (`from_floats`), and answers are exact for the points that are held then: `rounded`
-    counts the coordinates of added points that had to be rounded. `hull` is the hull itself.
+    Each number goes to the nearest step (`from_floats`), and answers are exact for the rounded points: `rounded` counts the coordinates of
+    added points that had to be rounded. `hull` is the Hull itself.
     """
 
     __slots__ = ("hull", "power", "rounded")
@@ -1487,7 +1528,7 @@ class FloatHull:
         return (_floats(point, self.power) for point in self.hull)
 
     def __contains__(self, point: Floats) -> bool:
-        """Whether the hull holds the point; one that is not on the lattice it does not."""
+        """Returns whether the point is in the set; one that is not on the lattice is not."""
         try:
             (near,), rounded = from_floats([point], self.power)
         except OutOfRange:
@@ -1498,62 +1539,62 @@ class FloatHull:
         return f"<FloatHull of {len(self)} points, steps of 2**{-self.power}>"
 
     def _near(self, x: float, y: float) -> Pair:
-        """The point of the lattice next to two floats."""
+        """Returns the point of the lattice nearest to two floats."""
         return _from_float(x, self.power)[0], _from_float(y, self.power)[0]
 
     def _told(self, points: Optional[Sequence[Pair]]) -> Any:
-        """Points in floats; None of none."""
+        """Returns points in floats; None of none."""
         return None if points is None else tuple(_floats(point, self.power) for point in points)
 
     def add(self, x: float, y: float) -> int:
-        """Holds the point once more, and returns how often it is held now: 1 where it is new."""
+        """Adds the point, and returns its multiplicity now: 1 if it is new."""
         ((point,), rounded) = from_floats([(x, y)], self.power)
         times = self.hull.add(*point)
         self.rounded += rounded
         return times
 
     def remove(self, x: float, y: float) -> Optional[int]:
-        """Holds the point once less, and returns how often it is still held; None where it was not there."""
+        """Removes the point once, and returns the multiplicity that is left; None if it was not there."""
         return self.hull.remove(*self._near(x, y))
 
     def place(self, x: float, y: float) -> Place:
-        """Where the point lies: one of Place."""
+        """Returns the location of the point: one of Place."""
         return self.hull.place(*self._near(x, y))
 
     def tangents(self, x: float, y: float) -> Optional[Tuple[Floats, Floats]]:
-        """The left and the right point that bound the hull as it is seen from (x, y); None where no such are."""
+        """Returns the left and the right tangent point seen from (x, y); None if there are none."""
         told: Optional[Tuple[Floats, Floats]] = self._told(self.hull.tangents(*self._near(x, y)))
         return told
 
     def extreme(self, dx: float, dy: float) -> Optional[Floats]:
-        """The point farthest in a direction of two floats, as `Hull.extreme_d`; None where none is."""
+        """Returns the farthest point in a direction of two floats, as `Hull.extreme_d`; None if there is none."""
         farthest = self.hull.extreme_d(dx, dy)
         return None if farthest is None else _floats(farthest, self.power)
 
     def vertices(self) -> List[Floats]:
-        """The corners, counterclockwise from the first by x and then y, each once and none inside an edge."""
+        """Returns the vertices, counterclockwise from the first by x and then y, each once and none inside an edge."""
         return [_floats(corner, self.power) for corner in self.hull.vertices()]
 
     def area(self) -> float:
-        """The area, 0 for a point and a line."""
+        """Returns the area, 0 for a point and a segment."""
         return math.ldexp(self.hull.doubled_area(), -2 * self.power - 1)
 
     def distance_to(self, x: float, y: float) -> Optional[float]:
-        """How far (x, y) is from the hull, 0 where it is covered; None where the hull holds no point."""
+        """Returns the distance of (x, y), 0 if the hull covers it; None if there is no point."""
         return self._root(self.hull.outline().squared_distance_to(*self._near(x, y)))
 
     def distance(self, other: FloatHull) -> Optional[float]:
-        """How far another hull with the same steps is, 0 where they meet; None where one holds no point."""
+        """Returns the distance of another hull with the same steps, 0 if they intersect; None if one has no point."""
         if other.power != self.power:
             raise ValueError(f"the hulls have steps of 2**{-self.power} and of 2**{-other.power}")
         return self._root(self.hull.outline().squared_distance(other.hull.outline()))
 
     def _root(self, squared: Optional[Fraction]) -> Optional[float]:
-        """The root of a squared distance in steps."""
+        """Returns the root of a squared distance in steps."""
         return None if squared is None else math.ldexp(math.sqrt(squared), -self.power)
 
     def wkt(self) -> str:
-        """The hull as well-known text."""
+        """Returns the hull as well-known text."""
         return self.hull.wkt(self.power)
 
 
@@ -1568,7 +1609,7 @@ class _State(ctypes.Structure):
 
 
 class Stats(NamedTuple):
-    """How the calls of a shared hull stand at one moment."""
+    """The state of the calls of a shared hull at one moment."""
 
     #: How many seats are out.
     out: int
@@ -1591,7 +1632,7 @@ class Stats(NamedTuple):
 
 
 def _new_desk(readers: SupportsIndex) -> Any:
-    """Where a desk lies that is not open, and is to be for so many readers."""
+    """Returns the address of a desk that is not open, for so many readers."""
     readers, desk = operator.index(readers), _at(_shared_kinds()[0], _shared_library().hull_python_desk_new())
     if readers != 0:
         code = _shared_library().hull_python_admit(desk, readers if 0 < readers <= READER_LIMIT else READER_LIMIT + 1)
@@ -1601,13 +1642,13 @@ def _new_desk(readers: SupportsIndex) -> Any:
 
 
 class SharedHull:
-    """One hull that up to SEAT_LIMIT threads change and question at once, each by a seat of its own.
+    """One hull that up to SEAT_LIMIT threads change and query at once, each by a seat of its own.
 
-    It takes at most `limit` different points, and has a journal whose lines are numbered from `first` on: at most
-    `capacity` of them are held, until a seat takes them out (`Seat.drain`). With `capacity` None the line of each call is
-    let go with its answer. Where as many are held, calls raise JournalFull: with `answers` only changes do, and questions are
-    answered with no line; with `waits` a call waits until another thread has drained. Each call takes effect at one moment between its
-    beginning and its end, in the order of the calls' numbers. Calls publish what they leave for so many `readers`, up to READER_LIMIT.
+    It has at most `limit` different points, and a journal whose lines are numbered from `first` on: at most `capacity` of them, until a
+    seat drains it (`Seat.drain`). With `capacity` None each line is discarded after its reply is returned. When the journal is full, calls
+    raise JournalFull: with `answers` only changes do, and questions are answered with no line; with `waits` a call waits until another
+    thread has drained. Each call takes effect at one moment between its beginning and its end, in the order of the calls' numbers. It may
+    have up to so many `readers`, at most READER_LIMIT.
     """
 
     __slots__ = ("_desk", "_words", "__weakref__")
@@ -1633,11 +1674,11 @@ class SharedHull:
 
     @classmethod
     def reopen(cls, text: Union[str, bytes], capacity: SupportsIndex, seats: SupportsIndex, readers: SupportsIndex = 0) -> SharedHull:
-        """A hull that goes on where a journal ends, with the points that it left.
+        """Opens a hull that continues a journal, with the points that it left.
 
-        `text` is the journal's, whole, as `close` or the program `hullbook` wrote it: a str or bytes. Limit and numbers are the
-        journal's. Its lines count as taken out: those of later calls alone are in the texts of this hull, and
-        `hullbook check OLD NEW..` judges all in their order. JournalFault where the text can't be gone on with.
+        `text` is the whole journal, as `close` or the program `hullbook` wrote it: a str or bytes. Limit and numbers are the journal's. Its
+        lines count as drained: the texts of this hull have only lines of later calls, and `hullbook check OLD NEW..` judges all in order.
+        JournalFault if the text can't be continued.
         """
         text = text.encode() if isinstance(text, str) else bytes(text)
         capacity, seats = operator.index(capacity), operator.index(seats)
@@ -1648,9 +1689,9 @@ class SharedHull:
         room = ctypes.create_string_buffer(text, max(len(text), 1))
         told = _shared_library().hull_python_reopen(hull._desk, ctypes.addressof(room), len(text), capacity, seats)
         words = {
-            _Code.NO_JOURNAL: f"line {told.number}: fault {told.high}: the text is none of a journal",
-            _Code.OLD_RULES: "points are not counted in journals before version 3",
-            _Code.ILLEGAL: f"line {told.number}: the journal is no legal history",
+            _Code.NO_JOURNAL: f"line {told.number}: fault {told.high}: the text is not a journal",
+            _Code.OLD_RULES: "journals before version 3 do not count points",
+            _Code.ILLEGAL: f"line {told.number}: the journal is not a legal history",
             _Code.TOO_FEW_SEATS: f"the journal has lines by {told.number} seats",
         }.get(told.code)
         if words is not None:
@@ -1663,11 +1704,12 @@ class SharedHull:
     @classmethod
     def keep(cls, path: "Union[str, bytes, os.PathLike[str]]", capacity: SupportsIndex, seats: SupportsIndex,
              limit: SupportsIndex = POINT_LIMIT, every: Optional[float] = None, readers: SupportsIndex = 0) -> SharedHull:
-        """A hull whose journal is kept in a file, which is made, or gone on with: the hull holds what it left, and its limit is its own.
+        """Opens a hull whose journal is kept in a file, which is made, or read: then the hull has the points that it left, and its limit.
 
-        A thread of the library writes the lines to the file when it is asked to (`sync`, `Seat.wait_safe`), each `every` seconds where
-        that is given, and where half of `capacity` are held; calls wait for room. There are SEAT_LIMIT - 1 seats at most, none of which
-        drains. It publishes for so many `readers`. OSError where the system refuses a call on the file; JournalFault where the file is damaged, or none of a journal.
+        A thread of the library writes the lines to the file when a thread waits for one (`sync`, `Seat.wait_safe`), each `every` seconds if
+        that is given, and when half of `capacity` are used; calls wait for space. There are SEAT_LIMIT - 1 seats at most, none of which
+        drains. It may have so many `readers`. OSError if the system refuses a call on the file; JournalFault if the file is damaged, or not
+        a journal.
         """
         words = operator.index(limit), 0, operator.index(capacity), operator.index(seats)
         if not all(0 <= word < 1 << 32 for word in words):
@@ -1686,9 +1728,11 @@ class SharedHull:
 
     @staticmethod
     def compact(path: "Union[str, bytes, os.PathLike[str]]") -> int:
-        """Makes such a file short that no hull keeps now: the additions that leave the same points, up to the same number, which is returned.
+        """Compacts such a file, of a hull that is not open: to the additions that leave the same points, up to the same number, which is
+        returned.
 
-        What `keep` raises where the file is refused, which is as it was then.
+        Raises what `keep` raises if the file is refused, which is as it was then, or leaves the same points, if its folder could not be
+        synced after the new file took its name.
         """
         told = _shared_library().hull_python_compact(_file(path))
         _no_file(told, told.number)
@@ -1696,14 +1740,14 @@ class SharedHull:
         return int(told.number)
 
     def safe(self) -> int:
-        """The number of the first line that is not safe in the file that is kept: those before it are there for good.
+        """Returns the number of the first line that is not durable.
 
-        ValueError where the hull keeps none, or is closed; OSError where a write was refused: nothing more will be safe.
+        ValueError if the hull has no file, or is closed; OSError if a write failed: no later line will be durable.
         """
         return self._safe(0)
 
     def sync(self) -> int:
-        """Waits until the lines of all calls are safe that were answered before; the number of the first line that is not."""
+        """Waits until the lines of all calls that have returned are durable; returns the number of the first line that is not."""
         return self._safe(1)
 
     def _safe(self, waits: int) -> int:
@@ -1716,7 +1760,7 @@ class SharedHull:
         raise TypeError("a hull lies in one place: it can't be copied")
 
     def _out(self) -> List[int]:
-        """The numbers of the seats that are out."""
+        """Returns the numbers of the acquired seats."""
         out = _shared_library().hull_python_out(self._desk)
         return [number for number in range(SEAT_LIMIT) if out >> number & 1]
 
@@ -1729,7 +1773,7 @@ class SharedHull:
         return self
 
     def __exit__(self, fault: object, *_: object) -> None:
-        """Closes the hull. SeatsOut, which names them, where seats are out, unless another exception is under way."""
+        """Closes the hull. SeatsOut, which names them, if seats are acquired, unless another exception is being raised."""
         try:
             self._close()
         except SeatsOut:
@@ -1737,7 +1781,7 @@ class SharedHull:
                 raise
 
     def stats(self) -> Stats:
-        """How the calls of the hull's seats stand at one moment; while calls go on, its numbers may be of moments apart."""
+        """Returns the state of the hull's calls at one moment; while calls go on, its numbers may be of different moments."""
         state = _State()
         _shared_library().hull_python_stats(self._desk, ctypes.addressof(state))
         seat, named, drainer = (number if number < SEAT_LIMIT else None for number in (state.seat, state.named, state.drainer))
@@ -1745,21 +1789,22 @@ class SharedHull:
                      named, drainer, state.drains_for / 1e9)
 
     def lend(self, number: SupportsIndex) -> Seat:
-        """Lends the seat of a number, 0 and up, for one thread; NoSeat where it is out or there is none."""
+        """Acquires the seat of a number, 0 and up, for one thread; NoSeat if it is acquired or there is none."""
         number = operator.index(number)
         if not 0 <= number < SEAT_LIMIT:
             _told(_Code.NO_SEAT)
         return Seat(self._desk, number)
 
     def lend_reader(self) -> Reader:
-        """Lends a reader, for one thread, of those that the hull was opened for; NoSeat where as many are out."""
+        """Acquires a reader, for one thread, of those that the hull was opened for; NoSeat if as many are acquired."""
         return Reader(self._desk)
 
     def _close(self) -> None:
         """Closes the hull, unless it is closed."""
         told = _shared_library().hull_python_close(self._desk)
         if told.code == _Code.SEATS_OUT:
-            raise SeatsOut(f"seats of the hull are out: {', '.join(map(str, self._out()))}")
+            seats = ", ".join(map(str, self._out()))
+            raise SeatsOut(f"seats of the hull are out: {seats}" if seats else "a reader of the hull is out")
         _no_file(told, told.high)
         if told.code == _Code.IN_USE:
             raise ValueError("a thread waits for what is safe in the hull's file")
@@ -1767,25 +1812,25 @@ class SharedHull:
             _told(told.code)
 
     def close(self) -> str:
-        """Closes the hull, unless it is closed, and returns the text of its journal; SeatsOut where a seat is out.
+        """Closes the hull, unless it is closed, and returns the text of its journal; SeatsOut if a seat or a reader is acquired.
 
-        MemoryError where there is none for the text: the hull is closed, and this may be called again. Where the hull keeps a file, the
-        text stands last in it, or OSError tells that it does not: the hull is closed.
+        MemoryError if there is none for the text: the hull is closed, and you may call this again. If the hull has a file, the text is its
+        last segment, or OSError says that it could not be written: the hull is closed.
         """
         self._close()
         return _text(_shared_library().hull_python_text, self._desk)
 
     def close_in_pieces(self, size: SupportsIndex = 1 << 16) -> Iterator[str]:
-        """The same, and returns that text in pieces of whole lines, each of at most `size` bytes, or one line that is longer.
+        """The same, and returns that text in blocks of whole lines, each of at most `size` bytes, or one line that is longer.
 
-        One piece is in memory at a time: `file.writelines(hull.close_in_pieces())`.
+        One block is in memory at a time: `file.writelines(hull.close_in_pieces())`.
         """
         self._close()
         return _pieces(_shared_library().hull_python_text_from, self._desk, size)
 
 
 def _file(path: "Union[str, bytes, os.PathLike[str]]") -> bytes:
-    """A path as C takes it."""
+    """Returns a path as C takes it."""
     file = os.fsencode(path)
     if b"\0" in file:
         raise ValueError("embedded null byte")
@@ -1793,17 +1838,17 @@ def _file(path: "Union[str, bytes, os.PathLike[str]]") -> bytes:
 
 
 def _no_file(told: _Reply, errno: int) -> None:
-    """Raises the fault of a file that is kept."""
+    """Raises the exception of a journal file."""
     if told.code == _Code.NO_FILE:
         raise OSError(errno, os.strerror(errno))
     if told.code == _Code.DAMAGED:
-        raise JournalFault(f"line {told.number}: the file is damaged, or none of a journal")
+        raise JournalFault(f"line {told.number}: the file is damaged, or not a journal")
     if told.code == _Code.ILLEGAL:
-        raise JournalFault(f"line {told.number}: the journal is no legal history, or a seat of its hull drained")
+        raise JournalFault(f"line {told.number}: the journal is not a legal history, or a seat of its hull drained")
 
 
 def _text(write: Callable[..., _Reply], at: Any) -> str:
-    """The text that a function writes of what lies at a place."""
+    """Returns the text that a function writes of what is at an address."""
     room = ctypes.create_string_buffer(1)
     while True:
         told = write(at, ctypes.addressof(room), len(room))
@@ -1815,7 +1860,7 @@ def _text(write: Callable[..., _Reply], at: Any) -> str:
 
 
 def _pieces(write: Callable[..., _Reply], at: Any, size: SupportsIndex) -> Iterator[str]:
-    """The text of what lies at a place, in pieces that a function writes from a line on."""
+    """Yields the text of what is at an address, in blocks that a function writes from a line on."""
     line, room = 0, ctypes.create_string_buffer(max(operator.index(size), 1))
     while True:
         told = write(at, line, ctypes.addressof(room), len(room))
@@ -1831,7 +1876,7 @@ def _pieces(write: Callable[..., _Reply], at: Any, size: SupportsIndex) -> Itera
 
 
 class JournalPart:
-    """Lines that a seat took out of a journal; iteration gives the lines of their text, from the header to the end line."""
+    """A segment of a journal: lines that a seat drained; iteration gives the lines of its text, from the header to the end line."""
 
     __slots__ = ("_at", "__weakref__")
 
@@ -1842,16 +1887,16 @@ class JournalPart:
         raise TypeError("a part lies in one place: it can't be copied")
 
     def text(self) -> str:
-        """The text of the lines, which has the number of the first as its own first number.
+        """Returns the text of the lines, with the number of the first as its own first number.
 
-        `hullbook check` judges the texts of all parts in their order.
+        `hullbook check` judges the texts of all parts in order.
         """
         return _text(_shared_library().hull_python_part_text, self._at)
 
     def pieces(self, size: SupportsIndex = 1 << 16) -> Iterator[str]:
-        """That text in pieces of whole lines, each of at most `size` bytes, or one line that is longer.
+        """Returns that text in blocks of whole lines, each of at most `size` bytes, or one line that is longer.
 
-        One piece is in memory at a time: `file.writelines(part.pieces())`.
+        One block is in memory at a time: `file.writelines(part.pieces())`.
         """
         return _pieces(_shared_library().hull_python_part_text_from, self._at, size)
 
@@ -1861,7 +1906,7 @@ class JournalPart:
 
 
 class View(Outline):
-    """The corners of a shared hull as they were behind one line of its journal, to be asked as an Outline."""
+    """A snapshot: the vertices of a shared hull as of one line of its journal, an Outline."""
 
     __slots__ = ("line",)
 
@@ -1870,9 +1915,9 @@ class View(Outline):
 
 
 class Reader:
-    """A reader of a shared hull, beside its seats: it takes no turn and no line, waits for nobody, and nobody waits for it.
+    """A reader of a shared hull, beside its seats: it takes no turn and no line, and waits for no call.
 
-    It goes back to its hull by `give_back`, at the end of a `with`, and when it is let go.
+    It is released by `give_back`, at the end of a `with`, and when it is collected.
     """
 
     __slots__ = ("_at", "_view", "__weakref__")
@@ -1892,24 +1937,24 @@ class Reader:
         self.give_back()
 
     def give_back(self) -> None:
-        """Gives the reader back to its hull. Calls on it raise ValueError from then on; its views stay."""
+        """Releases the reader. Calls on it raise ValueError from then on; its snapshots stay."""
         _shared_library().hull_python_return_reader(self._at)
 
     def is_newest(self) -> bool:
-        """Whether no view is newer than the one that `view` returned last."""
+        """Returns whether no snapshot is newer than the one that `view` returned last."""
         code = _shared_library().hull_python_is_newest(self._at)
         if code > 1:
             _refused(code)
         return self._view is not None and code == 1
 
     def view(self) -> View:
-        """The newest view: it shows what each call did that had returned before. The same one as before where none is newer."""
+        """Returns the newest snapshot: it shows what each call did that had returned before. The same one as before if none is newer."""
         if self._view is None or not self.is_newest():
             self._view = self._read()
         return self._view
 
     def _read(self) -> View:
-        """The newest view, copied."""
+        """Returns the newest snapshot, copied."""
         lines: List[Optional[int]] = []
 
         def read(out: int, room: int) -> _Reply:
@@ -1924,10 +1969,10 @@ class Reader:
 
 
 class Seat:
-    """A seat at a shared hull, for one thread at a time: calls on one seat from several threads wait for each other.
+    """A seat of a shared hull, for one thread at a time: calls on one seat from several threads wait for each other.
 
-    Each call waits for its turn, and other threads of Python run meanwhile; it raises JournalFull where the journal has
-    no room. A seat goes back to its hull by `give_back`, at the end of a `with`, and when it is let go.
+    Each call waits for its turn, and other threads of Python run meanwhile; it raises JournalFull if the journal is full. A seat is
+    released by `give_back`, at the end of a `with`, and when it is collected.
     """
 
     __slots__ = ("_at", "_corners", "_is_out", "_number", "_part", "__weakref__")
@@ -1949,27 +1994,27 @@ class Seat:
         self.give_back()
 
     def give_back(self) -> None:
-        """Gives the seat back to its hull. Calls on it raise ValueError from then on."""
+        """Releases the seat. Calls on it raise ValueError from then on."""
         self._is_out = False
         _shared_library().hull_python_give_back(self._at)
 
     def _served(self, function: Callable[..., Any], *words: int) -> _Reply:
-        """The reply of a function that waits for the seat's turn, or the fault that it told."""
+        """Returns the reply of a function that waits for the seat's turn, or raises its exception."""
         reply: _Reply = function(self._at, *words)
         _told(reply.code)
         return reply
 
     def _ask(self, kind: int, x: int = 0, y: int = 0) -> _Reply:
-        """The reply of a call, or the fault that it told."""
+        """Returns the reply of a call, or raises its exception."""
         return self._served(_shared_library().hull_python_ask, kind, x, y)
 
     def __repr__(self) -> str:
         return f"<Seat {self._number}, {'out' if self._is_out else 'given back'}, last turn {self.turn()}>"
 
     def wait_at_most(self, seconds: Optional[float]) -> None:
-        """How long calls of the seat wait until they come in, or for room: for ever, as a seat begins, with None, not at all with 0.
+        """Sets how long calls of the seat wait for admission, or for space: for ever, which is the default, with None, not at all with 0.
 
-        Where they have not come in by then they raise Busy, and are not made.
+        If they were not admitted by then they raise Busy, and are not made.
         """
         never = (1 << 64) - 1
         if seconds is not None and not seconds >= 0:
@@ -1978,45 +2023,45 @@ class Seat:
         _shared_library().hull_python_wait_at_most(self._at, time)
 
     def wait_safe(self) -> None:
-        """Waits until the lines of all calls of the seat are safe in the file that the hull keeps, for as long as its calls wait.
+        """Waits until the lines of all calls of the seat are durable in the journal file, for as long as its calls wait.
 
-        Busy where they are not by then; else what `SharedHull.safe` raises.
+        Busy if they are not by then; else what `SharedHull.safe` raises.
         """
         told = _shared_library().hull_python_wait_safe(self._at)
         _no_file(told, told.high)
         _told(told.code)
 
     def turn(self) -> Optional[int]:
-        """The number of the last call that was served, under which it has its line; None where none was."""
+        """Returns the number of the last call, that of its line; None if there was none."""
         turn = ctypes.c_uint64()
         return turn.value if _shared_library().hull_python_turn(self._at, ctypes.addressof(turn)) else None
 
     def add(self, x: SupportsIndex, y: SupportsIndex) -> int:
-        """Holds the point once more, and returns how often it is held now: 1 where it is new."""
+        """Adds the point, and returns its multiplicity now: 1 if it is new."""
         return _times_added(self._ask(_Kind.ADD, _whole(x), _whole(y)))
 
     def remove(self, x: SupportsIndex, y: SupportsIndex) -> Optional[int]:
-        """Holds the point once less, and returns how often it is still held; None where it was not there."""
+        """Removes the point once, and returns the multiplicity that is left; None if it was not there."""
         return _times_left(self._ask(_Kind.REMOVE, _whole(x), _whole(y)))
 
     def place(self, x: SupportsIndex, y: SupportsIndex) -> Place:
-        """Where the point lies: one of Place."""
+        """Returns the location of the point: one of Place."""
         return Place(self._ask(_Kind.PLACE, _whole(x), _whole(y)).code)
 
     def tangents(self, x: SupportsIndex, y: SupportsIndex) -> Optional[Tuple[Pair, Pair]]:
-        """The left and the right point that bound the hull as it is seen from (x, y); None where no such are."""
+        """Returns the left and the right tangent point seen from (x, y); None if there are none."""
         return _tangents(self._ask(_Kind.TANGENTS, _whole(x), _whole(y)))
 
     def extreme(self, x: SupportsIndex, y: SupportsIndex) -> Optional[Pair]:
-        """The point farthest in the direction (x, y), of several the first by x and then by y; None where none is."""
+        """Returns the farthest point in the direction (x, y), of several the first by x and then by y; None if there is none."""
         return _farthest(self._ask(_Kind.EXTREME, _whole(x), _whole(y)))
 
     def drain(self) -> JournalPart:
-        """Asks how many points there are, and takes all lines that the hull holds then out of its journal, as a JournalPart.
+        """Asks how many points there are, and drains all lines of the journal, as a JournalPart.
 
-        That of this call is the last of them. MemoryError where there is no room for the lines: no call is made then.
-        A hull that holds as many lines as it may has a line spare for this call, and room again behind it.
-        Where a signal's handler raises before the part is returned, `last_part` has it.
+        That of this call is the last of them. MemoryError if there is none for the lines: no call is made then. When the journal is full,
+        one line is reserved for this call, and there is space again after it. If a signal handler raises before the part is returned,
+        `last_part` has it.
         """
         capacity = _shared_library().hull_python_capacity(self._at)
         if capacity == 0:
@@ -2030,18 +2075,17 @@ class Seat:
         return part
 
     def last_part(self) -> Optional[JournalPart]:
-        """What the last drain took out; None where none has."""
+        """Returns what the last drain took; None if there was none."""
         return self._part
 
     def corners(self) -> int:
-        """How many corners there are."""
+        """Returns how many vertices there are."""
         return self._ask(_Kind.VERTICES).number
 
     def vertices(self) -> List[Pair]:
-        """The corners as pairs, as those of a Hull.
+        """Returns the vertices as pairs, as those of a Hull.
 
-        They are asked for with room for as many as there were before, and again where there are more: each asking has
-        its line in the journal.
+        It asks with space for as many as there were before, and again if there are more: each question has its line in the journal.
         """
         while True:
             room = array("q", (0, 0)) * self._corners
@@ -2051,9 +2095,9 @@ class Seat:
             self._corners = reply.number + reply.number // 8
 
     def doubled_area(self) -> int:
-        """Twice the area, 0 for a point and a line."""
+        """Returns twice the area, 0 for a point and a segment."""
         return _area(self._ask(_Kind.AREA))
 
     def count(self) -> int:
-        """How many different points there are."""
+        """Returns how many different points there are."""
         return self._ask(_Kind.COUNT).number

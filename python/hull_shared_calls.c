@@ -166,7 +166,7 @@ static hull_reply closes(hull_python_desk *d) {
         reply.code = d->asking != 0 ? HULL_IN_USE : HULL_CLOSED;
         if (reply.code == HULL_CLOSED) {
             reply = hull_shared_journal_close(d->journal);
-            d->journal = reply.code == HULL_SEATS_OUT ? d->journal : NULL;
+            d->journal = reply.code == HULL_SEATS_OUT || reply.code == HULL_IN_USE ? d->journal : NULL;
         }
         return reply;
     }

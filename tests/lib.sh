@@ -1,5 +1,5 @@
-# What the scripts below tests/ have in common, read by each behind its `here`: where the repository is, a folder of its own that goes with
-# it, how a try is told and counted, and the last line.
+# What the scripts below tests/ share, read by each after it sets `here`: where the repository is, a temporary folder, how an attempt is
+# reported and counted, and the last line.
 # shellcheck shell=sh disable=SC2034 # the scripts read what is set here
 top=$(cd "$here/../.." && pwd)
 room=$(mktemp -d)
@@ -7,7 +7,7 @@ trap 'rm -rf "$room"' EXIT
 passed=0
 failed=0
 
-# tells how a try came out, and counts it: NAME, and `ok` with what belongs to it, or what else came
+# reports an attempt and counts it: NAME, and `ok` with details, or what came instead
 said() {
     echo "$1: $2"
     case $2 in
@@ -16,23 +16,42 @@ said() {
     esac
 }
 
-# the same of what has to be this: NAME CAME WANTED
+# the same of what has to be equal: NAME CAME WANTED
 came() {
     if [ "$2" = "$3" ]; then said "$1" ok; else said "$1" "FAILED, $2, not $3"; fi
 }
 
-# the same of a status, with the end of $room/told where it is not 0: NAME STATUS
+# the same of a status, with the end of $room/told if it is not 0: NAME STATUS
 count() {
     came "$1" "$2" 0
     [ "$2" -eq 0 ] || [ ! -f "$room/told" ] || tail -n 20 "$room/told"
 }
 
-# tries a command: NAME COMMAND..
+# runs a command: NAME COMMAND..
 attempt() {
     trial=$1
     shift
     "$@" >"$room/told" 2>&1
     count "$trial" $?
+}
+
+# runs a command that counts by itself, and adds what its last line says: NAME COMMAND..
+counted() {
+    suite=$1
+    shift
+    "$@" >"$room/told" 2>&1
+    status=$?
+    sed '$d' "$room/told"
+    last=$(tail -n 1 "$room/told")
+    case $last in
+    [0-9]*' passed, '[0-9]*' failed')
+        passed=$((passed + ${last%% *}))
+        more=${last#*, }
+        failed=$((failed + ${more%% *}))
+        [ "$status" -eq 0 ] || [ "${more%% *}" -gt 0 ] || said "$suite" "FAILED, exit status $status after $last"
+        ;;
+    *) said "$suite" "FAILED, exit status $status: $last" ;;
+    esac
 }
 
 skip() {
@@ -41,6 +60,17 @@ skip() {
 
 is_there() {
     command -v "$1" >/dev/null 2>&1
+}
+
+# prints the path of a program as the toolchain linked it here, with the C library as a shared object, so that a preloaded library can take
+# its place: NAME
+linked_program() {
+    "$top/tools/product.sh" linked "$1"
+}
+
+# compiles FILE.c of a folder as a library that is loaded before the C library: FOLDER FILE
+preloaded() {
+    "${CC:-cc}" -O1 -fPIC -shared -nostdlib -fno-builtin -o "$room/$2.so" "$1/$2.c"
 }
 
 # the last line, and the status

@@ -1,11 +1,13 @@
 #!/usr/bin/env python3
-"""Writes docs/DEFINITIONS.md, and in docs/PROOFS.md the list of files, from the comments above definitions and at the head of files; and
-beside each library that has a caller in `callers` the page CALLING.md, which shows that caller, what it asks and ensures, and all names.
+"""Writes what is made of comments: beside each library that has a caller in `callers` the page CALLING.md, with that caller and all public
+names.
 
-    tools/reference.py [--write]
+    tools/reference.py                 compares, and tests the lengths of the pages in docs/
+    tools/reference.py --write         writes these pages
+    tools/reference.py --definitions   writes out/DEFINITIONS.md: what each definition means that a public contract can name
 
-Without --write it tells what would change, and what of docs/ is longer than it may be; the last line is 'N passed, M failed'. A definition
-is one that other crates can name: `pub` at the head of a line of specs/, with the comment above it. What a comment says stands once, there.
+A definition that a contract can name is `pub` at the head of a line of specs/, with its comment above it. The last line is
+'N passed, M failed'.
 """
 import os
 import re
@@ -19,9 +21,8 @@ import kit  # noqa: E402 (the path comes first)
 DEFINITION = re.compile(r"^(?:(?:abbrev|unfoldable|opaque|infix[lr]?|\d+)\s+)*pub\s+(?!use\b|mod\b|open\b|ruleset\b)(?:(?:record|data|abbrev|unfoldable|opaque)\s+)*(\S+)")
 HEAD = """# Definitions
 
-What each definition means that a public contract can name, crate by crate, as the comment above it says; the definitions stand in
-`crates/NAME/specs/MODULE.antt`, and count. A whole number is of any size, and a list of points stands for a set.
-`tools/reference.py --write` writes this file from the comments.
+What each definition means that a public contract can name, crate by crate, in the words of the comment above it. The definitions
+themselves are in `crates/NAME/specs/MODULE.antt`, and they decide. A whole number is of any size, and a list of points represents a set.
 """
 WIDTH = 140
 CALLING = """# Calling `{name}`
@@ -30,7 +31,7 @@ CALLING = """# Calling `{name}`
 
 ## A caller
 
-As it stands in `{path}`, and proved. What each function asks and ensures stands above its body in `src/`.
+This is `{path}`, which is proved. What each function requires and ensures is written above its body in `src/`.
 
 ```rust
 {code}```
@@ -41,19 +42,13 @@ As it stands in `{path}`, and proved. What each function asks and ensures stands
 
 `tools/reference.py --write` writes this page.
 """
-# how many words of docs/ may be written by hand, and how many a part of a page may have: what a part is, and where one ends
-BY_HAND = 24000
+# how many words docs/ may have, and how many a section of a page may have: what a section is, and where one ends
+BY_HAND = 20000
 PARTS = {
     "docs/PROVED.md": ("a cell", 60, r"\||(?m:^(?!\|).*\n)"),
     "docs/DECISIONS.md": ("a decision", 120, r"\n\n(?=\*\*|#)"),
     "docs/ARCHITECTURE.md": ("a sentence", 35, r"(?<=[.:;])\s+(?=[A-Z`*])|\n\n|\n *(?:- |\d+\. )|\|"),
 }
-FILES = """## Each file of lemmas
-
-What the file's first line says. `tools/reference.py --write` writes this part.
-"""
-
-
 def comment_above(lines, at):
     """The comment whose last line stands above that one, as one text."""
     found = []
@@ -104,7 +99,7 @@ def files_in(crate, part):
 
 
 def definitions():
-    """The text of docs/DEFINITIONS.md."""
+    """Returns the text of out/DEFINITIONS.md."""
     text = [HEAD]
     for crate in kit.crates().values():
         modules = [(it, head_of(f"{crate.folder}/specs/{it}.antt"), definitions_in(f"{crate.folder}/specs/{it}.antt")) for it in files_in(crate, "specs")]
@@ -115,17 +110,6 @@ def definitions():
         for module, said, found in modules:
             text.append(f"\n**{module}.** {cell(said)}\n\n| Name | What it says |\n|---|---|\n")
             text += [f"| {', '.join(f'`{it}`' for it in names)} | {cell(said)} |\n" for names, said in found]
-    return "".join(text)
-
-
-def proofs():
-    """The text of docs/PROOFS.md: what stands there by hand, and the files of lemmas."""
-    text = [kit.text_of(f"{kit.TOP}/docs/PROOFS.md").partition("## Each file of lemmas")[0], FILES]
-    for crate in kit.crates().values():
-        files = [(it, head_of(f"{crate.folder}/proofs/{it}.antt")) for it in files_in(crate, "proofs")]
-        if any(said for _, said in files):
-            text.append(f"\n### {crate.name}\n\n| File | What it shows |\n|---|---|\n")
-            text += [f"| `{it}` | {cell(said)} |\n" for it, said in files if said]
     return "".join(text)
 
 
@@ -155,30 +139,29 @@ def calling(name, path):
 
 def pages():
     """What this writes: each page's path, with its text."""
-    yield "docs/DEFINITIONS.md", definitions()
-    yield "docs/PROOFS.md", proofs()
     for name, path in callers().items():
         yield f"crates/{name}/CALLING.md", calling(name, path)
-
-
-def by_hand(page):
-    """What of a page is written by hand."""
-    return "" if page == "docs/DEFINITIONS.md" else kit.text_of(f"{kit.TOP}/{page}").partition("## Each file of lemmas")[0]
 
 
 def too_long():
     """What of docs/ is longer than it may be, a line each."""
     pages = [f"docs/{it}" for it in kit.files_below(f"{kit.TOP}/docs") if it.endswith(".md")]
-    count = sum(len(by_hand(it).split()) for it in pages)
+    count = sum(len(kit.text_of(f"{kit.TOP}/{it}").split()) for it in pages)
     if count > BY_HAND:
-        yield f"docs: FAILED, {count} words are written by hand, and {BY_HAND} may be"
+        yield f"docs: FAILED, {count} words, and {BY_HAND} may be"
     for page, (what, most, end) in PARTS.items():
-        for part in re.split(end, by_hand(page)):
+        for part in re.split(end, kit.text_of(f"{kit.TOP}/{page}")):
             if len(part.split()) > most:
                 yield f"{page}: FAILED, {what} has {len(part.split())} words of {most}: {' '.join(part.split()[:8])}"
 
 
 def main(words):
+    if words == ["--definitions"]:
+        os.makedirs(f"{kit.TOP}/out", exist_ok=True)
+        with open(f"{kit.TOP}/out/DEFINITIONS.md", "w", encoding="utf-8") as file:
+            file.write(definitions())
+        print("out/DEFINITIONS.md")
+        return 0
     if words not in ([], ["--write"]):
         print(__doc__, file=sys.stderr)
         return 2

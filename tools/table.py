@@ -1,13 +1,13 @@
 #!/usr/bin/env python3
-"""Writes what repeats the numbers, names and words of tables/calls.txt, and the version of the file VERSION, into each place that says it.
+"""Writes the numbers, names and words of tables/calls.txt, and the version of the file VERSION, into each place that repeats them.
 
     tools/table.py [--write]
 
-Such a place is a marked stretch of a file, from a line 'written by tools/table.py: WHAT' to one 'end of what tools/table.py writes', each
-a comment there; or the version in a line. In a stretch 'a case for each call' (or kind, or reply) of any file of Rattle, calls with the
-same numbers behind their word have cases that differ by their names: each is written as that of the first of them, and where that has none,
-none has. Without --write it tells what would change. Each file is counted, and the table too, in which numbers have to go on from one to
-the next; the last line is 'N passed, M failed'.
+Such a place is a marked stretch of a file, between the comments 'written by tools/table.py: WHAT' and 'end of what tools/table.py
+writes'; or a line with the version. In a stretch 'a case for each call' (or kind, or reply) of a file of Rattle, calls with the same
+operands have cases that differ only by their names: each is written like the case of the first of them, if that has one. Without --write
+it prints what would change. Each file is counted, and the table too, whose numbers must be consecutive; the last line is
+'N passed, M failed'.
 """
 import os
 import re
@@ -23,7 +23,7 @@ LINE = re.compile(r"(\w+) (?:(\d+) )?(\w+)(?: \((.*?)\))?: (.*)")
 STRETCH = r"(?ms)^[^\n]*written by tools/table\.py: %s\b[^\n]*\n(.*?)^[^\n]*end of what tools/table\.py writes"
 CASES = re.compile(r"written by tools/table\.py: (a case for each (call|kind|reply)( word)?\b.*)")
 FIELDS = {"x", "y", "other_x", "other_y", "number", "high"}
-# where the version stands, as the group of a pattern that is there once
+# the places of the version: file, and a pattern that occurs once, with the version as its group
 VERSIONS = {
     "include/hull_common.h": r'(?m)^#define HULL_VERSION "(.*)"$',
     "python/hull.py": r'(?m)^__version__ = "(.*)"$',
@@ -36,31 +36,31 @@ Row = namedtuple("Row", "number name mark said group")
 
 
 class Row(Row):
-    """A line of the table: its number, its name in capitals, its mark, its sentence, and the name and sentence of its group."""
+    """A line of the table: its number, its name in capitals, its mark, its sentence, and its group."""
 
     def camel(self):
-        """The name as TooMany."""
+        """Returns the name in the form TooMany."""
         return "".join(it.capitalize() for it in self.name.split("_"))
 
     def small(self):
-        """The name as tooMany."""
+        """Returns the name in the form tooMany."""
         return self.camel()[0].lower() + self.camel()[1:]
 
     def is_in_c(self):
-        """Whether no proved call tells it."""
+        """Returns whether only C returns it, and no proved function."""
         return "in C" in (self.mark, self.group.mark)
 
     def words(self):
-        """The word of a call or reply, as the texts spell it, and what belongs to it."""
+        """Returns the word of a call or reply, as texts spell it, and its operands."""
         return self.said.partition(":")[0].split()
 
     def in_set(self):
-        """The name of a call or reply in `hull_set`."""
+        """Returns the name of a call or reply in `hull_set`."""
         return self.mark if self.mark and self.mark[0].isupper() else self.camel()
 
 
 def table():
-    """The rows of the table by the list that each is of."""
+    """Returns the rows of the table by list."""
     lists, group = {"group": []}, None
     for line in re.sub(r"\n +", " ", kit.text_of(f"{kit.TOP}/{TABLE}")).splitlines():
         if line and not line.startswith("#"):
@@ -71,7 +71,7 @@ def table():
 
 
 def faults_in(lists):
-    """What is wrong with the table itself."""
+    """Yields the faults of the table itself."""
     for kind, rows in lists.items():
         numbers, names = [it.number for it in rows], [it.name for it in rows]
         if kind != "group" and numbers != list(range(numbers[0], numbers[0] + len(rows))):
@@ -86,19 +86,19 @@ def faults_in(lists):
 
 
 def answers(row):
-    """What a kind or call may be answered, by names."""
+    """Returns the names of the replies to a kind or call."""
     return row.said.rpartition(": ")[2].partition(";")[0].split(", ")
 
 
 def wrapped(text, width, first, others):
-    """A text in lines of at most that width, which begin so; none parts a field from its number, or begins with the end of a comment."""
+    """Returns a text in lines of at most that width, with these indents. A field stays with its number, and the end of a comment with its text."""
     text = re.sub(r"(?<=\w:) (?=\d+,)| (?=\*/$)", "\u00a0", text)
     lines = textwrap.fill(text, width, initial_indent=first, subsequent_indent=others, break_long_words=False, break_on_hyphens=False)
     return lines.replace("\u00a0", " ") + "\n"
 
 
 def header(rows, prefix):
-    """The rows of an enum of C, each with its comment."""
+    """Returns the rows of an enum of C, each with its comment."""
     heads = [f"    HULL_{prefix}{it.name} = {it.number}{',' if it is not rows[-1] else ''}" for it in rows]
     wide, text, group = max(map(len, heads)) + 1, "", rows[0].group
     for row, head in zip(rows, heads):
@@ -109,52 +109,52 @@ def header(rows, prefix):
 
 
 def documented(rows, mark, width, variant):
-    """The variants of an enum, each below its sentence in comments that begin so."""
+    """Returns the variants of an enum, each below its sentence as a comment with that mark."""
     return "".join(f"{wrapped(f'{it.said[0].upper()}{it.said[1:]}.', width, mark, mark)}    {variant(it)}\n" for it in rows)
 
 
 def numbered(it):
-    """A variant of Rattle with its number."""
+    """Returns a variant of Rattle with its number."""
     return f"{it.camel()} = {it.number},"
 
 
 def object_of(fields):
-    """The fields of an object of JavaScript."""
+    """Returns the fields of an object of JavaScript."""
     return wrapped(", ".join(fields) + ",", 140, "    ", "    ")
 
 
 def manual(rows):
-    """A list of codes in a manual."""
+    """Returns a list of codes for a manual page."""
     said = [re.sub("`(.*?)`", r"\\fI\1\\fR", it.said) for it in rows]
     ends = [";\n"] * (len(rows) - 1) + [".\n"]
     return "".join(f".TP\n.B HULL_{it.name}\n{wrapped(text, 130, '', '')[:-1]}{end}" for it, text, end in zip(rows, said, ends))
 
 
 def spelled(rows, kind):
-    """How words are spelled, as rows of a `match` of Rattle."""
+    """Returns how words are spelled, as rows of a `match` of Rattle."""
     return "".join(f'            {kind}::{it.camel()} => b"{it.words()[0]}",\n' for it in rows)
 
 
 def chosen(rows, kind, depth, otherwise):
-    """The word that a field spells, as a chain of Rattle."""
+    """Returns the word that a field spells, as a chain of `if` of Rattle."""
     inner, outer = " " * depth, " " * (depth + 4)
     tests = (f"if field == {kind}::{it.camel()}.text() {{\n{outer}Some({kind}::{it.camel()})\n{inner}}} else " for it in rows)
     return f"{inner}{''.join(tests)}{{\n{outer}{otherwise}\n{inner}}}\n"
 
 
 def equations(rows, function, value, module):
-    """A function of a definition, a line for each row."""
+    """Returns a function of a definition, a line for each row."""
     return "".join(f"{function} {module}.{it.camel()} = {value(it)}\n" for it in rows)
 
 
 def list_of(name, rows, module, end="[]"):
-    """A list of a definition."""
+    """Returns a list of a definition."""
     text = wrapped(f"{name} = {' ∷ '.join([*(f'{module}.{it.camel()}' for it in rows), end])}", 121, "", "    ")
     return text.replace(" ∷\n    ", "\n    ∷ ")
 
 
 def definitions(calls, changes, answered):
-    """The words as definitions."""
+    """Returns the words as definitions."""
     spell = lambda kind, rows: equations(rows, f"{kind}_word_text", lambda it: f'codes "{it.words()[0]}"', kind)
     return f"""
 -- how a call word is spelled
@@ -176,17 +176,17 @@ abbrev pub reply_words : List ReplyWord
 
 
 def words_table(lists):
-    """The table of calls and replies in docs/FORMATS.md."""
+    """Returns the table of calls and replies of docs/FORMATS.md."""
     replies, text = {it.name: it for it in lists["reply"]}, "| Call | Spelled | | Reply | Spelled |\n|---|---|---|---|---|\n"
     for call in lists["call"]:
-        told = [replies[it] for it in answers(call)]
-        names = ", ".join(dict.fromkeys(it.in_set() for it in told))
-        text += f"| {call.camel()} | `{call.said.partition(':')[0]}` | | {names} | {', '.join(f'`{it.said}`' for it in told)} |\n"
+        possible = [replies[it] for it in answers(call)]
+        names = ", ".join(dict.fromkeys(it.in_set() for it in possible))
+        text += f"| {call.camel()} | `{call.said.partition(':')[0]}` | | {names} | {', '.join(f'`{it.said}`' for it in possible)} |\n"
     return text
 
 
 def stretches(lists):
-    """Each marked stretch: its file, what it is, and its text."""
+    """Yields each marked stretch: its file, its mark, and its text."""
     kinds, codes, relations, calls, replies = (lists[it] for it in ("kind", "code", "relation", "call", "reply"))
     proved = [it for it in codes if not it.is_in_c()]
     quoted = [f'"{it.small()}"' for it in relations]
@@ -213,7 +213,7 @@ def stretches(lists):
         ("hull_reply/specs/Told", "code", proved, "code"),
         ("hull_reply/specs/Requests", "kind", kinds, "kind"),
         ("hull_c/specs/Pairs", "relation", relations, "relation"),
-    ):  # (behind a definition `rt fmt` leaves a line free)
+    ):  # `rt fmt` leaves an empty line after a definition
         yield f"crates/{path}.antt", f"{what}s", equations(rows, f"{what}_number", lambda it: it.number, module) + "\n"
     yield "crates/hull_reply/src/code.rt", "codes", documented(proved, "    /// ", 120, numbered)
     yield "crates/hull_reply/src/kind.rt", "kinds", documented(asked, "    /// ", 120, numbered)
@@ -230,33 +230,33 @@ def stretches(lists):
 
 
 def form(row, lists):
-    """What belongs to a call, kind or reply: the numbers behind its word, and its mark where others have the same, or it is no name."""
+    """Returns the form of a call, kind or reply: its operands, and its mark if others have the same or it is no name."""
     like = next((it for it in lists["call"] if it.name == row.name), row) if row in lists["kind"] else row
     marked = [it.mark for it in lists["reply"]].count(row.mark) > 1 or row.in_set() != row.mark
     return (*like.words()[1:], row.mark if marked else None)
 
 
 def cases(text, rows, name, lists):
-    """A stretch with a case for each row, those that stand there first: each as that of the first row of its form, but for the layout."""
+    """Returns a stretch with a case for each row, those present first: each like the case of the first row of its form, except for layout."""
     bare = lambda case: re.sub(r",(?=[)}])|\s", "", case)
     indent = " " * min(len(it) - len(it.lstrip()) for it in text.splitlines() if it)
-    known, stand, first, found = {name(it): it for it in reversed(rows)}, {}, {}, ""
+    known, present, first, found = {name(it): it for it in reversed(rows)}, {}, {}, ""
     for case in re.split(rf"(?m)^(?={indent}[^\s}}])", text.rstrip("\n") + "\n")[1:]:
         key = next((it for it in re.findall(r"(?:\.|::)(\w+)", case) if it in known), "")
-        stand[key] = stand.get(key, "") + case
+        present[key] = present.get(key, "") + case
     for key in [name(it) for it in rows]:
         first.setdefault(form(known[key], lists), known[key])
-    for key in dict.fromkeys([*(it for it in stand if it), *map(name, rows)]):
+    for key in dict.fromkeys([*(it for it in present if it), *map(name, rows)]):
         row, alike = known[key], first[form(known[key], lists)]
         names = {alike.in_set(): row.in_set(), alike.camel(): row.camel()}
-        wanted = re.sub(r"\b\w+\b", lambda it: names.get(it[0], it[0]), stand.get(name(alike), ""))
-        case = stand.get(key, "")
+        wanted = re.sub(r"\b\w+\b", lambda it: names.get(it[0], it[0]), present.get(name(alike), ""))
+        case = present.get(key, "")
         found += case if bare(case) == bare(wanted) else wanted
     return found + text[len(text.rstrip("\n")) + 1 :]
 
 
 def stretches_of_cases(lists):
-    """Each stretch of cases: its file, what it is, and its text."""
+    """Yields each stretch of cases: its file, its mark, and its text."""
     for crate in kit.crates().values():
         for path in (f"crates/{crate.name}/{part}/{it}" for part in kit.SOURCES for it in kit.files_below(f"{crate.folder}/{part}")):
             text = kit.text_of(f"{kit.TOP}/{path}")
@@ -266,7 +266,7 @@ def stretches_of_cases(lists):
 
 
 def places(lists):
-    """Each place: its file, the pattern whose group it is, what it is, and what has to stand there."""
+    """Yields each place: its file, the pattern whose group it is, its mark, and the text that it must have."""
     version = kit.text_of(f"{kit.TOP}/VERSION").strip()
     yield from ((path, pattern, "the version", version) for path, pattern in VERSIONS.items())
     yield from ((path, STRETCH % re.escape(what), what, text) for path, what, text in [*stretches(lists), *stretches_of_cases(lists)])
@@ -282,15 +282,15 @@ def main(words):
         text = files.setdefault(path, kit.text_of(f"{kit.TOP}/{path}"))
         found = [*re.finditer(pattern, text)]
         if len(found) != 1:
-            faults.setdefault(path, []).append(f"{what} stands there {len(found)} times")
+            faults.setdefault(path, []).append(f"{what} occurs {len(found)} times")
         elif found[0][1] != wanted and words and path != "CHANGELOG.md":
             files[path] = text[: found[0].start(1)] + wanted + text[found[0].end(1) :]
             with open(f"{kit.TOP}/{path}", "w", encoding="utf-8") as file:
                 file.write(files[path])
         elif found[0][1] != wanted:
             lines = zip([*found[0][1].splitlines(), ""], [*wanted.splitlines(), ""])
-            stands, should = next(((a, b) for a, b in lines if a != b), ("more", ""))
-            faults.setdefault(path, []).append(f"{what}: it says '{stands.strip()}' and not '{should.strip()}': tools/table.py --write")
+            present, wanted_line = next(((a, b) for a, b in lines if a != b), ("more", ""))
+            faults.setdefault(path, []).append(f"{what}: it says '{present.strip()}' and not '{wanted_line.strip()}': tools/table.py --write")
     for path, said in faults.items():
         print(*(f"{path}: FAILED, {it}" for it in said), sep="\n", end="\n" if said else "")
     failed = sum(bool(it) for it in faults.values())

@@ -1,49 +1,49 @@
-// The types of hull.js: a convex hull of points with whole coordinates, whose calls are proved.
+// The types of hull.js: an exact convex hull of points with integer coordinates, over verified code.
 
 /** The greatest size of a coordinate, of a point and of a direction: 2^40. */
 export const COORDINATE_LIMIT: number;
-/** How many different points a hull takes at most: 2^20. */
+/** The greatest limit of a hull: 2^20 different points. */
 export const POINT_LIMIT: number;
-/** How often a point may be held. */
+/** The greatest multiplicity of a point. */
 export const MULTIPLICITY_LIMIT: number;
 
-/** What a call may be refused with. The hull is as it was. */
+/** The errors of calls. The hull is as it was. */
 export class HullError extends Error {}
-/** A coordinate is no whole Number from -2^40 to 2^40, or a limit none from 1 to 2^20. */
+/** A coordinate is not an integer Number from -2^40 to 2^40, or a limit not one from 1 to 2^20. */
 export class OutOfRange extends HullError {}
 /** Both components of a direction are 0. */
 export class ZeroDirection extends HullError {}
-/** The point is new and there are as many as the limit, or it is held as often as may be. */
+/** The point is new and there are as many as the limit, or its multiplicity is the greatest. */
 export class TooMany extends HullError {}
 /** The heap has no block of the size that is needed; the call may be made again. */
 export class NoMemory extends HullError {}
-/** The hull or outline was freed. */
+/** The hull or polygon was freed. */
 export class Ended extends HullError {}
-/** What stands for points is no iterable of pairs, and no array of numbers. */
+/** What was passed as points is no iterable of pairs, and no array of numbers. */
 export class NoPoints extends HullError {}
-/** The points are not the corners of a hull in their order, or another outline is none of the same module. */
+/** The points are not a convex polygon, or another polygon is not of the same module. */
 export class NoOutline extends HullError {}
-/** The module stopped in the middle of a call: it and all its hulls serve none any more. */
+/** The module stopped in the middle of a call: it and all its hulls fail from then on. */
 export class Trapped extends HullError {}
 /** The module can't be loaded: the engine can't run it, the bytes are not it, or they can't be had. */
 export class Unsupported extends HullError {}
 
 /** A point: x and y. */
 export type Point = [x: number, y: number];
-/** Many points: pairs, or an array that has the coordinates of each point beside one another. */
+/** Many points: pairs, or an array with the coordinates of each point as neighbours. */
 export type Points =
     | Iterable<readonly number[]>
     | Float64Array | Float32Array | Int32Array | Uint32Array | Int16Array | Uint16Array | Int8Array | Uint8Array
     | BigInt64Array;
-/** Where a point lies. A hull that is a point or a segment has no inside: all of it is "on". */
+/** The location of a point. A hull that is a point or a segment has no inside: all of it is "on". */
 export type Place = "inside" | "on" | "outside";
-/** No point lies left of the line from the point asked about through `left`, nor right of the one through `right`. */
+/** No point is left of the line from the point asked about through `left`, nor right of the one through `right`. */
 export interface Tangents {
     left: Point;
     right: Point;
 }
 
-/** A point, and how often it is held. */
+/** A point and its multiplicity. */
 export interface Held {
     point: Point;
     times: number;
@@ -54,137 +54,140 @@ export interface Bridges {
     lower: [Point, Point];
 }
 
-/** What a hull and an outline can be asked: OutOfRange and Ended may be thrown by each call. */
+/** The questions of a hull and of a polygon: each call may throw OutOfRange and Ended. */
 export interface Questions {
-    /** Where the point lies. */
+    /** Returns the location of the point. */
     place(x: number, y: number): Place;
-    /** Where each of the points lies. */
+    /** Returns the location of each of the points. */
     placeAll(points: Points): Place[];
-    /** Which points bound the hull as it is seen from (x, y), of several on a line the farthest; null where none do. */
+    /** Returns the tangent points seen from (x, y), of several on a line the farthest; null if there are none. */
     tangents(x: number, y: number): Tangents | null;
-    /** The same of each of the points. */
+    /** The same for each of the points. */
     tangentsAll(points: Points): (Tangents | null)[];
-    /** The first of the farthest points in each of the directions; null where there is no point. ZeroDirection. */
+    /** Returns the first of the farthest points in each of the directions; null if there is no point. ZeroDirection. */
     extremeAll(directions: Points): (Point | null)[];
-    /** The point farthest in the direction, of several the first by x and then y; null where none is held. ZeroDirection. */
+    /** Returns the farthest point in the direction, of several the first by x and then y; null if there is none. ZeroDirection. */
     extreme(x: number, y: number): Point | null;
-    /** The corners, counterclockwise from the first by x and then y, none inside an edge. NoMemory. */
+    /** Returns the vertices, counterclockwise from the first by x and then y, none inside an edge. NoMemory. */
     vertices(): Point[];
     /** The same as [x0, y0, x1, y1, ..]. */
     vertexArray(): Float64Array;
-    /** Twice the area, exact; 0 for a point and a segment. */
+    /** Returns twice the area, exact; 0 for a point and a segment. */
     doubledArea(): bigint;
-    /** Gives all its memory back; no call is served afterwards. What nothing refers to any more is freed sooner or later. */
+    /** Frees all its memory; every call fails afterwards. What nothing refers to any more is freed sooner or later. */
     free(): void;
 }
 
-/** A hull of points, each held at least once. All questions are over the points held, each taken once. */
+/** A set of points, each with a multiplicity. Questions are about their convex hull. */
 export interface Hull extends Questions {
-    /** Holds the point once more; returns how often it is held now, 1 where it is new. TooMany, NoMemory. */
+    /** Adds the point; returns its multiplicity now, 1 if it is new. TooMany, NoMemory. */
     add(x: number, y: number): number;
-    /** Holds the point once less; returns how often it is still held, or null where it was not there. */
+    /** Removes the point once; returns the multiplicity that is left, or null if it was not there. */
     remove(x: number, y: number): number | null;
-    /** Adds each of the points in their order; returns for each how often it was held then, 0 where it was refused. */
+    /** Adds each of the points in order; returns for each its multiplicity then, 0 if it failed. */
     addAll(points: Points): Uint32Array;
-    /** Removes each of the points in their order; returns how many of them were there. */
+    /** Removes each of the points once, in order; returns how many of them were there. */
     removeAll(points: Points): number;
-    /** How often the point is held, 0 where it is not there. */
+    /** Returns the multiplicity of the point, 0 if it is not there. */
     multiplicity(x: number, y: number): number;
-    /** How many different points there are. */
+    /** Returns how many different points there are. */
     count(): number;
-    /** How many different points the hull takes. */
+    /** Returns how many different points the hull may have. */
     limit(): number;
-    /** Holds just these points, each as often as it stands there; returns how many different ones. TooMany, NoMemory. */
+    /** Replaces all points by these, with their multiplicities; returns how many different ones there are. TooMany, NoMemory. */
     load(points: Points): number;
-    /** The points that are held, in order by x and then y, each with how often. NoMemory. */
+    /** Returns the points, in order by x and then y, each with its multiplicity. NoMemory. */
     held(): Held[];
-    /** Holds just these points, as `held` tells them; returns how many. NoPoints where they are not in their order. */
+    /** Replaces all points by these, as `held` returns them; returns how many. NoPoints if they are not in order. */
     loadHeld(held: Iterable<Held>): number;
-    /** Another hull that holds the same. NoMemory. */
+    /** Returns another hull with the same points. NoMemory. */
     copy(): Hull;
-    /** The bridges that the forks on a level of the tree store, from left to right; the root is level 0. NoMemory. */
+    /** Returns the bridges that the forks on a level of the tree store, from left to right; the root is level 0. NoMemory. */
     bridges(level: number): Bridges[];
-    /** Lets all points go; the limit stays. */
+    /** Removes all points; the limit stays. */
     clear(): void;
-    /** The corners that the hull has now, to be asked as it is now. NoMemory. */
+    /** Returns the convex polygon of the hull now. NoMemory. */
     outline(): Outline;
 }
 
-/** The corners of a hull, to be asked as that hull was. */
+/** A convex polygon: the vertices of a hull, which answers as that hull did then. */
 export interface Outline extends Questions {
-    /** How many corners there are. */
+    /** Returns how many vertices there are. */
     count(): number;
-    /** Whether a segment has a point in common with the hull, boundaries included. */
+    /** Returns whether the polygon intersects a segment, boundaries included. */
     meetsSegment(ax: number, ay: number, bx: number, by: number): boolean;
-    /** A corner and a direction that parts the hull from a segment: no corner has a greater product with it, and both ends have.
-     * Null where they meet, or there is no corner. */
+    /** Returns a vertex and a direction that separates the polygon from a segment: no vertex has a greater product with it, and both
+     * ends have. Null if they intersect, or there is no vertex. */
     apartFromSegment(ax: number, ay: number, bx: number, by: number): { corner: Point; direction: Point } | null;
-    /** Where the nearest point is: of one point at that corner, of two at the foot on the edge between them, of none the hull covers
-     * the one asked about. Null where there is no corner. */
+    /** Returns where the nearest point is: of one point at that vertex, of two at the foot on the edge between them, of none the
+     * polygon covers the one asked about. Null if there is no vertex. */
     nearest(x: number, y: number): Point[] | null;
-    /** The squared distance to a point, 0 where the hull covers it. Null where there is no corner. */
+    /** Returns the squared distance to a point, 0 if the polygon covers it. Null if there is no vertex. */
     squaredDistanceTo(x: number, y: number): Fraction | null;
-    /** The least and the greatest point of the box round the hull. */
+    /** Returns the least and the greatest point of the bounding box. */
     boundingBox(): [least: Point, greatest: Point] | null;
-    /** The greatest product of a corner with the direction less the least. */
+    /** Returns the greatest product of a vertex with the direction less the least. */
     widthAlong(dx: number, dy: number): bigint | null;
-    /** The two corners farthest from one another. */
+    /** Returns the two vertices that are farthest from one another. */
     diameter(): [Point, Point] | null;
-    /** Where the hull is least wide: the ends of an edge, and a corner farthest from it. */
+    /** Returns where the polygon is least wide: the ends of an edge, and a vertex farthest from it. */
     leastWidth(): [Point, Point, Point] | null;
-    /** Whether two hulls have a point in common, boundaries included. */
+    /** Returns whether the two polygons intersect, boundaries included. */
     meets(other: Outline): boolean;
-    /** Whether this hull covers whatever the other one covers. */
+    /** Returns whether this polygon contains the other one. */
     contains(other: Outline): boolean;
-    /** How this hull stands to the other one. */
+    /** Returns how this polygon is related to the other one. */
     relation(other: Outline): Relation;
-    /** Whether all of the other hull lies inside this one, with no point of it on the boundary. */
+    /** Returns whether this polygon contains the other one with no point of it on the boundary. */
     containsInside(other: Outline): boolean;
-    /** Whether two hulls are no farther apart than numerator / denominator (1 where none is given), exactly; false where one has no
-     * corner. OutOfRange where the numerator is no whole Number from 0 to 2^53 - 1, or the denominator none from 1 to 2^32 - 1. */
+    /** Returns whether their distance is at most numerator / denominator (default 1), exactly; false if one has no vertex. OutOfRange
+     * if the numerator is not an integer Number from 0 to 2^53 - 1, or the denominator not one from 1 to 2^32 - 1. */
     within(other: Outline, numerator: number, denominator?: number): boolean;
-    /** The same of the segment from (ax, ay) to (bx, by), which may be one point. */
+    /** The same for the segment from (ax, ay) to (bx, by), which may be one point. */
     withinSegment(ax: number, ay: number, bx: number, by: number, numerator: number, denominator?: number): boolean;
-    /** How this hull stands to the segment from (ax, ay) to (bx, by), which may be one point: one along an edge touches, one through the
-     * inside overlaps. */
+    /** Returns how this polygon is related to the segment from (ax, ay) to (bx, by), which may be one point: one that it contains gives
+     * "covers", also along an edge; one that leaves it touches if it has no point inside, and else overlaps. */
     relationToSegment(ax: number, ay: number, bx: number, by: number): Relation;
-    /** Where the ray from (x, y) in a direction first comes in; null where it misses. ZeroDirection. */
+    /** Returns where the ray from (x, y) in a direction enters; null if it misses. ZeroDirection. */
     castRay(x: number, y: number, dx: number, dy: number): Hit | null;
-    /** The last point of that ray in the hull; null where it misses. ZeroDirection. */
+    /** Returns the last point of that ray in the polygon; null if it misses. ZeroDirection. */
     lastOnRay(x: number, y: number, dx: number, dy: number): Hit | null;
-    /** The same of the segment from (ax, ay) to (bx, by); its last point is where that from (bx, by) to (ax, ay) comes in. */
+    /** The same for the segment from (ax, ay) to (bx, by); its last point is where that from (bx, by) to (ax, ay) enters. */
     castSegment(ax: number, ay: number, bx: number, by: number): Hit | null;
-    /** Where two hulls meet, or what parts them. Null where one has no corner. */
+    /** Returns where the two polygons intersect, or what separates them. Null if one has no vertex. */
     witness(other: Outline): Witness | null;
-    /** Where two hulls are nearest: a place on this one and one on the other, as `nearest` tells it; two of none where they meet. */
+    /** Returns where the two polygons are nearest: a feature of this one and one of the other, as `nearest`; two of none if they
+     * intersect. */
     distance(other: Outline): [ours: Point[], theirs: Point[]] | null;
-    /** The squared distance of two hulls, 0 where they meet. */
+    /** Returns the squared distance of the two polygons, 0 if they intersect. */
     squaredDistance(other: Outline): Fraction | null;
-    /** The squared distance of a segment, which may be one point. Null where there is no corner. */
+    /** Returns the squared distance of a segment, which may be one point. Null if there is no vertex. */
     squaredDistanceToSegment(ax: number, ay: number, bx: number, by: number): Fraction | null;
-    /** The greatest Number that is not above the distance of two hulls, and the least that is not below it: one where the distance is a
-     * Number, else the next two. Null where one has no corner. */
+    /** Returns the greatest Number that is not above the distance of the two polygons, and the least that is not below it: equal if the
+     * distance is a Number, else neighbours. Null if one has no vertex. */
     distanceBounds(other: Outline): [down: number, up: number] | null;
-    /** The same of a segment, which may be one point. */
+    /** The same for a segment, which may be one point. */
     distanceBoundsToSegment(ax: number, ay: number, bx: number, by: number): [down: number, up: number] | null;
 }
 
-/** How one hull stands to another: `within` where the other one covers all of it and more, `covers` the other way, `equal` where each
- * covers the other; else `touching` where they meet and a line has them on its two sides, `overlapping` where they meet and none has. */
+/** How one polygon is related to another: `within` if the other one covers all of it and more, `covers` the other way, `equal` if each
+ * covers the other; else `touching` if they intersect and a line has them on its two sides, `overlapping` if they intersect and none
+ * has, `apart` if they are disjoint. */
 export type Relation =
     // written by tools/table.py: relations
     | "apart" | "touching" | "overlapping" | "within" | "covers" | "equal";
     // end of what tools/table.py writes
 
-/** What shows how two hulls stand: `apart`, a corner of the first and a direction; `covered`, a corner of the second that the first
- * covers; `within`, a corner of the first that the second covers; `crossing`, two corners of each whose segments cross. */
+/** Why two polygons intersect, or what separates them: `apart`, a vertex of the first and a direction; `covered`, a vertex of the
+ * second that the first covers; `within`, a vertex of the first that the second covers; `crossing`, two vertices of each whose
+ * segments cross. */
 export interface Witness {
     shows: "apart" | "covered" | "within" | "crossing";
     points: Point[];
 }
 
-/** Where a way first comes in: how far it has gone, of a segment or in lengths of a ray's direction; and across the edge between two
- * corners, or at one of these, at one corner of a hull on its line, or at its start, which the hull covers (no points). */
+/** Where a segment or a ray enters: how far along that is, of a segment or in lengths of a ray's direction; and across the edge between
+ * two vertices, or at one of these, at one vertex of a polygon on its line, or at its start, which the polygon covers (no points). */
 export interface Hit {
     part: Fraction;
     points: Point[];
@@ -198,19 +201,19 @@ export interface Fraction {
 
 export interface Library {
     Hull: {
-        /** An empty hull for at most `limit` different points, 1 to 2^20 (2^20 where none is given). OutOfRange, NoMemory. */
+        /** Makes an empty hull for at most `limit` different points, 1 to 2^20 (the default). OutOfRange, NoMemory. */
         new (limit?: number): Hull;
     };
     Outline: {
-        /** The outline of corners as `vertices` tells them. NoOutline, OutOfRange, NoMemory. */
+        /** Makes the polygon of vertices as `vertices` returns them. NoOutline, OutOfRange, NoMemory. */
         new (corners: Points): Outline;
-        /** The outline of any points, in any order. TooMany, OutOfRange, NoMemory. */
+        /** Returns the convex polygon of any points, in any order. TooMany, OutOfRange, NoMemory. */
         of(points: Points): Outline;
     };
 }
 
-/** What hull.wasm is loaded from: its bytes, its URL (one of a file, too, in Node), or a response. */
+/** What hull.wasm is loaded from: its bytes, its URL (in Node also of a file), or a response. */
 export type Source = ArrayBuffer | ArrayBufferView | URL | string | Response | Promise<Response>;
 
-/** Loads the module, from out/hull.wasm beside hull.js where nothing is given; it uses at most `memory` bytes. Unsupported. */
+/** Loads the module, by default from out/hull.wasm beside hull.js; it uses at most `memory` bytes. Unsupported. */
 export function load(source?: Source, options?: { memory?: number }): Promise<Library>;

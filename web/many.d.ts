@@ -1,39 +1,41 @@
-// The types of many.js: many outlines at once, and outlines that move.
+// The types of many.js: many polygons at once, and polygons that move.
 import type { Fraction, Hull, Outline, Point, Relation } from "./hull.js";
 
-/** How the outline stands to each of the others, in their order. */
+/** Returns how the polygon is related to each of the others, in order. */
 export function relations(outline: Outline, others: Iterable<Outline>): Relation[];
 
-/** Whether the outline meets each of the segments [ax, ay, bx, by], in their order. OutOfRange. */
+/** Returns whether the polygon intersects each of the segments [ax, ay, bx, by], in order. OutOfRange. */
 export function meetsSegments(outline: Outline, segments: Iterable<readonly [number, number, number, number]>): boolean[];
 
-/** The pairs [i, j], i < j, of outlines that are no farther apart than numerator / denominator, exactly, in their order; with 0, that
- * have a point in common. OutOfRange, as `Outline.within` tells it. */
+/** Returns the pairs [i, j], i < j, of polygons whose distance is at most numerator / denominator, exactly, in order; with 0, of those
+ * that intersect. OutOfRange, as `Outline.within`. */
 export function pairsWithin(outlines: readonly Outline[], numerator?: number, denominator?: number): [number, number][];
 
-/** For each corner the place of the first of the points that is there, which input it is; -1 where none is. */
+/** Returns for each vertex the index of the first of the points that is equal to it; -1 if none is. OutOfRange. */
 export function indices(outline: Outline, points: Iterable<readonly number[]>): number[];
 
-/** When an outline that moves straight first meets one that stands. */
+/** When a polygon that moves straight first intersects one that does not move. */
 export interface Motion {
-    /** How much of its way it has gone; 0 where they meet before it moves. */
+    /** How far along it is; 0 if they intersect before it moves. */
     part: Fraction;
-    /** Where the corner arrives, as a hit tells it; no points where they meet before. */
+    /** Where the vertex arrives, as in a hit; no points if they intersect before. */
     points: Point[];
-    /** A corner that arrives first; null where they meet before. */
+    /** A vertex that arrives first; null if they intersect before. */
     corner: Point | null;
-    /** Whether it is of the outline that moves; else of the one that stands, at the other as it lay before it moved. */
+    /** Whether it is of the polygon that moves; else of the other, at the moving one as it was before. */
     moves: boolean;
 }
 
-/** When the second outline, which moves straight by (dx, dy), first meets the first, which stands; null where they don't. OutOfRange. */
+/** Returns when the second polygon, which moves straight by (dx, dy), first intersects the first; null if it never does. OutOfRange. */
 export function firstMeeting(standing: Outline, moving: Outline, dx: number, dy: number): Motion | null;
 
-/** The corners of the outline moved by (dx, dy), of which another one can be made. OutOfRange. */
+/** Returns the vertices of the polygon translated by (dx, dy), of which you can make another one. OutOfRange. */
 export function moved(outline: Outline, dx: number, dy: number): Point[];
 
-/** The corners of the outline turned about (0, 0) by the angle of (a, b), and magnified by its length. OutOfRange, ZeroDirection. */
+/** Returns the vertices of the polygon rotated about (0, 0) by the angle of (a, b), and scaled by its length. OutOfRange,
+ * ZeroDirection. */
 export function turned(outline: Outline, a: number, b: number): Point[];
 
-/** The held point nearest to (x, y), of several the first by x and then y, and the square of how far it is; null where none is held. */
+/** Returns the point of the hull that is nearest to (x, y), of several the first by x and then y, and the square of its distance; null
+ * if there is none. OutOfRange. */
 export function nearestHeld(hull: Hull, x: number, y: number): { point: Point; squared: bigint } | null;

@@ -1,6 +1,22 @@
 // Many outlines at once, and outlines that move: loops over what hull.js asks of one or of two.
 import { COORDINATE_LIMIT, OutOfRange, ZeroDirection } from "./hull.js";
 
+/** The numbers, each of which is whole and at most `limit` in size; else OutOfRange. */
+function checked(numbers, limit = COORDINATE_LIMIT) {
+    for (const value of numbers) {
+        if (!(Number.isInteger(value) && Math.abs(value) <= limit)) {
+            throw new OutOfRange(`a coordinate is a whole Number from -${limit} to ${limit}, and not ${typeof value} ${String(value)}`);
+        }
+    }
+    return numbers;
+}
+
+/** What an element of an iterable has to be: so many coordinates. */
+function row(numbers, count) {
+    if (numbers?.length !== count) throw new OutOfRange(`${count} coordinates were wanted, and not ${String(numbers)}`);
+    return checked(Array.from(numbers));
+}
+
 /** How the outline stands to each of the others, in their order. */
 export function relations(outline, others) {
     return Array.from(others, (other) => outline.relation(other));
@@ -8,12 +24,16 @@ export function relations(outline, others) {
 
 /** Whether the outline meets each of the segments [ax, ay, bx, by], in their order. */
 export function meetsSegments(outline, segments) {
-    return Array.from(segments, ([ax, ay, bx, by]) => outline.meetsSegment(ax, ay, bx, by));
+    return Array.from(segments, (segment) => outline.meetsSegment(...row(segment, 4)));
 }
 
 /** The pairs [i, j], i < j, of outlines that are no farther apart than numerator / denominator, exactly; with 0, that have a point in
  * common. By a sweep over their boxes. */
 export function pairsWithin(outlines, numerator = 0, denominator = 1) {
+    const isWhole = (value) => Number.isSafeInteger(value) && value >= 0;
+    if (!isWhole(numerator) || !isWhole(denominator) || denominator < 1 || denominator >= 2 ** 32) {
+        throw new OutOfRange("a length is a whole Number from 0 on by one from 1 to 2^32 - 1");
+    }
     const boxes = [], pairs = [], length = Math.ceil(numerator / denominator) + (numerator > 2 ** 50 ? 1 : 0);
     outlines.forEach((outline, at) => {
         const box = outline.boundingBox();
@@ -33,7 +53,8 @@ export function pairsWithin(outlines, numerator = 0, denominator = 1) {
 /** For each corner the place of the first of the points that is there; -1 where none is. */
 export function indices(outline, points) {
     const places = new Map();
-    Array.from(points).forEach(([x, y], place) => {
+    Array.from(points).forEach((point, place) => {
+        const [x, y] = row(point, 2);
         const name = `${x} ${y}`;
         if (!places.has(name)) places.set(name, place);
     });
@@ -56,25 +77,28 @@ function soonest(found, outline, corners, dx, dy, moves) {
 /** When an outline that moves straight by (dx, dy) first meets one that stands; null where they don't meet. Two convex shapes first meet at
  * a corner of one of them. */
 export function firstMeeting(standing, moving, dx, dy) {
+    checked([dx, dy]);
     if (standing.meets(moving)) return { part: { numerator: 0n, denominator: 1n }, points: [], corner: null, moves: false };
     if (dx === 0 && dy === 0) return null;
     const found = soonest(null, standing, moving.vertices(), dx, dy, true);
     return soonest(found, moving, standing.vertices(), -dx, -dy, false);
 }
 
-/** Whole numbers as points, all in range. */
+/** Points, all in range. */
 function placed(corners) {
-    if (!corners.flat().every((coordinate) => Math.abs(coordinate) <= COORDINATE_LIMIT)) throw new OutOfRange("a coordinate is out of range");
+    checked(corners.flat());
     return corners;
 }
 
 /** The corners of the outline moved by (dx, dy), of which another one can be made. OutOfRange. */
 export function moved(outline, dx, dy) {
+    checked([dx, dy], 2 * COORDINATE_LIMIT);
     return placed(outline.vertices().map(([x, y]) => [x + dx, y + dy]));
 }
 
 /** The corners of the outline turned about (0, 0) by the angle of (a, b), and magnified by its length. OutOfRange, ZeroDirection. */
 export function turned(outline, a, b) {
+    checked([a, b]);
     if (a === 0 && b === 0) throw new ZeroDirection("a direction is zero");
     const [c, s] = [BigInt(a), BigInt(b)];
     const corners = outline.vertices().map(([x, y]) => [BigInt(x), BigInt(y)]).map(([x, y]) => [Number(c * x - s * y), Number(s * x + c * y)]);
@@ -86,6 +110,7 @@ export function turned(outline, a, b) {
 /** The held point nearest to (x, y), of several the first by x and then y, and the square of how far it is; null where none is held. One look
  * at each held point. */
 export function nearestHeld(hull, x, y) {
+    checked([x, y]);
     let found = null;
     for (const { point } of hull.held()) {
         const [dx, dy] = [BigInt(point[0] - x), BigInt(point[1] - y)], squared = dx * dx + dy * dy;

@@ -1,13 +1,13 @@
 #!/bin/sh
-# Runs the built program on each case of cases/ and compares what it wrote, byte for byte, and its status.
+# Runs the program on each case of cases/ and compares its output, byte for byte, and its exit status.
 #
-# A case is a text in parts. `words:` are the program's words, where INPUT, JOURNAL and PART stand for the files `input`,
-# `journal` and `part` of the folder that the program runs in, with the bytes of the parts of these names, ABSENT for
-# `absent`, where nothing is, and FOLDER for `folder`, which is one. `status:` is the exit status. `output:` and `error:` are standard output and standard error, both empty where the part is
-# left out; `or:` is another output that may come. A line of a part begins with `|`, or with `\` where no newline ends it.
-# `device: full` lets the output fail. A line that begins with `#` is a remark. Each run of a script is made by both trees,
-# with `--sparing` and without, and has to come out the same. A journal that a run or `compact` wrote has to pass `check`.
-# The last line counts, and the status is not 0 where a case came out otherwise.
+# A case is a text in parts. `words:` are the program's words, in which INPUT, JOURNAL and PART stand for the files `input`, `journal` and
+# `part` of the folder that the program runs in, with the bytes of the parts of these names, ABSENT for `absent`, which is no file, and FOLDER
+# for `folder`, which is a folder. `status:` is the exit status. `output:` and `error:` are standard output and standard error, both empty
+# if the part is missing; `or:` is another possible output. A line of a part begins with `|`, or with `\` if no newline ends it.
+# `device: full` makes the output fail. A line that begins with `#` is a comment. Each run of a script is made with both trees, with
+# `--sparing` and without, and both outputs must be the same. A journal that a run or `compact` wrote must pass `check`.
+# The last line is 'N passed, M failed'.
 set -uf
 here=$(cd "$(dirname "$0")" && pwd)
 . "$here/../lib.sh"
@@ -62,7 +62,7 @@ outcome() {
     esac
 }
 
-hullbook=$("$top/tools/become.sh" --path hullbook) || exit
+hullbook=$("$top/tools/program.sh" --path hullbook) || exit
 
 for case in $(find "$here/cases" -name '*.case' | sort); do
     why=$(outcome "$case" '')

@@ -4,21 +4,25 @@
 A copy of the repository with no history and nothing built stands in a folder of its own; the toolchain's folder is covered by an
 empty one where the system allows it (unshare), and `rt` is on no path. There the README's first commands run, packages are made,
 installed each in a folder of its own, and used: by a C compiler, CMake, Meson, cargo, pip, dpkg and npm. What is not on the machine is
-skipped by name. Where dist/ is not of these sources, only that is told, and that its bytes are those of its sums.
+skipped by name. If dist/ was made of other sources, the packages are made of these, where that takes no proof.
 
 The last line is 'N passed, M failed'.
 """
+import base64
+import hashlib
 import os
+import pty
 import shutil
 import subprocess
 import sys
 import tempfile
 import time
+import zipfile
 
 TOP = os.path.dirname(os.path.dirname(os.path.dirname(os.path.abspath(__file__))))
 sys.path.insert(0, f"{TOP}/tools")
 import kit  # noqa: E402 (the path comes first)
-import release  # noqa: E402
+import packages  # noqa: E402
 
 FIRST_ANSWER = 1.0  # seconds
 C_PROGRAM = """#include "hull.h"
@@ -95,7 +99,7 @@ class Tries:
     def __init__(self, room):
         self.room, self.passed, self.failed = room, 0, 0
         self.path = ":".join(it for it in os.environ["PATH"].split(":") if not os.path.exists(f"{it}/rt"))
-        folder = os.path.dirname(os.path.dirname(kit.rattle())) if kit.version() else ""
+        folder = kit.toolchain() if kit.version() else ""
         cover = ["unshare", "-m", "sh", "-c", f"mount -t tmpfs none {folder} && exec \"$@\"", ""] if folder else []
         self.covered = cover if folder and subprocess.run([*cover, "true"], capture_output=True, check=False).returncode == 0 else []
         print(f"the toolchain is {'covered' if self.covered else 'on no path'}" if folder else "there is no toolchain here")
@@ -132,33 +136,87 @@ class Tries:
         self.see(what, status == 0 and told.strip().endswith(wanted), f"status {status}: {told}")
 
 
-def try_clone(tries):
-    """The programs of a fresh copy start at once, by a link too, and refuse with a status of their own where the sources are others."""
+def changed(path, old, new):
+    """Replaces a text in a file, or adds it at the end if there is none to replace. Returns the file's bytes before."""
+    before = kit.bytes_of(path)
+    with open(path, "wb") as file:
+        file.write(before.replace(old, new, 1) if old else before + new)
+    return before
+
+
+def put_back(path, data):
+    with open(path, "wb") as file:
+        file.write(data)
+
+
+def try_clone(tries, stale):
+    """Lays a fresh copy, whose programs start at once, by a link too, if they were made of these sources."""
     shutil.copytree(TOP, f"{tries.room}/clone", ignore=shutil.ignore_patterns(".git", "out", "target", "__pycache__"))
+    if "x86_64/hullbook" in stale:
+        print("skipped: the first answer of a fresh copy: the program has other sources than the release")
+        return
     begun = time.time()
     status, told = tries.run("bin/hullbook", "run", "examples/placement.txt", at="clone")
     took = time.time() - begun
     tries.see(f"the first answer of a fresh copy, in {took:.2f} s", status == 0 and told.endswith("sum 8 journal 8 capacity 65536\n") and took < FIRST_ANSWER, told)
     os.symlink(f"{tries.room}/clone/bin/hullbook", f"{tries.room}/hullbook")
     tries.prints("the program by a link", "sum 8 journal 8 capacity 65536", f"{tries.room}/hullbook", "run", "examples/placement.txt", at="clone")
-    source = f"{tries.room}/clone/crates/hullbook/src/main.rt"
-    text = kit.text_of(source)
-    with open(source, "a", encoding="utf-8") as file:
-        file.write("// another\n")
-    status, told = tries.run("bin/hullbook", "run", "examples/placement.txt", at="clone")
-    tries.see("other sources with no toolchain are refused with status 69", status == 69 and "Traceback" not in told, f"{status}: {told}")
-    with open(source, "w", encoding="utf-8") as file:
-        file.write(text)
-    with open(f"{tries.room}/clone/dist/x86_64/libhull.a", "r+b") as data:
-        data.seek(4000)
-        byte = data.read(1)
-        data.seek(4000)
-        data.write(bytes([byte[0] ^ 1]))
-        data.flush()
-        status, told = tries.run("tools/release.py", "--sums", at="clone")
-        tries.see("a changed byte of dist/ is seen", status == 1 and "libhull.a: FAILED" in told, told)
-        data.seek(4000)
-        data.write(byte)
+    try_absence(tries)
+    try_terminal(tries)
+
+
+def try_absence(tries):
+    """Each cause for which there is no program has a message of its own, and status 69."""
+    source, released = f"{tries.room}/clone/crates/hullbook/src/main.rt", f"{tries.room}/clone/dist/x86_64/hullbook"
+    words = ("bin/hullbook", "run", "examples/placement.txt")
+    before = changed(source, b"", b"// another\n")
+    status, told = tries.run(*words, at="clone")
+    tries.see("other sources with no toolchain", status == 69 and "made of other sources" in told and "not installed" in told, f"{status}: {told}")
+    put_back(source, before)
+    before = kit.bytes_of(released)
+    put_back(released, before[:-1] + bytes([before[-1] ^ 1]))
+    status, told = tries.run(*words, at="clone")
+    tries.see("a damaged program", status == 69 and "is damaged" in told, f"{status}: {told}")
+    status, told = tries.run("tools/product.sh", "check", at="clone")
+    tries.see("a changed byte of dist/", status == 1 and "dist/x86_64/hullbook: FAILED" in told, told)
+    put_back(released, before)
+    tries.lay("other", uname='#!/bin/sh\ncase $1 in -s) echo Linux ;; *) echo riscv64 ;; esac\n')
+    os.chmod(f"{tries.room}/other/uname", 0o755)
+    status, told = tries.run(*words, at="clone", env={"PATH": f"{tries.room}/other:{tries.path}"})
+    tries.see("another processor", status == 69 and "Linux on riscv64" in told, f"{status}: {told}")
+
+
+def on_terminal(tries, *words):
+    """Runs a program of the copy on a terminal. Returns its status and what the terminal shows."""
+    def read(fd):
+        try:
+            return os.read(fd, 4096)
+        except OSError:
+            return b""
+
+    shown, process, terminal = b"", *pty.fork()
+    if process == 0:
+        os.chdir(f"{tries.room}/clone")
+        os.execve(words[0], words, {**os.environ, "PATH": tries.path})
+    for part in iter(lambda: read(terminal), b""):
+        shown += part
+    return os.waitstatus_to_exitcode(os.waitpid(process, 0)[1]), shown.decode()
+
+
+def try_terminal(tries):
+    """On a terminal the wrapper says more than the proved program, with the same status; elsewhere it adds nothing."""
+    tries.lay("texts", bad__txt="0 add 1 1\n0 add 01 2\n", many__txt="0 add 1 1\n" * 5)
+    status, told = on_terminal(tries, "bin/hullbook")
+    tries.see("the synopsis after a refusal, on a terminal", status == 2 and "usage: hullbook run SCRIPT" in told, told)
+    status, told = on_terminal(tries, "bin/hullbook", "--version")
+    tries.see("the version, on a terminal", status == 2 and f"hullbook {packages.version()}" in told, told)
+    status, told = on_terminal(tries, "bin/hullbook", "run", f"{tries.room}/texts/bad.txt")
+    tries.see("a fault and its line, on a terminal", status == 2 and "line 2: fault 2" in told and "line 2 is: 0 add 01 2" in told, told)
+    status, told = on_terminal(tries, "bin/hullbook", "run", f"{tries.room}/texts/many.txt", "--capacity", "2")
+    tries.see("calls that found the journal full, on a terminal", status == 0 and "3 of 5 calls found the journal full" in told, told)
+    for words in (["--version"], ["run", f"{tries.room}/texts/bad.txt"]):
+        status, told = tries.run("bin/hullbook", *words, at="clone")
+        tries.see(f"no word more elsewhere: {words[0]}", status == 2 and told in ("hullbook: usage\n", "hullbook: line 2: fault 2\n"), told)
 
 
 def try_page(tries):
@@ -175,6 +233,12 @@ def try_install(tries):
     """What bin/install puts in place serves C, CMake, Meson, cargo and Python."""
     status, told = tries.run("bin/install", f"{tries.room}/prefix", at="clone")
     tries.see("bin/install", status == 0, told)
+    modes = {it: os.stat(f"{tries.room}/prefix/{it}").st_mode & 0o777 for it in kit.files_below(f"{tries.room}/prefix")}
+    wrong = [it for it, mode in modes.items() if mode != (0o755 if it.startswith("bin/") or it.endswith(".so") else 0o644)]
+    tries.see("modes of installed files", not wrong, wrong)
+    wanted = {"share/doc/hullbook/LICENSE", "lib/hull/hull/py.typed", "share/man/man3/hull.3", "share/hullbook/completions/hullbook.bash", "include/hull.hpp"}
+    tries.see("licence, types, manual pages and completions are installed", wanted <= set(modes), wanted - set(modes))
+    try_uninstall(tries)
     tries.lay("c", user__c=C_PROGRAM, both__c=BOTH)
     here = {"PKG_CONFIG_PATH": f"{tries.room}/prefix/lib/pkgconfig"}
     if tries.has("cc", "C") and tries.has("pkg-config", "C by pkg-config"):
@@ -192,19 +256,48 @@ def try_install(tries):
     tries.see("bin/install below DESTDIR", status == 0 and os.path.exists(f"{tries.room}/staged/usr/lib/libhull.a"), told)
 
 
+def try_uninstall(tries):
+    """A failed installation changes nothing, and an installation can be taken back, beside files of others."""
+    page = f"{tries.room}/clone/man/hull.3"
+    os.rename(page, f"{page}.gone")
+    status, told = tries.run("bin/install", f"{tries.room}/half", at="clone")
+    tries.see("a failed installation leaves nothing", status != 0 and not os.path.exists(f"{tries.room}/half"), told)
+    os.rename(f"{page}.gone", page)
+    tries.lay("back/lib", others__txt="of others\n")
+    status, told = tries.run("bin/install", f"{tries.room}/back", at="clone")
+    tries.see("a second installation", status == 0, told)
+    status, told = tries.run("bin/install", "--uninstall", f"{tries.room}/back", at="clone")
+    left = [*kit.files_below(f"{tries.room}/back")]
+    tries.see("--uninstall leaves the files of others, and no other", status == 0 and left == ["lib/others.txt"], f"{told} {left}")
+
+
+def try_wheel(tries, wheel):
+    """The sums of a wheel's record are those of its files, and it contains the shared objects and the types."""
+    with zipfile.ZipFile(wheel) as archive:
+        rows = [it.split(",") for it in archive.read(next(it for it in archive.namelist() if it.endswith("/RECORD"))).decode().splitlines()]
+        wrong = [name for name, said, size in rows if said and (said != "sha256=" + base64.urlsafe_b64encode(hashlib.sha256(archive.read(name)).digest()).rstrip(b"=").decode()
+                                                               or int(size) != len(archive.read(name)))]
+        names = {name for name, *_ in rows}
+    tries.see("the wheel's record", not wrong and {"hull/libhull.so", "hull/libhull_shared.so", "hull/py.typed", "hull/__init__.py"} <= names, f"{wrong} {names}")
+
+
 def try_packages(tries):
     """Each package is made, installed in a folder of its own, and used."""
-    status, told = tries.run("bin/package", f"{tries.room}/packages", at="clone")
+    status, told = tries.run("bin/package", "--test", f"{tries.room}/packages", at="clone")
     tries.see("bin/package", status == 0, told)
     print(told, end="")
-    at, version = f"{tries.room}/packages", release.version()
+    at, version = f"{tries.room}/packages", packages.version()
     if tries.has("cc", "the archive") and tries.has("pkg-config", "the archive"):
         os.makedirs(f"{tries.room}/unpacked")
         tries.prints("the archive, from any folder", "1", "sh", "-c", f"tar xJf {at}/hull-{version}-x86_64-linux.tar.xz && cd hull-* && export PKG_CONFIG_PATH=$PWD/lib/pkgconfig"
                      " && cc ../../c/user.c $(pkg-config --cflags --libs hull) -o user && ./user", at="unpacked")
-    wheel = f"{at}/hullbook-{version}-py3-none-manylinux2014_x86_64.whl"
+    wheel = f"{at}/hullbook-{version}-py3-none-{packages.PLATFORMS.format('x86_64')}.whl"
+    try_wheel(tries, wheel)
     if tries.run("python3", "-m", "venv", "venv")[0] == 0:
         tries.prints("the wheel, by pip", "200 INSIDE", "sh", "-c", f"venv/bin/pip install --no-index -q {wheel} && venv/bin/python -c '{PYTHON}'")
+        tries.run("python3", "-m", "venv", "built")
+        tries.prints("the archive for pip, built and installed", "200 INSIDE", "sh", "-c",
+                     f"built/bin/pip install --no-index -q {at}/hullbook-{version}.tar.gz && built/bin/python -c '{PYTHON}'")
     if tries.has("objdump", "symbols of the wheel"):
         script = f"unzip -q -o {wheel} -d wheel && objdump -T wheel/hull/*.so | grep -o 'GLIBC_[0-9.]*' | sort -uV | tail -n 1"
         newest = tries.run("sh", "-c", script)[1].strip()
@@ -242,21 +335,20 @@ def try_packages(tries):
 
 
 def main():
-    faults, passed = release.check_sums()
-    print(*faults, sep="\n", end="\n" if faults else "")
-    stale = [it for it in release.products() if not release.is_released(it)]
+    stale = packages.stale()
     if stale:
-        print(f"the sources have gone on since the release: {' '.join(stale)}")
-        print(f"{passed} passed, {len(faults)} failed")
-        return 1 if faults else 0
+        print(f"the sources have changed since the release: {' '.join(stale)}")
     with tempfile.TemporaryDirectory() as room:
         tries = Tries(room)
-        try_clone(tries)
+        try_clone(tries, stale)
         try_page(tries)
-        try_install(tries)
-        try_packages(tries)
-    print(f"{passed + tries.passed} passed, {len(faults) + tries.failed} failed")
-    return 1 if faults or tries.failed else 0
+        if not any(it.startswith("x86_64/hull") for it in stale):
+            try_install(tries)
+            try_packages(tries)
+        else:
+            print("skipped: installation and packages: the programs have other sources than the release")
+    print(f"{tries.passed} passed, {tries.failed} failed")
+    return 1 if tries.failed or not tries.passed else 0
 
 
 if __name__ == "__main__":

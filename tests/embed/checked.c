@@ -32,6 +32,8 @@ int main(void) {
         hull_reply told[2];
         memset(told, 5, sizeof told);
         CHECK(bare(hull_outline_place(list, 4, 0, 0), HULL_NO_OUTLINE) && bare(hull_outline_area(list, 4), HULL_NO_OUTLINE));
+        CHECK(hull_outline_calls(list, 4, asked_for, 2, told, 1) == 1 && bare(told[0], HULL_NO_OUTLINE) && told[1].code == 0x05050505);
+        CHECK(hull_outline_calls(list, 4, asked_for, 1, told, 2) == 1 && told[1].code == 0x05050505);
         CHECK(hull_outline_calls(list, 4, asked_for, 2, told, 2) == 2 && bare(told[0], HULL_NO_OUTLINE) && bare(told[1], HULL_NO_OUTLINE));
         CHECK(bare(hull_outline_meets_segment(list, 4, 0, 0, 1, 1), HULL_NO_OUTLINE));
         CHECK(bare(hull_outline_apart(list, 4, 0, 0, 1, 1), HULL_NO_OUTLINE) && bare(hull_outline_nearest(list, 4, -2, -1), HULL_NO_OUTLINE));

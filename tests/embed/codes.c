@@ -69,6 +69,9 @@ static void limits(void) {
     CHECK(hull_init(UINT32_MAX, h) == HULL_OUT_OF_LIMITS);
     CHECK(memcmp(before, h, hull_size()) == 0);
     free(before);
+    for (uint32_t limit = 1; limit <= HULL_LIMIT_MAX; limit += HULL_LIMIT_MAX - 1) {
+        CHECK(hull_init(limit, h) == HULL_OK && number(hull_limit(h), HULL_NUMBER, limit) && hull_end(h) == HULL_OK);
+    }
     static const uint32_t asked_for[] = {1, 2, HULL_LIMIT_MAX, 0, HULL_LIMIT_MAX + 1, UINT32_MAX};
     for (int i = 0; i < 6; i++) {
         hull_make(asked_for[i], h);
@@ -801,6 +804,13 @@ static void motions(void) {
                                       hull_outline_place(turned, 4, 3 * a + b, 3 * b - a).code == HULL_ON;
     }
     CHECK(outlines && bare(hull_outline_turned(shape, 4, far, 1, turned), HULL_OUT_OF_RANGE));
+    for (int64_t at = 1; at <= 2; at++) { /* a point on each axis, turned to the edge of what is in range, or beyond it */
+        const hull_point axes[] = {{at, 0}, {-at, 0}, {0, at}, {0, -at}};
+        for (int i = 0; i < 16; i++) {
+            const hull_reply told = hull_outline_turned(&axes[i / 4], 1, far * (axes[i % 4].x / at), far * (axes[i % 4].y / at), turned);
+            CHECK(at == 1 ? number(told, HULL_CORNERS, 1) : bare(told, HULL_OUT_OF_RANGE));
+        }
+    }
     CHECK(bare(hull_outline_turned(shape, 4, far + 1, 0, turned), HULL_OUT_OF_RANGE) && number(hull_outline_turned(NULL, 0, 1, 1, NULL), HULL_CORNERS, 0));
     CHECK(number(hull_is_outline(moved, 3), HULL_NUMBER, 1) && number(hull_outline_moved(NULL, 0, 5 * far, 0, NULL), HULL_CORNERS, 0));
 }
@@ -897,6 +907,7 @@ static void clearances(void) {
     CHECK(one.divisor_low != same.divisor_low && hull_clearance_compare(&one, &same) == 0 && hull_clearance_compare(&same, &least) > 0);
     CHECK(number(hull_outline_within_segment(square, 4, 9, 8, 7, 8, 5, 1), HULL_NUMBER, 1));
     CHECK(number(hull_outline_within_segment(square, 4, 9, 8, 7, 8, 49, 10), HULL_NUMBER, 0));
+    CHECK(number(hull_outline_within_point(square, 4, 7, 8, 499, 100), HULL_NUMBER, 0) && number(hull_outline_within_point(square, 4, 8, 7, 499, 100), HULL_NUMBER, 0));
     CHECK(number(hull_outline_within_point(square, 4, 7, 8, 5, 1), HULL_NUMBER, 1) && number(hull_outline_within_point(square, 0, 0, 0, 1, 0), HULL_NUMBER, 0));
     CHECK(bare(hull_outline_within_segment(square, 4, 0, 0, beyond, 0, 1, 1), HULL_OUT_OF_RANGE));
     CHECK(bare(hull_outline_within_point(square, 4, 0, -beyond, 1, 1), HULL_OUT_OF_RANGE));

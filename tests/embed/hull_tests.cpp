@@ -3,7 +3,10 @@
 #include "hull.hpp"
 
 #include <atomic>
+#include <cerrno>
+#include <chrono>
 #include <cmath>
+#include <cstdio>
 #include <cstring>
 #include <fstream>
 #include <iostream>
@@ -12,6 +15,7 @@
 #include <sstream>
 #include <thread>
 #include <type_traits>
+#include <unistd.h>
 #include <unordered_set>
 
 using hull::Hull;
@@ -145,6 +149,7 @@ static void two_outlines() {
     CHECK(small.indices({{3, 4}, {9, 9}, {2, 2}, {3, 4}}) == (std::vector<std::size_t>{2, 4, 0}));
     const auto gap = outline.clearance(beside), to_corner = outline.clearance_to_point({13, 14}), to_way = outline.clearance_to_segment({13, 14}, {16, 10});
     CHECK(gap && gap->down() == 2 && gap->up() == 2 && to_corner && to_corner->down() == 5 && to_way && *to_way <= *to_corner && *to_way > *gap);
+    CHECK(*gap <= *gap && !(*gap < *gap) && !(*gap > *gap) && !(*to_corner <= *gap));
     CHECK(*gap < *to_corner && *gap != *to_corner && *gap == *outline.clearance_to_point({12, 5}) && *gap >= *gap);
     CHECK(to_corner->words().low == 25 && outline.clearance(small)->up() == 0 && !none.clearance(outline) && !none.clearance_to_point({0, 0}));
     CHECK(outline.within_segment({13, 14}, {13, 20}, 5) && !outline.within_point({13, 14}, 4999, 1000) && outline.within_point({13, 14}, 5));
@@ -294,21 +299,21 @@ static void texts() {
         const char *text;
     } all[] = {{Refusal::out_of_range, "a coordinate is out of range"},
                {Refusal::zero_direction, "a direction is zero"},
-               {Refusal::too_many, "there are as many points as the limit, or the point is held as often as may be"},
+               {Refusal::too_many, "there are as many points as the limit, or the multiplicity is the greatest"},
                {Refusal::no_memory, "memory was refused"},
-               {Refusal::out_of_order, "the held points are not in order"},
-               {Refusal::no_outline, "the points are not the corners of a hull, in their order"},
+               {Refusal::out_of_order, "the points are not in order"},
+               {Refusal::no_outline, "the points are not a convex polygon"},
                {Refusal::out_of_limits, "a limit of a hull is out of range"},
                {Refusal::no_seat, "there is no such seat at the hull"},
                {Refusal::not_open, "the hull is closed"},
-               {Refusal::seats_out, "a seat of the hull is out"},
+               {Refusal::seats_out, "a seat of the hull is acquired"},
                {Refusal::full, "the journal of the hull is full"},
-               {Refusal::vacant, "the seat was given back"},
+               {Refusal::vacant, "the seat was released"},
                {Refusal::ended, "it was moved away"},
-               {Refusal::no_journal, "the text is none of a journal, from this line on"},
-               {Refusal::old_rules, "points are not counted in journals before version 3"},
-               {Refusal::illegal, "the journal is no legal history, from this line of its text on"},
-               {Refusal::too_few_seats, "the journal has lines by as many seats as this"}};
+               {Refusal::no_journal, "the text is not a journal, from this line on"},
+               {Refusal::old_rules, "journals before version 3 do not count points"},
+               {Refusal::illegal, "the journal is not a legal history, from this line of its text on"},
+               {Refusal::too_few_seats, "the journal has lines by this many seats"}};
     for (const auto &one : all) {
         CHECK(std::strcmp(hull::Fault(one.code).what(), one.text) == 0 && hull::Fault(one.code).number() == 0);
         CHECK(hull::Fault(one.code, 7).what() == std::string(one.text) + ": 7" && hull::Fault(one.code, 7).number() == 7);
@@ -542,6 +547,15 @@ static void readers() {
     CHECK(two.read() && two.view().size() == 2 && two.line() == 10);
     CHECK(before.corners()[1] == Point(8, 0) && one.view().relation(before) == hull::Relation::equal && before.contains(two.view()) && !two.view().contains(before));
     CHECK(*(two.view().end() - 1) == Point(0, 8) && *two.view().begin() == Point(0, 0));
+    for (std::int64_t y : {9, 10, 11}) { // as many corners, at other places
+        seat.remove({0, y - 1});
+        seat.add({0, y});
+        CHECK(two.newest().size() == 2 && *(two.view().end() - 1) == Point(0, y) && two.view().place({0, y}) == Place::on);
+        CHECK(two.view().place({0, y + 1}) == Place::outside && two.line() == seat.turn());
+    }
+    seat.remove({0, 11});
+    seat.add({0, 8});
+    CHECK(two.read());
     seat.give_back();
     CHECK(refuses(Refusal::seats_out, [&] { h.close(); }));
     one = std::move(two);
@@ -551,6 +565,124 @@ static void readers() {
     CHECK(refuses(Refusal::not_open, [&] { h.lend_reader(); }));
     SharedHull again = SharedHull::reopen(h.close(), 20, 1, 1), bare = SharedHull::open_without_journal({10, 7, 0, 1, 1});
     CHECK(again.lend_reader().view().size() == 2 && bare.lend_reader().view().size() == 0);
+}
+
+// a folder that goes with the test, and how many lines of its file add a point
+struct Folder {
+    std::string path;
+    Folder() {
+        char name[] = "/tmp/hull_testsXXXXXX";
+        CHECK(mkdtemp(name) != nullptr);
+        path = name;
+    }
+    ~Folder() {
+        for (const char *suffix : {"", ".new", ".torn"}) {
+            std::remove((file() + suffix).c_str());
+        }
+        rmdir(path.c_str());
+    }
+    std::string file() const { return path + "/zone.journal"; }
+    std::size_t additions() const {
+        std::ifstream in(file());
+        std::size_t count = 0;
+        for (std::string line; std::getline(in, line);) {
+            count += line.find(" add ") != std::string::npos;
+        }
+        return count;
+    }
+};
+
+// a hull whose journal is kept in a file: however it ends, all lines are there, and the file is let go
+static void kept() {
+    const Folder folder;
+    const hull::Limits limits{1000, 0, 100, 2, 2};
+    {
+        SharedHull h = SharedHull::keep(folder.file(), limits);
+        Seat seat = h.lend(0);
+        for (std::int64_t x = 0; x < 10; x++) {
+            seat.add({x, 1});
+        }
+    } // with no close
+    CHECK(folder.additions() == 10);
+    Seat late = SharedHull::keep(folder.file(), limits).lend(1);
+    late.add({0, 2});
+    late = SharedHull({4, 0, 4, 1}).lend(0); // the last that has the hull closes its file
+    CHECK(folder.additions() == 11);
+    SharedHull h = SharedHull::keep(folder.file(), limits);
+    CHECK(refuses(Refusal::no_file, [&] { SharedHull::keep(folder.file(), limits); }));
+    h = SharedHull::keep(folder.path + "/other", limits);
+    CHECK(std::remove((folder.path + "/other").c_str()) == 0);
+    h = SharedHull::keep(folder.file(), limits);
+    hull::Reader reader = h.lend_reader();
+    Seat seat = h.lend(0);
+    seat.add({1, 3});
+    seat.give_back();
+    CHECK(refuses(Refusal::seats_out, [&] { h.close(); }) && refuses(Refusal::seats_out, [&] { h.close(); }));
+    seat = h.lend(0);
+    for (std::int64_t x = 0; x < 200; x++) {
+        seat.add({x, 4});
+    }
+    seat.wait_at_most(std::chrono::seconds(10));
+    seat.wait_safe();
+    CHECK(h.safe() > *seat.turn() && reader.newest().size() > 2);
+    reader.give_back();
+    seat.give_back();
+    h.close();
+    CHECK(folder.additions() == 212 && refuses(Refusal::not_open, [&] { h.safe(); }));
+    CHECK(SharedHull::compact(folder.file()) > 212 && SharedHull::keep(folder.file(), limits).lend(0).count() == 212);
+    try {
+        SharedHull::keep(folder.path + "/none/at all", limits);
+        CHECK(false);
+    } catch (const hull::Fault &fault) {
+        CHECK(fault.code() == Refusal::no_file && fault.number() == ENOENT);
+    }
+    h = SharedHull::keep(folder.file(), limits);
+    seat = h.lend(0);
+    CHECK(std::remove(folder.file().c_str()) == 0);
+    seat.add({1, 5});
+    try {
+        seat.wait_safe();
+        CHECK(false);
+    } catch (const hull::Fault &fault) {
+        CHECK(fault.code() == Refusal::no_file && fault.number() == ESTALE);
+    }
+    seat.give_back();
+    CHECK(refuses(Refusal::no_file, [&] { h.close(); }) && !h.close().empty());
+}
+
+// threads that wait for what is safe while another closes the hull
+static void closed_beside_waiters() {
+    const Folder folder;
+    for (int again = 0; again < 10; again++) {
+        SharedHull h = SharedHull::keep(folder.file(), {100000, 0, 5000, 3});
+        std::vector<std::thread> all;
+        std::atomic<int> begun{0};
+        for (std::uint32_t k = 0; k < 3; k++) {
+            all.emplace_back([&, k, seat = h.lend(k)]() mutable {
+                for (std::int64_t x = 0; x < 100; x++) {
+                    seat.add({x, again * 3 + k});
+                }
+                seat.wait_safe();
+                seat.give_back();
+                begun++;
+                try {
+                    for (;;) {
+                        h.sync();
+                    }
+                } catch (const hull::Fault &fault) {
+                    CHECK(fault.code() == Refusal::not_open);
+                }
+            });
+        }
+        while (begun < 3) {
+            std::this_thread::yield();
+        }
+        h.close();
+        for (std::thread &thread : all) {
+            thread.join();
+        }
+    }
+    CHECK(folder.additions() == 3000);
 }
 
 // threads at once, of which one asks for more corners than it had room for
@@ -588,6 +720,8 @@ int main(int words, char **word) {
     exchange();
     shared();
     readers();
+    kept();
+    closed_beside_waiters();
     if (hull_overlaps != nullptr) {
         lendings();
     }

@@ -13,6 +13,7 @@ import types
 import unittest
 from array import array
 from collections import Counter
+from collections.abc import Sequence
 from decimal import Decimal
 from fractions import Fraction
 
@@ -190,6 +191,15 @@ class Calls(unittest.TestCase):
             if how == "exact" and abs(int(power)) < 900:
                 self.assertEqual(to_floats([(int(wanted), 0)], int(power)), [(number, 0)])
         self.assertGreater(len(cases), 40)
+
+    def test_fractions_near_the_limit(self):
+        top = COORDINATE_LIMIT
+        for numbers, power, wanted in (((Fraction(top - 1), Fraction(top)), 0, ((top - 1, top), 0)),
+                                       ((Fraction(top, 3), Decimal(-top)), 0, (((top + 1) // 3, -top), 1)),
+                                       ((Fraction(2 * top - 1, 2), -top * 4), -2, ((top // 4, -top), 1)),
+                                       ((Fraction(top << 42, (1 << 42) - 1), 0), 0, ((top, 0), 1))):
+            self.assertEqual(from_floats([numbers], power), ([wanted[0]], wanted[1]))
+        self.assertRaises(OutOfRange, from_floats, [(Fraction(2 * top + 2, 2), 0)], 0)
 
     def test_floats_in_and_out(self):
         hull = hull_module.FloatHull([(0.5, 0), (2.5, 0), (2.5, 1.25), (0.1, 1)], power=8)
@@ -457,6 +467,106 @@ class Calls(unittest.TestCase):
         self.assertRaises(ValueError, hull.meets_segments, [((0, 0),)])
         self.assertEqual((hull.meets_segments([]), hull.indices([]), Outline([]).indices([(1, 1)])), (b"", [None] * len(hull), []))
 
+    def test_sequences_that_make_their_outlines(self):
+        """What a call looks at stays until it ends, and is what was handed over, whatever the caller's sequence does meanwhile."""
+        Outline, pairs_within = hull_module.Outline, hull_module.pairs_within
+
+        def square(k):
+            return Outline([(3 * k, 0), (3 * k + 2, 0), (3 * k + 2, 2), (3 * k, 2)])
+
+        class Made(Sequence):
+            """Outlines to which only the caller refers."""
+
+            def __len__(self):
+                return 300
+
+            def __getitem__(self, k):
+                if k >= 300:
+                    raise IndexError(k)
+                return square(k)
+
+        class Lying(list):
+            def __len__(self):
+                return 5 + list.__len__(self)
+
+        near = [(k, k + 1) for k in range(299)]
+        one = Outline([(0, 0), (1000, 0), (1000, 1)])
+        for outlines in (Made(), Lying(Made()), tuple(Made())):
+            for distance in (1, Fraction(1) + Fraction(1, 1 << 40)):
+                self.assertEqual(pairs_within(outlines, distance), near)
+            self.assertEqual(one.relations(outlines), [one.relation(other) for other in Made()])
+        for wrong in ([square(0), None], Lying([square(0), (1, 2)])):
+            self.assertRaises(TypeError, pairs_within, wrong)
+            self.assertRaises(TypeError, one.relations, wrong)
+
+    def test_outlines_that_other_threads_change(self):
+        """A list whose elements are exchanged, and outlines that are made anew: each answer is one of those before and after."""
+        Outline, pairs_within = hull_module.Outline, hull_module.pairs_within
+        many, few = [(x, x * x) for x in range(3000)], [(5000, 0), (5001, 0), (5000, 1)]
+        both = [Outline(many), Outline(few)]
+        changing, outlines, ends = Outline(many), [Outline(many) for _ in range(4)], []
+        areas = {outline.doubled_area() for outline in both}
+        relations = {both[0].relation(outline) for outline in both}
+        places = {tuple(outline.indices(many)) for outline in both}
+        pairs = [[], *([(i, j)] for j in range(3) for i in range(j)), [(0, 1), (0, 2), (1, 2)]]
+
+        def change():
+            while not ends:
+                for corners in (few, many):
+                    changing.__init__(corners)
+                    with self.assertRaises(ValueError):
+                        changing.__init__([(0, 0), (0, 0)])
+                    outlines[1] = Outline(corners)
+                    outlines[:] = [Outline(many) for _ in range(len(corners) % 3 + 2)]
+
+        threads = [threading.Thread(target=change) for _ in range(2)]
+        for thread in threads:
+            thread.start()
+        try:
+            for _ in range(100):
+                self.assertIn(changing.doubled_area(), areas)
+                self.assertIn(both[0].relation(changing), relations)
+                self.assertIn(tuple(changing.indices(many)), places)
+                self.assertIn(changing.moved(0, 0), both)
+                self.assertIn(changing.turned(1, 0), both)
+                self.assertIn(pairs_within([both[0], changing, both[1]], 0), pairs)
+                self.assertTrue(set(both[0].relations(outlines)) <= {*relations, hull_module.Relation.EQUAL})
+        finally:
+            ends.append(True)
+            for thread in threads:
+                thread.join()
+
+    def test_lengths_of_any_size(self):
+        Outline = hull_module.Outline
+        one, other, none = Outline([(0, 0)]), Outline([(COORDINATE_LIMIT, 0)]), Outline([])
+        for length in (10 ** 400, Fraction(10 ** 400, 3), Decimal(10) ** 400, COORDINATE_LIMIT):
+            self.assertTrue(one.within(other, length) and one.within_point(COORDINATE_LIMIT, 5, length + 1))
+            self.assertFalse(one.within(none, length))
+            self.assertEqual(hull_module.pairs_within([one, none, other], length), [(0, 2)])
+        self.assertFalse(one.within(other, COORDINATE_LIMIT - Fraction(1, 10 ** 400)))
+        for wrong in (-10 ** 400, math.inf, -math.inf, math.nan, Decimal("inf"), Decimal("nan"), -1):
+            self.assertRaises(OutOfRange, one.within, other, wrong)
+            self.assertRaises(OutOfRange, hull_module.pairs_within, [one], wrong)
+        for wrong in ("1", None, 1j, [1]):
+            self.assertRaises(TypeError, one.within, other, wrong)
+
+    def test_relations_to_segments(self):
+        Relation, outline = hull_module.Relation, hull_module.Outline([(0, 0), (10, 0), (10, 10), (0, 10)])
+        for relation, segments in ((Relation.COVERS, [(0, 0, 10, 0), (2, 2, 9, 9), (5, 0, 5, 5), (10, 5, 10, 5)]),
+                                   (Relation.TOUCHING, [(10, 3, 10, 12), (10, 10, 12, 12)]),
+                                   (Relation.OVERLAPPING, [(5, 5, 20, 5), (-5, 5, 20, 5)]), (Relation.APART, [(20, 20, 30, 30)])):
+            for segment in segments:
+                self.assertEqual(outline.relation_to_segment(*segment), relation)
+
+    def test_segments_have_two_ends(self):
+        outline = hull_module.Outline([(0, 0), (10, 0), (10, 10)])
+        for wrong in ([((0, 0), (1, 1), (2, 2)), ((3, 3),)], [((0, 0),)], [((0, 0), (1, 1), (2, 2))]):
+            self.assertRaises(ValueError, outline.meets_segments, wrong)
+
+    def test_text_of_floats(self):
+        for corners in ([(0.5, 1)], [(0, 0), (1, 2.75)], [(True, 1)], [("1", 2)]):
+            self.assertRaises(TypeError, wkt, corners)
+
     def test_directions_of_floats(self):
         direction_of, top = hull_module.direction_of, 1 << 39
         self.assertEqual(direction_of(1.0, -0.5), ((top, -top // 2), False))
@@ -610,6 +720,15 @@ class Arrays(unittest.TestCase):
                 (self.square.reshape(5, 2, 1), r"has \(5, 2, 1\)"), (self.square[:, :1], r"has \(5, 1\)")):
             self.assertRaisesRegex(ValueError, message, self.hull.place_all, points)
 
+    def test_shapes_of_segments(self):
+        outline = hull_module.Outline([(0, 0), (10, 0), (10, 10)])
+        ends = numpy.array([[0, 0, 5, 5], [20, 20, 30, 30], [5, 1, 6, 1]])
+        for segments in (ends, ends.reshape(3, 2, 2), ends.astype("int16")):
+            self.assertEqual(outline.meets_segments(segments).tolist(), [1, 0, 1])
+        for wrong in (ends.reshape(2, 6), ends.reshape(6, 2), ends.reshape(12), ends.reshape(1, 12), ends.reshape(3, 4, 1), ends.reshape(2, 2, 3)):
+            self.assertRaisesRegex(ValueError, r"shape \(n, 4\) or \(n, 2, 2\)", outline.meets_segments, wrong)
+        self.assertEqual(outline.meets_segments(ends[:0]).tolist(), [])
+
     def test_questions(self):
         corners = self.hull.vertex_array()
         self.assertEqual((corners.tolist(), corners.dtype), ([[0, 0], [10, 0], [10, 10], [0, 10]], numpy.int64))
@@ -638,6 +757,8 @@ class Arrays(unittest.TestCase):
         points, rounded = from_floats(numpy.array([[3, 4]], dtype=numpy.longdouble) + numpy.longdouble(2) ** -55, 0)
         self.assertEqual((points.tolist(), rounded), ([[3, 4]], 2 * (numpy.finfo(numpy.longdouble).nmant > 55)))
         self.assertRaises(TypeError, from_floats, numpy.array([[True, False]]), 1)
+        points, rounded = from_floats(numpy.array([[5e-324, -1e-300], [0.0, -0.0]]), 20)
+        self.assertEqual((points.tolist(), rounded), ([[0, 0], [0, 0]], 2))
 
 
 if __name__ == "__main__":

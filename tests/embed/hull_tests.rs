@@ -240,6 +240,8 @@ fn two_outlines() {
     let (p, q) = outline.diameter().unwrap();
     assert_eq!((p.x - q.x).pow(2) + (p.y - q.y).pow(2), 200);
     assert_eq!((outline.width_along(point(3, 4)), none.width_along(point(1, 0))), (Ok(Some(70)), Ok(None)));
+    let wide = Outline::new(&[point(-COORDINATE_LIMIT, -COORDINATE_LIMIT), point(COORDINATE_LIMIT, COORDINATE_LIMIT)]).unwrap();
+    assert_eq!(wide.width_along(point(COORDINATE_LIMIT, COORDINATE_LIMIT)), Ok(Some(1 << 82))); // in two words
     assert_eq!(outline.width_along(point(0, 0)), Err(Fault::ZeroDirection));
     assert_eq!(outline.width_along(point(0, COORDINATE_LIMIT + 1)), Err(Fault::OutOfRange));
 }

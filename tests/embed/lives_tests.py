@@ -280,7 +280,10 @@ class Forks(unittest.TestCase):
 
         thread = threading.Thread(target=load)
         thread.start()
-        told = [in_child(lambda: (hull.doubled_area(), hull.copy())) for _ in range(25)]
+        # (whether the thread is in a call at a fork is up to the scheduler: fork until it was, which on one core takes many forks)
+        told, until = [], time.monotonic() + 60
+        while "Ended" not in told and time.monotonic() < until or len(told) < 25:
+            told.append(in_child(lambda: (hull.doubled_area(), hull.copy())))
         stop.set()
         thread.join()
         self.assertTrue({"Ended"} <= set(told) <= {"", "Ended"}, told)

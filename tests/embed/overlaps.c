@@ -80,7 +80,7 @@ void *__wrap_realloc(void *block, size_t size) {
     }
 
 #ifdef SHARED
-SLOW(uint32_t, hull_shared_lend, (hull_shared_desk * at, hull_shared_seat *room, uint32_t number), (at, room, number))
+SLOW(uint32_t, hull_shared_lend, (hull_shared_desk * at, hull_shared_line *waiting, hull_shared_seat *room, uint32_t number), (at, waiting, room, number))
 SLOW(uint32_t, hull_shared_give_back, (hull_shared_desk * at, hull_shared_seat *room), (at, room))
 SLOW(uint32_t, hull_shared_close, (hull_shared_desk * at), (at))
 SLOW(hull_reply, hull_shared_text, (const hull_shared_desk *at, uint8_t *out, size_t length), (at, out, length))

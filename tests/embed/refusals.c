@@ -96,14 +96,32 @@ static sight run(hull_set *h) {
     return see(h);
 }
 
+/* asks for the nearest point with each request refused in turn: it is told, or that memory was refused; how many requests there are */
+static long nearest(hull_set *h) {
+    const hull_reply wanted = hull_nearest_held(h, 3, 200);
+    long made;
+    check(wanted.code == HULL_POINT, "no nearest point", 0);
+    for (made = 0;; made++) {
+        requests = 0, refused_request = made;
+        hull_reply told = hull_nearest_held(h, 3, 200);
+        if (requests <= made) {
+            check(told.code == HULL_POINT && told.x == wanted.x && told.y == wanted.y, "another nearest point", 0);
+            break;
+        }
+        check(told.code == HULL_NO_MEMORY && told.x == 0 && told.number == 0, "a nearest point without memory", 0);
+    }
+    refused_request = -1;
+    return made;
+}
+
 int main(void) {
     hull_set *h = aligned_alloc(hull_alignment(), hull_size());
     if (h == NULL || hull_init(SIDE * SIDE, h) != HULL_OK) {
         return 2;
     }
     sight whole = run(h);
+    long all = requests, of_nearest = nearest(h);
     hull_end(h);
-    long all = requests;
     for (refused_request = 0; refused_request < all && !failed; refused_request++) {
         requests = 0;
         hull_init(SIDE * SIDE, h);
@@ -113,6 +131,6 @@ int main(void) {
         check(blocks == 0, "memory was not given back", CALLS);
     }
     free(h);
-    printf("refusals: each of %ld requests refused in turn\n", all);
+    printf("refusals: each of %ld requests refused in turn, and each of %ld for the nearest point\n", all, of_nearest);
     return failed || all < 100;
 }

@@ -1,8 +1,7 @@
 #!/bin/sh
-# Shows that the library does in C, C++, Rust and Python what it says: installs it into a temporary folder, compiles the programs
-# of this folder and of examples/embed against what is there, and runs them, those in C with valgrind's memory check too. The
-# gate runs it. What is missing here (a compiler, python3, valgrind) is told and skipped, and counts nothing. The last line
-# counts, and the status is not 0 where something failed.
+# Tests that the library does in C, C++, Rust and Python what it promises: installs it into a temporary folder, compiles the programs of this
+# folder and of examples/embed against it, and runs them, those in C also with valgrind's memory check. What is missing here (a compiler,
+# python3, valgrind) is named and counts nothing. The last line is 'N passed, M failed'.
 set -u
 here=$(cd "$(dirname "$0")" && pwd)
 . "$here/../lib.sh"
@@ -40,7 +39,7 @@ page_has_calls() {
     page=$top/man/$1.3
     shift
     missing=$(sed -n 's/^[a-z][a-z0-9_ ]*[ *]\(hull_[a-z_]*\)(.*/\1/p' "$@" | sort -u |
-        grep -vE '_or_null$|_faults?$|_refusal$|^hull_(array|room_new|room_free|clearance_scaled)$' |
+        grep -vE '_or_null$|_faults?$|_refusal$|^hull_(array|room_new|room_free|clearance_scaled|is_equal_double)$' |
         grep -vE '_with_line$|^hull_shared_call_into$' |
         while read -r name; do grep -q "$name[^a-z_]\|$name\$" "$page" || echo "$name"; done)
     [ -z "$missing" ] || { echo "not on $page: $missing"; return 1; }
@@ -363,7 +362,7 @@ in_planners() {
 }
 
 what=
-if ! { "$top/tools/release.py" --program hullbook && "$top/tools/release.py" --program hulldraw; } >/dev/null 2>&1; then
+if ! { "$top/tools/product.sh" program hullbook && "$top/tools/product.sh" program hulldraw; } >/dev/null 2>&1; then
     what=--library
     skip "the programs' installation" "hullbook or hulldraw of these sources"
 fi

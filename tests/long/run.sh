@@ -1,25 +1,25 @@
 #!/bin/sh
-# Runs the built program on long scripts whose reports are known beforehand, and has their journals checked. What short
-# texts cannot show: that memory is not said to be refused where many lines, points or calls ask for it, and that the
-# tree is right where it is high. The last line counts, and the status is not 0 where something else came.
+# Runs the program on long scripts whose reports are known beforehand, and checks their journals. It tests what short texts cannot: that
+# memory is not reported as refused if many lines, points or calls need it, and that the tree is right when it is high. The last line is
+# 'N passed, M failed'.
 #
-# grid       four workers put 20,000 points of a grid in at once, and take all but its frame out again
-# parabola   four workers put the 2,049 points (k, k * k) in, and all of them are vertices
-# origin     one worker puts a point in once more than it can be held
-# list       one worker puts the 70,001 points (k, k * k) in and lists them: the journal is written, read and written again
-# squares    one worker puts 25,000 squares in, one round the other, and takes them out from the outermost in
-# comb       one worker puts 100,000 points on two lines in, and takes them out in their order
-# seesaw     one worker puts a corner in front of 100,000 points in and takes it out again, 50,000 times
-# hill       one worker puts the 20,000 points (k, k * k) in and takes them out, both in no order
-# circle     one worker puts 10,000 points on a circle in, and takes each out and puts it in again
-# chance     one worker makes a million calls by chance
+# grid       four workers add 20,000 points of a grid at once, and remove all but its frame
+# parabola   four workers add the 2,049 points (k, k * k), and all of them are vertices
+# origin     one worker adds a point once more than its multiplicity may be
+# list       one worker adds the 70,001 points (k, k * k) and lists them: the journal is written, read and written again
+# squares    one worker adds 25,000 nested squares, and removes them from the outermost inward
+# comb       one worker adds 100,000 points on two lines, and removes them in order
+# seesaw     one worker adds and removes a vertex that hides 100,000 points, 50,000 times
+# hill       one worker adds the 20,000 points (k, k * k) and removes them, both in random order
+# circle     one worker adds 10,000 points on a circle, and removes each and adds it again
+# chance     one worker makes a million random calls
 #
-# The last six are hard on a checker that keeps corners. Each check may take several times the processor seconds that it
-# needs, and is stopped there: one that passes over half of all points at each `remove` does not come to its end.
+# The last six are hard for a checker that keeps vertices. Each check may take several times the processor time that it needs, and is stopped
+# then: a checker that visits half of all points at each `remove` does not finish.
 set -u
 here=$(cd "$(dirname "$0")" && pwd)
 . "$here/../lib.sh"
-hullbook=$("$top/tools/become.sh" --path hullbook) || exit
+hullbook=$("$top/tools/program.sh" --path hullbook) || exit
 
 # Writes the script `grid`, and with answers=1 its report without the ledgers: the calls worker by worker, phase by phase.
 grid() {
@@ -165,9 +165,14 @@ circle() {
             n = sprintf("%.0f", n)
             return n == "-0" ? "0" : n
         }
-        function say(word, k, t) {
-            t = 8 * atan2(1, 1) * k / most
-            print "0 " word " " whole(549755813888 * cos(t)) " " whole(549755813888 * sin(t))
+        # the rational points of the circle, a quarter turn at a time: some awks have no cosine
+        function say(word, k, quarter, t, x, y, turned) {
+            quarter = int(4 * k / most)
+            t = (4 * k - quarter * most) / most
+            x = 549755813888 * (1 - t * t) / (1 + t * t)
+            y = 549755813888 * 2 * t / (1 + t * t)
+            for (; quarter > 0; quarter--) { turned = x; x = -y; y = turned }
+            print "0 " word " " whole(x) " " whole(y)
         }
         BEGIN {
             for (k = 0; k < most; k++) say("add", k * 7919 % most)

@@ -1,24 +1,19 @@
 #!/bin/sh
-# Runs the built program again and again, each time with another of its requests for memory refused, until there is none
-# left to refuse. What comes has to go through these stages, none of them left out and none after a later one:
-#
-#   words      memory was refused while the words were read:    `hullbook: memory`, status 4
-#   text       .. to the reader:                                `hullbook: line L: fault 10`, status 4, L never falling
-#              .. to the reader of a journal behind a script:   `hullbook: journal: line L: fault 10`, counted on from there
-#   engine     .. behind the text:                              `hullbook: memory`, status 4
-#   answers    .. to one call of the script, or to its list:    status 0, and one reply is `nomemory`
-#   whole      to nothing that the run needs:                   what comes with ample memory
-#
-# `check` judges each line as it is read, so there the reader and the engine are refused in turns, from the first call on.
-# Where the status is 4 nothing is written to standard output. A journal with a refused call is legal. The last line
-# counts, and the status is not 0 where something else came.
+# Runs the program again and again, each time with another of its requests for memory refused, until there is none left to refuse. The results
+# must go through these stages in order, and leave none out:
+#   words      memory was refused while the words were read:      `hullbook: memory`, status 4
+#   text       .. to the reader:                                  `hullbook: line L: fault 10`, status 4, L never decreasing
+#              .. to the reader of a journal before a script:     `hullbook: journal: line L: fault 10`, counted on from there
+#   engine     .. after the text:                                 `hullbook: memory`, status 4
+#   answers    .. to one call of the script, or to its list:      status 0, and one reply is `nomemory`
+#   whole      nothing that the run needs was refused:            the output with enough memory
+# `check` judges each line as it is read, so for it the reader and the engine are refused alternately, from the first call on. With status 4
+# nothing is written to standard output. A journal with a refused call is legal. The last line is 'N passed, M failed'.
 set -u
 here=$(cd "$(dirname "$0")" && pwd)
 . "$here/../lib.sh"
-kit=$(dirname "$(rt doc)")
-"$kit/toolchain/bin/clang" --target=x86_64-unknown-linux-gnu -O1 -fPIC -shared -nostdlib -fuse-ld=lld \
-    -o "$room/refuse.so" "$here/refuse.c" || exit 1
-program=$("$top/tools/become.sh" --path hullbook) || exit
+preloaded "$here" refuse || exit 1
+program=$(linked_program hullbook) || { echo 'the program is not linked here'; said program FAILED; end; }
 
 # how many runs in a row have to come out whole: then no request is left
 enough=20

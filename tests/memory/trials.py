@@ -72,13 +72,13 @@ TRIALS = {
 def told():
     """What the program writes of all trials, built once and run for each: of each trial the lines of its runs behind `== NAME`."""
     os.environ["RT_ALLOW_C"] = "memory_trials"
-    with kit.Room(kit.crates()["memory_trials"]) as room, tempfile.TemporaryDirectory() as cases:
+    with kit.Workspace(kit.crates()["memory_trials"]) as room, tempfile.TemporaryDirectory() as cases:
         os.mkdir(f"{room.folder}/c")
         shutil.copy(f"{HERE}/sweep.c", f"{room.folder}/c/sweep.c")
         for name in TRIALS:
             with open(f"{cases}/{name}", "w", encoding="utf-8"), open(f"{cases}/{name}.args", "w", encoding="utf-8") as words:
                 words.write(f"{name}\n")
-        return room.rt("try", "--cases", cases).told
+        return room.rt("try", "--cases", cases).said
 
 
 def runs_of(said, name):

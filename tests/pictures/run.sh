@@ -1,12 +1,11 @@
 #!/bin/sh
-# Draws each journal of journals/ with the built program and compares the picture with the one in docs/pictures, byte
-# for byte; counts the labels of points that lie near, and what stands in the picture of 100,000 points whose hull is
-# known, tries messages and statuses, and refuses each request for memory in turn. With the word `new` it writes the
-# pictures in docs/pictures instead. The last line counts, and the status is not 0 where something else came.
+# Draws each journal of journals/ with the program and compares the picture with that in docs/pictures, byte for byte; counts the labels of
+# nearby points, and the elements of a picture of 100,000 points whose hull is known; tries messages and exit statuses; and refuses each
+# request for memory in turn. With the word `new` it writes the pictures in docs/pictures instead. The last line is 'N passed, M failed'.
 set -u
 here=$(cd "$(dirname "$0")" && pwd)
 . "$here/../lib.sh"
-hulldraw=$("$top/tools/become.sh" --path hulldraw) || exit
+hulldraw=$("$top/tools/program.sh" --path hulldraw) || exit
 
 # a picture, from a journal with some words: NAME JOURNAL WORDS..
 picture() {
@@ -144,10 +143,11 @@ came 'status on a full device' $? 3
 came 'message on a full device' "$(cat "$room/error")" 'hulldraw: write'
 # each request for memory refused in turn, until twenty runs in a row come out whole: before that nothing is written, with
 # a word and status 4
-kit=$(dirname "$(rt doc)")
-"$kit/toolchain/bin/clang" --target=x86_64-unknown-linux-gnu -O1 -fPIC -shared -nostdlib -fuse-ld=lld \
-    -o "$room/refuse.so" "$here/../memory/refuse.c" || exit 1
-program=$hulldraw
+if ! program=$(linked_program hulldraw) || ! is_there cc; then
+    skip 'each request for memory refused' 'hulldraw that is linked here, or no cc'
+    end
+fi
+preloaded "$here/../memory" refuse || exit 1
 "$program" "$here/journals/thirty.txt" --bridges >"$room/whole"
 number=0
 row=0

@@ -1,6 +1,5 @@
 #!/bin/sh
-# Screenshots of docs/pictures/*.svg, of the film at three moments, to be looked at: shots.sh [FOLDER]. Skips with a word where
-# there is no Chromium.
+# Makes screenshots of docs/pictures/*.svg, of the film at three moments, to look at: shots.sh [FOLDER]. Without Chromium it says so and stops.
 set -eu
 cd "$(dirname "$0")/../.."
 browser=$(command -v chromium || command -v chromium-browser || true)

@@ -1,7 +1,6 @@
 #!/bin/sh
-# Runs the README's own commands, those in its blocks marked `sh`, from the top folder: each has to end with status 0. The
-# script and the report that stand beside them have to be those of the run. The last line counts, and the status is not 0
-# where something else came.
+# Runs the README's own commands, those in its blocks marked `sh`, from the top folder: each has to end with status 0; only bin/test, which
+# runs this, is passed over. The script and the report beside them have to be those of the run. The last line is 'N passed, M failed'.
 set -u
 here=$(cd "$(dirname "$0")" && pwd)
 . "$here/../lib.sh"
@@ -17,14 +16,15 @@ block() {
 
 block '```sh' >"$room/commands"
 while IFS= read -r command; do
+    case $command in bin/test*) continue ;; esac
     if sh -c "$command" >"$room/output" 2>"$room/error" </dev/null; then
         said "$command" ok
     else
         said "$command" "status $?, $(tail -n 3 "$room/error")"
     fi
-    case $command in *"run examples/placement.txt") cp "$room/output" "$room/report" ;; esac
+    case $command in "bin/hullbook run examples/placement.txt"*"#"*) cp "$room/output" "$room/report" ;; esac
 done <"$room/commands"
-block '# four corners of a plate, by two workers at once' | cmp -s - examples/placement.txt && said 'the script' ok || said 'the script' 'is another'
+block '# the four vertices of a plate, by two workers at once' | cmp -s - examples/placement.txt && said 'the script' ok || said 'the script' 'is another'
 block '0 add 0 0 = added' | cmp -s - "$room/report" && said 'the report' ok || said 'the report' 'is another'
 [ "$passed" -gt 2 ] || said 'the commands' 'are missing'
 end

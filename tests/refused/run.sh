@@ -1,7 +1,7 @@
 #!/bin/sh
-# Tries what must not compile over the lock: each NAME.case beside this script is the whole of a small crate that uses `ticket_lock`.
-# Its first line says what has to come of it: `//! must pass`, or `//! must fail: ERROR` with the name of the one error that the check has to give.
-# It works on a copy in a temporary folder. The last line counts, and the status is not 0 where a case came out otherwise.
+# Tries what must not compile over the lock: each NAME.case beside this script is a small crate that uses `ticket_lock`. Its first line says
+# what has to come of it: `//! must pass`, or `//! must fail: ERROR` with the name of the one error of the check. It works on a copy in a
+# temporary folder. The last line is 'N passed, M failed'.
 set -u
 here=$(cd "$(dirname "$0")" && pwd)
 . "$here/../lib.sh"

@@ -231,6 +231,8 @@ static void parts(hull_shared_desk *desk, hull_shared_seat *seat, hull_shared_pa
     is("drain without room", hull_shared_drain(&line, seat, part, HULL_KIND_COUNT, 0, 0).told.code, HULL_NO_ROOM);
     is("room for three", hull_shared_part_reserve(part, 3), HULL_RESERVED);
     is("room once more", hull_shared_part_reserve(part, 4), HULL_PART_IN_USE);
+    hull_shared_target into = {NULL, 0, part};
+    is("call into it", hull_shared_call_into(&line, seat, HULL_KIND_COUNT, 0, 0, into, HULL_SHARED_NEVER).told.code, HULL_NO_ROOM);
     is("look with no number", hull_shared_look_and_drain(seat, part).told.code, HULL_NO_NUMBER);
     is("take", hull_shared_take(seat, HULL_KIND_COUNT, 0, 0).told.code, HULL_TAKEN);
     reply = hull_shared_look_and_drain(seat, part);
@@ -382,6 +384,29 @@ static void short_reopening(hull_shared_desk *desk, hull_shared_seat *seat) {
 }
 
 /* A short run, in which any request may be refused. */
+static void fails_hook(void *context, const hull_shared_part *part) {
+    (void)context, (void)part;
+    is("a hook that was refused is called", 1, 0);
+}
+
+/* Memory is refused to the part of a hook: there is none then, and calls are answered. */
+static void no_hook(hull_shared_desk *desk, hull_shared_seat *seat) {
+    hull_shared_line_init(&line, 1);
+    left = 0;
+    is("a hook", (uint64_t)hull_shared_line_on_half_full(&line, fails_hook, NULL), 0);
+    left = -1;
+    is("open", hull_shared_open(desk, 3, 0, 4, 1), HULL_OPEN);
+    is("lend", hull_shared_lend(desk, &line, seat, 0), HULL_LENT);
+    for (int k = 0; k < 5; k++) {
+        is("a call", call(seat, HULL_KIND_COUNT, 0, 0), k < 4 ? HULL_NUMBER : HULL_FULL);
+    }
+    is("no drain", (uint64_t)hull_shared_line_drain(&line, seat), 0);
+    is("give back", hull_shared_give_back(desk, seat), HULL_RETURNED);
+    is("close", hull_shared_close(desk), HULL_CLOSED);
+    is("end", hull_shared_end(desk), HULL_ENDED);
+    hull_shared_line_end(&line);
+}
+
 static void short_run(hull_shared_desk *desk, hull_shared_seat *seat, hull_shared_part *part) {
     uint8_t text[256];
     uint32_t code = hull_shared_open(desk, 3, 0, 4, 1);
@@ -434,6 +459,7 @@ int main(void) {
     parts(desk, one, part);
     reopened(desk, one, part);
     no_arrays(desk, one, part);
+    no_hook(desk, one);
     long requests = 0;
     do {
         met = 0;

@@ -3,6 +3,7 @@
 #include "../../archive/line.c"
 
 #include <stdio.h>
+#include <time.h>
 
 static int bad;
 
@@ -81,6 +82,9 @@ static void names_by_name(void) {
     turn_is_over(1);
     leaves(line);
     is("it is closed for the next at once", line->door, NAMED + CLOSED + 2 * ASLEEP);
+    begins_turn(line);
+    nanosleep(&(struct timespec){0, 2000000}, NULL);
+    is("a turn is over in two milliseconds", closing(line), CLOSED);
     is("the second", line->beds[4].is_named, 1);
 }
 
@@ -119,6 +123,29 @@ static void gives_up(void) {
     is("nothing is left", line->door, 0);
 }
 
+static void *names_at_last(void *own) {
+    struct timespec t = {0, 30000000};
+    nanosleep(&t, NULL);
+    __atomic_store_n(&bed_of(line, *(uint32_t *)own)->is_named, 1, __ATOMIC_SEQ_CST);
+    return NULL;
+}
+
+/* Who was taken out of the queue when its time was over is named, though it has not heard of it; and where the door was closed for it, it
+ * opens it again when it gives up. */
+static void gives_up_when_named(void) {
+    uint32_t seat = 4;
+    pthread_t thread;
+    three_sleep();
+    leaves_queue(line, seat);
+    line->door = NAMED + 2 * ASLEEP + 1;
+    pthread_create(&thread, NULL, names_at_last, &seat);
+    is("it is named", (uint64_t)is_named_in_time(line, seat, hull_now()), 1);
+    pthread_join(thread, NULL);
+    line->door = NAMED + CLOSED + 2 * ASLEEP + 1;
+    is("it gives up", (uint64_t)comes_in_at_last(line), 0);
+    is("the door is open to the others", line->door, 2 * ASLEEP + 1);
+}
+
 /* Where several may be inside, the named one names the next as long as there is room. */
 static void names_beside(void) {
     come_in(2);
@@ -137,6 +164,7 @@ int main(void) {
     names_by_name();
     keeps_its_place();
     gives_up();
+    gives_up_when_named();
     names_beside();
     return bad;
 }

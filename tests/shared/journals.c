@@ -266,13 +266,13 @@ static void damaged(void) {
     not_opened(PART NEXT "7 0 count = count 1\nend 1\n" NEXT "end 0\n", 5);
     not_opened(PART "hullbook journal 3 first 6 limit 4 capacity 9\nend 0\n", 4);
     not_opened(PART "something else\n", 4);
+    not_opened(PART NEXT "6 0 add 0 01 = added\nend 1\n", 5);
     not_started(HEAD "5 0 add 0 0 = again 2\nend 1\n", HULL_ILLEGAL, 2);
     not_started(HEAD "5 0 add 0 0 = again 1\nend 1\n", HULL_ILLEGAL, 2);
     not_started(PART NEXT "6 0 add 0 0 = added\nend 1\n", HULL_ILLEGAL, 5);
     not_started(PART NEXT "6 0 remove 0 0 = left 1\nend 1\n", HULL_ILLEGAL, 5);
     not_started(PART NEXT "6 0 remove 0 0 = absent\nend 1\n", HULL_ILLEGAL, 5);
     not_started(PART NEXT "6 0 remove 0 1 = removed\nend 1\n", HULL_ILLEGAL, 5);
-    not_started(PART NEXT "6 0 add 0 01 = added\nend 1\n", HULL_ILLEGAL, 5);
     put_text(PART NEXT "6 3 count = count 1\n7 63 remove 0 0 = removed\nend 2\n" "hullbook journal 3 first 8 limit 3 capacity 9\n8 0 pl");
     hull_shared_journal_close(opened(8, 52));
 }

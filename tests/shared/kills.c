@@ -1,11 +1,12 @@
 /* kills KILLS FILE [SEED]: a process keeps a journal in the file, by three threads that wait until each of their lines is safe, and is
  * killed at a random moment, so many times; each time the next one goes on with the file. In half of the times the end that was written
- * and not synced is lost, to a random length or with a block of zeros, as where the machine loses its power. Writes take a random number
- * of bytes, and some of them are the last thing that the process does.
+ * and not synced is lost, to a random length or with a sector of zeros, as if the machine lost its power. Writes take a random number
+ * of bytes, and some of them are the last thing that the process does. So is an fsync that is never begun, and one that is refused: what
+ * it was to sync is in the cache only then, also after later calls of fsync, unless it is written again.
  *
- * Each line that was told as safe has to be there, with its call and answer, all bytes that stood before have to be as they were, and
- * the file has to be gone on with. Now and then a process that makes the file short is killed, or is not: it has to leave the same points
- * and the same number. The status is 0 only where it is so. */
+ * Each line that was reported as safe, by a call or by an opening, has to be there, the former with its call and answer; all bytes of
+ * before have to be as they were, and the file has to be gone on with. Now and then a process that makes the file short is killed, or is
+ * not: it has to leave the same points and the same number. The status is 0 only where it is so. */
 #include "hull_shared.h"
 
 #include <fcntl.h>
@@ -33,10 +34,18 @@ struct record {
     uint32_t is_there;
 };
 
+/* What of a file is on the disk. */
+struct disk {
+    uint64_t inode;
+    uint64_t synced; /* its bytes from the first on */
+    uint64_t lost;   /* from there on the system takes bytes for written that are not */
+};
+
 /* What the process that is killed leaves behind beside the file. */
 static struct shared {
-    uint64_t synced; /* the bytes of the file that the system was made to keep */
-    uint64_t draws;  /* random numbers of the writes */
+    struct disk disks[64];
+    uint64_t reported; /* the lines before this one were reported as safe by an opening */
+    uint64_t draws;    /* random numbers of the writes */
     uint32_t is_started;
     uint32_t is_refused; /* a line was not told as safe */
     uint32_t count;
@@ -59,23 +68,62 @@ static uint64_t draw(uint64_t below) {
     return next_of(&state) % below;
 }
 
-/* The linker sends pwrite and fsync here (--wrap). */
+/* The disk of an open file; null if it is none with bytes of its own. */
+static struct disk *disk_of(int file, uint64_t *size) {
+    struct stat s;
+    struct disk *disk;
+    if (fstat(file, &s) != 0 || !S_ISREG(s.st_mode)) {
+        return NULL;
+    }
+    disk = &shared->disks[s.st_ino % 64];
+    if (disk->inode != s.st_ino) {
+        *disk = (struct disk){s.st_ino, 0, UINT64_MAX};
+    }
+    *size = (uint64_t)s.st_size;
+    return disk;
+}
+
+static int is_living; /* the process is the one that is killed */
+
+/* The linker sends pwrite, ftruncate and fsync here (--wrap). */
 ssize_t __real_pwrite(int file, const void *bytes, size_t count, off_t at);
 ssize_t __wrap_pwrite(int file, const void *bytes, size_t count, off_t at) {
-    uint64_t drawn = next_of(&shared->draws);
-    if (drawn % 256 == 0) {
+    uint64_t drawn = next_of(&shared->draws), size;
+    struct disk *disk = disk_of(file, &size);
+    ssize_t done;
+    if (is_living && drawn % 256 == 0) {
         (void)!__real_pwrite(file, bytes, drawn / 256 % (count + 1), at);
         kill(getpid(), SIGKILL);
     }
-    return __real_pwrite(file, bytes, drawn % 4 == 1 && count > 1 ? 1 + drawn / 256 % count : count, at);
+    done = __real_pwrite(file, bytes, drawn % 4 == 1 && count > 1 ? 1 + drawn / 256 % count : count, at);
+    if (done > 0 && disk->lost != UINT64_MAX && (uint64_t)at <= disk->lost && (uint64_t)(at + done) > disk->lost) {
+        disk->lost = (uint64_t)(at + done);
+    }
+    return done;
+}
+int __real_ftruncate(int file, off_t length);
+int __wrap_ftruncate(int file, off_t length) {
+    uint64_t size;
+    struct disk *disk = disk_of(file, &size);
+    disk->synced = disk->synced < (uint64_t)length ? disk->synced : (uint64_t)length;
+    disk->lost = disk->lost < (uint64_t)length ? disk->lost : UINT64_MAX;
+    return __real_ftruncate(file, length);
 }
 int __real_fsync(int file);
 int __wrap_fsync(int file) {
-    struct stat before; /* what is written behind this is not synced yet */
-    int is_file = fstat(file, &before) == 0 && S_ISREG(before.st_mode), told = __real_fsync(file);
-    if (is_file) {
-        __atomic_store_n(&shared->synced, (uint64_t)before.st_size, __ATOMIC_SEQ_CST);
+    uint64_t size, drawn = next_of(&shared->draws) % 64; /* what is written after this is not synced yet */
+    struct disk *disk = disk_of(file, &size);
+    int told;
+    if (disk == NULL) {
+        return __real_fsync(file);
     }
+    if (is_living && drawn < 2) {
+        disk->lost = drawn == 1 && disk->synced < disk->lost ? disk->synced : disk->lost;
+        kill(getpid(), SIGKILL);
+    }
+    told = __real_fsync(file);
+    disk->synced = size < disk->lost ? size : disk->lost;
+    disk->lost = size <= disk->lost ? UINT64_MAX : disk->lost;
     return told;
 }
 
@@ -116,9 +164,15 @@ static void *works(void *own) {
 static void lives(uint64_t every) {
     hull_shared_desk *desk = hull_shared_desk_new();
     pthread_t thread;
+    hull_reply opened;
+    is_living = 1;
     hull_shared_line_init(&line, 1);
-    if (hull_shared_journal_open(path, &journal).code != HULL_OPEN ||
-        hull_shared_journal_start(journal, desk, &line, 100000, 40, THREADS, every).code != HULL_OPEN) {
+    opened = hull_shared_journal_open(path, &journal);
+    if (opened.code != HULL_OPEN) {
+        _exit(STARTED_BADLY);
+    }
+    shared->reported = opened.number;
+    if (hull_shared_journal_start(journal, desk, &line, 100000, 40, THREADS, every).code != HULL_OPEN) {
         _exit(STARTED_BADLY);
     }
     for (uint32_t k = 0; k < THREADS; k++) {
@@ -147,19 +201,28 @@ static uint64_t size_of(void) {
     return (uint64_t)size;
 }
 
-/* The machine loses its power: what was not synced is cut to a random length, and a block of it may never have been written. */
+/* The machine loses its power: what was not synced is cut to a random length, and a sector of it may never have been written. */
 static void loses_power(void) {
-    uint64_t size = size_of(), kept = shared->synced < size ? shared->synced : size, to = kept + draw(size - kept + 1);
     static const uint8_t zeros[512];
     int file = open(path, O_RDWR);
-    if (file < 0 || ftruncate(file, (off_t)to) != 0) {
+    uint64_t size = 0, kept, to;
+    struct disk *disk = file < 0 ? NULL : disk_of(file, &size);
+    if (disk == NULL) {
+        fails("the file can't be opened", size);
+    }
+    kept = disk->synced < size ? disk->synced : size;
+    to = kept + draw(size - kept + 1);
+    if (__real_ftruncate(file, (off_t)to) != 0) {
         fails("the file can't be cut", to);
     }
     if (to > kept && draw(3) == 0) {
-        uint64_t from = kept + draw(to - kept);
-        (void)!__real_pwrite(file, zeros, to - from < sizeof zeros ? to - from : sizeof zeros, (off_t)from);
+        uint64_t sector = (kept + draw(to - kept)) / sizeof zeros * sizeof zeros, end = sector + sizeof zeros;
+        uint64_t from = sector < kept ? kept : sector;
+        (void)!__real_pwrite(file, zeros, (end < to ? end : to) - from, (off_t)from);
     }
     lost += size - to;
+    disk->synced = to;
+    disk->lost = UINT64_MAX;
     close(file);
 }
 
@@ -231,6 +294,10 @@ static uint64_t heals(void) {
     if (r.code != HULL_OPEN) {
         fails(hull_code_name(r.code), r.number);
     }
+    if (r.number < shared->reported) {
+        fails("a line that an opening reported as safe is not there", shared->reported);
+    }
+    shared->reported = r.number;
     torn += r.high > 0;
     hull_shared_journal_close(journal);
     return r.number;
@@ -296,10 +363,20 @@ static uint64_t hash_of(const char *text, size_t length) {
     return hash;
 }
 
+/* Removes what is kept beside the file of torn segments, and of processes that were killed while they made it short. */
+static void removes_others(void) {
+    char name[4096];
+    for (int k = 0; k < 8; k++) {
+        for (int is_new = 0; is_new < 2; is_new++) {
+            snprintf(name, sizeof name, k == 0 ? "%s.%s" : "%s.%s.%d", path, is_new ? "new" : "torn", k);
+            unlink(name);
+        }
+    }
+}
+
 static void lives_and_dies(void) {
     int status;
     pid_t child;
-    shared->synced = size_of();
     shared->draws = next_of(&state);
     shared->is_started = shared->is_refused = shared->count = 0;
     memset(shared->records, 0, sizeof shared->records);
@@ -341,8 +418,11 @@ int main(int count, char **words) {
         char *text;
         if (kills % FILE_ROUNDS == 0) {
             unlink(path);
+            shared->reported = 0;
+            memset(shared->disks, 0, sizeof shared->disks);
             kept = 0;
         }
+        removes_others();
         lives_and_dies();
         if (size_of() > 0 && draw(2) == 0) {
             loses_power();

@@ -1,21 +1,21 @@
 #!/bin/sh
-# Shows that a hull that threads share does in C, C++, Rust and Python what it says: installs the libraries into a
-# temporary folder, compiles the programs of this folder and of examples/shared against what is there, and runs them:
-# threads that make 100000 mixed calls each (64 of them a tenth, and eight in Rust and in Python a tenth), with one, two or
-# all of them inside the door, also with threads held up between the steps of waiting, whose journal `bin/hullbook check` judges, eight of
-# which one takes the lines out, and eight that keep none, up to 64 at desks of few lines that drain by themselves, every code, each request
-# for memory refused in turn, what a call in a line promises but its answer (waits.c), every order of the steps of the door (door_model.c)
-# and of views (views_model.c), every order of the steps of two seats and a reader over the library itself (orders.c), views of 60 readers
-# beside calls (readers.c), files of journals whose process is killed (kills.c), a service of 64 threads that is killed and taken up again
-# (service.c), and wake-ups out of order (wakeups.sh). The gate runs it. What is missing here (a compiler, python3, valgrind) is told and
-# skipped, and counts nothing. The last line counts, and the status is not 0 where something failed. With a number, that many calls a
-# thread; with a second one, so many kills (150).
+# Tests that a hull that threads share does in C, C++, Rust and Python what it promises: installs the libraries into a temporary folder,
+# compiles the programs of this folder and of examples/shared against them, and runs them: threads that make CALLS mixed calls each (64 of
+# them a tenth, and eight in Rust and in Python a tenth), with one, two or all of them admitted at a time, also with threads delayed between
+# the steps of waiting; `bin/hullbook check` judges their journal. Eight threads of which one drains the journal, and eight that keep none; up
+# to 64 at hulls with few lines that drain themselves; every code; each request for memory refused in turn; what calls promise while they
+# wait (waits.c); every order of the steps of the admission gate (door_model.c) and of snapshots (views_model.c); every order of the steps
+# of two seats and a reader over the library itself (orders.c); snapshots of 60 readers beside calls (readers.c); journal files whose process
+# is killed (kills.c) or that are damaged (edges.c); a service of 64 threads that is killed and continued (service.c); and wake-ups out of
+# order (wakeups.sh). What is missing here (a compiler, python3, valgrind) is named and counts nothing.
+#
+#     tests/shared/run.sh [CALLS [KILLS]]    20000 and 40 if not given; `.ci/run --all-mutants` takes 100000 and 150
 set -u
 here=$(cd "$(dirname "$0")" && pwd)
 . "$here/../lib.sh"
 examples=$top/examples/shared
-calls=${1:-100000}
-kills=${2:-150}
+calls=${1:-20000}
+kills=${2:-40}
 
 if ! is_there cc; then
     echo "there is no cc: nothing was tried"
@@ -214,7 +214,7 @@ waits() {
     count "each step of the door" $?
     build "$here/waits.c" -Wl,--wrap=malloc && "$room/waits"
     count "errno, deadlines, lines of others, threads that are cancelled or die" $?
-    build_by_pthreads "$here/waits.c" -Wl,--wrap=malloc && "$room/waits"
+    build_by_pthreads "$here/waits.c" -Wl,--wrap=malloc,--wrap=clock_gettime && "$room/waits"
     count "the same without futex" $?
 }
 
@@ -228,16 +228,38 @@ model() {
 journals() {
     build "$here/journals.c" -Wl,--wrap=pwrite,--wrap=fsync && "$room/journals" "$room/zone.journal" && apart "$room/zone.journal"
     count "every code of a journal's file, and each length that its end may be cut to" $?
-    build "$here/kills.c" -Wl,--wrap=pwrite,--wrap=fsync && "$room/kills" "$kills" "$room/zone.journal" 1 >"$room/told" &&
+    edges
+    build "$here/kills.c" -Wl,--wrap=pwrite,--wrap=fsync,--wrap=ftruncate && "$room/kills" "$kills" "$room/zone.journal" 1 >"$room/told" &&
         apart "$room/zone.journal"
     count "a process that keeps a journal is killed: $(cat "$room/told")" $?
     killed_wrongly 'lines are told as safe before they are written' \
-        '/^    uint32_t failed = j->failed;/a\    __atomic_store_n(\&j->safe, j->next + 1000, __ATOMIC_SEQ_CST), tells(j);'
+        '/^    uint32_t failed = j->failed;/a\    __atomic_store_n(\&j->safe, j->next + 1000, __ATOMIC_SEQ_CST), notify(j);'
     killed_wrongly 'nothing is synced' 's/failed == 0 && fsync\(j->file\) != 0/0/'
     killed_wrongly 'what a write did not take is left out' 's/^    while \(count > 0\) \{/    if (count > 0) {/'
-    killed_wrongly 'a torn part stays' 's/\(uint64_t\)size > j->end && \(ftruncate/0 \&\& (ftruncate/'
+    killed_wrongly 'a torn segment stays' 's/ftruncate\(j->file, \(off_t\)j->end\) != 0\)/0)/'
+    killed_wrongly 'an opening syncs nothing' 's/fsync\(j->file\) == 0 && fsync\(j->folder\) == 0;/1;/'
+    killed_wrongly 'an opening does not write the last segment again' 's/uint64_t at = j->last;/uint64_t at = j->end;/'
     killed_wrongly 'what was asked for is done before it is drained' \
-        's/hull_shared_line_drain\(j->line, j->seat\)\) \{/(__atomic_store_n(\&j->done, asked, __ATOMIC_SEQ_CST), tells(j), hull_shared_line_drain(j->line, j->seat))) {/'
+        's/hull_shared_line_drain\(j->line, j->seat\)\) \{/(__atomic_store_n(\&j->done, asked, __ATOMIC_SEQ_CST), notify(j), hull_shared_line_drain(j->line, j->seat))) {/'
+}
+
+# what the file has to bear: each test of edges.c
+edges() {
+    build "$here/edges.c" "-Wl,--wrap=pwrite,--wrap=pread,--wrap=fsync,--wrap=ftruncate,--wrap=renameat,--wrap=flock" \
+        -Wl,--wrap=pthread_create,--wrap=malloc,--wrap=realloc
+    count "edges.c compiles" $?
+    for edge in $(sed -n 's/^    {"\([a-z_]*\)", [a-z_]*},$/\1/p' "$here/edges.c"); do
+        rm -rf "$room/edge" && mkdir "$room/edge" && "$room/edges" "$room/edge" "$edge" 2>"$room/told"
+        count "a journal's file: $edge" $?
+    done
+    rm -rf "$room/edge" && mkdir "$room/edge"
+    build "$here/edges.c" "$top/archive/journal.c" -fsanitize=address,undefined -fno-sanitize-recover=all \
+        "-Wl,--wrap=pwrite,--wrap=pread,--wrap=fsync,--wrap=ftruncate,--wrap=renameat,--wrap=flock" \
+        -Wl,--wrap=pthread_create,--wrap=malloc,--wrap=realloc
+    for edge in $(sed -n 's/^    {"\([a-z_]*\)", [a-z_]*},$/\1/p' "$here/edges.c" | grep -v bears_); do
+        rm -rf "$room/edge" && mkdir "$room/edge" && "$room/edges" "$room/edge" "$edge" 2>"$room/told"
+        count "the same by sanitizers: $edge" $?
+    done
 }
 
 # whether the parts of a file are one legal journal
@@ -250,7 +272,7 @@ apart() {
 killed_wrongly() {
     sed -E "$2" "$top/archive/journal.c" >"$room/journal.c"
     ! cmp -s "$room/journal.c" "$top/archive/journal.c" || echo "nothing is changed by $2"
-    build "$here/kills.c" "$room/journal.c" -I"$top/archive" -Wl,--wrap=pwrite,--wrap=fsync &&
+    build "$here/kills.c" "$room/journal.c" -I"$top/archive" -Wl,--wrap=pwrite,--wrap=fsync,--wrap=ftruncate &&
         ! "$room/kills" 300 "$room/wrong.journal" 2 >"$room/told" 2>&1
     count "$1: seen ($(tail -n 1 "$room/told"))" $?
 }
@@ -261,9 +283,8 @@ services() {
         apart "$room/service.journal"
     count "a service of 64 threads is killed and taken up again: $(cat "$room/told")" $?
     served_wrongly 'lines are told as safe before they are written' \
-        '/^    uint32_t failed = j->failed;/a\    __atomic_store_n(\&j->safe, j->next + 1000, __ATOMIC_SEQ_CST), tells(j);'
-    served_wrongly 'a file that is made short lets points go' \
-        '/^static int has_room/,/^}/s/places\[i\]\.times > 0\)/places[i].times > 1)/'
+        '/^    uint32_t failed = j->failed;/a\    __atomic_store_n(\&j->safe, j->next + 1000, __ATOMIC_SEQ_CST), notify(j);'
+    served_wrongly 'a file that is made short lets points go' 's/^        if \(times > 0\) \{/        if (times > 1) {/'
 }
 
 # the same with a fault, which has to be seen: NAME, and a script of sed for the file

@@ -7,6 +7,7 @@ import os
 import random
 import tempfile
 import threading
+import time
 import unittest
 
 import hull as hull_module
@@ -60,7 +61,7 @@ class Calls(unittest.TestCase):
         for text, words in (("", "line 1: fault 6"), (head + "5 1 add 0 = added\nend 1\n", "line 2: fault 2"),
                             (head.replace("3", "2") + "end 0\n", "before version 3"),
                             (head + "5 7 add 0 0 = added\nend 1\n", "by 8 seats"),
-                            (head + "5 1 add 0 0 = again 2\nend 1\n", "line 2: the journal is no legal history")):
+                            (head + "5 1 add 0 0 = again 2\nend 1\n", "line 2: the journal is not a legal history")):
             with self.assertRaisesRegex(JournalFault, words):
                 SharedHull.reopen(text, 4, 2)
         old = head + "5 1 add 0 0 = added\n6 0 add 4 0 = added\nend 2\n"
@@ -217,6 +218,114 @@ class Calls(unittest.TestCase):
             self.assertRaises(FileNotFoundError, SharedHull.keep, os.path.join(folder, "none", "at all"), capacity=1, seats=1)
             self.assertRaises(ValueError, SharedHull.keep, os.path.join(folder, "new"), capacity=1, seats=SEAT_LIMIT)
 
+    def test_a_file_is_kept_while_a_reader_is_out(self):
+        with tempfile.TemporaryDirectory() as folder:
+            path = os.path.join(folder, "zone.journal")
+            hull = SharedHull.keep(path, capacity=50, seats=2, readers=1)
+            reader = hull.lend_reader()
+            with hull.lend(0) as seat:
+                for x in range(10):
+                    seat.add(x, 1)
+            for _ in range(2):
+                self.assertRaisesRegex(SeatsOut, "a reader of the hull is out", hull.close)
+            with hull.lend(1) as seat:
+                for x in range(100):
+                    seat.add(x, 2)
+                seat.wait_at_most(10)
+                seat.wait_safe()
+            reader.give_back()
+            hull.close()
+            with open(path, encoding="ascii") as file:
+                self.assertEqual(sum(" add " in line for line in file), 110)
+            hull = SharedHull.keep(path, capacity=50, seats=2, readers=1)
+            reader, seat = hull.lend_reader(), hull.lend(0)
+            seat.add(1000, 1000)
+            seat.give_back()
+            self.assertRaises(SeatsOut, hull.close)
+            del hull, reader, seat  # the last of them closes the file
+            with open(path, encoding="ascii") as file:
+                self.assertIn(" add 1000 1000 = added\n", file.read())
+            SharedHull.keep(path, capacity=50, seats=1).close()
+
+    def test_a_close_beside_threads_that_wait(self):
+        """It is refused, or they are answered; no line is lost, and nobody asks a file that is gone."""
+        with tempfile.TemporaryDirectory() as folder:
+            for again in range(20):
+                path = os.path.join(folder, str(again))
+                hull, ends = SharedHull.keep(path, capacity=5000, seats=1), []
+
+                def sync():
+                    try:
+                        while True:
+                            hull.sync()
+                    except ValueError as fault:
+                        ends.append(str(fault))
+
+                threads = [threading.Thread(target=sync) for _ in range(3)]
+                for thread in threads:
+                    thread.start()
+                with hull.lend(0) as seat:
+                    for x in range(300):
+                        seat.add(x, again)
+                while True:
+                    try:
+                        hull.close()
+                        break
+                    except ValueError as fault:
+                        self.assertIn("waits for what is safe", str(fault))
+                for thread in threads:
+                    thread.join()
+                self.assertEqual(ends, ["the hull is closed"] * 3)
+                with open(path, encoding="ascii") as file:
+                    self.assertEqual(sum(" add " in line for line in file), 300)
+
+    def test_times_are_seconds(self):
+        with tempfile.TemporaryDirectory() as folder:
+            path = os.path.join(folder, "zone.journal")
+            hull = SharedHull.keep(path, capacity=400000, seats=1, every=30.0)
+            with hull.lend(0) as seat:
+                for x in range(20):
+                    seat.add(x, 1)
+                    time.sleep(0.005)
+                with open(path, encoding="ascii") as file:
+                    self.assertEqual(file.read(), "")  # nothing is written for half a minute
+                for x in range(100000):
+                    seat.add(x % 1000, x // 1000)
+                thread, times = threading.Thread(target=hull.sync), []
+                thread.start()
+                while thread.is_alive():
+                    stats = hull.stats()
+                    if stats.drainer is not None:
+                        times.append(stats.drains_for)
+                thread.join()
+                self.assertTrue(times and all(0 <= lasts < 60 for lasts in times), times[-3:])
+            hull.close()
+        hull = SharedHull(capacity=1, seats=1, waits=True)
+        with hull.lend(0) as seat:
+            seat.add(1, 1)
+            seat.wait_at_most(0.2)
+            begun = time.monotonic()
+            self.assertRaises(JournalFull, seat.add, 1, 1)
+            self.assertGreater(time.monotonic() - begun, 0.1)
+
+    def test_a_file_that_is_refused_is_let_go(self):
+        with tempfile.TemporaryDirectory() as folder:
+            path = os.path.join(folder, "zone.journal")
+            for wrong in ({"seats": SEAT_LIMIT}, {"capacity": 0}, {"limit": 0}):
+                self.assertRaises(ValueError, SharedHull.keep, path, **{"capacity": 10, "seats": 1, **wrong})
+            SharedHull.keep(path, capacity=10, seats=1).close()
+
+    def test_a_drain_that_is_refused(self):
+        library, seat = hull_module._shared_library(), SharedHull(capacity=10, seats=1).lend(0)
+        part = seat.drain()
+        drain = library.hull_python_drain
+        library.hull_python_drain = lambda *_: hull_module._Reply(hull_module._Code.BUSY)
+        try:
+            self.assertRaises(Busy, seat.drain)
+        finally:
+            library.hull_python_drain = drain
+        self.assertIs(seat.last_part(), part)
+
     def test_seats_and_the_journal(self):
         hull = SharedHull(capacity=10, seats=2)
         with hull.lend(0) as seat:
@@ -259,6 +368,9 @@ class Calls(unittest.TestCase):
                 1 // 0
         seats[2].give_back()
         self.assertIn("capacity 10", hull.close())
+        hull = SharedHull(capacity=10, seats=SEAT_LIMIT)
+        seats = [hull.lend(number) for number in (63, 31, 40, 32)]
+        self.assertRaisesRegex(SeatsOut, "are out: 31, 32, 40, 63$", hull.close)
 
     def test_corners(self):
         hull = SharedHull(capacity=2000, seats=1)

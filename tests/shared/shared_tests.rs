@@ -328,6 +328,110 @@ fn keeps_a_file() {
 }
 
 /// A seat outlives the hull that it was lent by.
+/// A folder that goes with the test.
+struct Folder(std::path::PathBuf);
+
+impl Folder {
+    fn new(name: &str) -> Folder {
+        let path = std::env::temp_dir().join(format!("hull-{name}-{}", std::process::id()));
+        std::fs::create_dir(&path).unwrap();
+        Folder(path)
+    }
+
+    fn file(&self) -> std::path::PathBuf {
+        self.0.join("zone.journal")
+    }
+
+    fn additions(&self) -> usize {
+        std::fs::read_to_string(self.file()).unwrap().lines().filter(|line| line.contains(" add ")).count()
+    }
+}
+
+impl Drop for Folder {
+    fn drop(&mut self) {
+        let _ = std::fs::remove_dir_all(&self.0);
+    }
+}
+
+/// A close is refused while a reader is out, and then the hull goes on and keeps its lines; however it ends, all of them are there.
+#[test]
+fn keeps_a_file_while_a_reader_is_out() {
+    let folder = Folder::new("reader");
+    let limits = Limits { points: 1000, first: 0, capacity: 50, seats: 2 };
+    let hull = SharedHull::for_readers(1).unwrap().keep(folder.file(), limits, None).unwrap();
+    let reader = hull.lend_reader().unwrap();
+    let mut seat = hull.lend(0).unwrap();
+    (0..10).for_each(|x| assert_eq!(seat.add(point(x, 1)), Ok(1)));
+    seat.give_back();
+    for _ in 0..3 {
+        assert_eq!(hull.close(), Err(Fault::SeatsOut));
+    }
+    let mut seat = hull.lend(1).unwrap();
+    (0..100).for_each(|x| assert_eq!(seat.add(point(x, 2)), Ok(1)));
+    seat.wait_at_most(Some(Duration::from_secs(10)));
+    assert_eq!(seat.wait_safe(), Ok(()));
+    seat.give_back();
+    drop(reader);
+    hull.close().unwrap();
+    assert_eq!(folder.additions(), 110);
+    let hull = SharedHull::keep(folder.file(), limits, None).unwrap();
+    let mut seat = hull.lend(0).unwrap();
+    drop(hull);
+    assert_eq!(seat.add(point(0, 3)), Ok(1));
+    drop(seat); // the last that has the hull closes its file
+    assert_eq!(folder.additions(), 111);
+    let hull = SharedHull::keep(folder.file(), limits, None).unwrap();
+    let mut seat = hull.lend(0).unwrap();
+    std::fs::remove_file(folder.file()).unwrap();
+    assert_eq!(seat.add(point(0, 4)), Ok(1));
+    const ESTALE: i32 = 116;
+    assert_eq!(seat.wait_safe(), Err(Fault::NoFile { errno: ESTALE }));
+    seat.give_back();
+    assert_eq!(hull.close(), Err(Fault::NoFile { errno: ESTALE }));
+}
+
+/// Threads that wait for what is safe while another closes the hull are answered.
+#[test]
+fn closes_beside_threads_that_wait() {
+    let folder = Folder::new("waiters");
+    for again in 0..10 {
+        let limits = Limits { points: 100_000, first: 0, capacity: 5000, seats: 3 };
+        let hull = Arc::new(SharedHull::keep(folder.file(), limits, None).unwrap());
+        let begun = Arc::new(AtomicUsize::new(0));
+        let threads: Vec<_> = (0..3)
+            .map(|k| {
+                let (hull, begun) = (hull.clone(), begun.clone());
+                thread::spawn(move || {
+                    let mut seat = hull.lend(k).unwrap();
+                    (0..100).for_each(|x| assert_eq!(seat.add(point(x, i64::from(3 * again + k))), Ok(1)));
+                    seat.wait_safe().unwrap();
+                    seat.give_back();
+                    begun.fetch_add(1, Ordering::SeqCst);
+                    while hull.sync().is_ok() {}
+                    hull.sync()
+                })
+            })
+            .collect();
+        while begun.load(Ordering::SeqCst) < 3 {
+            thread::yield_now();
+        }
+        hull.close().unwrap();
+        threads.into_iter().for_each(|thread| assert_eq!(thread.join().unwrap(), Err(Fault::NotOpen)));
+    }
+    assert_eq!(folder.additions(), 3000);
+}
+
+/// An area of more than 64 bits, by a seat; and the greatest capacity.
+#[test]
+fn numbers_of_two_words() {
+    let hull = SharedHull::open(Limits { capacity: CAPACITY_LIMIT, ..SMALL }).unwrap();
+    let mut seat = hull.lend(0).unwrap();
+    for (x, y) in [(-1, -1), (1, -1), (1, 1), (-1, 1)] {
+        seat.add(point(x * COORDINATE_LIMIT, y * COORDINATE_LIMIT)).unwrap();
+    }
+    assert_eq!(seat.doubled_area(), Ok(8 << 80));
+}
+
 #[test]
 fn the_last_seat_keeps_the_hull() {
     let hull = SharedHull::open(SMALL).unwrap();

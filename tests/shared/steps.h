@@ -1,8 +1,9 @@
-/* Holds a thread up between two steps of waiting or of waking, so that steps of other threads fall between: mostly for some tens of
- * microseconds, and at times for a millisecond. */
+/* Delays a thread between two steps of waiting or of waking, so that steps of other threads fall between: mostly for some tens of
+ * microseconds, and at times for a millisecond. It also yields, since on one core no other thread runs while this one spins. */
 #ifndef STEPS_H
 #define STEPS_H
 
+#include <sched.h>
 #include <stdint.h>
 #include <time.h>
 
@@ -18,6 +19,9 @@ static inline void held_up(void) {
         return;
     }
     for (volatile uint64_t i = 0; i < state % 20000; i++) {
+    }
+    if (state % 4 == 0) {
+        sched_yield();
     }
 }
 

@@ -26,6 +26,16 @@ static void is(const char *what, uint64_t got, uint64_t wanted) {
     }
 }
 
+#ifdef HULL_SHARED_BY_PTHREADS
+/* The linker sends clock_gettime here (--wrap): the clock that may be set is an hour ahead, as if it were set back after each look. */
+int __real_clock_gettime(clockid_t clock, struct timespec *t);
+int __wrap_clock_gettime(clockid_t clock, struct timespec *t) {
+    int told = __real_clock_gettime(clock, t);
+    t->tv_sec += clock == CLOCK_REALTIME ? 3600 : 0;
+    return told;
+}
+#endif
+
 /* The linker sends malloc here (--wrap): the thread that is to die in it ends with no word to anybody. */
 static __thread int dies;
 void *__real_malloc(size_t size);
@@ -172,6 +182,33 @@ static void rooms(void) {
     closes();
 }
 
+/* Calls whose deadlines end while they are at the door, or are being named: none of them holds up another. */
+static void *gives_up_often(void *own) {
+    uint64_t drawn = (uint64_t)(size_t)own * 88172645463325252u | 1;
+    hull_shared_seat *seat = *(hull_shared_seat **)own;
+    for (int k = 0; k < 3000; k++) {
+        drawn ^= drawn << 13, drawn ^= drawn >> 7, drawn ^= drawn << 17;
+        uint32_t code = hull_shared_call_until(&line, seat, HULL_KIND_COUNT, 0, 0, hull_shared_now() + drawn % 50000).told.code;
+        is("a call with a deadline", code == HULL_NUMBER || code == HULL_BUSY, 1);
+    }
+    is("a call with none", count_by(seat), HULL_NUMBER);
+    return NULL;
+}
+
+static void short_deadlines(uint32_t inside) {
+    pthread_t threads[SEATS];
+    opens(100000, inside);
+    for (int k = 0; k < SEATS; k++) {
+        pthread_create(&threads[k], NULL, gives_up_often, &seats[k]);
+    }
+    for (int k = 0; k < SEATS; k++) {
+        pthread_join(threads[k], NULL);
+    }
+    is("the door is open", hull_shared_stats(&line).inside + hull_shared_stats(&line).sleepers, 0);
+    is("none is named", hull_shared_stats(&line).named, HULL_SHARED_SEATS_MAX);
+    closes();
+}
+
 static void *is_cancelled(void *seat) {
     count_by(seat);
     pthread_testcancel();
@@ -315,6 +352,8 @@ int main(void) {
     lines_of_others();
     deadlines();
     rooms();
+    short_deadlines(1);
+    short_deadlines(3);
     cancelled(1);
     cancelled(2);
     cancelled(SEATS);

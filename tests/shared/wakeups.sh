@@ -1,13 +1,11 @@
 #!/bin/sh
-# Shows that no wake-up of archive/line.c is lost, and that a line that loses one is found: storm.c and full.c run with threads held
-# up between the steps of going to sleep and of waking (steps.h), with the file as it stands, and with copies of it in which one step
-# is out of its order or left out. Each right one has to end; each wrong one has to hang, and is killed after LIMIT seconds. Run by
-# run.sh:
+# Tests that no wake-up of archive/line.c is lost, and that a file that loses one is found: storm.c and full.c run with threads delayed
+# between the steps of going to sleep and of waking (steps.h), with the file unchanged, and with copies of it in which one step is out of
+# order or missing. Each right one must end; each wrong one must hang, and is killed after LIMIT seconds. run.sh runs it:
 #
-#     wakeups.sh PREFIX [LIMIT]
+#     wakeups.sh PREFIX [LIMIT]    PREFIX is where bin/install has put headers and library; LIMIT is 10 if not given
 #
-# PREFIX is where bin/install has put the headers and the library; LIMIT is 10 where none is given. The last line counts,
-# and the status is not 0 where something else came.
+# The last line is 'N passed, M failed'.
 set -u
 here=$(cd "$(dirname "$0")" && pwd)
 . "$here/../lib.sh"
@@ -133,7 +131,7 @@ try_full 'a full desk, as the file stands' end
 try_full 'the same by pthreads' end -DHULL_SHARED_BY_PTHREADS
 
 copy
-change '/__atomic_store_n\(&line->draining, 0, __ATOMIC_SEQ_CST\);/{N;s/\n.*$//}'
+change '/__atomic_store_n\(&line->draining, 0, __ATOMIC_SEQ_CST\);/{N;N;N;s/\n.*$//}'
 try_full 'who drained for the hook wakes nobody behind it' hang
 
 copy

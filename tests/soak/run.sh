@@ -1,30 +1,31 @@
 #!/bin/sh
-# A soak: runs the built program on scripts drawn by chance, of 2, 5, 16 and 64 workers over all calls, short and long ones,
-# and has their journals checked. `run.sh ROUNDS [SEED]` draws so many scripts of each kind, from that seed on; without
-# words it is one round, which the gate runs. The last line but one says how many calls were made; the last line counts,
-# and the status is not 0 where something else came. A run that has not ended after LIMIT seconds hangs, and is said so.
+# A soak: runs the program on random scripts of 2, 5, 16 and 64 workers with all calls, short and long ones, and checks their journals.
 #
-# Of each number of workers there are two scripts: one of some long phases, and one of a thousand short ones. Of each script it
-# runs the report. Of the report: each worker's calls stand in the order of the script, each ledger counts its worker's
-# calls, and the sum is that of all. Of the first script the journal too: `check` finds it legal, it has a line for each call,
-# and each worker's lines are its calls in the order of the script.
+#     run.sh [ROUNDS [SEED]]    one round and seed 1 if not given, which the gate runs
 #
-# Then each script runs once more under a shim that holds threads up at random round their sleeps and wake-ups (delay.c), and
-# its report is judged the same way.
+# The last line but one has the number of calls; the last line is 'N passed, M failed'. A run that has not ended after LIMIT seconds counts
+# as hanging.
 #
-# Last comes a crowd: 64 workers, one phase of calls enough that each worker has many left when the last one has started. Under
-# the shim at least half of the workers have to go to sleep a hundred times each. (In a short phase they need not: on one core a
-# worker makes all its calls before the next one starts.)
+# For each number of workers there are two scripts: one of a few long phases, and one of a thousand short ones. In the report of each, each
+# worker's calls are in the order of the script, each ledger counts its worker's calls, and their sum counts all. The journal of the first
+# is tested too: `check` finds it legal, it has a line for each call, and each worker's lines are its calls in the order of the script.
+#
+# Then each script runs once more under a library that delays threads at random around their sleeps and wake-ups (delay.c), and its report
+# is tested in the same way.
+#
+# Last comes a crowd: 64 workers and one phase with so many calls that each worker has many left when the last one has started. With the
+# delays at least half of the workers must go to sleep a hundred times each. (In a short phase they need not: on one core a worker makes
+# all its calls before the next one starts.)
 set -u
 here=$(cd "$(dirname "$0")" && pwd)
 . "$here/../lib.sh"
 rounds=${1:-1}
 seed=${2:-1}
-program=${HULLBOOK:-$("$top/tools/become.sh" --path hullbook)}
+program=${HULLBOOK:-$("$top/tools/program.sh" --path hullbook)}
+# the program under the shim, if it is here
+linked=$(linked_program hullbook) && is_there cc && preloaded "$here" delay || linked=
+[ "$linked" ] || skip 'runs whose threads are delayed' 'program that is linked here, or no cc'
 limit=${LIMIT:-120}
-kit=$(dirname "$(rt doc)")
-"$kit/toolchain/bin/clang" --target=x86_64-unknown-linux-gnu -O1 -fPIC -shared -nostdlib -fuse-ld=lld \
-    -Wno-incompatible-library-redeclaration -o "$room/delay.so" "$here/delay.c" || exit 1
 
 # A script of so many workers, phases and calls, drawn by Park and Miller's generator (1988) from the seed.
 script() {
@@ -112,7 +113,8 @@ try() {
         run "$name, journal" "$program" run "$room/script" --journal
         judge_journal "$name"
     fi
-    run "$name, delayed" env LD_PRELOAD="$room/delay.so" "$program" run "$room/script"
+    [ "$linked" ] || return
+    run "$name, delayed" env LD_PRELOAD="$room/delay.so" "$linked" run "$room/script"
     judge "$name, delayed" "$1"
 }
 
@@ -122,7 +124,7 @@ crowd() {
     script 64 "$1" 1 60000 >"$room/script"
     sort -s -n -k 1,1 "$room/script" >"$room/calls"
     calls=60000
-    run "$name" env LD_PRELOAD="$room/delay.so" "$program" run "$room/script" 9>"$room/sleeps"
+    run "$name" env LD_PRELOAD="$room/delay.so" "$linked" run "$room/script" 9>"$room/sleeps"
     judge "$name" 64
     said "$name, sleeps" "$(slept_enough)"
 }
@@ -133,7 +135,7 @@ while [ "$round" -lt "$rounds" ]; do
         try "$workers" $((seed + round)) 4 16000
         try "$workers" $((seed + round)) 1000 12000
     done
-    crowd $((seed + round))
+    [ -z "$linked" ] || crowd $((seed + round))
     round=$((round + 1))
 done
 echo "$made calls were made, on scripts drawn from seed $seed on, $rounds of each kind"

@@ -1,16 +1,16 @@
 #!/bin/sh
-# Hostile texts for the built program: the most lines that a script may have, a list that is announced too long, journals
-# that end too early while memory is refused, and texts broken by chance (fuzz.rs, which says what must hold of each).
+# Hostile texts for the program: the most lines that a script may have, a list whose announced length is too great, journals that end too
+# early while memory is refused, and randomly broken texts (fuzz.rs, which says what must hold for each).
 #
-# run.sh [TEXTS [SEED]]: how many texts are broken (6000, some ten seconds; a long run takes a million), and from which
-# seed (the clock). The last line counts, and the status is not 0 where something else came.
+#     run.sh [TEXTS [SEED]]    how many texts are broken (6000 if not given, some ten seconds), and the seed (the clock if not given)
+#
+# The last line is 'N passed, M failed'.
 set -u
 here=$(cd "$(dirname "$0")" && pwd)
 . "$here/../lib.sh"
 texts=${1:-6000}
 seed=${2:-$(date +%s)}
-kit=$(dirname "$(rt doc)")
-program=$("$top/tools/become.sh" --path hullbook) || exit
+program=$("$top/tools/program.sh" --path hullbook) || exit
 
 # the words behind NAME, STATUS, OUTPUT and ERROR on the program: whether it ends with this status and writes these lines
 try() {
@@ -42,13 +42,16 @@ rm -f "$room/lines" "$room/more"
 
 # ---- no memory is asked for a list that is announced too long
 
-# builds FILE.c of a folder as a library that is loaded before the C library
-library() {
-    "$kit/toolchain/bin/clang" --target=x86_64-unknown-linux-gnu -O1 -fPIC -shared -nostdlib -fuse-ld=lld \
-        -o "$room/$2.so" "$1/$2.c" || exit 1
-}
-library "$here" requests
-library "$here/../memory" refuse
+# each needs the program that takes the C library as a shared object, and a C compiler
+by_preloading() {
+if ! linked=$(linked_program hullbook) || ! is_there cc; then
+    skip 'requests for memory of long lists and cut journals' 'program that is linked here, or no cc'
+    return
+fi
+preloaded "$here" requests || exit 1
+preloaded "$here/../memory" refuse || exit 1
+released=$program
+program=$linked
 
 # the requests of `check` on a journal with this reply in line 2
 requests_for() {
@@ -96,6 +99,10 @@ why=$(awk '
     END { if (seen < 3 || ended < 20) print seen + 0 " faults 10, " ended + 0 " faults 6" }' "$room/outcomes")
 said 'a journal cut short while memory is refused' "${why:-ok}"
 
+program=$released
+}
+by_preloading
+
 # ---- texts broken by chance
 
 if command -v rustc >/dev/null 2>&1; then
@@ -106,6 +113,6 @@ if command -v rustc >/dev/null 2>&1; then
         said "$texts texts broken by chance" "see above; again by $0 $texts $seed"
     fi
 else
-    echo 'texts broken by chance: left out, since there is no rustc here'
+    skip 'texts broken by chance' rustc
 fi
 end

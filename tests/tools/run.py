@@ -1,10 +1,10 @@
 #!/usr/bin/env python3
-"""Tries the gate's own tools on a small repository with bugs in what they judge: a wrong body that is none, one that the compiler refuses,
-one that only a proof's names refuse, a crate that is not proved, a count that differs, work that is stale, bytes that changed, a number
-that is not the table's.
+"""Tests the tools that judge others on small repositories with faults in what they judge: a mutant that changes nothing, one that does not
+compile, one that only a proof's names refuse, a count that differs, stale or damaged files, a page that differs, a word too many, a suite
+that fails without saying so.
 
-Each must be told for what it is, beside one that a goal refuses: a tool that takes whatever fails for a refusal fails here. The last
-line is 'N passed, M failed'.
+Each tool has to refuse the fault with its message and exit status, beside a case that it accepts. What needs the toolchain is skipped
+without it. The last line is 'N passed, M failed'.
 """
 import os
 import shutil
@@ -13,6 +13,9 @@ import sys
 import tempfile
 
 TOP = os.path.dirname(os.path.dirname(os.path.dirname(os.path.abspath(__file__))))
+sys.path.insert(0, f"{TOP}/tools")
+import mutants  # noqa: E402 (the path comes first)
+
 SOURCE = """//! Three functions on which the gate's own tools are tried.
 #![tactic(auto)]
 
@@ -44,17 +47,17 @@ pub fn third_behind(n: u32) -> u32
 """
 EDITS = {
     "adds-two": ("    n + 1", "    n + 2"),
-    "a-comment": ("    n + n", "    n + n // as it stands"),
+    "a-comment": ("    n + n", "    n + n // unchanged"),
     "no-such-name": ("    n + 3", "    missing(n)"),
 }
-# what has to be told of each, tried together
+# the message for each, tried together
 WANTED = {"adds-two": "refused: ", "a-comment": "NOT REFUSED: the crate is still proved", "no-such-name": "NOT TRIED: BAD EDIT: "}
-# what may be wrong with the places that repeat the table of codes: a file, a text that stands there, what stands in its place, what is told
+# faults in the places that repeat the table of codes: a file, a text in it, what replaces it, the message
 PLACES = (
     ("a changed number", "python/hull.py", "    NO_SEAT = 36\n", "    NO_SEAT = 37\n", "python/hull.py: FAILED, codes: it says 'NO_SEAT = 37'"),
     ("a missing line", "include/hull_common.h", '    case HULL_EDGE: return "HULL_EDGE";\n', "", "include/hull_common.h: FAILED, names: it says"),
     ("a line too many", "rust/hull/src/raw.rs", "OLD: u32 = 69;\n", "OLD: u32 = 69;\n    pub const ONE: u32 = 1;\n", "raw.rs: FAILED, codes: it says"),
-    ("a mark that is gone", "web/hull.js", "written by tools/table.py: codes", "", "web/hull.js: FAILED, codes stands there 0 times"),
+    ("a mark that is gone", "web/hull.js", "written by tools/table.py: codes", "", "web/hull.js: FAILED, codes occurs 0 times"),
     ("another version", "rust/hull/Cargo.toml", 'version = "', 'version = "9', "Cargo.toml: FAILED, the version: it says '9"),
     ("a case unlike the others", "crates/hull_reply/src/request.rt", "Call::Place(point_of", "Call::Add(point_of",
      "hull_reply/src/request.rt: FAILED, a case for each kind: it says 'Kind::Place"),
@@ -74,120 +77,218 @@ logic=not-proved
 """
 
 
-def write(path, text):
+def write(path, text, mode=0o644):
     """Writes a file and the folders above it."""
     os.makedirs(os.path.dirname(path), exist_ok=True)
     with open(path, "w", encoding="utf-8") as file:
         file.write(text)
+    os.chmod(path, mode)
 
 
-def lay(top):
-    """Lays a repository of one crate with its edits, and the tools, in a folder."""
-    shutil.copytree(f"{TOP}/tools", f"{top}/tools", ignore=shutil.ignore_patterns("__pycache__"))
+class FakeRun:
+    """What a check printed, as the tools see it."""
+
+    def __init__(self, status, said):
+        self.status, self.said, self.raw = status, said, said
+
+    def last(self):
+        return self.said.rstrip("\n").rpartition("\n")[2]
+
+
+class Tests:
+    """The tests, each counted."""
+
+    def __init__(self):
+        self.passed = self.failed = 0
+
+    def see(self, what, is_so, said=""):
+        """Counts one."""
+        self.passed, self.failed = self.passed + bool(is_so), self.failed + (not is_so)
+        print(f"{what}: {'ok' if is_so else f'FAILED {said[-600:]}'}", flush=True)
+
+    def refuses(self, what, message, top, *words, status=1, **how):
+        """Counts whether a tool prints that message, ends with that status, and does not end in '0 failed'."""
+        came, said = run(top, *words, **how)
+        self.see(what, came == status and message in said and not said.rstrip().endswith(" 0 failed"), f"status {came}: {said}")
+
+    def accepts(self, what, top, *words, **how):
+        """Counts whether a tool ends with status 0 and '0 failed'."""
+        came, said = run(top, *words, **how)
+        self.see(what, came == 0 and said.rstrip().endswith(" 0 failed"), f"status {came}: {said}")
+
+
+def run(top, *words, env=None):
+    """Runs a tool of a small repository. Returns its status and what it printed."""
+    ran = subprocess.run(words, cwd=top, stdin=subprocess.DEVNULL, stdout=subprocess.PIPE, stderr=subprocess.STDOUT, text=True, check=False,
+                         env={**os.environ, **(env or {})})
+    return ran.returncode, ran.stdout
+
+
+def lay_tools(top):
+    """Copies the tools into a small repository."""
+    for it in ("tools", ".ci", "bin"):
+        shutil.copytree(f"{TOP}/{it}", f"{top}/{it}", ignore=shutil.ignore_patterns("__pycache__"))
+    os.remove(f"{top}/.ci/mutants.txt") if os.path.exists(f"{top}/.ci/mutants.txt") else None
+
+
+def lay_crate(top, edits):
+    """Lays a repository of one crate with these of its mutants, and the tools."""
+    lay_tools(top)
     write(f"{top}/crates.txt", "small:\n")
     write(f"{top}/HANDLES", "Handles allowed: none.\n")
     write(f"{top}/crates/small/src/lib.rt", SOURCE)
     write(f"{top}/crates/small/specs/Lib.antt", "")
     write(f"{top}/crates/small/proofs/Lib.antt", "")
-    for name, (old, new) in EDITS.items():
-        write(f"{top}/crates/small/wrong-bodies/{name}.edit", f"file: src/lib.rt\nold: {old}\nnew: {new}\n")
+    for name in edits:
+        old, new = EDITS[name]
+        write(f"{top}/crates/small/mutants/{name}.edit", f"file: src/lib.rt\nold: {old}\nnew: {new}\n")
 
 
-class Told:
-    """What a check told, as the tools see it."""
-
-    def __init__(self, status, told):
-        self.status, self.told, self.raw = status, told, told
-
-    def last(self):
-        return self.told.rstrip("\n").rpartition("\n")[2]
-
-
-class Tries:
-    """The tries, each counted."""
-
-    def __init__(self):
-        self.passed = self.failed = 0
-
-    def see(self, what, is_so, told=""):
-        """Counts one."""
-        self.passed, self.failed = self.passed + is_so, self.failed + (not is_so)
-        print(f"{what}: {'as it should be' if is_so else 'FAILED'}{'' if is_so else f' {told}'}", flush=True)
+def test_judgement(tests):
+    """What a check printed is judged without a prover."""
+    function = mutants.Function("small::", "successor")
+    tests.see("a name that went is no goal", not mutants.goals_of(BY_A_NAME))
+    tests.see("a name that went refuses nothing", mutants.outcome_of(FakeRun(1, BY_A_NAME), {})[0] is mutants.Kind.BY_SHAPE)
+    tests.see("an open goal is its function's", [*mutants.goals_of(BY_A_GOAL)] == ["small::successor"])
+    tests.see("a function is found by its path", function.is_at("small::successor") and not function.is_at("small::double"))
+    tests.see("a limit refuses nothing", mutants.outcome_of(FakeRun(3, "fn x: could not tell\nrattle: no verdict\n"), {})[0] is mutants.Kind.AT_LIMIT)
+    tests.see("a killed check refuses nothing", mutants.outcome_of(FakeRun(-9, "checked 1 of 3\n"), {})[0] is mutants.Kind.UNSURE)
+    tests.see("a proved crate refuses nothing", mutants.outcome_of(FakeRun(0, "logic=proved\n"), {})[0] is mutants.Kind.MISSED)
 
 
-def command(top, *words, kept):
-    """What one of the tools writes, with its last line apart."""
-    ran = subprocess.run([sys.executable, *words], cwd=top, stdin=subprocess.DEVNULL, stdout=subprocess.PIPE, stderr=subprocess.STDOUT,
-                         text=True, check=False, env={**os.environ, "HULL_BOOK_KEPT": kept})
-    return ran.stdout, ran.stdout.rstrip().rpartition("\n")[2]
+def test_mutants(tests):
+    """A mutant counts as refused only if a goal refuses it, and is recorded only if all of its crate's are."""
+    with tempfile.TemporaryDirectory() as top:
+        lay_crate(top, EDITS)
+        status, said = run(top, "tools/mutants.py", "--record", "small")
+        tests.see("a run with two bad mutants fails", status == 1 and said.endswith("1 passed, 2 failed\n"), said)
+        for name, wanted in WANTED.items():
+            tests.see(f"{name}, in a group with the others: {wanted}", f"mutant small/{name}.edit: {wanted}" in said, said)
+        tests.refuses("a crate with bad mutants is not recorded", "1 passed, 2 failed", top, "tools/mutants.py", "--changed")
+        for name in ("a-comment", "no-such-name"):
+            os.remove(f"{top}/crates/small/mutants/{name}.edit")
+        tests.accepts("a crate whose mutants are refused", top, "tools/mutants.py", "--record", "small")
+        status, said = run(top, "tools/mutants.py", "--changed")
+        tests.see("a recorded crate is not tried again", status == 0 and "no crate with mutants differs" in said, said)
+        write(f"{top}/crates/small/src/lib.rt", SOURCE.replace("    n + 1", "    n + 2"))
+        tests.refuses("a crate that is not proved", "not proved without any change: small", top, "tools/mutants.py", "--changed")
 
 
-def judge(tries):
-    """What is judged without a prover: what a check told."""
-    import wrong_bodies
-    function = wrong_bodies.Function("small::", "successor")
-    tries.see("a name that went is no goal", not wrong_bodies.goals_of(BY_A_NAME))
-    tries.see("a name that went refuses nothing", wrong_bodies.outcome_of(Told(1, BY_A_NAME), {})[0] is wrong_bodies.Kind.BY_SHAPE)
-    tries.see("an open goal is its function's", [*wrong_bodies.goals_of(BY_A_GOAL)] == ["small::successor"])
-    tries.see("a function is found by its path", function.is_at("small::successor") and not function.is_at("small::double"))
-    tries.see("a limit refuses nothing", wrong_bodies.outcome_of(Told(3, "fn x: could not tell\nrattle: no verdict\n"), {})[0] is wrong_bodies.Kind.AT_LIMIT)
-    tries.see("a killed check refuses nothing", wrong_bodies.outcome_of(Told(-9, "checked 1 of 3\n"), {})[0] is wrong_bodies.Kind.UNSURE)
+def test_layout(tests):
+    """A lost mutant, a mutant that does not fit, and a file that no check reads fail the layout."""
+    with tempfile.TemporaryDirectory() as top:
+        lay_crate(top, ["adds-two"])
+        tests.accepts("a layout that is written", top, "tools/layout.py", "--write")
+        path = f"{top}/crates/small/mutants/adds-two.edit"
+        os.rename(path, f"{top}/kept")
+        tests.refuses("a mutant that is gone", "counts.txt: FAILED", top, "tools/layout.py")
+        write(path, "file: src/lib.rt\nold: no such text\nnew: x\n")
+        tests.refuses("a mutant that does not fit", "0 times, and not once", top, "tools/layout.py")
+        os.rename(f"{top}/kept", path)
+        write(f"{top}/crates.txt", "")
+        tests.refuses("a crate that crates.txt leaves out", "no check reads it there", top, "tools/layout.py")
 
 
-def compare(tries, top, kept):
-    """What is told of places that differ from the table, one after the other, in a copy of them."""
-    shutil.copytree(f"{TOP}/tools", f"{top}/tools", ignore=shutil.ignore_patterns("__pycache__"))
-    marked = subprocess.run(["git", "grep", "-lI", "written by tools/table.py"], cwd=TOP, capture_output=True, text=True, check=True).stdout
-    for path in ("VERSION", "CHANGELOG.md", "tables/calls.txt", "rust/hull/Cargo.toml", "web/package.json", "crates.txt", *marked.split()):
-        os.makedirs(os.path.dirname(f"{top}/{path}"), exist_ok=True)
-        shutil.copy(f"{TOP}/{path}", f"{top}/{path}")
-    told, last = command(top, "tools/table.py", kept=kept)
-    tries.see("places that are as the table says", last.endswith(" passed, 0 failed"), told)
-    for what, path, old, new, wanted in PLACES:
-        with open(f"{TOP}/{path}", encoding="utf-8") as file:
-            text = file.read()
-        write(f"{top}/{path}", text.replace(old, new, 1))
-        told, last = command(top, "tools/table.py", kept=kept)
-        tries.see(f"{what} fails the table", wanted in told and not last.endswith(" 0 failed"), told)
-        write(f"{top}/{path}", text)
+def test_products(tests):
+    """Stale and damaged files of dist/ are not found, and are named."""
+    with tempfile.TemporaryDirectory() as top:
+        lay_tools(top)
+        for it in ("dist", "include", "archive", "python", "crates.txt"):
+            (shutil.copytree if os.path.isdir(f"{TOP}/{it}") else shutil.copy)(f"{TOP}/{it}", f"{top}/{it}")
+        write(f"{top}/crates/hull_c/src/lib.rt", "// other sources\n")
+        find = ("tools/product.sh", "find", "x86_64/libhull.a")
+        tests.see("a file of other sources is not found", run(top, *find) == (1, ""))
+        tests.accepts("bytes that are those of SUMS", top, "tools/product.sh", "check")
+        with open(f"{top}/dist/x86_64/libhull.a", "ab") as file:
+            file.write(b"x")
+        tests.refuses("a byte too many", "dist/x86_64/libhull.a: FAILED", top, "tools/product.sh", "check")
+        write(f"{top}/dist/x86_64/other", "")
+        tests.refuses("a file that SUMS does not name", "dist/x86_64/other: FAILED", top, "tools/product.sh", "check")
+        sums = run(top, "tools/product.sh", "sum", "hull_c")[1].strip()
+        others = run(top, "tools/product.sh", "others", "x86_64/libhull.a")[1].strip()
+        write(f"{top}/dist/SUMS", f"file x86_64/libhull.a sha256=0 bytes=1 crate=hull_c sources={sums} others={others}\n")
+        tests.see("a file of these sources with other bytes is not found", run(top, *find) == (2, ""))
+        os.makedirs(f"{top}/no-rt")
+        status, said = run(top, "tools/product.sh", "put", "x86_64/hullbook", f"{top}/program", env={"PATH": "/usr/bin:/bin"})
+        tests.see("a program that needs a proof and no toolchain", status == 69 and "not installed" in said, said)
+
+
+def test_suites(tests):
+    """bin/test counts a suite that fails without saying so, one that says nothing, and refuses a name that it does not know."""
+    with tempfile.TemporaryDirectory() as top:
+        lay_tools(top)
+        suite = f"{top}/tests/files/run.sh"
+        write(suite, "#!/bin/sh\necho 3 passed, 0 failed\n", 0o755)
+        status, said = run(top, "bin/test", "files")
+        tests.see("a suite that passes", status == 0 and said.endswith("\n3 passed, 0 failed\n"), said)
+        for what, text in (("a status that is not 0", "echo 3 passed, 0 failed; exit 1"), ("no last line", "echo well; exit 0"),
+                           ("a failure", "echo it: FAILED; echo 3 passed, 1 failed; exit 1")):
+            write(suite, f"#!/bin/sh\n{text}\n", 0o755)
+            tests.refuses(f"a suite with {what}", ", 1 failed", top, "bin/test", "files")
+        tests.refuses("a name that is no suite", "there is no suite or crate 'other'", top, "bin/test", "other", status=2)
+
+
+def test_gate(tests):
+    """.ci/run fails if any of its stages fails, whatever that prints last."""
+    with tempfile.TemporaryDirectory() as top:
+        lay_tools(top)
+        good = "#!/bin/sh\nmkdir -p out/test\n: >out/test/left_out\necho 1 passed, 0 failed\n"
+        commands = ("bin/test", "tools/mutants.py", "tools/release.sh", "path/rt", "tools/product.sh")
+        env = {"PATH": f"{top}/path:{os.environ['PATH']}"}
+        for it in commands:
+            write(f"{top}/{it}", good, 0o755)
+        status, said = run(top, ".ci/run", env=env)
+        tests.see("a gate whose stages pass", status == 0 and said.endswith("\n5 passed, 0 failed\n"), said)
+        for it in commands[:4]:
+            for what, text in (("fails", "echo 4 passed, 1 failed; exit 1"), ("ends with status 3", "echo 4 passed, 0 failed; exit 3"), ("is silent", "exit 0")):
+                write(f"{top}/{it}", f"#!/bin/sh\nmkdir -p out/test\n: >out/test/left_out\n{text}\n", 0o755)
+                tests.refuses(f"a gate in which {it} {what}", "FAILED:", top, ".ci/run", env=env)
+            write(f"{top}/{it}", good, 0o755)
+
+
+def test_language(tests):
+    """A word of the old dialect more than .ci/language.txt allows fails, and --write never raises a number."""
+    with tempfile.TemporaryDirectory() as top:
+        lay_tools(top)
+        write(f"{top}/README.md", "If you run it, it returns the answer.\n")
+        run(top, "tools/language.py", "--write")
+        tests.accepts("plain English", top, "tools/language.py")
+        write(f"{top}/README.md", "It tells where it stands.\n")
+        tests.refuses("three words of the dialect", "'told': FAILED, 1 times", top, "tools/language.py")
+        run(top, "tools/language.py", "--write")
+        tests.refuses("--write does not raise a number", "'stands': FAILED", top, "tools/language.py")
+
+
+def test_tables(tests):
+    """Each place that repeats the table of calls fails if it differs."""
+    with tempfile.TemporaryDirectory() as top:
+        lay_tools(top)
+        marked = subprocess.run(["git", "grep", "-lI", "written by tools/table.py"], cwd=TOP, capture_output=True, text=True, check=False).stdout
+        if not marked:
+            print("skipped: the table's places: this is no checkout of git")
+            return
+        for path in ("VERSION", "CHANGELOG.md", "tables/calls.txt", "rust/hull/Cargo.toml", "web/package.json", "crates.txt", *marked.split()):
+            os.makedirs(os.path.dirname(f"{top}/{path}"), exist_ok=True)
+            shutil.copy(f"{TOP}/{path}", f"{top}/{path}")
+        tests.accepts("places that are as the table says", top, "tools/table.py")
+        for what, path, old, new, wanted in PLACES:
+            with open(f"{TOP}/{path}", encoding="utf-8") as file:
+                text = file.read()
+            write(f"{top}/{path}", text.replace(old, new, 1))
+            tests.refuses(what, wanted, top, "tools/table.py")
+            write(f"{top}/{path}", text)
 
 
 def main():
-    tries = Tries()
-    with tempfile.TemporaryDirectory() as top, tempfile.TemporaryDirectory() as kept:
-        compare(tries, top, kept)
-    with tempfile.TemporaryDirectory() as top, tempfile.TemporaryDirectory() as kept:
-        lay(top)
-        sys.path.insert(0, f"{top}/tools")
-        judge(tries)
-        told, last = command(top, "tools/proofs.py", kept=kept)
-        tries.see("a run with a wrong body that is none fails", last == "2 passed, 2 failed", told)
-        for name, wanted in WANTED.items():
-            tries.see(f"{name}, in a group with the others: {wanted}", f"wrong body small/{name}.edit: {wanted}" in told, told)
-        for name in ("a-comment", "no-such-name"):
-            os.rename(f"{top}/crates/small/wrong-bodies/{name}.edit", f"{top}/{name}.edit")
-        told, last = command(top, "tools/proofs.py", kept=kept)
-        tries.see("what passed is taken from the run before", last == "2 passed, 0 failed" and "earlier run" in told, told)
-        command(top, "tools/layout.py", "--write", kept=kept)
-        os.rename(f"{top}/crates/small/wrong-bodies/adds-two.edit", f"{top}/adds-two.edit")
-        told, last = command(top, "tools/layout.py", kept=kept)
-        tries.see("a wrong body that is gone fails the layout", "counts.txt: FAILED" in told and not last.endswith(" 0 failed"), told)
-        write(f"{top}/crates.txt", "")
-        told, last = command(top, "tools/layout.py", kept=kept)
-        tries.see("a crate that is left out fails the layout", "no check reads it there" in told and not last.endswith(" 0 failed"), told)
-        write(f"{top}/crates.txt", "small:\n")
-        tries.see("what was made of these files is known", command(top, "tools/made.py", "small", kept=kept)[0] == "" and made(top) == 0)
-        write(f"{top}/crates/small/src/lib.rt", SOURCE.replace("    n + 1", "    n + 2"))
-        tries.see("a changed file makes it stale", made(top) == 1)
-        told, last = command(top, "tools/proofs.py", kept=kept)
-        tries.see("a crate that is not proved fails the run", "small: NOT PROVED" in told and not last.endswith(" 0 failed"), told)
-    print(f"{tries.passed} passed, {tries.failed} failed")
-    return 1 if tries.failed else 0
-
-
-def made(top):
-    """The status of tools/made.py."""
-    return subprocess.run([sys.executable, "tools/made.py", "small"], cwd=top, check=False).returncode
+    tests = Tests()
+    for test in (test_judgement, test_layout, test_products, test_suites, test_gate, test_language, test_tables):
+        test(tests)
+    if shutil.which("rt"):
+        test_mutants(tests)
+    else:
+        print("skipped: mutants on a small crate: there is no toolchain")
+    print(f"{tests.passed} passed, {tests.failed} failed")
+    return 1 if tests.failed else 0
 
 
 if __name__ == "__main__":

@@ -1,10 +1,9 @@
 #!/bin/sh
-# Shows that no wake-up of the lock is lost, and that a lock that loses one is found: the tests of `ticket_lock` run, unproved,
-# on copies of the crate in which each step of going to sleep and of waking is held up for some twenty microseconds, so
-# that steps of other threads fall between. The right order has to end; each wrong one has to hang, and is killed after
-# LIMIT seconds (30 where none is given). No contract can say what is tried here: every one of these bodies keeps them all.
-# It stands beside the gate, which has no time for the hangs; the last line counts, and the status is not 0 where
-# something else came.
+# Tests that no wake-up of the lock is lost, and that a lock that loses one is found: the tests of `ticket_lock` run, unproved, on copies of
+# the crate in which each step of going to sleep and of waking is delayed by some twenty microseconds, so that steps of other threads come
+# between. The right order must end; each wrong one must hang, and is killed after LIMIT seconds (30 if not given). No contract can say what is
+# tested here: every one of these bodies meets them all. It is not part of the gate, because of the hangs. The last line is
+# 'N passed, M failed'.
 set -u
 here=$(cd "$(dirname "$0")" && pwd)
 . "$here/../lib.sh"

@@ -1,9 +1,9 @@
 #!/bin/sh
-# Tries hull.js and what stands below the page in Node, on both modules, the types, and the page in Chromium and in Firefox with no window,
-# and has the page's journals checked by the program. What is not there is skipped by name: Node, the modules (web/build.py makes them),
-# tsc, esbuild, wasm-metadce, Chromium, Firefox, the program. The last line counts, and the status is not 0 where something else came.
+# Tests hull.js and the code of the page in Node, with both modules, the types, and the page in Chromium and in Firefox without a window;
+# the program checks the page's journals. What is missing here is named: Node, the modules (web/build.py makes them), tsc, esbuild,
+# wasm-metadce, Chromium, Firefox, the program. The last line is 'N passed, M failed'.
 #
-#     tests/web/run.sh [FOLDER]    where pictures of the page stay, to be looked at
+#     tests/web/run.sh [FOLDER]    the folder for screenshots of the page
 set -u
 here=$(cd "$(dirname "$0")" && pwd)
 . "$here/../lib.sh"
@@ -12,36 +12,17 @@ CHROMIUM=${CHROMIUM:-$(command -v chromium || command -v chromium-browser || tru
 FIREFOX=${FIREFOX:-$(command -v firefox-esr || command -v firefox || true)}
 export CHROMIUM FIREFOX
 
-# adds what a run of tries says in its last line to the counts
-counted() {
-    "$@" >"$room/told" 2>&1
-    status=$?
-    sed '$d' "$room/told"
-    last=$(tail -n 1 "$room/told")
-    case $last in
-        *' passed, '*' failed')
-            passed=$((passed + ${last%% *}))
-            more=${last#*, }
-            failed=$((failed + ${more%% *}))
-            ;;
-        *)
-            failed=$((failed + 1))
-            echo "$2: FAILED, status $status: $last"
-            ;;
-    esac
-}
-
 if ! command -v node >/dev/null; then
     echo 'skipped: Node is not there'
     end
 fi
-program=$("$top/tools/release.py" --program hullbook) || program=
+program=$("$top/tools/product.sh" program hullbook) || program=
 [ -x "$program" ] || program=
-counted node "$here/judge_tests.mjs" "$program"
+counted judge_tests.mjs node "$here/judge_tests.mjs" "$program"
 # the modules that web/build.py made, or the released ones where the sources are theirs
 mkdir -p "$top/web/out"
 for module in hull.wasm hull32.wasm; do
-    released=$("$top/tools/release.py" --find "web/$module") && cp "$released" "$top/web/out/$module"
+    released=$("$top/tools/product.sh" find "web/$module") && cp "$released" "$top/web/out/$module"
 done
 if [ ! -f "$top/web/out/hull.wasm" ]; then
     echo 'skipped: web/out/hull.wasm is not there, which web/build.py makes'
@@ -52,13 +33,13 @@ set --
 [ "$(node -p 'parseInt(process.versions.node)')" -ge 24 ] || set -- --experimental-wasm-memory64
 for tests in hull work; do
     echo "${tests}_tests.mjs on hull.wasm"
-    MODULE=hull.wasm counted node "$@" "$here/${tests}_tests.mjs"
+    MODULE=hull.wasm counted "${tests}_tests.mjs" node "$@" "$here/${tests}_tests.mjs"
     [ -f "$top/web/out/hull32.wasm" ] || continue
     echo "${tests}_tests.mjs on hull32.wasm"
-    MODULE=hull32.wasm counted node "$here/${tests}_tests.mjs"
+    MODULE=hull32.wasm counted "${tests}_tests.mjs" node "$here/${tests}_tests.mjs"
 done
 if command -v tsc >/dev/null; then
-    counted sh "$here/types.sh"
+    counted types.sh sh "$here/types.sh"
 else
     echo 'skipped: the types: tsc is not there'
 fi
@@ -73,7 +54,7 @@ for tool in esbuild wasm-metadce; do
 done
 node "$top/web/page.mjs" && node "$top/web/page.mjs" hull.wasm "$room/wide.html"
 came 'the page is written, with either module' $? 0
-counted node "$here/size_tests.mjs" "$top/web/out/index.html"
+counted size_tests.mjs node "$here/size_tests.mjs" "$top/web/out/index.html"
 for browser in chromium firefox; do
     [ "$browser" = chromium ] && there=$CHROMIUM || there=$FIREFOX
     if [ -z "$there" ]; then
@@ -81,7 +62,7 @@ for browser in chromium firefox; do
         continue
     fi
     mkdir -p "$room/$browser"
-    counted node "$here/page_tests.mjs" "$top/web/out/index.html" "$room/$browser" "$browser"
+    counted page_tests.mjs node "$here/page_tests.mjs" "$top/web/out/index.html" "$room/$browser" "$browser"
     for journal in clicks saved; do
         if [ -x "$program" ]; then
             came "the program's verdict on $browser's $journal" "$("$program" check "$room/$browser/$browser-$journal.journal" 2>&1)" legal
@@ -92,7 +73,7 @@ for browser in chromium firefox; do
     # with the module as it was proved, whole, where the browser has 64-bit memories
     mkdir -p "$room/wide"
     echo "the page with hull.wasm, on a phone's size"
-    ONLY=Phone counted node "$here/page_tests.mjs" "$room/wide.html" "$room/wide" "$browser"
+    ONLY=Phone counted page_tests.mjs node "$here/page_tests.mjs" "$room/wide.html" "$room/wide" "$browser"
     [ -n "$pictures" ] && mkdir -p "$pictures" && cp "$room/$browser"/*.png "$pictures"
 done
 end

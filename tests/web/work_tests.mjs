@@ -6,6 +6,8 @@ import { directionOf, fromFloat, fromFloats, toFloat, wkt } from "../../web/exch
 import { firstMeeting, indices, meetsSegments, moved, nearestHeld, pairsWithin, relations, turned } from "../../web/many.js";
 import { Replay, TextError, emptyJournal, joinJournals, journalText, readJournal } from "../../web/journal.js";
 import { addressOf, callsOf, kindOf, powerFor, readAddress, readRows, writeRows } from "../../web/texts.js";
+import { Heap } from "../../web/heap.js";
+import { Keeper } from "../../web/keep.js";
 import { Work } from "../../web/work.js";
 import { random_of } from "./plain.mjs";
 
@@ -68,6 +70,119 @@ await tried("many outlines, and outlines that move", () => {
     assert.throws(() => turned(far, 0, 0), ZeroDirection);
     assert.deepEqual([nearestHeld(new Hull(), 0, 0), firstMeeting(far, Outline.of([]), 1, 1), pairsWithin([])], [null, null, []]);
     return `${near} pairs, ${hits} meetings`;
+});
+
+await tried("numbers of many outlines, judged as those of add", () => {
+    const far = 2 ** 40, one = new Outline([[0, 0], [4, 0], [0, 4]]), other = new Outline([[9, 0], [12, 0], [9, 4]]), none = new Outline([]), hull = new Hull();
+    hull.add(1, 1);
+    for (const wrong of [NaN, Infinity, -Infinity, 0.5, "1", "", null, undefined, 1n, [1], {}, true]) {
+        assert.throws(() => hull.add(wrong, 0), OutOfRange);
+        for (const outline of [one, none]) {
+            assert.throws(() => moved(outline, wrong, 0), OutOfRange, `moved by ${String(wrong)}`);
+            assert.throws(() => moved(outline, 0, wrong), OutOfRange);
+            assert.throws(() => turned(outline, wrong, 1), OutOfRange, `turned by ${String(wrong)}`);
+            assert.throws(() => turned(outline, 0, wrong), OutOfRange);
+            assert.throws(() => firstMeeting(one, outline, wrong, 0), OutOfRange, `meeting by ${String(wrong)}`);
+            assert.throws(() => firstMeeting(outline, other, 0, wrong), OutOfRange);
+        }
+        assert.throws(() => firstMeeting(one, one, wrong, 0), OutOfRange);
+        assert.throws(() => nearestHeld(hull, wrong, 0), OutOfRange, `nearest to ${String(wrong)}`);
+        assert.throws(() => nearestHeld(hull, 0, wrong), OutOfRange);
+        assert.throws(() => nearestHeld(new Hull(), 0, wrong), OutOfRange);
+        assert.throws(() => indices(one, [[0, wrong]]), OutOfRange);
+        assert.throws(() => meetsSegments(one, [[0, 0, 1, wrong]]), OutOfRange);
+        if (wrong !== undefined) {
+            assert.throws(() => pairsWithin([one, other], wrong), OutOfRange, `within ${String(wrong)}`);
+            assert.throws(() => pairsWithin([], 1, wrong), OutOfRange);
+        }
+    }
+    for (const [numerator, denominator] of [[-1, 1], [1.5, 1], [1, 0], [1, -1], [1, 2 ** 32], [2 ** 53, 1]]) {
+        assert.throws(() => pairsWithin([one, other], numerator, denominator), OutOfRange);
+    }
+    for (const row of [[0, 0, 1], [0, 0, 1, 1, 1], [], null]) assert.throws(() => meetsSegments(one, [row]), OutOfRange);
+    for (const [x, y] of [[2 ** 45, 0], [far + 1, 0], [0, -far - 1]]) {
+        assert.throws(() => nearestHeld(hull, x, y), OutOfRange);
+        assert.throws(() => firstMeeting(one, other, x, y), OutOfRange);
+        assert.throws(() => turned(one, x, y), OutOfRange);
+    }
+    for (const [x, y] of [[2 * far + 1, 0], [0, -2 * far - 1], [far, 0]]) assert.throws(() => moved(one, x, y), OutOfRange);
+    assert.deepEqual(moved(Outline.of([[-far, 0]]), 2 * far, -0), [[far, 0]]);
+    assert.deepEqual([pairsWithin([one, other], 5), pairsWithin([one, other], 49, 10)], [[[0, 1]], []]);
+    assert.deepEqual(nearestHeld(hull, far, -far).point, [1, 1]);
+    hull.free();
+});
+await tried("equal points, and a contact at the very end of the way", () => {
+    const one = new Outline([[0, 0], [4, 0], [4, 4], [0, 4]]), other = new Outline([[9, 0], [12, 0], [12, 4], [9, 4]]);
+    assert.deepEqual(indices(one, [[4, 4], [0, 0], [4, 4], [9, 9], [0, 0], [0, 4]]), [1, -1, 0, 5]);
+    for (const [standing, moving, dx] of [[one, other, -5], [other, one, 5]]) {
+        const met = firstMeeting(standing, moving, dx, 0);
+        assert.equal(met?.part.numerator, met?.part.denominator);
+        assert.ok(met !== null && met.part.numerator > 0n);
+        assert.equal(firstMeeting(standing, moving, dx - Math.sign(dx), 0), null);
+    }
+});
+await tried("blocks that are given back are taken again, all of them", () => {
+    const heap = new Heap(), memory = { buffer: new ArrayBuffer(2 ** 20), grow: () => assert.fail("it grows") };
+    heap.begin(memory, 4096);
+    for (const bytes of [1, 16, 100, 512, 513, 5000]) {
+        const blocks = [1, 2, 3].map(() => heap.take(bytes)), spread = [...blocks].sort((a, b) => a - b);
+        assert.ok(spread.every((at, i) => at % 16 === 0 && (i === 0 || at - spread[i - 1] >= bytes + 16)), `${bytes} bytes`);
+        for (let again = 0; again < 1000; again++) {
+            for (const at of blocks) heap.give(at);
+            assert.deepEqual([1, 2, 3].map(() => heap.take(bytes)).sort((a, b) => a - b), spread);
+        }
+    }
+});
+await tried("a journal that is opened lets the hull of the one before go", () => {
+    const alive = new Set();
+    const Counted = class extends Hull {
+        constructor(limit) {
+            super(limit);
+            alive.add(this);
+        }
+
+        free() {
+            alive.delete(this);
+            super.free();
+        }
+    };
+    const work = new Work(Counted);
+    for (let i = 0; i < 20; i++) {
+        work.open(emptyJournal(5));
+        work.openCalls(["add 1 1"], 0);
+        work.undo();
+    }
+    assert.deepEqual([...alive], [work.hull]);
+});
+await tried("the first lines of a long journal are laid in the data base once", async () => {
+    const puts = [], bases = new Map(), later = (result) => {
+        const request = { result };
+        queueMicrotask(() => request.onsuccess());
+        return request;
+    };
+    const store = {
+        put: (text, id) => later(puts.push(text.length) && bases.set(id, text)),
+        getAllKeys: () => later([...bases.keys()]),
+        get: (id) => later(bases.get(id)),
+        delete: (id) => bases.delete(id),
+    };
+    const storage = () => {
+        const kept = new Map();
+        return { setItem: (name, text) => kept.set(name, text), getItem: (name) => kept.get(name) ?? null };
+    };
+    Object.assign(globalThis, {
+        indexedDB: { open: () => later({ transaction: () => ({ objectStore: () => store }) }) }, sessionStorage: storage(), localStorage: storage(),
+    });
+    const keeper = new Keeper(), work = new Work(Hull);
+    work.do(Array.from({ length: 20001 }, (_, k) => `add ${k % 100} ${Math.floor(k / 100)}`));
+    await keeper.keep(work, {});
+    for (let k = 0; k < 10; k++) {
+        work.do([`add ${k} -1`]);
+        await keeper.keep(work, {});
+    }
+    assert.equal(puts.length, 1);
+    const again = await new Keeper().read();
+    assert.deepEqual(again.was.journal.lines.map((it) => it.call), work.replay.journal.lines.map((it) => it.call));
 });
 
 await tried("doubles to the lattice, as the table of all languages has them", () => {

@@ -86,10 +86,7 @@ fn capacity_two_by_values(rt: HostRuntime) -> Result<(), Fail> {
     assert!(rt; lines[0].number == 7 && lines[0].seat == 1);
     assert!(rt; lines[1].number == 8 && lines[1].seat == 0);
     assert_eq!(rt; journal.rules(), Rules::Counted);
-    assert_eq!(rt;
-        check(PlainSet::new(rt.alloc(), journal.limit()), &journal),
-        CheckResult::Legal
-    );
+    assert_eq!(rt; check(rt.alloc(), &journal), CheckResult::Legal);
     Ok(())
 }
 
@@ -148,10 +145,7 @@ fn stored_refusal(rt: HostRuntime) -> Result<(), Fail> {
             Line::new(2, 0, add, last),
         ];
         let journal = journal_of(rt.alloc(), 1, 4, lines, Rules::Set)?;
-        assert_eq!(rt;
-            check(PlainSet::new(rt.alloc(), journal.limit()), &journal),
-            expected
-        );
+        assert_eq!(rt; check(rt.alloc(), &journal), expected);
     }
     Ok(())
 }
@@ -197,10 +191,7 @@ fn each_journal_by_its_own_rules(rt: HostRuntime) -> Result<(), Fail> {
             Line::new(3, 0, Call::Count, Reply::PointCount(count)),
         ];
         let journal = journal_of(rt.alloc(), 1, 4, lines, rules)?;
-        assert_eq!(rt;
-            check(PlainSet::new(rt.alloc(), journal.limit()), &journal),
-            expected
-        );
+        assert_eq!(rt; check(rt.alloc(), &journal), expected);
     }
     Ok(())
 }
@@ -224,10 +215,7 @@ fn a_wrong_multiplicity(rt: HostRuntime) -> Result<(), Fail> {
             Line::new(2, 0, Call::Remove(p), third),
         ];
         let journal = journal_of(rt.alloc(), 1, 4, lines, Rules::Counted)?;
-        assert_eq!(rt;
-            check(PlainSet::new(rt.alloc(), journal.limit()), &journal),
-            expected
-        );
+        assert_eq!(rt; check(rt.alloc(), &journal), expected);
     }
     Ok(())
 }
@@ -259,10 +247,7 @@ fn replies_of_the_rules(rt: HostRuntime) -> Result<(), Fail> {
 fn wrong_first_number(rt: HostRuntime) -> Result<(), Fail> {
     let lines = [Line::new(1, 0, Call::Count, Reply::PointCount(0))];
     let journal = journal_of(rt.alloc(), 1, 4, lines, Rules::Counted)?;
-    assert_eq!(rt;
-        check(PlainSet::new(rt.alloc(), journal.limit()), &journal),
-        CheckResult::Illegal(0)
-    );
+    assert_eq!(rt; check(rt.alloc(), &journal), CheckResult::Illegal(0));
     Ok(())
 }
 
@@ -314,10 +299,7 @@ fn numbers_across_the_wrap(rt: HostRuntime) -> Result<(), Fail> {
         Line::new(1, 0, Call::Remove(p), Reply::Removed),
     ];
     let journal = played(&rt, rt.alloc(), u64::MAX, 4, &lines);
-    assert_eq!(rt;
-        check(PlainSet::new(rt.alloc(), journal.limit()), &journal),
-        CheckResult::Legal
-    );
+    assert_eq!(rt; check(rt.alloc(), &journal), CheckResult::Legal);
     Ok(())
 }
 
@@ -388,16 +370,10 @@ fn square_lines(alloc: Global, count: u32) -> Result<Vec<Line>, Fail> {
 fn every_call_once(rt: HostRuntime) -> Result<(), Fail> {
     let lines = square_lines(rt.alloc(), 4)?;
     let journal = played(&rt, rt.alloc(), 0, 4, &lines);
-    assert_eq!(rt;
-        check(PlainSet::new(rt.alloc(), journal.limit()), &journal),
-        CheckResult::Legal
-    );
+    assert_eq!(rt; check(rt.alloc(), &journal), CheckResult::Legal);
     let altered = square_lines(rt.alloc(), 5)?;
     let journal = Journal::new(0, 4, 16, altered, Rules::Counted).ok_or("beyond a limit")?;
-    assert_eq!(rt;
-        check(PlainSet::new(rt.alloc(), journal.limit()), &journal),
-        CheckResult::Illegal(13)
-    );
+    assert_eq!(rt; check(rt.alloc(), &journal), CheckResult::Illegal(13));
     Ok(())
 }
 
@@ -471,10 +447,10 @@ fn refused_memory_serve(rt: HostRuntime) -> Result<(), Fail> {
 #[test]
 fn refused_memory_check(rt: HostRuntime) -> Result<(), Fail> {
     let journal = refused_once(&rt, rt.alloc(), at(3, 4)?);
-    let mut found = check(PlainSet::new(rt.alloc(), journal.limit()), &journal);
+    let mut found = check(rt.alloc(), &journal);
     if found == CheckResult::NoMemory {
         assert_eq!(rt; journal.lines().len(), 2);
-        found = check(PlainSet::new(rt.alloc(), journal.limit()), &journal);
+        found = check(rt.alloc(), &journal);
     }
     assert_eq!(rt; found, CheckResult::Legal);
     Ok(())

@@ -1,38 +1,111 @@
 //! A book that is full answers no call but questions that ask for no line, and goes on once it is drained.
-use hull_book::{Book, Call, LongBook, Reply, Room, Then, gather};
+ghost use Rattle.std.specs.Prelude.{◌≡◌, ◌≤◌, length};
+ghost use Rattle.hull_plain.specs.Sets.{plain_set};
+ghost use Rattle.hull_book.specs.Answers.{HasRoom};
+ghost use Rattle.hull_book.specs.Books.{IsLawful};
+ghost use Rattle.hull_book.specs.Ledgers.{AreLedgers};
+ghost use Rattle.hull_book.specs.LongBooks.{whole};
+
+use hull_book::{Book, Call, Journal, Ledger, LongAnswer, LongBook, Reply, Room, Then, gather};
 use hull_plain::PlainSet;
 use lattice::Point;
+use std::alloc::Global;
+use std::process::Abort;
 use std::test::Fail;
+
+// A book of one seat that holds this many lines at most, and the seat's ledger.
+fn opened(rt: &impl Abort, alloc: Global, capacity: u32) -> (LongBook<PlainSet>, Vec<Ledger>)
+    ensures lawful { IsLawful plain_set (whole result.0) }
+    ensures ledgers { AreLedgers (whole result.0) result.1.items }
+    ensures one { length result.1.items ≡ 1 }
+    ensures capacity { result.0.head.journal.capacity ≡ capacity }
+{
+    let Ok((book, ledgers)) = Book::open(alloc, PlainSet::new(alloc, 9), 7, capacity, 1) else {
+        panic!(rt; "there is memory for the book")
+    };
+    match LongBook::new(book) {
+        Ok(book) => (book, ledgers),
+        Err(_) => panic!(rt; "there is memory for the spare line"),
+    }
+}
+
+// Has a call of the only seat served.
+fn serve(
+    book: &mut LongBook<PlainSet>,
+    ledgers: &mut Vec<Ledger>,
+    call: Call,
+    then: Then,
+) -> LongAnswer
+    requires lawful { IsLawful plain_set (whole book.old) }
+    requires room { HasRoom then book.old.head.journal.capacity }
+    requires ledgers { AreLedgers (whole book.old) ledgers.old.items }
+    requires one { length ledgers.old.items ≡ 1 }
+    ensures lawful { IsLawful plain_set (whole book.new) }
+    ensures ledgers { AreLedgers (whole book.new) ledgers.new.items }
+    ensures one { length ledgers.new.items ≡ 1 }
+    ensures capacity { book.new.head.journal.capacity ≡ book.old.head.journal.capacity }
+{
+    book.serve(0, call, &mut ledgers[0], then)
+}
+
+// Asks for the number of points, with no line.
+fn count_unwritten(book: &mut LongBook<PlainSet>, ledgers: &Vec<Ledger>) -> Reply
+    requires lawful { IsLawful plain_set (whole book.old) }
+    requires ledgers { AreLedgers (whole book.old) ledgers.now.items }
+    ensures lawful { IsLawful plain_set (whole book.new) }
+    ensures ledgers { AreLedgers (whole book.new) ledgers.now.items }
+    ensures capacity { book.new.head.journal.capacity ≡ book.old.head.journal.capacity }
+{
+    let _ = ledgers.len();
+    book.answer(Call::Count)
+}
+
+// The sum of the ledgers.
+fn sum_of(book: &LongBook<PlainSet>, ledgers: Vec<Ledger>) -> u64
+    requires lawful { IsLawful plain_set (whole book.now) }
+    requires ledgers { AreLedgers (whole book.now) ledgers.items }
+{
+    gather(book, ledgers)
+}
+
+// How many lines are held, the number of the next one, and the turn.
+fn marks_of(book: &LongBook<PlainSet>) -> (u32, u64, u64) {
+    (book.held(), book.line_number(), book.turn())
+}
+
+// The part that was taken out and the reply, which is the number of points.
+fn drained_of(rt: &impl Abort, drained: LongAnswer) -> (Reply, Journal) {
+    let Ok((reply, part)) = drained else {
+        panic!(rt; "a line is spare for a drain")
+    };
+    match part {
+        Some(part) => (reply, part),
+        None => panic!(rt; "lines are taken out"),
+    }
+}
 
 #[test]
 fn a_full_book_goes_on(rt: HostRuntime) -> Result<(), Fail> {
     let alloc = rt.alloc();
     let p = Point::new(3, 4)?;
     let room = Room::reserve(alloc, 2)?;
-    let Ok((book, mut ledgers)) = Book::open(alloc, PlainSet::new(alloc, 9), 7, 2, 1) else {
-        panic!(rt; "there is memory for the book")
-    };
-    let Ok(mut book) = LongBook::new(book) else {
-        panic!(rt; "there is memory for the spare line")
-    };
-    assert_eq!(rt; ledgers.len(), 1);
-    let added = book.serve(0, Call::Add(p), &mut ledgers[0], Then::Keep);
-    let again = book.serve(0, Call::Add(p), &mut ledgers[0], Then::Keep);
-    let refused = book.serve(0, Call::Count, &mut ledgers[0], Then::Keep);
-    let asked = book.answer(Call::Count);
-    let before = (book.held(), book.line_number(), book.turn());
-    let drained = book.serve(0, Call::Count, &mut ledgers[0], Then::TakeOut(room));
-    let left = book.serve(0, Call::Remove(p), &mut ledgers[0], Then::Keep);
-    let after = (book.held(), book.line_number(), book.turn());
-    let sum = gather(&book, ledgers);
+    let (mut book, mut ledgers) = opened(&rt, alloc, 2);
+    let added = serve(&mut book, &mut ledgers, Call::Add(p), Then::Keep);
+    let again = serve(&mut book, &mut ledgers, Call::Add(p), Then::Keep);
+    let refused = serve(&mut book, &mut ledgers, Call::Count, Then::Keep);
+    let asked = count_unwritten(&mut book, &ledgers);
+    let before = marks_of(&book);
+    let drained = serve(&mut book, &mut ledgers, Call::Count, Then::TakeOut(room));
+    let left = serve(&mut book, &mut ledgers, Call::Remove(p), Then::Keep);
+    let after = marks_of(&book);
+    let sum = sum_of(&book, ledgers);
+    drop(book);
     assert!(rt; matches!(added, Ok((Reply::Added, None))));
     assert!(rt; matches!(again, Ok((Reply::Again(2), None))));
     assert!(rt; matches!(refused, Err(Then::Keep)) && asked == Reply::PointCount(1));
     assert!(rt; matches!(left, Ok((Reply::Left(1), None))));
     assert_eq!(rt; (before, after, sum), ((2, 9, 11), (1, 11, 13), 4));
-    let Ok((counted, Some(part))) = drained else {
-        panic!(rt; "a line is spare for a drain")
-    };
+    let (counted, part) = drained_of(&rt, drained);
     assert!(rt; counted == Reply::PointCount(1));
     assert_eq!(rt;
         (part.first(), part.capacity(), part.lines().len()),

@@ -92,10 +92,7 @@ fn a_book_goes_on_where_its_journal_ends(rt: HostRuntime) -> Result<(), Fail> {
     assert_eq!(rt; journal.lines().len(), 5);
     let last = &journal.lines()[4];
     assert_eq!(rt; (last.number, last.seat), (3, 0));
-    assert_eq!(rt;
-        check(PlainSet::new(rt.alloc(), journal.limit()), &journal),
-        CheckResult::Legal
-    );
+    assert_eq!(rt; check(rt.alloc(), &journal), CheckResult::Legal);
     Ok(())
 }
 

@@ -1,5 +1,6 @@
 ghost use Rattle.std.specs.Prelude.{◌≡◌, ◌≤◌, ◌+◌};
 ghost use Rattle.lattice.specs.Bridges.{IsAllBefore, IsLowerBridge};
+ghost use Rattle.bridge_search.specs.Search.{IsDepthSum};
 ghost use Rattle.bridge_search.specs.Trees.{On, height_of};
 ghost use Rattle.bridge_search.specs.TurnedTrees.{turned_tree};
 
@@ -81,10 +82,12 @@ impl<H: Half> Half for Turned<H> {
     ghost turned_fits = { H.turned_fits };
 }
 
-/// The lower bridge of `u` and `w`, and how many turns the search took. All of `u` must stand before all of `w`.
+/// The lower bridge of `u` and `w`, and how many turns the search took: as many as the first end lies deep in `u` and
+/// the second one in `w`, as those of [`upper_bridge_counted`]. All of `u` must stand before all of `w`.
 pub fn lower_bridge_counted<H: Half>(u: H, w: H) -> ((Point, Point), u32)
     requires { IsAllBefore (On (H.tree u)) (On (H.tree w)) }
     ensures bridge { IsLowerBridge (On (H.tree u)) (On (H.tree w)) result.0.0 result.0.1 }
+    ensures depths { IsDepthSum (H.tree u) (H.tree w) result.0.0 result.0.1 result.1 }
     ensures few { result.1 ≤ height_of (H.tree u) + height_of (H.tree w) }
 {
     let ((first, last), turns) = upper_bridge_counted(Turned::new(w), Turned::new(u));

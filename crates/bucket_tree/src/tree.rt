@@ -1,7 +1,7 @@
 //! The set.
 mod few_vertices;
 
-ghost use Rattle.std.specs.Prelude.{◌≡◌, ◌≢◌, ◌≤◌, ◌<◌, ◌+◌, ◌↔◌, None, IsTrue, true, false, length, IfOk, IfErr};
+ghost use Rattle.std.specs.Prelude.{◌≡◌, ◌≢◌, ◌≤◌, ◌<◌, ◌+◌, ◌↔◌, ℕ, None, IsTrue, true, false, length, IfOk, IfErr};
 ghost use Rattle.std.proofs.Common.{arith};
 ghost use Rattle.lattice.specs.Plane.{Pair};
 ghost use Rattle.hull_set.specs.Held.{with_new, with_none};
@@ -233,6 +233,8 @@ impl BucketTree {
         ensures effect { held_by self.new.root ≡ after (held_by self.old.root) (Call.Add p) (reply_to_add result.0) }
         ensures same_limit { self.new.limit ≡ self.old.limit }
         ensures few { result.1 ≤ 10000 }
+        ensures again { (times : ℕ) → result.0 ≡ AddReply.Again times → result.1 ≡ 0 }
+        ensures too_many { result.0 ≡ AddReply.TooMany → result.1 ≡ 0 }
     {
         bucket_trees_are_sound(self);
         if self.is_full() {
@@ -262,6 +264,7 @@ impl BucketTree {
             ≡ after (held_by self.old.root) (Call.Remove p) (reply_to_remove result.0) }
         ensures same_limit { self.new.limit ≡ self.old.limit }
         ensures few { result.1 ≤ 10000 }
+        ensures none { result.0 ≢ RemoveReply.Removed → result.1 ≡ 0 }
     {
         bucket_trees_are_sound(self);
         let times = match self.take_where_others(p) {
@@ -280,7 +283,8 @@ impl BucketTree {
 
     /// Holds `p` once more, as [`add`](HullSet::add), and tells how many turns the searches of bridges took: at most
     /// 10,000, since no tree is higher than 28 forks, a change searches six bridges a level at most, and a search takes as
-    /// many turns as both halves are high; mostly none.
+    /// many turns as both halves are high; mostly none. An addition that puts no point in and was not refused memory takes
+    /// none.
     pub fn add_counted(&mut self, p: Point) -> (AddReply, u32)
         ensures reply { Answers Rules.Counted (held_by self.old.root) self.old.limit (Call.Add p)
             (reply_to_add result.0) }
@@ -288,6 +292,8 @@ impl BucketTree {
         ensures same_limit { self.new.limit ≡ self.old.limit }
         ensures sound { IsSound self.new.root }
         ensures few { result.1 ≤ 10000 }
+        ensures again { (times : ℕ) → result.0 ≡ AddReply.Again times → result.1 ≡ 0 }
+        ensures too_many { result.0 ≡ AddReply.TooMany → result.1 ≡ 0 }
     {
         let answer = self.hold_more(p);
         bucket_trees_are_sound(self);
@@ -295,7 +301,8 @@ impl BucketTree {
     }
 
     /// Holds `p` once less, as [`remove`](HullSet::remove), and tells how many turns the searches of bridges took: at
-    /// most 10,000, for the reason told at [`add_counted`](BucketTree::add_counted), and mostly none.
+    /// most 10,000, for the reason given at [`add_counted`](BucketTree::add_counted), and mostly none. A removal that takes
+    /// no point out takes none.
     pub fn remove_counted(&mut self, p: Point) -> (RemoveReply, u32)
         ensures reply { Answers Rules.Counted (held_by self.old.root) self.old.limit (Call.Remove p)
             (reply_to_remove result.0) }
@@ -304,6 +311,7 @@ impl BucketTree {
         ensures same_limit { self.new.limit ≡ self.old.limit }
         ensures sound { IsSound self.new.root }
         ensures few { result.1 ≤ 10000 }
+        ensures none { result.0 ≢ RemoveReply.Removed → result.1 ≡ 0 }
     {
         let answer = self.hold_less(p);
         bucket_trees_are_sound(self);

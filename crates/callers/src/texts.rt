@@ -3,7 +3,6 @@ ghost use Rattle.std.specs.Prelude.{◌<◌, ◌^◌, ◌-◌, IfOk};
 
 use heap::Heap;
 use hull_book::{CheckResult, check};
-use hull_plain::PlainSet;
 use hull_text::{Source, TextFault, read_journal};
 
 /// Whether a text is that of a legal journal, and which line of it is the first wrong one; a fault where it is no journal.
@@ -11,6 +10,5 @@ pub fn verdict_on<R: Source>(alloc: Heap, source: &mut R) -> Result<CheckResult,
     requires { R.failed source.old < 2 ^ 64 - 1 }
 {
     let journal = read_journal(alloc, source)?;
-    let set = PlainSet::new(alloc, journal.limit());
-    Ok(check(set, &journal))
+    Ok(check(alloc, &journal))
 }

@@ -1,4 +1,4 @@
-ghost use Rattle.std.specs.Prelude.{◌≡◌};
+ghost use Rattle.std.specs.Prelude.{◌≡◌, ◌<◌, ◌≤◌, ◌-◌, ◌^◌};
 
 use std::marker::Model;
 
@@ -28,8 +28,22 @@ impl Ledger {
         self.seat
     }
 
-    /// How many lines of the journal are that seat's.
-    pub fn count(&self) -> u64
+    /// How many lines of the journal are that seat's, if they are fewer than 2^32, as those of a [`Book`](crate::Book)
+    /// always are; `u32::MAX` if they are more, which only a book that is drained can have: [`total`](Ledger::total)
+    /// returns the exact number.
+    pub fn count(&self) -> u32
+        ensures exact { self.now.count < 2 ^ 32 → result ≡ self.now.count }
+        ensures most { 2 ^ 32 ≤ self.now.count → result ≡ 2 ^ 32 - 1 }
+    {
+        if self.count < 4294967296 {
+            self.count as u32
+        } else {
+            u32::MAX
+        }
+    }
+
+    /// How many lines of the journal are that seat's, including those that were taken out of a book that is drained.
+    pub fn total(&self) -> u64
         ensures { result ≡ self.now.count }
     {
         self.count

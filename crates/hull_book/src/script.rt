@@ -10,7 +10,8 @@ use std::marker::Model;
 /// What the workers do between two meetings: a list of calls for each of them.
 #[derive(Debug, Drop)]
 pub struct Phase {
-    jobs: Vec<Vec<Call>>,
+    /// A list of calls for each worker.
+    pub jobs: Vec<Vec<Call>>,
 }
 
 impl Model for Phase {
@@ -62,8 +63,10 @@ impl Phase {
 /// in each phase, and at most [`TEXT_LINE_LIMIT`](crate::TEXT_LINE_LIMIT) calls in all.
 #[derive(Debug, Drop)]
 pub struct Script {
-    workers: u8,
-    phases: Vec<Phase>,
+    /// How many workers the script has, from 1 to 64.
+    pub workers: u8,
+    /// The phases in their order.
+    pub phases: Vec<Phase>,
 }
 
 impl Model for Script {

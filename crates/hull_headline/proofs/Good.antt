@@ -15,7 +15,7 @@ use Rattle.ticket_lock.specs.Forms.{partitioned_form}
 use Rattle.ticket_lock.specs.Schedule.{SchedulesHold}
 use Rattle.hull_headline.specs.Headline.{Always, WheneverFree, AtMostOneHolds, StoresThatOfLivePoints}
 use Rattle.hull_headline.specs.Headline.{HoldsEachPointAsOften, HasLegalJournal, IsInOrderOfNumbers, LedgersSumToLength}
-use Rattle.hull_headline.specs.Headline.{FirstComeFirstServed}
+use Rattle.hull_headline.specs.Headline.{FirstComeFirstServed, IsOfSoundSet}
 
 -- a right line has its number: of the lines that begin with line k, line i has the first number and k and i
 numbered : (head : Head) (k : ℕ) (S : Held) (lines : List Line) → AreRight head k S lines → (i : ℕ) (line : Line)
@@ -28,6 +28,16 @@ numbered head k S (m ∷ lines) right zero line e = let same : m ≡ line = cc i
 numbered head k S (m ∷ lines) right (suc i) line e =
     subst (λ (n : ℕ). line.number ≡ (head.first + n) % (2 ^ 64)) (omega arith)
     (numbered head (suc k) (after S m.call m.reply) lines right.1 i line e)
+
+module _ {S B H L : Type 0} (set : Ghosts S) (kind : Kind S B H L) where
+  -- what a sound set stores is that of the live points, where it is that of the points that it holds
+  pub bridges_of : (stores : S → List Pair → Type 0) → ((t : S) → set.sound t → stores t (set.held t).points)
+      → WheneverFree kind (IsOfSoundSet set) → WheneverFree kind (HoldsEachPointAsOften set)
+      → WheneverFree kind (StoresThatOfLivePoints stores)
+  bridges_of stores sound safe held seats book opening now steps led free =
+      subst (λ (points : List Pair). stores (kind.whole now.current).set points)
+      (ap (λ (h : Held). h.points) (held seats book opening now steps led free))
+      (sound (kind.whole now.current).set (safe seats book opening now steps led free))
 
 module _ {S B H L : Type 0} (set : Ghosts S) (kind : Kind S B H L)
     (tells : (b : B) → kind.says.lawful b → IsLawful set (kind.whole b)) where

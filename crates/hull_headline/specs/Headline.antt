@@ -14,6 +14,9 @@ use Rattle.hull_book.specs.LongBooks.{LongValue}
 use Rattle.hull_book.specs.Marks.{held_of, joined, parts_of}
 use Rattle.hull_book.specs.History.{IsLegal, held_after, live}
 use Rattle.hull_book.specs.Ledgers.{LedgerValue, AreAllLedgers, sum_of_counts}
+use Rattle.bucket_tree.specs.Roots as roots
+use Rattle.bucket_tree.specs.Sets.{bucket_set}
+use Rattle.bucket_tree.specs.Sets as buckets
 use Rattle.hull_set.specs.declared.set.HullSet as hull_set
 use Rattle.hull_tree.specs.Roots.{points_of_root, IsWellBuiltRoot}
 use Rattle.hull_tree.specs.Sets.{LimitedTree, hull_tree}
@@ -27,6 +30,10 @@ use Rattle.ticket_lock.specs.Schedule.{Opened, Runs, takers, enterers}
 -- a book over a tree on the heap, as the lock that runs keeps it: it holds all its lines
 abbrev pub kept : Kind LimitedTree (Box (BookValue LimitedTree) Global) BookHead Line
 kept = kinds.kept hull_tree
+
+-- the same over a tree over buckets, as `hullbook run --sparing` opens it
+abbrev pub sparing : Kind buckets.LimitedTree (Box (BookValue buckets.LimitedTree) Global) BookHead Line
+sparing = kinds.kept bucket_set
 
 -- one that may be drained: of it, all that is said is said of the whole
 abbrev pub drained : Kind LimitedTree (Box (LongValue LimitedTree) Global) BookHead MarkedLine
@@ -83,6 +90,15 @@ AtMostOneHolds now = (one other t u : ℕ) → Holds now one t → Holds now oth
 -- Each bridge that a tree stores is that of the points below it, and all these are the points.
 abbrev pub StoresBridgesOf : LimitedTree → List Pair → Type 0
 StoresBridgesOf tree points = IsWellBuiltRoot tree.root × (points_of_root tree.root ≡ points)
+
+-- Each bridge that a tree over buckets stores is that of the points below it, each bucket tells the corners of its own
+-- points, and all these are the points.
+abbrev pub StoresBridgesInBuckets : buckets.LimitedTree → List Pair → Type 0
+StoresBridgesInBuckets tree points = roots.IsWellBuiltRoot tree.root × (roots.points_of_root tree.root ≡ points)
+
+-- What the book's set keeps is sound, as the set says.
+abbrev pub IsOfSoundSet : {S : Type 0} → hull_set.Ghosts S → BookValue S → Type 0
+IsOfSoundSet set book = set.sound book.set
 
 module _ {S : Type 0} (stores : S → List Pair → Type 0) where
   -- What a set stores is that of the live points: of those that the journal's calls left.

@@ -7,8 +7,9 @@
 //!
 //! Beside that, whenever the lock is free each point is held as often as the journal's calls left it. It is said of the
 //! lock that runs, `TicketLock<Box<Book<HullTree>>>` (crates `ticket_lock`, `hull_book` and `hull_tree`), and over every
-//! list of single steps of its seats; `specs/Headline.antt` has each of its words, of books over whatever set. Of a book that may be drained the
-//! same is said once more, and that the parts that were taken out, in their order, and then the lines that are held are
+//! list of single steps of its seats; `specs/Headline.antt` has each of its words. It is said once of books over any set
+//! (`headline_holds_of_books_over`), and named at each book that runs: over a tree that searches each bridge, and over
+//! buckets. Of a book that may be drained the same is said once more, and that the parts that were taken out, in their order, and then the lines that are held are
 //! its journal; and that its lines' own numbers go up one by one, whichever calls found no room, and their tickets in
 //! the order of the calls.
 #![tactic(auto)]
@@ -16,12 +17,45 @@
 ghost use Rattle.hull_headline.specs.Headline.{Always, WheneverFree, AtMostOneHolds, StoresBridgesOfLivePoints};
 ghost use Rattle.hull_headline.specs.Headline.{HoldsEachPointAsOften, HasLegalJournal, IsInOrderOfNumbers};
 ghost use Rattle.hull_headline.specs.Headline.{FirstComeFirstServed, LedgersSumToLength, PartsAndHeldAreTheJournal};
-ghost use Rattle.hull_headline.specs.Headline.{TicketsCountTheCalls, drained, kept};
+ghost use Rattle.hull_headline.specs.Headline.{IsOfSoundSet, StoresBridgesInBuckets, StoresThatOfLivePoints};
+ghost use Rattle.hull_headline.specs.Headline.{TicketsCountTheCalls, drained, kept, sparing};
+ghost use Rattle.hull_book.specs.Kinds.{kept as kept_over};
+ghost use Rattle.bucket_tree.specs.Sets.{bucket_set};
 ghost use Rattle.hull_tree.specs.Sets.{hull_tree};
 
+use bucket_tree::BucketTree;
 use hull_book::{Book, LongBook, parts_are_the_journal};
+use hull_set::HullSet;
 use hull_tree::HullTree;
 use ticket_lock::partitioned_schedules_hold;
+
+/// The headline of a book over any set, a clause for each of its sentences: what the set keeps is sound, as the set says
+/// what that asks, and it holds the live points. The law asks for nothing and does nothing.
+pub fn headline_holds_of_books_over<S: HullSet + Drop>()
+    ensures first_come { FirstComeFirstServed (kept_over S.HullSet) }
+    ensures one_holder { Always (kept_over S.HullSet) AtMostOneHolds }
+    ensures sound { WheneverFree (kept_over S.HullSet) (IsOfSoundSet S.HullSet) }
+    ensures multiplicities { WheneverFree (kept_over S.HullSet) (HoldsEachPointAsOften S.HullSet) }
+    ensures legal { WheneverFree (kept_over S.HullSet) HasLegalJournal }
+    ensures in_order { WheneverFree (kept_over S.HullSet) IsInOrderOfNumbers }
+    ensures ledgers { WheneverFree (kept_over S.HullSet) LedgersSumToLength }
+{
+    partitioned_schedules_hold::<Box<Book<S>>>();
+}
+
+/// The same of the book that `hullbook run --sparing` opens, over a tree over buckets: each stored bridge is that of the
+/// points below it, each bucket has the vertices of its own points, and all these are the live points.
+pub fn headline_holds_of_sparing_books()
+    ensures first_come { FirstComeFirstServed sparing }
+    ensures one_holder { Always sparing AtMostOneHolds }
+    ensures bridges { WheneverFree sparing (StoresThatOfLivePoints StoresBridgesInBuckets) }
+    ensures multiplicities { WheneverFree sparing (HoldsEachPointAsOften bucket_set) }
+    ensures legal { WheneverFree sparing HasLegalJournal }
+    ensures in_order { WheneverFree sparing IsInOrderOfNumbers }
+    ensures ledgers { WheneverFree sparing LedgersSumToLength }
+{
+    headline_holds_of_books_over::<BucketTree>();
+}
 
 /// The headline, a clause for each of its sentences. The law asks for nothing and does nothing.
 pub fn headline_holds()
@@ -33,7 +67,7 @@ pub fn headline_holds()
     ensures in_order { WheneverFree kept IsInOrderOfNumbers }
     ensures ledgers { WheneverFree kept LedgersSumToLength }
 {
-    partitioned_schedules_hold::<Box<Book<HullTree>>>();
+    headline_holds_of_books_over::<HullTree>();
 }
 
 /// The headline of a book that may be drained, however often it was, each of its sentences of the whole journal: the

@@ -3,6 +3,8 @@ use Rattle.std.specs.Prelude.{ℕ, ◌==◌, if◌then◌else◌}
 use Rattle.hull_text.specs.declared.fault.FaultKind.TheVariants.{Read, NoMemory}
 use Rattle.hull_text.specs.declared.fault.TextFault.{TextFault}
 use Rattle.hull_text.specs.Fault.{fault_number}
+use Rattle.hull_program.specs.declared.words.OptionFault.{OptionFault}
+use Rattle.hull_program.specs.declared.words.OptionFault.TheVariants as option
 use Rattle.hull_program.specs.declared.refusal.Refusal.{Refusal}
 use Rattle.hull_program.specs.declared.refusal.Refusal.TheVariants.{Usage, Open, Memory, Write, Text}
 
@@ -17,3 +19,8 @@ refusal_status Open = 3
 refusal_status Write = 3
 refusal_status Memory = 4
 refusal_status (Text f) = text_status f
+
+-- a program whose words are refused so is refused so
+abbrev pub refusal_of_options : OptionFault → Refusal
+refusal_of_options option.Usage = Usage
+refusal_of_options option.Memory = Memory

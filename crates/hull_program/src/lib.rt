@@ -7,4 +7,4 @@ mod words;
 
 pub use files::{block_writer, open_file};
 pub use refusal::{Refusal, text_status};
-pub use words::{path_of, refusal_of, texts_of, word_of, words_given};
+pub use words::{OptionFault, fault_of_words, path_of, texts_of, word_of, words_given};

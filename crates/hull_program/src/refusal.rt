@@ -1,7 +1,8 @@
 ghost use Rattle.std.specs.Prelude.{◌≡◌, ◌≢◌};
 ghost use Rattle.std.specs.IoError.{error_kind};
-ghost use Rattle.hull_program.specs.Refusals.{refusal_status, text_status};
+ghost use Rattle.hull_program.specs.Refusals.{refusal_of_options, refusal_status, text_status};
 
+use super::words::OptionFault;
 use hull_text::{FaultKind, TextFault};
 use std::io;
 use std::io::ErrorKind;
@@ -61,6 +62,17 @@ impl Refusal {
             Refusal::Open | Refusal::Write => 3,
             Refusal::Memory => 4,
             Refusal::Text(fault) => text_status(fault),
+        }
+    }
+}
+
+impl From<OptionFault> for Refusal {
+    ghost from_gives = { λ x y. y ≡ refusal_of_options x };
+
+    fn from(fault: OptionFault) -> Refusal {
+        match fault {
+            OptionFault::Usage => Refusal::Usage,
+            OptionFault::Memory => Refusal::Memory,
         }
     }
 }

@@ -9,6 +9,15 @@ use std::alloc::Global;
 use std::env;
 use std::rt::Env;
 
+/// Why the words after a program's name are refused.
+#[derive(Clone, Copy, PartialEq, Eq, Debug)]
+pub enum OptionFault {
+    /// The program takes no such words.
+    Usage,
+    /// Memory to read them was refused.
+    Memory,
+}
+
 /// The words after the program's name.
 ///
 /// # Errors
@@ -30,26 +39,26 @@ pub fn words_given<R: Env + AllocGlobal>(rt: &R) -> Result<Vec<String>, Refusal>
 /// # Errors
 ///
 /// `Memory` where memory was refused.
-pub fn texts_of(alloc: Global, words: &[String]) -> Result<Vec<&str>, Refusal>
+pub fn texts_of(alloc: Global, words: &[String]) -> Result<Vec<&str>, OptionFault>
     ensures texts { IfOk result (λ texts. texts_of texts.items ≡ words_as_texts words.now) }
-    ensures memory { IfErr result (λ refusal. refusal ≡ Refusal.Memory) }
+    ensures memory { IfErr result (λ fault. fault ≡ OptionFault.Memory) }
 {
     let mut texts = Vec::new(alloc);
     for word in words {
-        texts.push(word.as_str()).map_err(|_| Refusal::Memory)?;
+        texts.push(word.as_str()).map_err(|_| OptionFault::Memory)?;
     }
     Ok(texts)
 }
 
 /// Why words that could not be read are refused: `Memory` where memory was refused to their reader, and else `Usage`.
-pub fn refusal_of(error: &Error) -> Refusal
-    ensures memory { kind_of error.now ≡ ErrorKind.OutOfMemory → result ≡ Refusal.Memory }
-    ensures usage { kind_of error.now ≢ ErrorKind.OutOfMemory → result ≡ Refusal.Usage }
+pub fn fault_of_words(error: &Error) -> OptionFault
+    ensures memory { kind_of error.now ≡ ErrorKind.OutOfMemory → result ≡ OptionFault.Memory }
+    ensures usage { kind_of error.now ≢ ErrorKind.OutOfMemory → result ≡ OptionFault.Usage }
 {
     if error.kind() == ErrorKind::OutOfMemory {
-        Refusal::Memory
+        OptionFault::Memory
     } else {
-        Refusal::Usage
+        OptionFault::Usage
     }
 }
 
@@ -58,16 +67,16 @@ pub fn refusal_of(error: &Error) -> Refusal
 /// # Errors
 ///
 /// `Usage` where it is none of the words, `Memory` where memory was refused.
-pub fn word_of(alloc: Global, path: &str, words: &[&str]) -> Result<String, Refusal>
+pub fn word_of(alloc: Global, path: &str, words: &[&str]) -> Result<String, OptionFault>
     ensures word { IfOk result (λ word. IsOneOf (texts_of words.now) (string_bytes word)) }
     ensures same { IfOk result (λ word. string_bytes word ≡ path.now) }
 {
     for word in words {
         if *word == path {
-            return String::from_str(alloc, word).map_err(|_| Refusal::Memory);
+            return String::from_str(alloc, word).map_err(|_| OptionFault::Memory);
         }
     }
-    Err(Refusal::Usage)
+    Err(OptionFault::Usage)
 }
 
 /// The path that was given under this id, as it was written.
@@ -80,11 +89,11 @@ pub fn path_of(
     matches: &ArgMatches<'_>,
     id: &str,
     words: &[&str],
-) -> Result<String, Refusal>
+) -> Result<String, OptionFault>
     ensures { IfOk result (λ path. IsOneOf (texts_of words.now) (string_bytes path)) }
 {
     let Some(path) = matches.get_str(id) else {
-        return Err(Refusal::Usage);
+        return Err(OptionFault::Usage);
     };
     word_of(alloc, path, words)
 }

@@ -5,23 +5,23 @@ ghost use Rattle.hull_reply.specs.Requests.{kind_number};
 #[derive(Clone, Copy, PartialEq, Eq, Debug)]
 pub enum Kind {
     // written by tools/table.py: kinds
-    /// Holds the point once more.
+    /// Adds the point, or 1 to its multiplicity.
     Add = 1,
-    /// Holds the point once less.
+    /// Takes 1 from the multiplicity of the point.
     Remove = 2,
-    /// Where the point lies.
+    /// The location of the point.
     Place = 3,
     /// The tangent points seen from the point.
     Tangents = 4,
     /// The first of the farthest points in the direction.
     Extreme = 5,
-    /// How many corners there are.
+    /// How many vertices there are.
     Vertices = 6,
-    /// The doubled area.
+    /// Twice the area.
     Area = 7,
     /// How many different points there are.
     Count = 8,
-    /// How often the point is held, 0 where it is not there.
+    /// The multiplicity of the point, 0 if it is not there.
     Multiplicity = 9,
     // end of what tools/table.py writes
 }

@@ -10,3 +10,4 @@ pub mod Lists
 pub mod Served
 pub mod Found
 mod ViewReplies
+pub mod Halls

@@ -14,11 +14,12 @@ use Rattle.hull_reply.specs.declared.code.Code.{Code}
 use Rattle.hull_reply.specs.declared.code.Code.TheVariants as code
 use Rattle.hull_reply.specs.declared.reply.HullReply.{HullReply}
 use Rattle.hull_text.specs.JournalText.{written_text}
+use Rattle.published_views.specs.Views.{HallName}
 use Rattle.bucket_tree.specs.Roots.{held_by}
 use Rattle.bucket_tree.specs.Sets.{LimitedTree}
 use Rattle.ticket_lock.specs.Tokens.{seat_seen}
 use Rattle.hull_shared.specs.DeskBooks.{DeskValue, HoldsNone}
-use Rattle.hull_shared.specs.Gates.{AreReadersOut, LetsSoMany}
+use Rattle.hull_shared.specs.Gates.{AreReadersOut, LetsSoMany, hall_behind}
 use Rattle.hull_shared.specs.Limits.{AreLimits}
 use Rattle.hull_shared.specs.Locks.{book_of, head_of, lock_of}
 use Rattle.hull_shared.specs.Places.{HasAt, HasOwnLines}
@@ -43,11 +44,13 @@ IsFreshForNone d = (f : FreshDesk) × (f.readers ≡ 0) × (d ≡ Fresh f)
 pub record IsNewBook (l : Limits) (b : DeskValue) : Type 0 where
   pub set : LimitedTree
   pub nothing : held_by set.root ≡ nothing_held
+  pub hall : Option HallName
   pub book : b
       ≡ record {
         book = undrained (opened_book set l.first l.limit l.capacity l.seats);
         keeps = l.keeps;
         answers = l.answers;
+        hall = hall;
       }
 
 -- all seats are at the desk, round this book, and have seen its lines
@@ -70,9 +73,10 @@ IsOpening l r = MatchResult r
     (λ d. AreLimits l × IsNew l d)
     (λ fault. (¬ AreLimits l × (fault ≡ code.OutOfLimits)) ⊎ (AreLimits l × (fault ≡ code.NoMemory)))
 
--- the desk was opened for so many readers, none of whom is out
+-- the desk was opened for so many readers, none of whom is out, and they come into the very hall in which the corners of
+-- its book's set are published
 abbrev pub IsOpenFor : ℕ → ℕ → OpenDesk → Type 0
-IsOpenFor readers first d = LetsSoMany readers first d.gate
+IsOpenFor readers first d = LetsSoMany readers first d.gate × (hall_behind d.gate ≡ (book_of (lock_of d.lock)).hall)
 
 -- a fresh desk is open for the readers that were admitted, or as it was
 abbrev pub Becomes : FreshDesk → ℕ → Desk → ℕ → Result OpenDesk Code → Type 0

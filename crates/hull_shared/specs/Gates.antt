@@ -3,7 +3,8 @@ use Rattle.std.specs.Prelude.{◌≡◌, ◌≢◌, ◌⊎◌, ◌+◌, ℕ, Boo
 use Rattle.hull_reply.specs.declared.code.Code.{Code}
 use Rattle.hull_reply.specs.declared.code.Code.TheVariants as code
 use Rattle.hull_views.specs.Readers.{ComesIn}
-use Rattle.hull_views.specs.Tellers.{IsOpened}
+use Rattle.hull_views.specs.Tellers.{IsOpened, entrance_name}
+use Rattle.published_views.specs.Views.{HallName}
 use Rattle.hull_views.specs.declared.teller.Teller.{Teller}
 use Rattle.hull_shared.specs.declared.gate.Gate.{Gate}
 use Rattle.hull_shared.specs.declared.reader.OutReader.{OutReader}
@@ -14,6 +15,11 @@ IsGateFor readers first None None = readers ≡ 0
 IsGateFor readers first (Some t) (Some g) =
     (readers ≢ 0) × IsOpened readers t g.entrance × (g.admitted ≡ readers) × (g.out ≡ 0) × (g.first ≡ first)
 IsGateFor readers first _ _ = ⊥
+
+-- the name of the hall into which the gate leads, if there is one
+abbrev pub hall_behind : Option Gate → Option HallName
+hall_behind None = None
+hall_behind (Some g) = Some (entrance_name g.entrance)
 
 -- so many readers may come in, and none is out
 abbrev pub LetsSoMany : ℕ → ℕ → Option Gate → Type 0
@@ -29,11 +35,12 @@ AreReadersOut (Some g) = g.out ≢ 0
 abbrev pub IsSameGate : Gate → Gate → Type 0
 IsSameGate g h = (h.entrance ≡ g.entrance) × (h.admitted ≡ g.admitted) × (h.first ≡ g.first)
 
--- a reader went out; or as many are out as may be, or memory was refused, and the gate is as it was
+-- a reader went out; or as many are out as may be, or fewer and memory was refused, and the gate is as it was
 abbrev pub LetsIn : Gate → Gate → Result OutReader Code → Type 0
 LetsIn g h (Ok r) =
     IsSameGate g h × (h.out ≡ g.out + 1) × ComesIn g.entrance r.reader × (r.first ≡ g.first)
-LetsIn g h (Err fault) = (h ≡ g) × (((g.out ≡ g.admitted) × (fault ≡ code.NoSeat)) ⊎ (fault ≡ code.NoMemory))
+LetsIn g h (Err fault) =
+    (h ≡ g) × (((g.out ≡ g.admitted) × (fault ≡ code.NoSeat)) ⊎ ((g.out ≢ g.admitted) × (fault ≡ code.NoMemory)))
 
 -- a reader came back; or none was out
 abbrev pub TakesIn : Gate → Gate → Bool → Type 0

@@ -6,13 +6,19 @@ use Rattle.hull_book.specs.declared.marked_line.MarkedLine.{MarkedLine}
 use Rattle.hull_set.specs.declared.call.Call.{Call}
 use Rattle.hull_set.specs.declared.reply.Reply.{Reply}
 use Rattle.hull_views.specs.Changes.{change_of}
-use Rattle.hull_views.specs.Tellers.{is_silent, recorded}
+use Rattle.hull_views.specs.Tellers.{hall_name, is_silent, recorded}
+use Rattle.published_views.specs.Views.{HallName}
 use Rattle.hull_views.specs.declared.change.Change.{Change}
 use Rattle.hull_views.specs.declared.teller.Teller.{Teller}
 
 -- what the lines of a journal make of what is held, one after the other
 abbrev pub changes_of : List Line → List Change
 changes_of lines = map (λ l. change_of l.call l.reply) lines
+
+-- the name of the hall in which a teller publishes, if there is one
+abbrev pub hall_told : Option Teller → Option HallName
+hall_told None = None
+hall_told (Some t) = Some (hall_name t)
 
 -- a teller that is not silent has recorded the changes of these lines, and no others
 abbrev pub AreTold : Option Teller → List MarkedLine → Type 0

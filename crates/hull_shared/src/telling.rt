@@ -5,7 +5,7 @@ ghost use Rattle.hull_book.specs.History.{held_after};
 ghost use Rattle.hull_book.specs.LongBooks.{whole};
 ghost use Rattle.hull_book.specs.Marks.{as_part};
 ghost use Rattle.bucket_tree.specs.Sets.{bucket_set};
-ghost use Rattle.hull_shared.specs.Tellings.{AreTold, IsOneCallBehind};
+ghost use Rattle.hull_shared.specs.Tellings.{AreTold, IsOneCallBehind, hall_told};
 
 use bucket_tree::BucketTree;
 use hull_book::{Journal, LongBook};
@@ -22,7 +22,8 @@ pub(crate) fn tell(
 )
     requires lawful { IsLawful bucket_set (whole book.now) }
     requires behind { IsOneCallBehind teller.old book.now.lines call.now reply.now }
-    ensures { AreTold teller.new book.now.lines }
+    ensures told { AreTold teller.new book.now.lines }
+    ensures hall { hall_told teller.new ≡ hall_told teller.old }
 {
     if let Some(teller) = teller {
         let _is_shown = teller.tell(change_of(call, reply), book.set());
@@ -37,7 +38,8 @@ pub(crate) fn caught_up(
 ) -> Result<Option<Teller>, NoMemory>
     requires told { AreTold teller [] }
     requires held { bucket_set.held set.now ≡ held_after journal.now.lines }
-    ensures { IfOk result (λ t. AreTold t (as_part journal.now.lines)) }
+    ensures told { IfOk result (λ t. AreTold t (as_part journal.now.lines)) }
+    ensures hall { IfOk result (λ t. hall_told t ≡ hall_told teller) }
 {
     let Some(mut teller) = teller else {
         return Ok(None);

@@ -84,6 +84,11 @@ pub raised : (b : Bool) → not b ≡ false → IsTrue b
 raised true e = search rules
 raised false e = absurd (search rules)
 
+-- who is silent behind such a step has not raised
+pub fallen : (b : Bool) → not b ≡ true → b ≡ false
+fallen true e = absurd (search rules)
+fallen false e = refl
+
 -- who speaks is not silent
 pub speaking : (silent : Bool) → IsTrue (not silent) → silent ≡ false
 speaking true e = absurd (search rules)

@@ -2,5 +2,6 @@ pub mod Changes
 pub mod Lists
 pub mod Shown
 pub mod Readers
+pub mod Silences
 pub mod Tellers
 pub mod Laws

@@ -1,9 +1,10 @@
 -- Tellers: what they recorded and published.
-use Rattle.std.specs.Prelude.{◌≡◌, ◌+◌, ◌∷◌, ◌++◌, ℕ, Bool, false, List, [], length}
+use Rattle.std.specs.Prelude.{◌≡◌, ◌+◌, ◌∷◌, ◌++◌, ℕ, Bool, false, true, List, [], length}
 use Rattle.std.specs.Arc.{arc_value}
 use Rattle.published_views.specs.Numbers.{told_number}
-use Rattle.published_views.specs.Views.{hall_of, published, seen_lines, slots_of}
+use Rattle.published_views.specs.Views.{HallName, hall_of, name_of, published, seen_lines, slots_of}
 use Rattle.hull_views.specs.Changes.{held_at, held_behind}
+use Rattle.hull_views.specs.Silences.{IsWhySilent}
 use Rattle.hull_views.specs.declared.change.Change.{Change}
 use Rattle.hull_views.specs.declared.entrance.Entrance.{Entrance}
 use Rattle.hull_views.specs.declared.teller.Teller.{Teller}
@@ -16,6 +17,11 @@ recorded t = seen_lines t.front
 abbrev pub is_silent : Teller → Bool
 is_silent t = t.is_silent
 
+-- why it is silent, if it is: it has recorded as many lines as can have a number, or there is evidence that another thread
+-- changed what only it is to change
+abbrev pub SaysWhySilent : Teller → Type 0
+SaysWhySilent t = is_silent t ≡ true → IsWhySilent t.why_silent (length (recorded t))
+
 -- behind how many changes the corners are that it published last
 abbrev pub last_published : Teller → ℕ
 last_published t = published t.publisher
@@ -23,6 +29,14 @@ last_published t = published t.publisher
 -- the newest number that it was told
 abbrev pub told_last : Teller → ℕ
 told_last t = told_number t.told
+
+-- the name of the hall in which it publishes
+abbrev pub hall_name : Teller → HallName
+hall_name t = name_of (hall_of t.publisher)
+
+-- the name of the hall into which an entrance leads
+abbrev pub entrance_name : Entrance → HallName
+entrance_name e = name_of (arc_value e.hall)
 
 -- both publish in one hall
 abbrev pub AreAtOneHall : Teller → Teller → Type 0

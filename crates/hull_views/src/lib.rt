@@ -13,6 +13,7 @@ mod corners;
 mod entrance;
 mod laws;
 mod reader;
+mod silence;
 mod teller;
 
 pub use change::{Change, change_of};

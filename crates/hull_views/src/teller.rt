@@ -1,28 +1,32 @@
 //! Who records what changes, and publishes the corners.
-ghost use Rattle.std.specs.Prelude.{◌≡◌, ◌<◌, ◌≤◌, ◌+◌, ◌++◌, ◌∷◌, None, [], IfOk, IfSome, IsSomeAnd, IsTrue, Some, false, length};
+ghost use Rattle.std.specs.Prelude.{◌≡◌, ◌<◌, ◌≤◌, ◌+◌, ◌++◌, ◌∷◌, ℕ, None, [], IfOk, IfSome, IsSomeAnd, IsTrue, OnErr, Some};
+ghost use Rattle.std.specs.Prelude.{false, length, true};
 ghost use Rattle.std.specs.Arc.{arc_value};
 ghost use Rattle.lattice.specs.Vertices.{IsVertexList};
 ghost use Rattle.lattice.specs.Covers.{IsPointSet};
-ghost use Rattle.published_views.specs.Numbers.{told_number};
+ghost use Rattle.published_views.specs.Numbers.{IsToldMore, told_number};
 ghost use Rattle.published_views.specs.declared.TheConstants.{NUMBER_LIMIT};
-ghost use Rattle.published_views.specs.Views.{IsFrontOf, IsToldOf, hall_of, published, seen_lines, slots_of};
+ghost use Rattle.published_views.specs.Views.{IsFrontOf, IsOfHall, IsToldOf, hall_of, number_of, published, seen_lines};
+ghost use Rattle.published_views.specs.Views.{slots_of};
 ghost use Rattle.hull_views.specs.Changes.{changed, held_at, held_behind};
 ghost use Rattle.hull_views.specs.Lists.{AreCornersBehind, StayThrough, corners_in};
+ghost use Rattle.hull_views.specs.Silences.{IsWhySilent};
 ghost use Rattle.hull_views.specs.declared.TheConstants.{READER_LIMIT};
 
 use super::change::Change;
 use super::corner_list::CornerList;
 use super::corners::Corners;
 use super::entrance::Entrance;
+use super::silence::Silence;
 use hull_set::{HullSet, NoMemory};
 use published_views::{Front, Hall, History, NUMBER_LIMIT, Newest, Publisher, Told, View};
 use std::alloc::Global;
 use std::sync::Arc;
 
-/// Who stands beside a set, records what changes in it, and publishes its corners.
+/// Records the changes of a set, and publishes its vertices.
 ///
-/// A teller falls silent for good where a line was not added behind all others, as it would be only if another one added
-/// lines to its history, and at the greatest number that can be published: it publishes nothing more then.
+/// It stops publishing for good at the greatest number that can be published, and if another thread added lines to its
+/// history or published in its place, of which it keeps the evidence. It stops for no other reason.
 #[derive(Drop)]
 pub struct Teller {
     alloc: Global,
@@ -33,6 +37,8 @@ pub struct Teller {
     known: Option<Arc<CornerList>>,
     is_behind: bool,
     is_silent: bool,
+    why_silent: Option<Silence>,
+    ghost why: { is_silent ≡ true → IsWhySilent why_silent (length (seen_lines front)) },
     ghost own_history: { IsFrontOf history front },
     ghost own_hall: { front.seen.book ≡ (hall_of publisher).history.book },
     ghost own_word: { IsToldOf (hall_of publisher) told },
@@ -81,20 +87,64 @@ fn keep(known: &mut Option<Arc<CornerList>>, change: &Change)
 }
 
 /// Adds a line for a change behind all that was seen, and says whether it did, and there is room for one more.
-fn add_line(history: &History<Change>, front: &mut Front<Change>, change: Change) -> bool
+fn add_line(
+    history: &History<Change>,
+    front: &mut Front<Change>,
+    change: Change,
+    why_silent: &mut Option<Silence>,
+) -> bool
     requires room { length (seen_lines front.old) < NUMBER_LIMIT }
     requires history { IsFrontOf history.now front.old }
     ensures history { IsFrontOf history.now front.new }
     ensures longer { length (seen_lines front.old) ≤ length (seen_lines front.new) }
     ensures added { IsTrue result → (seen_lines front.new ≡ seen_lines front.old ++ change ∷ [])
         × (length (seen_lines front.new) < NUMBER_LIMIT) }
+    ensures why { result ≡ false → IsWhySilent why_silent.new (length (seen_lines front.new)) }
 {
-    front.add(history, change) && front.count() < NUMBER_LIMIT
+    match front.add_unless_overtaken(history, change) {
+        Ok(()) => {
+            if front.count() < NUMBER_LIMIT {
+                return true;
+            }
+            *why_silent = Some(Silence::AtLimit);
+            false
+        }
+        Err(evidence) => {
+            *why_silent = Some(Silence::Overtaken(evidence));
+            false
+        }
+    }
+}
+
+/// Publishes a view, and returns whether readers can know of it.
+fn put_out(
+    publisher: &mut Publisher<Corners>,
+    told: &mut Told,
+    view: View<Corners>,
+    why_silent: &mut Option<Silence>,
+) -> Result<bool, View<Corners>>
+    requires rising { published publisher.old < number_of view }
+    requires few { number_of view < NUMBER_LIMIT }
+    requires told { IsToldOf (hall_of publisher.old) told.old }
+    requires history { IsOfHall (hall_of publisher.old) view }
+    ensures more { IsToldMore told.old told.new }
+    ensures told { IfOk result (λ raised. IsTrue raised → told_number told.new ≡ number_of view) }
+    ensures same { hall_of publisher.new ≡ hall_of publisher.old }
+    ensures last { IfOk result (λ _. published publisher.new ≡ number_of view) }
+    ensures kept { OnErr result ((published publisher.new ≡ published publisher.old) × (told.new ≡ told.old)) }
+    ensures why { IfOk result (λ raised. raised ≡ false → (n : ℕ) → IsWhySilent why_silent.new n) }
+{
+    let mut overtaken = None;
+    let published = publisher.publish_unless_overtaken(told, view, &mut overtaken);
+    if let Some(evidence) = overtaken {
+        *why_silent = Some(Silence::Overtaken(evidence));
+    }
+    published
 }
 
 impl Teller {
-    ghost use Rattle.hull_views.specs.Tellers.{HasKept, HasRecorded, IsOpened, IsPublic, IsShown, is_silent, last_published};
-    ghost use Rattle.hull_views.specs.Tellers.{recorded};
+    ghost use Rattle.hull_views.specs.Tellers.{HasKept, HasRecorded, IsOpened, IsPublic, IsShown, SaysWhySilent, is_silent};
+    ghost use Rattle.hull_views.specs.Tellers.{last_published, recorded};
 
     /// A teller that has recorded nothing, and the entrance for so many readers.
     pub fn open(alloc: Global, readers: u8) -> Result<(Teller, Entrance), NoMemory>
@@ -119,6 +169,7 @@ impl Teller {
             known: None,
             is_behind: false,
             is_silent: false,
+            why_silent: None,
         };
         Ok((teller, Entrance { hall, told }))
     }
@@ -127,12 +178,13 @@ impl Teller {
     pub fn record(&mut self, change: Change)
         ensures recorded { HasRecorded self.old self.new change }
         ensures last { last_published self.new ≡ last_published self.old }
+        ensures why { SaysWhySilent self.new }
     {
         if self.is_silent {
             return;
         }
         keep(&mut self.known, &change);
-        self.is_silent = !add_line(&self.history, &mut self.front, change);
+        self.is_silent = !add_line(&self.history, &mut self.front, change, &mut self.why_silent);
         self.is_behind |= change.matters();
     }
 
@@ -156,7 +208,12 @@ impl Teller {
         ensures published { IsTrue result → IsPublic self.new }
     {
         let view = View::new(list, self.front.again());
-        match self.publisher.publish(&mut self.told, view) {
+        match put_out(
+            &mut self.publisher,
+            &mut self.told,
+            view,
+            &mut self.why_silent,
+        ) {
             Ok(is_raised) => {
                 self.is_behind = false;
                 self.is_silent = !is_raised;
@@ -195,6 +252,7 @@ impl Teller {
         requires held { is_silent self.old ≡ false → S.held set.now ≡ changed (held_behind (recorded self.old)) change }
         ensures recorded { HasRecorded self.old self.new change }
         ensures shown { ∥ (IsTrue result → IsShown self.new) ∥₁ }
+        ensures why { SaysWhySilent self.new }
     {
         self.record(change);
         if self.is_behind {

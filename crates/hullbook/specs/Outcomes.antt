@@ -52,12 +52,12 @@ pub record IsRunOn {S : Type 0} (K : Ghosts S) (opened : BookValue S) (script : 
   pub journal_is : journal ≡ journal_of closed
 
 -- the run of a script on a book that was opened as the options say: over the tree that searches each bridge, or over
--- buckets where the options ask for them
-abbrev pub IsRun : ScriptValue → Options → List (List Answer) → List ℕ → JournalValue → Type 0
-IsRun script o answers counts journal =
-    (o.sparing ≡ false
+-- buckets for a sparing run
+abbrev pub IsRun : Bool → ScriptValue → Options → List (List Answer) → List ℕ → JournalValue → Type 0
+IsRun sparing script o answers counts journal =
+    (sparing ≡ false
     → IsRunOn hull_tree (opening (empty_tree o.limit) o script.workers) script answers counts journal)
-    × (o.sparing ≡ true
+    × (sparing ≡ true
     → IsRunOn bucket_set (opening (empty_buckets o.limit) o script.workers) script answers counts journal)
 
 -- the journal where it is asked for, and else the report
@@ -71,19 +71,19 @@ IsJournalWhereAsked asked text journal = asked ≡ true → IsJournalText text j
 
 -- The bytes, where they are known, were read as a script, it was run, and this holds of the text of the run. Where they are
 -- not known some script was read all the same.
-pub record HasRun (o : Options) (bytes : Option (List ℕ)) (Holds : List ℕ → Type 0) : Type 0 where
+pub record HasRun (sparing : Bool) (o : Options) (bytes : Option (List ℕ)) (Holds : List ℕ → Type 0) : Type 0 where
   pub script : ScriptValue
   pub answers : List (List Answer)
   pub counts : List ℕ
   pub journal : JournalValue
   pub reads : ReadsKnownScript bytes (Ok script)
-  pub runs : IsRun script o answers counts journal
+  pub runs : IsRun sparing script o answers counts journal
   pub holds : Holds (output_text o.journal script answers counts journal)
   pub said : IsJournalWhereAsked o.journal (output_text o.journal script answers counts journal) journal
 
 -- what a run that ended so has read and written
-abbrev pub EndsRun : Options → Passage → Passage → Result Unit RunFault → Type 0
-EndsRun o input output (Ok done) = IsSound input × HasRun o input.before (HasTaken output)
-EndsRun o input output (Err (Text f)) = HasStopped ReadsKnownScript input output f
-EndsRun o input output (Err Memory) = HasRefused (IsSomeScript input.before) input output
-EndsRun o input output (Err Write) = IsSound input × HasRun o input.before (HasTakenFront output)
+abbrev pub EndsRun : Bool → Options → Passage → Passage → Result Unit RunFault → Type 0
+EndsRun sparing o input output (Ok done) = IsSound input × HasRun sparing o input.before (HasTaken output)
+EndsRun sparing o input output (Err (Text f)) = HasStopped ReadsKnownScript input output f
+EndsRun sparing o input output (Err Memory) = HasRefused (IsSomeScript input.before) input output
+EndsRun sparing o input output (Err Write) = IsSound input × HasRun sparing o input.before (HasTakenFront output)

@@ -6,7 +6,9 @@ use Rattle.hull_program.specs.Words.{IsOneOf, words_as_texts}
 use Rattle.hullbook.specs.declared.options.Options.{Options}
 use Rattle.hullbook.specs.declared.options.Stated.{Stated}
 use Rattle.hullbook.specs.declared.options.Task.{Task}
-use Rattle.hullbook.specs.declared.options.Task.TheVariants.{Run, RunAfter, Check, CheckParts, Upgrade, Compact}
+use Rattle.hullbook.specs.declared.options.Task.TheVariants.{Run, Check, Upgrade}
+use Rattle.hullbook.specs.declared.options.Request.{Request}
+use Rattle.hullbook.specs.declared.options.Request.TheVariants as request
 
 -- the numbers of a run are within their limits
 pub record AreWithinLimits (o : Options) : Type 0 where
@@ -23,23 +25,36 @@ pub record AreStatedWithinLimits (s : Stated) : Type 0 where
 -- a task has no other numbers
 abbrev pub IsWithinLimits : Task → Type 0
 IsWithinLimits (Run path o) = AreWithinLimits o
-IsWithinLimits (RunAfter script journal s) = AreStatedWithinLimits s
-IsWithinLimits (Check path explains) = Unit {0}
-IsWithinLimits (CheckParts paths) = Unit {0}
+IsWithinLimits (Check path) = Unit {0}
 IsWithinLimits (Upgrade path) = Unit {0}
-IsWithinLimits (Compact path) = Unit {0}
+
+-- nor has what the words ask for
+abbrev pub IsRequestWithinLimits : Request → Type 0
+IsRequestWithinLimits (request.Task t) = IsWithinLimits t
+IsRequestWithinLimits (request.RunSparing path o) = AreWithinLimits o
+IsRequestWithinLimits (request.RunAfter script journal s) = AreStatedWithinLimits s
+IsRequestWithinLimits (request.Explain path) = Unit {0}
+IsRequestWithinLimits (request.CheckParts paths) = Unit {0}
+IsRequestWithinLimits (request.Compact path) = Unit {0}
 
 -- the texts are `check` and these names, which may stand behind a mark that ends the options
 abbrev pub AreBehindCheck : List (List ℕ) → List (List ℕ) → Type 0
 AreBehindCheck texts names =
     (texts ≡ codes "check" ∷ names) ⊎ (texts ≡ codes "check" ∷ codes "--" ∷ names)
 
--- each path that a task names is one of these texts; of parts there are two or more, and they are all words behind `check`
+-- the path that a task names is one of these texts
 abbrev pub NamesWords : List (List ℕ) → Task → Type 0
 NamesWords texts (Run path o) = IsOneOf texts (string_bytes path)
-NamesWords texts (RunAfter script journal s) = IsOneOf texts (string_bytes script) × IsOneOf texts (string_bytes journal)
-NamesWords texts (Check path explains) = IsOneOf texts (string_bytes path)
-NamesWords texts (CheckParts paths) =
-    (2 ≤ length paths.items) × AreBehindCheck texts (words_as_texts paths.items)
+NamesWords texts (Check path) = IsOneOf texts (string_bytes path)
 NamesWords texts (Upgrade path) = IsOneOf texts (string_bytes path)
-NamesWords texts (Compact path) = IsOneOf texts (string_bytes path)
+
+-- so is each path that a request names; of parts there are two or more, and they are all words after `check`
+abbrev pub RequestNamesWords : List (List ℕ) → Request → Type 0
+RequestNamesWords texts (request.Task t) = NamesWords texts t
+RequestNamesWords texts (request.RunSparing path o) = IsOneOf texts (string_bytes path)
+RequestNamesWords texts (request.RunAfter script journal s) =
+    IsOneOf texts (string_bytes script) × IsOneOf texts (string_bytes journal)
+RequestNamesWords texts (request.Explain path) = IsOneOf texts (string_bytes path)
+RequestNamesWords texts (request.CheckParts paths) =
+    (2 ≤ length paths.items) × AreBehindCheck texts (words_as_texts paths.items)
+RequestNamesWords texts (request.Compact path) = IsOneOf texts (string_bytes path)

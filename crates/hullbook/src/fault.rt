@@ -1,22 +1,82 @@
 ghost use Rattle.std.specs.Prelude.{◌≡◌};
-ghost use Rattle.hullbook.specs.Faults.{fault_of_after, fault_of_compact, fault_of_engine, fault_of_refusal};
-ghost use Rattle.hullbook.specs.Faults.{fault_of_upgrade, part_status, status_of};
-ghost use Rattle.hullbook.specs.declared.fault.Fault.TheVariants as fault;
+ghost use Rattle.hullbook.specs.Faults.{fault_of_after, fault_of_compact, fault_of_engine, fault_of_options};
+ghost use Rattle.hullbook.specs.Faults.{fault_of_program, fault_of_refusal, fault_of_upgrade, fault_status, part_status};
+ghost use Rattle.hullbook.specs.Faults.{status_of};
+ghost use Rattle.hullbook.specs.declared.fault.Failure.TheVariants as failure;
 
 use crate::after::AfterFault;
 use crate::parts::PartFault;
 use crate::run::RunFault;
 use hull_book::CompactRefusal;
-use hull_program::{Refusal, text_status};
+use hull_program::{OptionFault, Refusal, text_status};
 use hull_text::{CompactFault, TextFault, UpgradeFault};
 use thiserror::Error;
 
 /// What a refused program ends with: its text on standard error, and its status.
-#[derive(Debug, Drop, Error)]
+#[derive(Clone, Copy, PartialEq, Eq, Debug, Error)]
 pub enum Fault {
-    /// It ends as every program does that was refused so.
-    #[error("hullbook: {0}")]
-    Refused(Refusal),
+    /// The words after the program's name are refused.
+    #[error("hullbook: usage")]
+    Usage,
+    /// The file cannot be opened.
+    #[error("hullbook: open")]
+    Open,
+    /// Memory was refused, but not while a text was read.
+    #[error("hullbook: memory")]
+    Memory,
+    /// The output failed.
+    #[error("hullbook: write")]
+    Write,
+    /// The input is no text of its kind, could not be read, or memory to read it was refused.
+    #[error("hullbook: line {}: fault {}", .0.line, .0.number)]
+    Text(TextFault),
+}
+
+impl Fault {
+    /// The exit status of a program that ends with this.
+    pub fn status(&self) -> u8
+        ensures { result ≡ fault_status self.now }
+    {
+        match self {
+            Fault::Usage => 2,
+            Fault::Open | Fault::Write => 3,
+            Fault::Memory => 4,
+            Fault::Text(fault) => text_status(fault),
+        }
+    }
+}
+
+impl From<Refusal> for Fault {
+    ghost from_gives = { λ x y. y ≡ fault_of_program x };
+
+    fn from(refusal: Refusal) -> Fault {
+        match refusal {
+            Refusal::Usage => Fault::Usage,
+            Refusal::Open => Fault::Open,
+            Refusal::Memory => Fault::Memory,
+            Refusal::Write => Fault::Write,
+            Refusal::Text(fault) => Fault::Text(fault),
+        }
+    }
+}
+
+impl From<OptionFault> for Fault {
+    ghost from_gives = { λ x y. y ≡ fault_of_options x };
+
+    fn from(fault: OptionFault) -> Fault {
+        match fault {
+            OptionFault::Usage => Fault::Usage,
+            OptionFault::Memory => Fault::Memory,
+        }
+    }
+}
+
+/// What a program that did not end well ends with: its text on standard error, and its status.
+#[derive(Debug, Drop, Error)]
+pub enum Failure {
+    /// It was refused for this.
+    #[error("{0}")]
+    Refused(Fault),
     /// The journal that is gone on with is no text of its kind, could not be read, or memory to read it was refused.
     #[error("hullbook: journal: line {}: fault {}", .0.line, .0.number)]
     Journal(TextFault),
@@ -51,90 +111,98 @@ fn part_status(fault: &PartFault) -> u8
     }
 }
 
-impl Fault {
+impl Failure {
     /// The exit status of a program that ends with this.
     pub fn status(&self) -> u8
         ensures { result ≡ status_of self.now }
     {
         match self {
-            Fault::Illegal(_) => 1,
-            Fault::Rules | Fault::First(_) | Fault::Limit(_) | Fault::Lines(_) => 2,
-            Fault::Refused(refusal) => refusal.status(),
-            Fault::Journal(fault) => text_status(fault),
-            Fault::Part(_, fault) => part_status(fault),
+            Failure::Illegal(_) => 1,
+            Failure::Rules | Failure::First(_) | Failure::Limit(_) | Failure::Lines(_) => 2,
+            Failure::Refused(fault) => fault.status(),
+            Failure::Journal(fault) => text_status(fault),
+            Failure::Part(_, fault) => part_status(fault),
         }
     }
 }
 
-impl From<Refusal> for Fault {
-    ghost from_gives = { λ x y. y ≡ fault.Refused x };
+impl From<Fault> for Failure {
+    ghost from_gives = { λ x y. y ≡ failure.Refused x };
 
-    fn from(refusal: Refusal) -> Fault {
-        Fault::Refused(refusal)
+    fn from(fault: Fault) -> Failure {
+        Failure::Refused(fault)
     }
 }
 
-impl From<RunFault> for Fault {
+impl From<Refusal> for Failure {
+    ghost from_gives = { λ x y. y ≡ failure.Refused (fault_of_program x) };
+
+    fn from(refusal: Refusal) -> Failure {
+        Failure::Refused(Fault::from(refusal))
+    }
+}
+
+impl From<RunFault> for Failure {
     ghost from_gives = { λ x y. y ≡ fault_of_engine x };
 
-    fn from(fault: RunFault) -> Fault {
+    fn from(fault: RunFault) -> Failure {
         match fault {
-            RunFault::Text(fault) => Fault::Refused(Refusal::Text(fault)),
-            RunFault::Memory => Fault::Refused(Refusal::Memory),
-            RunFault::Write => Fault::Refused(Refusal::Write),
+            RunFault::Text(fault) => Failure::Refused(Fault::Text(fault)),
+            RunFault::Memory => Failure::Refused(Fault::Memory),
+            RunFault::Write => Failure::Refused(Fault::Write),
         }
     }
 }
 
-impl From<UpgradeFault> for Fault {
+impl From<UpgradeFault> for Failure {
     ghost from_gives = { λ x y. y ≡ fault_of_upgrade x };
 
-    fn from(fault: UpgradeFault) -> Fault {
+    fn from(fault: UpgradeFault) -> Failure {
         match fault {
-            UpgradeFault::Text(fault) => Fault::Refused(Refusal::Text(fault)),
-            UpgradeFault::Write(_) => Fault::Refused(Refusal::Write),
+            UpgradeFault::Text(fault) => Failure::Refused(Fault::Text(fault)),
+            UpgradeFault::Write(_) => Failure::Refused(Fault::Write),
         }
     }
 }
 
-impl From<CompactRefusal> for Fault {
+impl From<CompactRefusal> for Failure {
     ghost from_gives = { λ x y. y ≡ fault_of_refusal x };
 
-    fn from(refusal: CompactRefusal) -> Fault {
+    fn from(refusal: CompactRefusal) -> Failure {
         match refusal {
-            CompactRefusal::Rules => Fault::Rules,
-            CompactRefusal::Wrong(place) => Fault::Illegal(u64::from(place) + 2),
-            CompactRefusal::NoMemory => Fault::Refused(Refusal::Memory),
+            CompactRefusal::Rules => Failure::Rules,
+            CompactRefusal::Wrong(place) => Failure::Illegal(u64::from(place) + 2),
+            CompactRefusal::NoMemory => Failure::Refused(Fault::Memory),
         }
     }
 }
 
-impl From<CompactFault> for Fault {
+impl From<CompactFault> for Failure {
     ghost from_gives = { λ x y. y ≡ fault_of_compact x };
 
-    fn from(fault: CompactFault) -> Fault {
+    fn from(fault: CompactFault) -> Failure {
         match fault {
-            CompactFault::Text(fault) => Fault::Refused(Refusal::Text(fault)),
-            CompactFault::Refused(refusal) => Fault::from(refusal),
-            CompactFault::Write(_) => Fault::Refused(Refusal::Write),
+            CompactFault::Text(fault) => Failure::Refused(Fault::Text(fault)),
+            CompactFault::Refused(refusal) => Failure::from(refusal),
+            CompactFault::Write(_) => Failure::Refused(Fault::Write),
         }
     }
 }
 
-impl From<AfterFault> for Fault {
+impl From<AfterFault> for Failure {
     ghost from_gives = { λ x y. y ≡ fault_of_after x };
 
-    fn from(fault: AfterFault) -> Fault {
+    fn from(fault: AfterFault) -> Failure {
         match fault {
-            AfterFault::Script(fault) => Fault::Refused(Refusal::Text(fault)),
-            AfterFault::Journal(fault) => Fault::Journal(fault),
-            AfterFault::Rules => Fault::Rules,
-            AfterFault::First(first) => Fault::First(first),
-            AfterFault::Limit(limit) => Fault::Limit(limit),
-            AfterFault::Capacity(lines) => Fault::Lines(lines),
-            AfterFault::Wrong(place) => Fault::Illegal(u64::from(place) + 2),
-            AfterFault::Memory => Fault::Refused(Refusal::Memory),
-            AfterFault::Write => Fault::Refused(Refusal::Write),
+            AfterFault::Script(fault) => Failure::Refused(Fault::Text(fault)),
+            AfterFault::Journal(fault) => Failure::Journal(fault),
+            AfterFault::Rules => Failure::Rules,
+            AfterFault::First(first) => Failure::First(first),
+            AfterFault::Limit(limit) => Failure::Limit(limit),
+            AfterFault::Capacity(lines) => Failure::Lines(lines),
+            AfterFault::Wrong(place) => Failure::Illegal(u64::from(place) + 2),
+            AfterFault::Memory => Failure::Refused(Fault::Memory),
+            AfterFault::Write => Failure::Refused(Fault::Write),
         }
     }
 }

@@ -3,7 +3,7 @@
 #![tactic(auto)]
 
 ghost use Rattle.std.specs.Prelude.{IfOk};
-ghost use Rattle.hullbook.specs.Tasks.{AreStatedWithinLimits, AreWithinLimits, IsWithinLimits};
+ghost use Rattle.hullbook.specs.Tasks.{AreStatedWithinLimits, AreWithinLimits, IsRequestWithinLimits, IsWithinLimits};
 
 mod after;
 mod check;
@@ -19,17 +19,17 @@ mod tests;
 mod watched;
 
 use after::run_after;
-use check::{check_text, check_whole_text};
+use check::{check_text_with, check_whole_text};
 use explain::{Unexplained, explain};
-use fault::Fault;
+use fault::{Failure, Fault};
 use hull_plain::PlainSet;
 use hull_program::{Refusal, block_writer, open_file, texts_of, words_given};
 use hull_text::{compact, upgrade};
-use options::{Options, Stated, Task, options};
+use options::{Options, Request, Stated, Task, request};
 use part_files::PartFiles;
 use parts::{PartsFault, check_parts};
 use progress::{Progress, TerminalLine};
-use run::run;
+use run::{run, run_sparing};
 use std::alloc::Global;
 use std::io;
 use std::process::ExitCode;
@@ -40,12 +40,12 @@ use text_io::Counted;
 use watched::Watched;
 
 /// What the words after the program's name ask for.
-fn task_of<R: Env + AllocGlobal>(rt: &R) -> Result<Task, Refusal>
-    ensures { IfOk result IsWithinLimits }
+fn request_of<R: Env + AllocGlobal>(rt: &R) -> Result<Request, Refusal>
+    ensures { IfOk result IsRequestWithinLimits }
 {
     let words = words_given(rt)?;
     let texts = texts_of(rt.alloc(), &words)?;
-    options(rt.alloc(), &texts)
+    Ok(request(rt.alloc(), &texts)?)
 }
 
 /// Runs the script at the path and writes to standard output.
@@ -53,12 +53,25 @@ fn run_file<R: Threads + Wait + Sync + Files + Print + AllocGlobal>(
     rt: &R,
     path: &str,
     options: &Options,
-) -> Result<(), Fault>
+) -> Result<(), Failure>
     requires { AreWithinLimits options.now }
 {
     let mut input = Counted::new(open_file(rt, path)?);
     let mut output = Counted::new(block_writer(rt)?);
-    run(rt, rt.alloc(), &mut input, &mut output, options).map_err(Fault::from)
+    run(rt, rt.alloc(), &mut input, &mut output, options).map_err(Failure::from)
+}
+
+/// Runs the script at the path on a tree over buckets and writes to standard output.
+fn run_file_sparing<R: Threads + Wait + Sync + Files + Print + AllocGlobal>(
+    rt: &R,
+    path: &str,
+    options: &Options,
+) -> Result<(), Failure>
+    requires { AreWithinLimits options.now }
+{
+    let mut input = Counted::new(open_file(rt, path)?);
+    let mut output = Counted::new(block_writer(rt)?);
+    run_sparing(rt, rt.alloc(), &mut input, &mut output, options).map_err(Failure::from)
 }
 
 /// Runs the script at the path on the book that goes on with the journal at the other, and writes to standard output.
@@ -68,7 +81,7 @@ fn run_files<R: Threads + Wait + Sync + Files + Print + AllocGlobal, P: Progress
     journal: &str,
     stated: &Stated,
     progress: &P,
-) -> Result<(), Fault>
+) -> Result<(), Failure>
     requires { AreStatedWithinLimits stated.now }
 {
     let mut input = Counted::new(open_file(rt, path)?);
@@ -83,7 +96,7 @@ fn run_files<R: Threads + Wait + Sync + Files + Print + AllocGlobal, P: Progress
         stated,
         progress,
     )
-    .map_err(Fault::from)
+    .map_err(Failure::from)
 }
 
 /// Checks the journal at the path and writes to standard output. `true` for legal.
@@ -91,10 +104,12 @@ fn check_file<R: Files + Print + AllocGlobal, P: Progress>(
     rt: &R,
     path: &str,
     progress: &P,
-) -> Result<bool, Fault> {
+) -> Result<bool, Failure> {
     let mut input = Counted::new(Watched::new(open_file(rt, path)?, progress));
     let mut output = Counted::new(io::writer(rt));
-    let wrong = check_text(rt.alloc(), &mut input, &mut output, progress).map_err(Fault::from)?;
+    let wrong = check_text_with(rt.alloc(), &mut input, &mut output, progress).map_err(
+        Failure::from,
+    )?;
     Ok(wrong.is_none())
 }
 
@@ -104,11 +119,11 @@ fn explain_file<R: Files + Print + AllocGlobal, E: Print, P: Progress>(
     error: &E,
     path: &str,
     progress: &P,
-) -> Result<bool, Fault> {
+) -> Result<bool, Failure> {
     let mut input = Counted::new(Watched::new(open_file(rt, path)?, progress));
     let mut output = Counted::new(io::writer(rt));
     let checked = check_whole_text(rt.alloc(), &mut input, &mut output, progress).map_err(
-        Fault::from,
+        Failure::from,
     )?;
     let Some(place) = checked.wrong else {
         return Ok(true);
@@ -126,7 +141,7 @@ fn check_files<R: Files + Print + AllocGlobal, P: Progress>(
     rt: &R,
     mut paths: Vec<String>,
     progress: &P,
-) -> Result<bool, Fault> {
+) -> Result<bool, Failure> {
     let mut output = Counted::new(io::writer(rt));
     let checked = check_parts(
         rt.alloc(),
@@ -135,8 +150,8 @@ fn check_files<R: Files + Print + AllocGlobal, P: Progress>(
     );
     match checked {
         Ok(wrong) => Ok(wrong.is_none()),
-        Err(PartsFault::Part(part, fault)) => Err(Fault::Part(paths.swap_remove(part), fault)),
-        Err(PartsFault::Write) => Err(Fault::Refused(Refusal::Write)),
+        Err(PartsFault::Part(part, fault)) => Err(Failure::Part(paths.swap_remove(part), fault)),
+        Err(PartsFault::Write) => Err(Failure::from(Fault::Write)),
     }
 }
 
@@ -145,10 +160,10 @@ fn upgrade_file<R: Files + Print + AllocGlobal, P: Progress>(
     rt: &R,
     path: &str,
     progress: &P,
-) -> Result<(), Fault> {
+) -> Result<(), Failure> {
     let mut input = Counted::new(Watched::new(open_file(rt, path)?, progress));
     let mut output = Counted::new(block_writer(rt)?);
-    upgrade(rt.alloc(), &mut input, &mut output).map_err(Fault::from)
+    upgrade(rt.alloc(), &mut input, &mut output).map_err(Failure::from)
 }
 
 /// Writes to standard output a short journal that leaves the same points as the journal at the path.
@@ -156,12 +171,33 @@ fn compact_file<R: Files + Print + AllocGlobal, P: Progress>(
     rt: &R,
     path: &str,
     progress: &P,
-) -> Result<(), Fault> {
+) -> Result<(), Failure> {
     let mut input = Counted::new(Watched::new(open_file(rt, path)?, progress));
     let mut output = Counted::new(block_writer(rt)?);
     let alloc = rt.alloc();
     let empty = |limit| PlainSet::new(alloc, limit);
-    compact(alloc, empty, &mut input, &mut output).map_err(Fault::from)
+    compact(alloc, empty, &mut input, &mut output).map_err(Failure::from)
+}
+
+/// Does one of the tasks. `false` for an illegal journal.
+fn perform<R: Threads + Wait + Sync + Files + Print + AllocGlobal, P: Progress>(
+    rt: &R,
+    task: Task,
+    progress: &P,
+) -> Result<bool, Failure>
+    requires { IsWithinLimits task }
+{
+    match task {
+        Task::Run(path, options) => {
+            run_file(rt, &path, &options)?;
+            Ok(true)
+        }
+        Task::Check(path) => check_file(rt, &path, progress),
+        Task::Upgrade(path) => {
+            upgrade_file(rt, &path, progress)?;
+            Ok(true)
+        }
+    }
 }
 
 /// Does what the words after the program's name ask for. `false` for an illegal journal.
@@ -169,24 +205,20 @@ fn work<R: Threads + Wait + Sync + Env + Files + Print + AllocGlobal, E: Print, 
     rt: &R,
     error: &E,
     progress: &P,
-) -> Result<bool, Fault> {
-    match task_of(rt)? {
-        Task::Run(path, options) => {
-            run_file(rt, &path, &options)?;
+) -> Result<bool, Failure> {
+    match request_of(rt)? {
+        Request::Task(task) => perform(rt, task, progress),
+        Request::RunSparing(path, options) => {
+            run_file_sparing(rt, &path, &options)?;
             Ok(true)
         }
-        Task::RunAfter(path, journal, stated) => {
+        Request::RunAfter(path, journal, stated) => {
             run_files(rt, &path, &journal, &stated, progress)?;
             Ok(true)
         }
-        Task::Check(path, true) => explain_file(rt, error, &path, progress),
-        Task::Check(path, false) => check_file(rt, &path, progress),
-        Task::CheckParts(paths) => check_files(rt, paths, progress),
-        Task::Upgrade(path) => {
-            upgrade_file(rt, &path, progress)?;
-            Ok(true)
-        }
-        Task::Compact(path) => {
+        Request::Explain(path) => explain_file(rt, error, &path, progress),
+        Request::CheckParts(paths) => check_files(rt, paths, progress),
+        Request::Compact(path) => {
             compact_file(rt, &path, progress)?;
             Ok(true)
         }
@@ -199,10 +231,10 @@ fn main(rt: HostRuntime) -> ExitCode {
     match work(&rt, &error, &line) {
         Ok(true) => ExitCode::SUCCESS,
         Ok(false) => ExitCode::from(1),
-        Err(fault) => {
+        Err(failure) => {
             line.wiped();
-            let status = fault.status();
-            let _ = eprintln!(rt; "{fault}");
+            let status = failure.status();
+            let _ = eprintln!(rt; "{failure}");
             ExitCode::from(status)
         }
     }

@@ -2,7 +2,7 @@
 
 mod parse;
 
-pub use parse::options;
+pub use parse::{options, request};
 
 /// The numbers of a run.
 #[derive(Clone, Copy, PartialEq, Eq, Debug)]
@@ -15,8 +15,6 @@ pub struct Options {
     pub first: u64,
     /// Whether the journal is written in place of the report.
     pub journal: bool,
-    /// Whether the set is a tree over buckets, which keeps the bridges that a change cannot alter: the same replies, sooner.
-    pub sparing: bool,
 }
 
 /// What the words say of the numbers of a run: `None` where they say nothing.
@@ -34,19 +32,31 @@ pub struct Stated {
     pub sparing: bool,
 }
 
-/// What is asked for.
+/// What the program does with one file.
 #[derive(Debug, Drop)]
 pub enum Task {
     /// To run the script at this path.
     Run(String, Options),
-    /// To run the script at the first path on the book that goes on with the journal at the second.
-    RunAfter(String, String, Stated),
-    /// To check the journal at this path, and where it is illegal to tell why, if so.
-    Check(String, bool),
-    /// To check the parts of one journal at these paths, in this order.
-    CheckParts(Vec<String>),
+    /// To check the journal at this path.
+    Check(String),
     /// To write the journal at this path in the newest version that has its rules.
     Upgrade(String),
+}
+
+/// What the words ask the program for.
+#[derive(Debug, Drop)]
+pub enum Request {
+    /// One of the tasks.
+    Task(Task),
+    /// To run the script at this path on a tree over buckets, which keeps the bridges that a change cannot alter: the same
+    /// replies, sooner.
+    RunSparing(String, Options),
+    /// To run the script at the first path on the book that goes on with the journal at the second.
+    RunAfter(String, String, Stated),
+    /// To check the journal at this path, and to say why a line is wrong.
+    Explain(String),
+    /// To check the parts of one journal at these paths, in this order.
+    CheckParts(Vec<String>),
     /// To write a short journal that leaves the same points as the journal at this path.
     Compact(String),
 }

@@ -25,6 +25,17 @@ pub trait Progress {
     fn wiped(&self);
 }
 
+/// Says nothing of how far a run is.
+pub struct NoProgress;
+
+impl Progress for NoProgress {
+    fn read(&self, _bytes: usize) {}
+
+    fn replayed(&self) {}
+
+    fn wiped(&self) {}
+}
+
 /// How much was done.
 #[derive(Clone, Copy)]
 struct Done {

@@ -3,17 +3,18 @@ ghost use Rattle.hullbook.specs.Tasks.{AreWithinLimits};
 
 mod afters;
 mod answers;
+mod asked;
 mod checks;
 mod parts;
 mod refused;
 
 use crate::check::check_text;
-use crate::fault::Fault;
-use crate::options::{Options, Stated, Task, options};
+use crate::fault::{Failure, Fault};
+use crate::options::{Options, Request, Stated, Task, options, request};
 use crate::parts::PartFault;
 use crate::progress::Progress;
 use crate::run::{RunFault, run};
-use hull_program::Refusal;
+use hull_program::{OptionFault, Refusal};
 use hull_text::{TextFault, UpgradeFault, WriteFault};
 use std::alloc::Global;
 use std::io;
@@ -40,7 +41,6 @@ const PLAIN: Options = Options {
     limit: 1048576,
     first: 0,
     journal: false,
-    sparing: false,
 };
 
 const FIVE: &str = "0 add 0 2\n0 add 2 2\n0 extreme 0 1\n0 remove 0 2\n0 extreme 0 1\n";
@@ -85,11 +85,11 @@ fn ends<R: Threads + Wait + Sync>(
 fn judges(alloc: Global, journal: &str, wanted: &str) -> Result<Option<bool>, Fail> {
     let mut input = Counted::new(Pieces::new(journal.as_bytes(), 7));
     let mut output = Counted::new(Spout::new(alloc, 64, 5)?);
-    let ended = check_text(alloc, &mut input, &mut output, &Silence);
+    let ended = check_text(alloc, &mut input, &mut output);
     if output.get_ref().bytes() != wanted.as_bytes() {
         return Ok(None);
     }
-    Ok(ended.ok().map(|wrong| wrong.is_none()))
+    Ok(ended.ok())
 }
 
 #[test]
@@ -136,7 +136,6 @@ fn second_worker_first(rt: HostRuntime) -> Result<(), Fail> {
         limit: 4,
         first: 7,
         journal: true,
-        sparing: false,
     };
     let journal =
         "hullbook journal 3 first 7 limit 4 capacity 4\n7 1 count = count 0\n8 0 add 5 5 = added\nend 2\n";
@@ -151,7 +150,6 @@ fn full_journal(rt: HostRuntime) -> Result<(), Fail> {
         limit: 1048576,
         first: 0,
         journal: false,
-        sparing: false,
     };
     let wanted =
         "0 add 0 0 = added\n0 add 1 0 = added\n0 count = full\nledger 0 2\nsum 2 journal 2 capacity 2\n";
@@ -174,7 +172,6 @@ fn wrapping_journal(rt: HostRuntime) -> Result<(), Fail> {
         limit: 4,
         first: 18446744073709551615,
         journal: true,
-        sparing: false,
     };
     assert!(rt;
         runs_to(
@@ -244,9 +241,9 @@ fn journals_are_judged_by_their_rules(rt: HostRuntime) -> Result<(), Fail> {
 
 // Whether the words are refused as no use of the program.
 fn is_refused(alloc: Global, words: &[&str]) -> bool {
-    match options(alloc, words) {
+    match request(alloc, words) {
         Ok(_) => false,
-        Err(fault) => fault == Refusal::Usage,
+        Err(fault) => fault == OptionFault::Usage,
     }
 }
 
@@ -258,9 +255,17 @@ fn run_of(alloc: Global, words: &[&str], wanted: &str) -> Option<Options> {
     (path.as_str() == wanted).then_some(numbers)
 }
 
+// The numbers of the run of the script at this path on a tree over buckets, where the words ask for that.
+fn sparing_run_of(alloc: Global, words: &[&str], wanted: &str) -> Option<Options> {
+    let Ok(Request::RunSparing(path, numbers)) = request(alloc, words) else {
+        return None;
+    };
+    (path.as_str() == wanted).then_some(numbers)
+}
+
 // What is stated of the run of the script at the first path after the journal at the second, where the words ask for that.
 fn run_after_of(alloc: Global, words: &[&str], wanted: (&str, &str)) -> Option<Stated> {
-    let Ok(Task::RunAfter(script, journal, stated)) = options(alloc, words) else {
+    let Ok(Request::RunAfter(script, journal, stated)) = request(alloc, words) else {
         return None;
     };
     ((script.as_str(), journal.as_str()) == wanted).then_some(stated)
@@ -276,7 +281,7 @@ fn is_upgrade_of(alloc: Global, words: &[&str], wanted: &str) -> bool {
 
 // Whether the words ask for a short journal in place of that at this path.
 fn is_compact_of(alloc: Global, words: &[&str], wanted: &str) -> bool {
-    let Ok(Task::Compact(path)) = options(alloc, words) else {
+    let Ok(Request::Compact(path)) = request(alloc, words) else {
         return false;
     };
     path.as_str() == wanted
@@ -284,15 +289,17 @@ fn is_compact_of(alloc: Global, words: &[&str], wanted: &str) -> bool {
 
 // Whether the check of the journal at this path explains, where the words ask for that.
 fn check_of(alloc: Global, words: &[&str], wanted: &str) -> Option<bool> {
-    let Ok(Task::Check(path, explains)) = options(alloc, words) else {
-        return None;
+    let (path, explains) = match request(alloc, words) {
+        Ok(Request::Task(Task::Check(path))) => (path, false),
+        Ok(Request::Explain(path)) => (path, true),
+        _ => return None,
     };
     (path.as_str() == wanted).then_some(explains)
 }
 
 // Whether the words ask for a check of three parts at these paths.
 fn is_check_of_parts(alloc: Global, words: &[&str], wanted: (&str, &str, &str)) -> bool {
-    let Ok(Task::CheckParts(paths)) = options(alloc, words) else {
+    let Ok(Request::CheckParts(paths)) = request(alloc, words) else {
         return false;
     };
     if paths.len() != 3 {
@@ -319,17 +326,16 @@ fn words_that_are_taken(rt: HostRuntime) {
         limit: 1,
         first: 18446744073709551615,
         journal: true,
-        sparing: false,
     };
     let alloc = rt.alloc();
     let numbers = run_of(alloc, &words, "a b.txt");
     let plain = run_of(alloc, &["run", "x"], "x");
-    let sparing = run_of(alloc, &["run", "--sparing", "x"], "x").map(|it| (it.sparing, it.journal));
+    let sparing = sparing_run_of(alloc, &["run", "--sparing", "x"], "x");
     let upgrade = is_upgrade_of(alloc, &["upgrade", "a b"], "a b");
     let compact = is_compact_of(alloc, &["compact", "a b"], "a b");
     assert_eq!(rt; numbers, Some(wanted));
     assert_eq!(rt; plain, Some(PLAIN));
-    assert_eq!(rt; sparing, Some((true, false)));
+    assert_eq!(rt; sparing, Some(PLAIN));
     assert!(rt; upgrade && compact);
 }
 
@@ -421,7 +427,7 @@ fn refused_memory_of_the_system(rt: HostRuntime) -> Result<(), Fail> {
 }
 
 // Whether the two faults end the program with the same status, and with the same words.
-fn alike(alloc: Global, one: Fault, other: Fault) -> Result<(bool, bool), Fail> {
+fn alike(alloc: Global, one: Failure, other: Failure) -> Result<(bool, bool), Fail> {
     let same_status = one.status() == other.status();
     let (told, wanted) = (format!(in alloc; "{one}")?, format!(in alloc; "{other}")?);
     Ok((same_status, told.as_str() == wanted.as_str()))
@@ -437,8 +443,8 @@ fn faults_of_an_upgrade_are_those_of_a_check(rt: HostRuntime) -> Result<(), Fail
     ] {
         let (same_status, same_words) = alike(
             rt.alloc(),
-            Fault::from(upgrade),
-            Fault::from(check),
+            Failure::from(upgrade),
+            Failure::from(check),
         )?;
         assert!(rt; same_status && same_words);
     }
@@ -446,7 +452,7 @@ fn faults_of_an_upgrade_are_those_of_a_check(rt: HostRuntime) -> Result<(), Fail
 }
 
 // Whether the program ends with these words by this fault, which ends here.
-fn tells(alloc: Global, fault: Fault, words: &str) -> bool {
+fn tells(alloc: Global, fault: Failure, words: &str) -> bool {
     match format!(in alloc; "{fault}") {
         Ok(told) => told.as_str() == words,
         Err(_) => false,
@@ -459,43 +465,51 @@ fn faults_have_their_words(rt: HostRuntime) {
     let text = TextFault { number: 3, line: 2 };
     let alloc = rt.alloc();
     let told = [
-        tells(alloc, Fault::Refused(Refusal::Usage), "hullbook: usage"),
-        tells(alloc, Fault::Refused(Refusal::Open), "hullbook: open"),
-        tells(alloc, Fault::Refused(Refusal::Memory), "hullbook: memory"),
-        tells(alloc, Fault::Refused(Refusal::Write), "hullbook: write"),
+        tells(alloc, Failure::Refused(Fault::Usage), "hullbook: usage"),
+        tells(alloc, Failure::Refused(Fault::Open), "hullbook: open"),
+        tells(alloc, Failure::Refused(Fault::Memory), "hullbook: memory"),
+        tells(alloc, Failure::Refused(Fault::Write), "hullbook: write"),
         tells(
             alloc,
-            Fault::Refused(Refusal::Text(text)),
+            Failure::Refused(Fault::Text(text)),
             "hullbook: line 2: fault 3",
         ),
         tells(
             alloc,
-            Fault::Journal(text),
+            Failure::Journal(text),
             "hullbook: journal: line 2: fault 3",
         ),
         tells(
             alloc,
-            Fault::Rules,
+            Failure::Rules,
             "hullbook: points are not counted before version 3, and upgrade keeps that",
         ),
         tells(
             alloc,
-            Fault::Illegal(4294967297),
+            Failure::Illegal(4294967297),
             "hullbook: illegal 4294967297",
         ),
         tells(
             alloc,
-            Fault::First(18446744073709551615),
+            Failure::First(18446744073709551615),
             "hullbook: the journal's first number is 18446744073709551615",
         ),
-        tells(alloc, Fault::Limit(4), "hullbook: the journal's limit is 4"),
-        tells(alloc, Fault::Lines(3), "hullbook: the journal has 3 lines"),
+        tells(
+            alloc,
+            Failure::Limit(4),
+            "hullbook: the journal's limit is 4",
+        ),
+        tells(
+            alloc,
+            Failure::Lines(3),
+            "hullbook: the journal has 3 lines",
+        ),
     ];
     assert_eq!(rt; told, [true; 11]);
 }
 
 // The status that a program ends with by this fault, which ends here: a test that held it would let go of it at each assertion.
-fn status_of(fault: Fault) -> u8 {
+fn status_of(fault: Failure) -> u8 {
     fault.status()
 }
 
@@ -507,26 +521,26 @@ fn at_first_line(number: u8) -> TextFault {
 #[test]
 fn faults_have_their_statuses(rt: HostRuntime) {
     let plain = [
-        status_of(Fault::Refused(Refusal::Usage)),
-        status_of(Fault::Refused(Refusal::Open)),
-        status_of(Fault::Refused(Refusal::Write)),
-        status_of(Fault::Refused(Refusal::Memory)),
-        status_of(Fault::Illegal(2)),
-        status_of(Fault::Rules),
-        status_of(Fault::First(0)),
-        status_of(Fault::Limit(4)),
-        status_of(Fault::Lines(3)),
-        status_of(Fault::Part(String::new(rt.alloc()), PartFault::Open)),
+        status_of(Failure::Refused(Fault::Usage)),
+        status_of(Failure::Refused(Fault::Open)),
+        status_of(Failure::Refused(Fault::Write)),
+        status_of(Failure::Refused(Fault::Memory)),
+        status_of(Failure::Illegal(2)),
+        status_of(Failure::Rules),
+        status_of(Failure::First(0)),
+        status_of(Failure::Limit(4)),
+        status_of(Failure::Lines(3)),
+        status_of(Failure::Part(String::new(rt.alloc()), PartFault::Open)),
     ];
     let journals = [
-        status_of(Fault::Journal(at_first_line(7))),
-        status_of(Fault::Journal(at_first_line(8))),
-        status_of(Fault::Journal(at_first_line(10))),
+        status_of(Failure::Journal(at_first_line(7))),
+        status_of(Failure::Journal(at_first_line(8))),
+        status_of(Failure::Journal(at_first_line(10))),
     ];
     let texts = [
-        status_of(Fault::Refused(Refusal::Text(at_first_line(7)))),
-        status_of(Fault::Refused(Refusal::Text(at_first_line(8)))),
-        status_of(Fault::Refused(Refusal::Text(at_first_line(10)))),
+        status_of(Failure::Refused(Fault::Text(at_first_line(7)))),
+        status_of(Failure::Refused(Fault::Text(at_first_line(8)))),
+        status_of(Failure::Refused(Fault::Text(at_first_line(10)))),
     ];
     assert_eq!(rt; plain, [2, 3, 3, 4, 1, 2, 2, 2, 2, 3]);
     assert_eq!(rt; journals, [2, 3, 4]);

@@ -31,7 +31,7 @@ fn task_of<R: Env + AllocGlobal>(rt: &R) -> Result<Task, Refusal>
 {
     let words = words_given(rt)?;
     let texts = texts_of(rt.alloc(), &words)?;
-    options(rt.alloc(), &texts)
+    Ok(options(rt.alloc(), &texts)?)
 }
 
 /// Draws the journal at the path on standard output.

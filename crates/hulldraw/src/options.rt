@@ -4,7 +4,7 @@ ghost use Rattle.hulldraw.specs.Tasks.{IsWithinLimits};
 
 use clap::{Arg, ArgAction, ArgMatches, Command};
 use hull_draw::DrawOptions;
-use hull_program::{Refusal, path_of, refusal_of};
+use hull_program::{OptionFault, fault_of_words, path_of};
 use std::alloc::{AllocError, Global};
 
 /// The least side of a picture.
@@ -83,23 +83,23 @@ fn options_of(matches: &ArgMatches<'_>) -> Option<DrawOptions>
 ///
 /// The path is one of the words, as it was written. `Usage` for any other words, for a number outside its limits, and
 /// for a film with `--line` or `--bridges`; a question for help counts as one. `Memory` where memory was refused.
-pub fn options(alloc: Global, words: &[&str]) -> Result<Task, Refusal>
+pub fn options(alloc: Global, words: &[&str]) -> Result<Task, OptionFault>
     ensures limits { IfOk result IsWithinLimits }
     ensures path { IfOk result (λ task. IsOneOf (texts_of words.now) (string_bytes task.path)) }
 {
     let Ok(command) = command(alloc) else {
-        return Err(Refusal::Memory);
+        return Err(OptionFault::Memory);
     };
     let matches = match command.try_get_matches_from(words) {
         Ok(matches) => matches,
-        Err(error) => return Err(refusal_of(&error)),
+        Err(error) => return Err(fault_of_words(&error)),
     };
     let Some(options) = options_of(&matches) else {
-        return Err(Refusal::Usage);
+        return Err(OptionFault::Usage);
     };
     let film = matches.get_flag("film");
     if film && (options.line.is_some() || options.bridges) {
-        return Err(Refusal::Usage);
+        return Err(OptionFault::Usage);
     }
     let path = path_of(alloc, &matches, "journal", words)?;
     Ok(Task {

@@ -1,7 +1,7 @@
 -- A point that is counted in at the end of entries.
 use Rattle.std.proofs.lemmas.Grind.{common_steps}
 use Rattle.std.proofs.Common.{◌≡◌, ℕ, ◌+◌, ◌<◌, ◌≤◌, inl, inr, refl, sym, ◌∙◌, ap, subst, List, [], ◌∷◌, ◌++◌, length}
-use Rattle.std.proofs.Common.{take, drop, get_or, arith, zero, suc, Bool, true, false, if◌then◌else◌, ◌⊎◌}
+use Rattle.std.proofs.Common.{take, get_or, arith, zero, suc, Bool, true, false, if◌then◌else◌, ◌⊎◌}
 use Rattle.std.specs.Prelude.{not}
 use Rattle.std.specs.List.{All, Contains}
 use Rattle.std.proofs.Math.ListN.{get_or-map}

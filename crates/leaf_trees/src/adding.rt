@@ -1,5 +1,5 @@
 //! Points that are added one by one, all or none of them.
-ghost use Rattle.std.specs.Prelude.{◌≡◌, ◌≤◌, ◌+◌, ◌∷◌, [], IfOk, IfErr, Err};
+ghost use Rattle.std.specs.Prelude.{◌≡◌, ◌≤◌, ◌+◌, ◌∷◌, [], IfOk, IfErr, Err, length};
 ghost use Rattle.lattice.specs.Plane.{Pair};
 ghost use Rattle.hull_set.specs.Held.{once, times_among};
 ghost use Rattle.leaf_trees.specs.Entries.{held_after_adds, AreTooMany, IsTrueHeld};
@@ -53,13 +53,14 @@ fn remove_each<S: HullSet>(set: &mut S, points: &[Point])
     }
 }
 
-/// Adds points one by one; where one is refused, those before it go again.
+/// Adds points one by one; if one is refused, those before it go again. `NoMemory` comes only for some points.
 pub fn add_each<S: HullSet>(set: &mut S, points: &[Point]) -> Result<(), LoadFault>
     requires kept { IsTrueHeld (S.held set.old) }
     requires sound { S.sound set.old }
     ensures held { IfOk result (λ _. S.held set.new ≡ held_after_adds (S.held set.old) points.now) }
     ensures fault { IfErr result (λ _. S.held set.new ≡ S.held set.old) }
     ensures too_many { result ≡ Err LoadFault.TooMany → AreTooMany (S.held set.old) points.now (S.bound set.old) }
+    ensures refused { result ≡ Err LoadFault.NoMemory → 1 ≤ length points.now }
     ensures limit { S.bound set.new ≡ S.bound set.old }
     ensures sound { S.sound set.new }
 {

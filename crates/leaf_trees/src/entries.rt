@@ -133,13 +133,19 @@ pub fn merged_entries(
     }
 }
 
-/// Points in any order as entries: sorted, each once and beside it how often it stands among them.
+/// Points in any order as entries: sorted, each once and beside it how often it stands among them. `NoMemory` comes only
+/// for some points.
 pub fn entries_of(alloc: Heap, points: &[Point]) -> Result<Vec<(Point, u32), Heap>, LoadFault>
     ensures entries { IfOk result (λ entries. AreEntries entries.items) }
     ensures times { IfOk result (λ entries. (q : Pair) → times_listed entries.items q ≡ times_among points.now q) }
     ensures too_often { result ≡ Err LoadFault.TooMany
         → (q : Pair) × (MULTIPLICITY_LIMIT < times_among points.now q) }
+    ensures none { IfOk result (λ entries. length points.now ≡ 0 → length entries.items ≡ 0) }
+    ensures refused { result ≡ Err LoadFault.NoMemory → 1 ≤ length points.now }
 {
+    if points.is_empty() {
+        return Ok(Vec::new(alloc));
+    }
     let mut sorted = Vec::from_slice(alloc, points)?;
     sorted.sort_unstable();
     let mut entries = Vec::with_capacity(alloc, sorted.len())?;

@@ -58,7 +58,7 @@ pub trait Listed: HullSet + Drop {
 
     /// The set of some points in any order, each held as often as it stands among them, with room for `limit` points:
     /// what adding them one by one makes, in a small part of the time. `TooMany` comes where adding them would answer
-    /// it; a fault leaves nothing behind.
+    /// it, and `NoMemory` only for some points; a fault leaves nothing behind.
     final fn from_points(alloc: Heap, limit: u32, points: &[Point]) -> Result<Self, LoadFault>
         requires high { limit ≤ POINT_LIMIT }
         requires low { 1 ≤ limit }
@@ -67,6 +67,7 @@ pub trait Listed: HullSet + Drop {
         ensures limit { IfOk result (λ set. Self.bound set ≡ limit) }
         ensures sound { IfOk result (λ set. Self.sound set) }
         ensures too_many { result ≡ Err LoadFault.TooMany → AreTooMany nothing_held points.now limit }
+        ensures refused { result ≡ Err LoadFault.NoMemory → 1 ≤ length points.now }
     {
         let entries = entries_of(alloc, points)?;
         if entries.len() > limit as usize {
@@ -115,16 +116,21 @@ pub trait Listed: HullSet + Drop {
 
     /// Adds points in any order, all or none of them: what adding them one by one makes. Where they are one in
     /// [`SHARE`](Listed::SHARE) of the points at least, the set is made anew beside the old one, and else they are added one
-    /// by one. `TooMany` comes where adding them would answer it; after a fault the set holds what it held.
+    /// by one. `TooMany` comes where adding them would answer it, and `NoMemory` only for some points; after a fault the set
+    /// holds what it held.
     final fn extend(&mut self, points: &[Point]) -> Result<(), LoadFault>
         ensures held { IfOk result (λ _. Self.held self.new ≡ held_after_adds (Self.held self.old) points.now) }
         ensures fault { IfErr result (λ _. Self.held self.new ≡ Self.held self.old) }
         ensures too_many { result ≡ Err LoadFault.TooMany
             → AreTooMany (Self.held self.old) points.now (Self.bound self.old) }
+        ensures refused { result ≡ Err LoadFault.NoMemory → 1 ≤ length points.now }
         ensures limit { Self.bound self.new ≡ Self.bound self.old }
         ensures sound { Self.sound self.new }
     {
         self.lists_are_sound();
+        if points.is_empty() {
+            return Ok(());
+        }
         if points.len() < self.count() as usize / Self::SHARE {
             add_each(self, points)
         } else {

@@ -9,7 +9,6 @@ use crate::stage::Stage;
 use hull_book::{
     Answer, Book, BookFault, CheckResult, Journal, JournalFull, Ledger, Line, check, gather,
 };
-use hull_plain::PlainSet;
 use hull_set::{Call, HullSet, PointList, Reply, Rules};
 use lattice::Point;
 use std::alloc::{AllocError, Global};
@@ -164,9 +163,8 @@ pub fn try_check(alloc: Global, p: Point) -> Result<Stage, &'static str> {
         return Err("the journal is within the limits");
     };
     let mut findings = Findings::new();
-    let empty = || PlainSet::new(alloc, 4);
-    let (stage, found) = match check(empty(), &journal) {
-        CheckResult::NoMemory => (Stage::Refused, check(empty(), &journal)),
+    let (stage, found) = match check(alloc, &journal) {
+        CheckResult::NoMemory => (Stage::Refused, check(alloc, &journal)),
         found => (Stage::Whole, found),
     };
     findings.expect(found == CheckResult::Legal, "the journal is legal");

@@ -1,5 +1,5 @@
 //! A journal is gone on with, made short, drained, and judged in parts.
-ghost use Rattle.std.specs.Prelude.{◌≡◌, ◌≤◌, IfSome, length};
+ghost use Rattle.std.specs.Prelude.{◌≡◌, ◌<◌, ◌≤◌, ◌-◌, ◌^◌, IfSome, length};
 ghost use Rattle.hull_set.specs.Held.{nothing_held};
 ghost use Rattle.hull_book.specs.Answers.{HasRoom};
 ghost use Rattle.hull_book.specs.Books.{IsGoneOnFrom, IsLawful};
@@ -203,8 +203,8 @@ pub fn try_drain<S: HullSet + Drop>(alloc: Global, set: S, p: Point) -> Result<S
     let mut book = match LongBook::new(book) {
         Ok(book) => book,
         Err((_, book)) => {
-            gather(&book, ledgers);
-            return Ok(Stage::SetUp);
+            give_up(book, ledgers, 0, &mut findings);
+            return findings.told(Stage::SetUp);
         }
     };
     let added = serve_long(&mut book, &mut ledgers, Call::Add(p), Then::Keep);
@@ -228,6 +228,7 @@ pub fn try_drain<S: HullSet + Drop>(alloc: Global, set: S, p: Point) -> Result<S
 
 /// The number behind the two parts, where they are those of a legal journal.
 fn judged(alloc: Global, first: &Journal, second: &Journal) -> Result<u64, ReplayFault> {
+    let _limits = first.lines();
     let set = PlainSet::new(alloc, first.limit());
     let checker = PartsChecker::new(set, first).check_next(first)?;
     Ok(checker.check_next(second)?.next())
@@ -274,6 +275,9 @@ pub fn try_compact(alloc: Global, size: usize) -> Result<Stage, &'static str> {
         Err(fault) => {
             findings.expect(is_want(fault), "the fault is want of memory");
             findings.expect(out.get_ref().bytes().is_empty(), "nothing is written");
+            if out.failures() > 0 {
+                return Err("the device serves");
+            }
             let mut source = Counted::new(Pieces::new(LONG, size));
             (Stage::Refused, make_short(alloc, &mut source, &mut out))
         }

@@ -9,7 +9,6 @@ use crate::books::{give_up, lists};
 use crate::findings::Findings;
 use crate::stage::Stage;
 use hull_book::{Answer, Book, CheckResult, Phase, Script, check, gather};
-use hull_plain::PlainSet;
 use hull_pool::{NoGate, PhaseEnd, PoolFault, Workers, run_phase, run_phases};
 use hull_set::{HullSet, Reply};
 use hull_text::read_script;
@@ -105,9 +104,8 @@ fn judge<S: HullSet + Drop>(
     findings.expect(sum == 4, "the ledgers sum to four");
     let journal = book.into_journal();
     // The one refused request may be the checker's.
-    let empty = || PlainSet::new(alloc, 12);
-    let legal = check(empty(), &journal) == CheckResult::Legal
-        || check(empty(), &journal) == CheckResult::Legal;
+    let legal = check(alloc, &journal) == CheckResult::Legal
+        || check(alloc, &journal) == CheckResult::Legal;
     findings.expect(legal, "the journal is legal");
     stage
 }

@@ -151,8 +151,7 @@ fn run_first<R: Threads + Wait + Abort + Sync, G: Gate>(
 // The sum of the ledgers and the length of the journal, whether that is a legal history, and whether its numbers run on
 // from the first without a gap.
 fn told_of(alloc: Global, first: u64, end: &Outcome) -> (u64, usize, bool, bool) {
-    let set = PlainSet::new(alloc, end.journal.limit());
-    let legal = check(set, &end.journal) == CheckResult::Legal;
+    let legal = check(alloc, &end.journal) == CheckResult::Legal;
     let mut runs_on = true;
     for (k, line) in end.journal.lines().iter().enumerate() {
         runs_on = runs_on && line.number == first.wrapping_add(k as u64);

@@ -1,6 +1,8 @@
 -- Halls, views of what is published in one, and who was told of it.
 use Rattle.std.specs.Prelude.{◌≡◌, ℕ, ◌/◌, List, length}
 use Rattle.std.specs.Arc.{arc_value}
+use base.Stored.{Coded}
+use Rattle.logbook.specs.Pages.{Book, book_coded}
 use Rattle.published_views.specs.declared.TheConstants.{SLOT_LIMIT}
 use Rattle.published_views.specs.declared.view.View.{View}
 use Rattle.published_views.specs.declared.view.Truth.{Ghosts}
@@ -27,7 +29,19 @@ AreOfOneHistory front other = front.seen.book ≡ other.seen.book
 abbrev pub IsToldOfWord : Newest → Told → Type 0
 IsToldOfWord newest told = told.seen.book ≡ newest.word.book
 
+-- the name of a hall: that of the word by which its readers learn which value is the newest, and no other hall has it
+abbrev pub HallName : Type 0
+HallName = Book
+
+-- names are plain data
+abbrev pub hall_name_coded : Coded HallName
+hall_name_coded = book_coded
+
 module _ {T L V : Type 0} {K : Ghosts T L V} where
+  -- the name of a hall
+  abbrev pub name_of : Hall T L V K → HallName
+  name_of hall = hall.newest.word.book
+
   -- the lines behind which the value of a view is true
   abbrev pub lines_of : View T L V K → List L
   lines_of view = seen_lines view.front

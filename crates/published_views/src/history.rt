@@ -1,5 +1,5 @@
 //! A history of lines that exists in proofs alone; threads share its length.
-ghost use Rattle.std.specs.Prelude.{◌≡◌, ◌<◌, ◌^◌, ◌++◌, ◌∷◌, [], length, MatchBool, true};
+ghost use Rattle.std.specs.Prelude.{◌≡◌, ◌<◌, ◌^◌, ◌++◌, ◌∷◌, [], length, MatchBool, true, IfOk, IfErr};
 
 use logbook::{Gain, Offer, Plain, Play, Rule, Seen, Start, Word};
 
@@ -63,6 +63,20 @@ pub struct Front<L> {
     pub(crate) count: u64,
     pub(crate) seen: Seen<L, u64, Lines>,
     ghost counted: { count ≡ length seen.log },
+}
+
+/// Evidence that a word was changed by another thread: a step that was to change it found it changed. Only such a step
+/// makes one.
+#[derive(Drop)]
+pub struct Overtaken {
+    made_by_a_step: (),
+}
+
+impl Overtaken {
+    /// What a step returns that found its word changed.
+    pub(crate) fn by_another() -> Overtaken {
+        Overtaken { made_by_a_step: () }
+    }
 }
 
 impl<L> History<L> {
@@ -141,5 +155,24 @@ impl<L: Copy> Front<L> {
             );
         self.count = if found == count { count + 1 } else { found };
         found == count
+    }
+
+    /// Does what [`add`](Front::add) does.
+    ///
+    /// # Errors
+    ///
+    /// The evidence that another thread added lines: the history had more lines, which were seen then.
+    pub fn add_unless_overtaken(&mut self, history: &History<L>, line: L) -> Result<(), Overtaken>
+        requires room { length (seen_lines self.old) < 2 ^ 62 }
+        requires history { IsFrontOf history.now self.old }
+        ensures history { IsFrontOf history.now self.new }
+        ensures added { IfOk result (λ _. seen_lines self.new ≡ seen_lines self.old ++ line ∷ []) }
+        ensures overtaken { IfErr result (λ _. IsLonger (seen_lines self.old) (seen_lines self.new)) }
+    {
+        if self.add(history, line) {
+            Ok(())
+        } else {
+            Err(Overtaken::by_another())
+        }
     }
 }

@@ -22,7 +22,7 @@ mod view;
 
 pub use fronts::is_front;
 pub use hall::Hall;
-pub use history::{Front, History, Lines};
+pub use history::{Front, History, Lines, Overtaken};
 pub use newest::{Newest, Rise, Rises, Told};
 pub use publisher::Publisher;
 pub use view::{Truth, View};

@@ -1,10 +1,11 @@
 //! Who publishes.
-ghost use Rattle.std.specs.Prelude.{◌≡◌, ◌<◌, IfOk, IfErr, IsTrue, OnErr};
+ghost use Rattle.std.specs.Prelude.{◌≡◌, ◌<◌, IfOk, IfErr, IsSome, IsTrue, OnErr, false};
 ghost use Rattle.std.specs.Arc.{arc_value};
 ghost use Rattle.published_views.specs.Numbers.{IsToldMore, told_number};
 ghost use Rattle.published_views.specs.Views.{IsOfHall, IsToldOf, hall_of, number_of, published};
 
 use super::hall::{Hall, reader_count, state_of};
+use super::history::Overtaken;
 use super::newest::Told;
 use super::view::{Truth, View};
 use super::{NUMBER_LIMIT, SLOT_LIMIT};
@@ -96,5 +97,32 @@ impl<T: Truth> Publisher<T> {
         let to = number * SLOT_LIMIT + at;
         self.raised = to;
         Ok(self.hall.newest.raise(told, from, to))
+    }
+
+    /// Does what [`publish`](Publisher::publish) does. If another thread published in the meantime, puts the evidence of
+    /// that into `overtaken`.
+    pub fn publish_unless_overtaken(
+        &mut self,
+        told: &mut Told,
+        view: View<T>,
+        overtaken: &mut Option<Overtaken>,
+    ) -> Result<bool, View<T>>
+        requires rising { published self.old < number_of view }
+        requires few { number_of view < NUMBER_LIMIT }
+        requires told { IsToldOf (hall_of self.old) told.old }
+        requires history { IsOfHall (hall_of self.old) view }
+        ensures more { IsToldMore told.old told.new }
+        ensures told { IfOk result (λ raised. IsTrue raised → told_number told.new ≡ number_of view) }
+        ensures back { IfErr result (λ back. back ≡ view) }
+        ensures same { hall_of self.new ≡ hall_of self.old }
+        ensures last { IfOk result (λ _. published self.new ≡ number_of view) }
+        ensures kept { OnErr result ((published self.new ≡ published self.old) × (told.new ≡ told.old)) }
+        ensures overtaken { IfOk result (λ raised. raised ≡ false → IsSome overtaken.new) }
+    {
+        let published = self.publish(told, view);
+        if let Ok(false) = published {
+            *overtaken = Some(Overtaken::by_another());
+        }
+        published
     }
 }

@@ -1,4 +1,8 @@
 //! What is published here is how many lines there are.
+ghost use Rattle.std.specs.Prelude.{◌≡◌, ◌+◌, ◌≤◌, length};
+ghost use Rattle.std.specs.Arc.{arc_value};
+ghost use Rattle.published_views.specs.Views.{IsFrontOf, IsOfHall, IsToldOf, hall_of, published, seen_lines};
+
 use crate::{Front, Hall, History, Newest, Publisher, Told, Truth, View, is_front};
 use std::alloc::Global;
 use std::process::Abort;
@@ -6,6 +10,9 @@ use std::sync::Arc;
 use std::test::Fail;
 use std::thread;
 use std::thread::Threads;
+
+/// How often one thread publishes while the other reads.
+const TIMES: u32 = 100000;
 
 /// The value is the number of lines.
 struct Counts;
@@ -28,6 +35,11 @@ struct Stage {
     hall: Arc<Hall<Counts>>,
     publisher: Publisher<Counts>,
     told: Told,
+    ghost of_history: { IsFrontOf history front },
+    ghost same_history: { (arc_value hall).history.book ≡ front.seen.book },
+    ghost of_hall: { IsToldOf (arc_value hall) told },
+    ghost publishes: { hall_of publisher ≡ arc_value hall },
+    ghost rising: { published publisher ≤ length (seen_lines front) },
 }
 
 // A hall with so many slots, in which nothing was published.
@@ -40,9 +52,7 @@ fn opened(rt: &impl Abort, alloc: Global, slots: usize) -> Stage {
     let Ok(hall) = Arc::new(alloc, hall) else {
         panic!(rt; "there is memory for the hall")
     };
-    let Ok(other) = Arc::try_clone(&hall) else {
-        panic!(rt; "the hall has few owners")
-    };
+    let other = shared(rt, &hall);
     Stage {
         history,
         front,
@@ -52,35 +62,83 @@ fn opened(rt: &impl Abort, alloc: Global, slots: usize) -> Stage {
     }
 }
 
-// Adds a line, and publishes how many there are; whether that was told.
-fn publish(rt: &impl Abort, alloc: Global, stage: &mut Stage) -> bool {
-    let line = stage.front.count();
-    assert!(rt; stage.front.add(&stage.history, line));
-    let Ok(value) = Arc::new(alloc, stage.front.count()) else {
+// Adds a line.
+fn add_line(rt: &impl Abort, history: &History<u64>, front: &mut Front<u64>)
+    requires { IsFrontOf history.now front.old }
+    ensures history { IsFrontOf history.now front.new }
+    ensures longer { length (seen_lines front.new) ≡ length (seen_lines front.old) + 1 }
+    ensures few { length (seen_lines front.new) ≤ 1000000 }
+{
+    let line = front.count();
+    assert!(rt; line < 1000000);
+    let is_added = front.add(history, line);
+    assert!(rt; is_added);
+}
+
+// A view of how many lines there are.
+fn view_of(rt: &impl Abort, alloc: Global, front: &Front<u64>) -> View<Counts>
+    ensures { result.front ≡ front.now }
+{
+    let Ok(value) = Arc::new(alloc, front.count()) else {
         panic!(rt; "there is memory for the value")
     };
-    let view = View::new(value, stage.front.again());
+    View::new(value, front.again())
+}
+
+// Adds a line, and publishes how many there are; whether that was told.
+fn publish(rt: &impl Abort, alloc: Global, stage: &mut Stage) -> bool {
+    add_line(rt, &stage.history, &mut stage.front);
+    let view = view_of(rt, alloc, &stage.front);
     match stage.publisher.publish(&mut stage.told, view) {
         Ok(is_raised) => is_raised,
         Err(_) => false,
     }
 }
 
+// One more owner of the hall.
+fn shared(rt: &impl Abort, hall: &Arc<Hall<Counts>>) -> Arc<Hall<Counts>>
+    ensures { arc_value result ≡ arc_value hall.now }
+{
+    match Arc::try_clone(hall) {
+        Ok(other) => other,
+        Err(_) => panic!(rt; "the hall has few owners"),
+    }
+}
+
+// The newest view.
+fn newest(rt: &impl Abort, hall: &Hall<Counts>, told: &mut Told) -> View<Counts>
+    requires { IsToldOf hall.now told.old }
+    ensures told { IsToldOf hall.now told.new }
+    ensures view { IsOfHall hall.now result }
+{
+    match hall.view(told) {
+        Some(view) => view,
+        None => panic!(rt; "a view was published"),
+    }
+}
+
+// Whether the view is the newest.
+fn is_newest(hall: &Hall<Counts>, view: &View<Counts>, told: &mut Told) -> bool
+    requires { IsToldOf hall.now told.old }
+    ensures { IsToldOf hall.now told.new }
+{
+    hall.is_newest(view, told)
+}
+
 /// A view stays as it is while others are published; the newest one is told from it.
 #[test]
 fn views_show_what_was_published(rt: HostRuntime) -> Result<(), Fail> {
     let mut stage = opened(&rt, rt.alloc(), 3);
+    let hall = shared(&rt, &stage.hall);
     let mut told = stage.told.again();
-    assert!(rt; stage.hall.view(&mut told).is_none());
+    assert!(rt; hall.view(&mut told).is_none());
     assert!(rt; publish(&rt, rt.alloc(), &mut stage));
-    let first = stage.hall.view(&mut told).unwrap();
+    let first = newest(&rt, &hall, &mut told);
     assert_eq!(rt; (first.number(), *first.value()), (1, 1));
-    assert!(rt; stage.hall.is_newest(&first, &mut told));
-    for _ in 0..300u32 {
-        assert!(rt; publish(&rt, rt.alloc(), &mut stage));
-    }
-    assert!(rt; !stage.hall.is_newest(&first, &mut told));
-    let last = stage.hall.view(&mut told).unwrap();
+    assert!(rt; is_newest(&hall, &first, &mut told));
+    assert!(rt; publishes(&rt, rt.alloc(), &mut stage, 300));
+    assert!(rt; !is_newest(&hall, &first, &mut told));
+    let last = newest(&rt, &hall, &mut told);
     assert_eq!(rt; (last.number(), *last.value()), (301, 301));
     assert_eq!(rt; (first.number(), *first.value()), (1, 1));
     assert!(rt; is_front(&first, &last) && !is_front(&last, &first));
@@ -98,7 +156,10 @@ fn a_view_comes_back_where_there_is_no_slot(rt: HostRuntime) -> Result<(), Fail>
 }
 
 // Takes so many views: whether each shows its number and none goes back.
-fn reads(hall: &Hall<Counts>, told: &mut Told, times: u32) -> bool {
+fn reads(hall: &Hall<Counts>, told: &mut Told, times: u32) -> bool
+    requires { IsToldOf hall.now told.old }
+    ensures { IsToldOf hall.now told.new }
+{
     let mut last = 0u64;
     let mut are_right = true;
     for _ in 0..times {
@@ -110,30 +171,68 @@ fn reads(hall: &Hall<Counts>, told: &mut Told, times: u32) -> bool {
     are_right
 }
 
-// A thread publishes so often while another one reads: whether all was told, and all views were right.
-fn storm<R: Threads + Abort + Sync>(rt: &R, alloc: Global, times: u32) -> (bool, bool) {
-    let mut stage = opened(rt, alloc, 3);
-    let Ok(hall) = Arc::try_clone(&stage.hall) else {
-        panic!(rt; "the hall has few owners")
+// Publishes so often; whether all was told.
+fn publishes(rt: &impl Abort, alloc: Global, stage: &mut Stage, times: u32) -> bool {
+    let mut all_told = true;
+    for _ in 0..times {
+        all_told = publish(rt, alloc, stage) && all_told;
+    }
+    all_told
+}
+
+/// What the publishing thread has, and whether it announced all that it published.
+#[derive(Drop)]
+struct Writer {
+    stage: Stage,
+    all_told: bool,
+}
+
+/// What the reading thread has, and whether all views that it took were right.
+#[derive(Drop)]
+struct Reader {
+    hall: Arc<Hall<Counts>>,
+    told: Told,
+    all_right: bool,
+    ghost of_hall: { IsToldOf (arc_value hall) told },
+}
+
+// Publishes so often.
+fn write_all(rt: &impl Abort, alloc: Global, writer: &mut Writer) {
+    writer.all_told = publishes(rt, alloc, &mut writer.stage, TIMES);
+}
+
+// Takes so many views.
+fn read_all(reader: &mut Reader) {
+    let hall = &reader.hall;
+    reader.all_right = reads(hall, &mut reader.told, TIMES);
+}
+
+// A thread publishes while another one reads: whether all was told, and all views were right.
+fn storm<R: Threads + Abort + Sync>(rt: &R, alloc: Global) -> (bool, bool) {
+    let stage = opened(rt, alloc, 3);
+    let hall = shared(rt, &stage.hall);
+    let told = stage.told.again();
+    let mut reader = Reader {
+        hall,
+        told,
+        all_right: false,
     };
-    let mut told = stage.told.again();
-    let (mut all_told, mut all_right) = (true, true);
+    let mut writer = Writer {
+        stage,
+        all_told: false,
+    };
     thread::join_mut(
         rt,
-        &mut || {
-            for _ in 0..times {
-                all_told = publish(rt, alloc, &mut stage) && all_told;
-            }
-        },
-        &mut || all_right = reads(&hall, &mut told, times),
+        &mut || write_all(rt, alloc, &mut writer),
+        &mut || read_all(&mut reader),
     );
-    (all_told, all_right)
+    (writer.all_told, reader.all_right)
 }
 
 /// Views that are taken beside publications show their numbers, and none goes back.
 #[test]
 fn views_beside_publications(rt: HostRuntime) -> Result<(), Fail> {
-    let (all_told, all_right) = storm(&rt, rt.alloc(), 100000);
+    let (all_told, all_right) = storm(&rt, rt.alloc());
     assert!(rt; all_told && all_right);
     Ok(())
 }

@@ -32,6 +32,26 @@ fn are_entries(entries: &[(Point, u32)], plain: &PlainSet) -> bool {
     alike
 }
 
+/// How many entries stand before the first one whose point is not less than `start`.
+fn count_before(all: &[(Point, u32)], start: Point) -> usize {
+    for k in 0..all.len() {
+        if all[k].0 >= start {
+            return k;
+        }
+    }
+    all.len()
+}
+
+/// Whether `rest` is the first five entries of `all` from `start` on.
+fn are_from(all: &[(Point, u32)], rest: &[(Point, u32)], start: Point) -> bool {
+    let place = count_before(all, start);
+    let mut alike = rest.len() == all.len().saturating_sub(place).min(5);
+    for k in 0..rest.len() {
+        alike = all.get(place.wrapping_add(k)) == Some(&rest[k]) && alike;
+    }
+    alike
+}
+
 impl Sets {
     fn new(alloc: Global) -> Sets {
         Sets {
@@ -72,17 +92,29 @@ impl Sets {
     fn have_same_entries(&self, start: Point) -> Result<bool, NoMemory> {
         let all = self.tree.entries()?;
         let rest = self.tree.entries_from(start, 5)?;
-        let mut place = 0;
-        while place < all.len() && all[place].0 < start {
-            place += 1;
-        }
-        let mut alike = are_entries(&all, &self.plain);
-        alike = rest.len() == (all.len() - place).min(5) && alike;
-        for (k, entry) in rest.iter().enumerate() {
-            alike = all.get(place.wrapping_add(k)) == Some(entry) && alike;
-        }
-        Ok(alike)
+        Ok(are_entries(&all, &self.plain) && are_from(&all, &rest, start))
     }
+}
+
+/// A random point of a grid of so many lines, as far apart, the point with its coordinates exchanged, and a direction.
+fn drawn(
+    rt: &impl Abort,
+    numbers: &mut Numbers,
+    lines: u32,
+    apart: i64,
+) -> Result<(Point, Point, Direction), Fail> {
+    let (right, up) = (numbers.below(lines), numbers.below(lines));
+    let x = centred(right, lines / 2).wrapping_mul(apart);
+    let y = centred(up, lines / 2).wrapping_mul(apart);
+    let d = Direction::new(1 - 2 * i64::from(up % 2), 2 - i64::from(right % 4))?;
+    Ok((at(rt, x, y), at(rt, y, x), d))
+}
+
+/// Whether a step adds: six of eight do while the set grows, and two of eight while it shrinks.
+fn is_to_add(numbers: &mut Numbers, step: u32, steps: u32) -> bool {
+    let in_half = step.checked_rem(steps / 2 + 1).unwrap_or(0);
+    let adding = if in_half < steps / 4 { 6 } else { 2 };
+    numbers.next() % 8 < adding
 }
 
 /// Makes so many changes at points of a grid of so many lines, as far apart, more of them that add while the set grows; asks at
@@ -98,14 +130,8 @@ fn first_difference(
     let mut numbers = Numbers::new();
     let mut most = 0;
     for step in 0..steps {
-        let right = numbers.next().checked_rem(lines).unwrap_or(0);
-        let up = numbers.next().checked_rem(lines).unwrap_or(0);
-        let x = centred(right, lines / 2).wrapping_mul(apart);
-        let y = centred(up, lines / 2).wrapping_mul(apart);
-        let (p, q) = (at(rt, x, y), at(rt, y, x));
-        let grows = step.checked_rem(steps / 2 + 1).unwrap_or(0) < steps / 4;
-        let adds = numbers.next() % 8 < if grows { 6 } else { 2 };
-        let d = Direction::new(1 - 2 * i64::from(up % 2), 2 - i64::from(right % 4))?;
+        let (p, q, d) = drawn(rt, &mut numbers, lines, apart)?;
+        let adds = is_to_add(&mut numbers, step, steps);
         let mut alike = sets.change(p, adds, &mut most);
         if step.checked_rem(every) == Some(0) {
             alike = sets.are_alike(q, d) && sets.have_same_entries(q)? && alike;
@@ -140,8 +166,8 @@ fn each_of_8000_changes_of_25_points(rt: HostRuntime) -> Result<(), Fail> {
 }
 
 #[test]
-fn each_of_30000_changes_of_400_points(rt: HostRuntime) -> Result<(), Fail> {
-    change_on_grid(&rt, rt.alloc(), 20, 1, 30000, 3)
+fn each_of_12000_changes_of_400_points(rt: HostRuntime) -> Result<(), Fail> {
+    change_on_grid(&rt, rt.alloc(), 20, 1, 12000, 3)
 }
 
 #[test]
@@ -154,59 +180,110 @@ fn alike_over_many_far_points(rt: HostRuntime) -> Result<(), Fail> {
     change_on_grid(&rt, rt.alloc(), 2001, 500000000, 10000, 100)
 }
 
+/// Adds or removes 1200 points of a parabola, each `factor` places after the one before, modulo 1201. Whether both sets answer
+/// alike, also to all questions after each 40.
+fn changes_parabola(
+    rt: &impl Abort,
+    sets: &mut Sets,
+    d: Direction,
+    factor: u64,
+    adds: bool,
+) -> bool {
+    let mut most = 0;
+    let mut alike = true;
+    for k in 0u64..1200 {
+        let x = (k.wrapping_mul(factor) % 1201) as i64 - 600;
+        let p = at(rt, x, x.wrapping_mul(x));
+        alike = sets.change(p, adds, &mut most) && alike;
+        if k % 40 == 0 {
+            alike = sets.are_alike(at(rt, x, x + 7), d) && alike;
+        }
+    }
+    alike
+}
+
 // Every point is a corner, and then none is.
 #[test]
 fn parabola_comes_and_goes(rt: HostRuntime) -> Result<(), Fail> {
     let mut sets = Sets::new(rt.alloc());
     let d = Direction::new(1, -3)?;
-    let mut most = 0;
-    let mut alike = true;
-    for k in 0i64..1200 {
-        let x = (k * 577) % 1201 - 600;
-        alike = sets.change(at(&rt, x, x * x), true, &mut most) && alike;
-        if k % 40 == 0 {
-            alike = sets.are_alike(at(&rt, x, x + 7), d) && alike;
-        }
-    }
-    for k in 0i64..1200 {
-        let x = (k * 431) % 1201 - 600;
-        alike = sets.change(at(&rt, x, x * x), false, &mut most) && alike;
-        if k % 40 == 0 {
-            alike = sets.are_alike(at(&rt, x, x + 7), d) && alike;
-        }
-    }
+    let come = changes_parabola(&rt, &mut sets, d, 577, true);
+    let go = changes_parabola(&rt, &mut sets, d, 431, false);
     drop(sets);
-    assert!(rt; alike);
+    assert!(rt; come && go);
     Ok(())
 }
 
-/// Loads both sets with the same points.
-fn loads_alike(rt: &impl Abort, alloc: Global, count: u32, lines: u32) -> Result<bool, Fail> {
+/// So many random points of a grid of so many lines.
+fn drawn_points(
+    rt: &impl Abort,
+    alloc: Global,
+    count: u32,
+    lines: u32,
+) -> Result<Vec<Point>, Fail> {
     let mut numbers = Numbers::new();
     let mut points = Vec::new(alloc);
-    let mut plain = PlainSet::new(alloc, POINT_LIMIT);
     for _ in 0..count {
-        let x = centred(numbers.next().checked_rem(lines).unwrap_or(0), lines / 2);
-        let y = centred(numbers.next().checked_rem(lines).unwrap_or(0), lines / 2);
+        let x = centred(numbers.below(lines), lines / 2);
+        let y = centred(numbers.below(lines), lines / 2);
         points.push(at(rt, x, y))?;
-        let _ = plain.add(at(rt, x, y));
     }
-    let tree = BucketTree::from_points(alloc, POINT_LIMIT, &points)?;
+    Ok(points)
+}
+
+/// A plain set of these points, each held as often as it is among them.
+fn plain_of(alloc: Global, points: &[Point]) -> PlainSet {
+    let mut plain = PlainSet::new(alloc, POINT_LIMIT);
+    for p in points {
+        let _ = plain.add(*p);
+    }
+    plain
+}
+
+/// An empty set extended by the first seven eighths of these points, and then by the others.
+fn extended_twice(alloc: Global, points: &[Point]) -> Result<BucketTree, LoadFault> {
     let mut extended = BucketTree::new(alloc, POINT_LIMIT);
     let (front, back) = points.split_at(points.len() / 8 * 7);
     extended.extend(front)?;
     extended.extend(back)?;
+    Ok(extended)
+}
+
+/// Whether a tree has these entries, and the corners of the plain set.
+fn is_alike(
+    tree: &BucketTree,
+    entries: &[(Point, u32)],
+    plain: &PlainSet,
+) -> Result<bool, NoMemory> {
+    Ok(tree.entries()?.as_slice() == entries && tree.vertices() == plain.vertices())
+}
+
+/// Loads points at once, in two parts and from their entries. Whether each of these sets holds what a plain set holds to which they
+/// were added one by one.
+fn loads_alike(rt: &impl Abort, alloc: Global, count: u32, lines: u32) -> Result<bool, Fail> {
+    let points = drawn_points(rt, alloc, count, lines)?;
+    let plain = plain_of(alloc, &points);
+    let tree = BucketTree::from_points(alloc, POINT_LIMIT, &points)?;
+    let extended = extended_twice(alloc, &points)?;
     let entries = tree.entries()?;
-    let again = BucketTree::from_entries(alloc, POINT_LIMIT, &entries)?;
-    let corners = plain.vertices();
-    let alike = are_entries(&entries, &plain) && extended.entries()? == entries;
+    let again = again_of(alloc, &tree)?;
+    let corners = plain.vertices().is_ok();
     Ok(
-        alike
-            && again.entries()? == entries
-            && tree.vertices() == corners
-            && extended.vertices() == corners
-            && again.vertices() == corners,
+        corners
+            && are_entries(&entries, &plain)
+            && is_alike(&tree, &entries, &plain)?
+            && is_alike(&extended, &entries, &plain)?
+            && is_alike(&again, &entries, &plain)?,
     )
+}
+
+/// A set made of the entries of another.
+fn again_of(alloc: Global, tree: &BucketTree) -> Result<BucketTree, NoMemory> {
+    let entries = tree.entries()?;
+    if entries.len() > POINT_LIMIT as usize {
+        return Err(NoMemory);
+    }
+    BucketTree::from_entries(alloc, POINT_LIMIT, &entries)
 }
 
 #[test]

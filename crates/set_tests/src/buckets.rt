@@ -1,6 +1,12 @@
 //! A bucket under random changes: its masks beside what a corner is by its definition, its runs beside a plain set.
-use crate::numbers::{Numbers, centred};
-use bridge_search::both_bridges;
+ghost use Rattle.std.specs.Prelude.{◌<◌, ◌≤◌, ◌+◌, length};
+ghost use Rattle.std.specs.List.{Contains};
+ghost use Rattle.lattice.specs.Bridges.{IsAllBefore};
+ghost use Rattle.hull_buckets.specs.declared.TheConstants.{ROOM};
+
+use crate::numbers::Numbers;
+use crate::tree::turns::both_found;
+use bridge_search::{Counted, Half};
 use hull_buckets::{Bucket, ROOM, Run, bridges_of};
 use hull_plain::PlainSet;
 use hull_questions::{area2, extreme, place, tangents, vertices};
@@ -18,7 +24,9 @@ fn at(rt: &impl Abort, x: i64, y: i64) -> Point {
 }
 
 /// Whether the point at a place lies outwards of each segment from a point before it to one behind it.
-fn is_corner(side: Side, points: &[Point], place: usize) -> bool {
+fn is_corner(side: Side, points: &[Point], place: usize) -> bool
+    requires { place < length points.now }
+{
     for ahead in 0..place {
         for behind in place + 1..points.len() {
             if orient_on(side, points[ahead], points[place], points[behind]) <= 0 {
@@ -71,16 +79,12 @@ fn change(bucket: Bucket, p: Point, keeps_first: bool) -> Bucket {
 }
 
 /// Makes so many changes at points of a rectangle. Whether the bucket is right after each.
-fn changes_stay_right(rt: &impl Abort, changes: u32, width: u32, height: u32) -> bool {
+fn changes_stay_right(rt: &impl Abort, changes: u32, width: u16, height: u16) -> bool {
     let mut numbers = Numbers::new();
     let mut bucket = Bucket::new(at(rt, 0, 0), 1);
     let mut right = true;
     for _ in 0..changes {
-        let (x, y) = (
-            numbers.next() % (2 * width + 1),
-            numbers.next() % (2 * height + 1),
-        );
-        let p = at(rt, centred(x, width), centred(y, height));
+        let p = at(rt, numbers.coordinate(width), numbers.coordinate(height));
         bucket = change(bucket, p, numbers.next() % 2 == 0);
         right = is_right(&bucket) && right;
     }
@@ -113,11 +117,13 @@ fn wide_square(rt: HostRuntime) {
 
 /// A bucket of the points of a parabola from one x to another.
 fn parabola(rt: &impl Abort, from: i64, to: i64) -> Bucket {
-    let mut bucket = Bucket::new(at(rt, from, from * from), 1);
-    for x in from + 1..to {
-        let p = at(rt, x, x * x);
+    let mut bucket = Bucket::new(at(rt, from, from.wrapping_mul(from)), 1);
+    for x in from.saturating_add(1)..to {
+        let p = at(rt, x, x.wrapping_mul(x));
         if let Err(place) = bucket.place_of(p) {
-            bucket.insert(place, p, 2);
+            if bucket.points().len() < ROOM {
+                bucket.insert(place, p, 2);
+            }
         }
     }
     bucket
@@ -126,29 +132,31 @@ fn parabola(rt: &impl Abort, from: i64, to: i64) -> Bucket {
 #[test]
 fn all_corners_parted_and_merged(rt: HostRuntime) {
     let mut first = parabola(&rt, -32, 32);
+    assert!(rt; first.points().len() > 1);
     let full = (
         first.is_full(),
         first.corners(Side::Lower),
         first.corners(Side::Upper),
     );
-    let second = first.split();
-    let parted = (
+    let second = parted(&mut first);
+    let halves = (
         first.points().len(),
         second.corners(Side::Upper),
         is_right(&first) && is_right(&second),
     );
     first.merge(&second);
-    let whole = (first.points().len(), first.times()[63], is_right(&first));
+    let last = first.times().get(63).copied();
+    let whole = (first.points().len(), last, is_right(&first));
     assert!(rt; full == (true, u64::MAX, (1 << 63) + 1));
-    assert!(rt; parted == (32, (1 << 31) + 1, true));
-    assert!(rt; whole == (64, 2, true));
+    assert!(rt; halves == (32, (1 << 31) + 1, true));
+    assert!(rt; whole == (64, Some(2), true));
 }
 
 /// Whether no point lies outwards of an edge on a side, and none in line with it beyond its ends.
-fn is_edge_of(side: Side, points: &[Point], edge: (Point, Point)) -> bool {
+fn is_edge_of(side: Side, points: &[Point], from: Point, to: Point) -> bool {
     for point in points {
-        let beyond = before(*point, edge.0) || before(edge.1, *point);
-        let inwards = orient_on(side, edge.0, edge.1, *point);
+        let beyond = before(*point, from) || before(to, *point);
+        let inwards = orient_on(side, from, to, *point);
         if inwards < 0 || inwards == 0 && beyond {
             return false;
         }
@@ -156,16 +164,39 @@ fn is_edge_of(side: Side, points: &[Point], edge: (Point, Point)) -> bool {
     true
 }
 
+/// Whether two bridges are those of all these points.
+fn are_bridges_of(points: &[Point], upper: &Counted, lower: &Counted) -> bool {
+    is_edge_of(Side::Upper, points, upper.0.0, upper.0.1)
+        && is_edge_of(Side::Lower, points, lower.0.0, lower.0.1)
+}
+
+/// Whether two bridges are these, and their searches took few turns.
+fn are_found(upper: &Counted, lower: &Counted, found: &((Point, Point), (Point, Point))) -> bool {
+    upper.0 == found.0 && lower.0 == found.1 && upper.1 <= 12 && lower.1 <= 12
+}
+
 /// Whether a search over the runs of two buckets, all of the one before all of the other, finds the bridges of all
 /// their points.
-fn bridges_are_right(first: &Bucket, second: &Bucket) -> bool {
-    let (upper, lower) = both_bridges(Run::new(first), Run::new(second));
-    let mut right = true;
-    for points in [first.points(), second.points()] {
-        right = is_edge_of(Side::Upper, points, upper.0) && right;
-        right = is_edge_of(Side::Lower, points, lower.0) && right;
-    }
-    right && upper.1 <= 12 && lower.1 <= 12 && bridges_of(first, second) == (upper.0, lower.0)
+fn bridges_are_right(first: &Bucket, second: &Bucket) -> bool
+    requires { IsAllBefore (Contains first.now.points) (Contains second.now.points) }
+{
+    let Some((upper, lower)) = both_found(Run::new(first), Run::new(second)) else {
+        return false;
+    };
+    let found = bridges_of(first, second);
+    are_bridges_of(first.points(), &upper, &lower)
+        && are_bridges_of(second.points(), &upper, &lower)
+        && are_found(&upper, &lower, &found)
+}
+
+/// Parts a bucket of several points, and returns its second half.
+fn parted(bucket: &mut Bucket) -> Bucket
+    requires { 1 < length bucket.old.points }
+    ensures order { IsAllBefore (Contains bucket.new.points) (Contains result.points) }
+    ensures room { length bucket.new.points + length result.points ≤ ROOM }
+{
+    let _ = bucket.points();
+    bucket.split()
 }
 
 /// A plain set of the points of a bucket.
@@ -177,10 +208,22 @@ fn plain_of(alloc: Global, bucket: &Bucket) -> PlainSet {
     plain
 }
 
+/// The doubled area of a run, which is at most 16 forks high.
+#[tactic(auto, using(crate::proofs::Sizes::low_size))]
+fn area_of(rt: &impl Abort, run: Run<'_>) -> u128 {
+    assert!(rt; run.height() <= 16);
+    area2(run)
+}
+
 /// Whether the run of all corners answers as the plain set of all points: the farthest points, the hull and its area.
-fn has_same_hull(alloc: Global, bucket: &Bucket, plain: &PlainSet) -> Result<bool, AllocError> {
+fn has_same_hull(
+    rt: &impl Abort,
+    alloc: Global,
+    bucket: &Bucket,
+    plain: &PlainSet,
+) -> Result<bool, AllocError> {
     let run = Run::new(bucket);
-    let mut alike = area2(run) == plain.area2();
+    let mut alike = area_of(rt, run) == plain.area2();
     for x in -1i64..2 {
         for y in -1i64..2 {
             if let Ok(d) = Direction::new(x, y) {
@@ -207,38 +250,54 @@ fn runs_answer_alike(
     rt: &impl Abort,
     alloc: Global,
     changes: u32,
-    half: u32,
+    half: u16,
 ) -> Result<bool, AllocError> {
     let mut numbers = Numbers::new();
     let mut bucket = Bucket::new(at(rt, 0, 0), 1);
     let mut alike = true;
     for round in 0..changes {
-        let (x, y) = (
-            numbers.next() % (2 * half + 1),
-            numbers.next() % (2 * half + 1),
-        );
-        bucket = change(bucket, at(rt, centred(x, half), centred(y, half)), true);
+        let p = at(rt, numbers.coordinate(half), numbers.coordinate(half));
+        bucket = change(bucket, p, true);
         if round % 4 == 0 {
-            let plain = plain_of(alloc, &bucket);
-            alike = has_same_hull(alloc, &bucket, &plain)? && alike;
-            for _ in 0..8 {
-                let (x, y) = (
-                    numbers.next() % (2 * half + 3),
-                    numbers.next() % (2 * half + 3),
-                );
-                let q = at(rt, centred(x, half + 1), centred(y, half + 1));
-                alike = has_same_sight(&bucket, &plain, q) && alike;
-            }
-            drop(plain);
+            alike = answers_alike(rt, alloc, &mut numbers, &bucket, half)? && alike;
         }
-        if bucket.points().len() > 1 {
-            let second = bucket.split();
-            alike = bridges_are_right(&bucket, &second) && alike;
-            bucket.merge(&second);
-            alike = is_right(&bucket) && alike;
-        }
+        alike = parts_and_merges(&mut bucket) && alike;
     }
     Ok(alike)
+}
+
+/// Whether a bucket's run answers as a plain set of all its points, also about eight random points of a square.
+fn answers_alike(
+    rt: &impl Abort,
+    alloc: Global,
+    numbers: &mut Numbers,
+    bucket: &Bucket,
+    half: u16,
+) -> Result<bool, AllocError> {
+    let plain = plain_of(alloc, bucket);
+    let mut alike = has_same_hull(rt, alloc, bucket, &plain)?;
+    for _ in 0..8 {
+        let q = at(rt, around(numbers, half), around(numbers, half));
+        alike = has_same_sight(bucket, &plain, q) && alike;
+    }
+    Ok(alike)
+}
+
+/// A coordinate whose distance from 0 is greater than `half` by 1 at most.
+fn around(numbers: &mut Numbers, half: u16) -> i64 {
+    numbers.coordinate(half.saturating_add(1))
+}
+
+/// Parts a bucket of several points, and merges its halves. Whether their bridges are those of all their points, and the bucket is
+/// right afterwards.
+fn parts_and_merges(bucket: &mut Bucket) -> bool {
+    if bucket.points().len() < 2 {
+        return true;
+    }
+    let second = parted(bucket);
+    let right = bridges_are_right(bucket, &second);
+    bucket.merge(&second);
+    is_right(bucket) && right
 }
 
 #[test]
@@ -268,15 +327,19 @@ fn worked_example(rt: HostRuntime) {
     for (x, y) in [(4, 0), (2, 3), (2, 1)] {
         let p = at(&rt, x, y);
         if let Err(place) = bucket.place_of(p) {
-            bucket.insert(place, p, 1);
+            if bucket.points().len() < ROOM {
+                bucket.insert(place, p, 1);
+            }
         }
     }
     let chains = (bucket.corners(Side::Lower), bucket.corners(Side::Upper));
     let up = Direction::new(0, 1);
     let highest = up.map(|d| extreme(Run::new(&bucket), d));
-    let second = bucket.split();
-    let parted = (bucket.points().len(), second.corners(Side::Upper));
-    let bridge = both_bridges(Run::new(&bucket), Run::new(&second)).0.0;
+    assert!(rt; bucket.points().len() > 1);
+    let second = parted(&mut bucket);
+    let halves = (bucket.points().len(), second.corners(Side::Upper));
+    let found = both_found(Run::new(&bucket), Run::new(&second));
+    let bridge = found.map(|(upper, _)| upper.0);
     assert!(rt; chains == (0b1001, 0b1101) && highest == Ok(at(&rt, 2, 3)));
-    assert!(rt; parted == (2, 0b11) && bridge == (at(&rt, 0, 0), at(&rt, 2, 3)));
+    assert!(rt; halves == (2, 0b11) && bridge == Some((at(&rt, 0, 0), at(&rt, 2, 3))));
 }

@@ -1,5 +1,5 @@
 //! A settled set and the set that it is made of under the same changes, asked as often as it takes to know the corners, and not.
-use crate::numbers::{Numbers, centred};
+use crate::numbers::Numbers;
 use bucket_tree::BucketTree;
 use hull_set::{HullSet, POINT_LIMIT};
 use lattice::{Direction, Point};
@@ -31,6 +31,16 @@ impl Sets {
         }
     }
 
+    /// Counts a question, and returns `known`, one higher if the corners are known after that.
+    fn settled_again(&mut self, known: u32) -> u32 {
+        self.settled.settle();
+        if self.settled.corners().is_some() {
+            known.saturating_add(1)
+        } else {
+            known
+        }
+    }
+
     /// Whether all that one can ask is answered alike, and the corners, where they are known, are those of the tree.
     fn are_alike(&self, q: Point, d: Direction) -> bool {
         let (settled, tree) = (&self.settled, &self.tree);
@@ -50,24 +60,27 @@ impl Sets {
     }
 }
 
+/// A point of a square of that half width, the point with its coordinates exchanged, and a direction.
+fn drawn(numbers: &mut Numbers, half: u16) -> Result<(Point, Point, Direction), Fail> {
+    let (right, up) = (numbers.coordinate(half), numbers.coordinate(half));
+    let p = Point::new(right, up)?;
+    let q = Point::new(up, right)?;
+    let (across, along) = (numbers.next() % 2, numbers.next() % 4);
+    let d = Direction::new(1 - 2 * i64::from(across), 2 - i64::from(along))?;
+    Ok((p, q, d))
+}
+
 /// Makes so many changes in a square of that half width, a question after each third; in how many of these the corners were known, if
 /// all were answered alike.
-fn known_among(alloc: Global, half: u32, changes: u32) -> Result<Option<u32>, Fail> {
+fn known_among(alloc: Global, half: u16, changes: u32) -> Result<Option<u32>, Fail> {
     let mut sets = Sets::new(alloc);
     let mut numbers = Numbers::new();
     let mut known = 0;
     for step in 0..changes {
-        let right = numbers.next().checked_rem(2 * half + 1).unwrap_or(0);
-        let up = numbers.next().checked_rem(2 * half + 1).unwrap_or(0);
-        let (p, q) = (
-            Point::new(centred(right, half), centred(up, half))?,
-            Point::new(centred(up, half), centred(right, half))?,
-        );
-        let d = Direction::new(1 - 2 * i64::from(up % 2), 2 - i64::from(right % 4))?;
+        let (p, q, d) = drawn(&mut numbers, half)?;
         let mut alike = sets.change(p, numbers.next() % 8 < 5);
         if step % 3 == 0 {
-            sets.settled.settle();
-            known += u32::from(sets.settled.corners().is_some());
+            known = sets.settled_again(known);
             alike = sets.are_alike(q, d) && alike;
         }
         if !alike {
@@ -91,19 +104,26 @@ fn many_points_are_answered_alike(rt: HostRuntime) -> Result<(), Fail> {
     Ok(())
 }
 
+/// Counts questions, at most 1000, until the corners are known. How many that took.
+fn asked_until_known(settled: &mut Settled<BucketTree>) -> u32 {
+    for asked in 0u32..1000 {
+        if settled.corners().is_some() {
+            return asked;
+        }
+        settled.settle();
+    }
+    1000
+}
+
 // 300 corners are known from the question on at which twice its number is as many.
 #[test]
 fn corners_are_known_after_so_many_questions(rt: HostRuntime) -> Result<(), Fail> {
     let mut sets = Sets::new(rt.alloc());
     for k in 0i64..300 {
-        let alike = sets.change(Point::new(k, k * k)?, true);
+        let alike = sets.change(Point::new(k, k.wrapping_mul(k))?, true);
         assert!(rt; alike);
     }
-    let mut asked = 0;
-    while sets.settled.corners().is_none() && asked < 1000 {
-        sets.settled.settle();
-        asked += 1;
-    }
+    let asked = asked_until_known(&mut sets.settled);
     assert_eq!(rt; asked, 256);
     let inside = sets.change(Point::new(10, 150)?, true);
     assert!(rt; inside && sets.settled.corners().is_some());

@@ -4,7 +4,7 @@ mod beside_plain;
 mod both;
 mod extends;
 mod loads;
-mod turns;
+pub(crate) mod turns;
 
 use hull_set::{AddReply, HullSet, MULTIPLICITY_LIMIT, NoMemory, POINT_LIMIT, RemoveReply};
 use hull_tree::{HullTree, Node, trees_are_sound};

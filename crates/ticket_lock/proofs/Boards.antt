@@ -1,6 +1,6 @@
 -- Each step of the running lock is an event, or lies outside.
 use Rattle.std.proofs.lemmas.Grind.{common_steps}
-use Rattle.std.proofs.Common.{◌≡◌, ◌≢◌, ℕ, zero, suc, ◌+◌, ◌⊎◌, Bool, true, false, List, [], ◌∷◌, ◌++◌, length}
+use Rattle.std.proofs.Common.{◌≡◌, ◌≢◌, ℕ, zero, suc, ◌+◌, ◌<◌, ◌⊎◌, Bool, true, false, List, [], ◌∷◌, ◌++◌, length}
 use Rattle.std.proofs.Common.{get_or, set, sym, refl, ap, ◌∙◌, subst, inl, inr, ⊎_elim, arith}
 use Rattle.std.specs.Prelude as std
 use mathlib.Core.Logic.{dite}
@@ -23,14 +23,20 @@ use Rattle.ticket_lock.specs.Standing.{nobody, shelf, Standing, took, looked}
 use Rattle.ticket_lock.specs.Standing.{gave}
 use Rattle.ticket_lock.specs.Boards.{Board, Sight, Steps, IsJust, shows, LeadsBy, TakesAreEvents}
 use Rattle.ticket_lock.specs.Boards.{LooksAreEvents, HandOnsAreEvents, IsOpen, CutsComeBefore, JoinsComeAfter}
-use Rattle.ticket_lock.specs.Boards.{NobodyComesIn, EventsStayInside, NothingHappensOutside, WordZeroIsTurn, TurnIsNext}
+use Rattle.ticket_lock.specs.Boards.{NobodyComesIn, EventsStayInside, NothingHappensOutside, PeeksChangeNothing}
+use Rattle.ticket_lock.specs.Boards.{WordZeroIsTurn}
 use Rattle.ticket_lock.proofs.Sums.{wrap_small, set_at, total_two, span_all}
 use Rattle.ticket_lock.proofs.Machine.{FormLaws, served, same_there, is_true, good_take, good_miss, good_enter, good_hand}
-use Rattle.ticket_lock.proofs.Seats.{unwrapped, ones, splits_ok, joins_ok, nobody_stands}
+use Rattle.ticket_lock.proofs.Seats.{ones, splits_ok, joins_ok, nobody_stands}
 use Rattle.ticket_lock.proofs.Steps.{one_book}
 
--- One slot, and who has it
+-- a word that is written over by itself
+set_own : (ws : List ℕ) (i : ℕ) → i < length ws → set ws i (get_or ws i 0) ≡ ws
+set_own [] i inside = absurd (omega arith)
+set_own (w ∷ ws) zero inside = refl
+set_own (w ∷ ws) (suc i) inside = ap (λ (z : List ℕ). w ∷ z) (set_own ws i (omega arith))
 
+-- One slot, and who has it
 module _ {S : Type 0} (y : S) where
   -- the one slot is at home with y, or the seat has it
   abbrev OneSlot : List (Option S) → List (ℕ × S) → Type 0
@@ -337,14 +343,14 @@ module _ {B H L : Type 0} (K : Ghosts B H L) (F : Form) where
 
   -- each cut comes before
   pub cuts_come : CutsComeBefore K F
-  cuts_come n opening s r id (Keeper (m ∷ ms)) at is = (
+  cuts_come n opening s r id (Keeper (m ∷ ms)) at at_zero is = (
     not_open (shows K F s r) id m ms at,
     (splits_ok K F n opening id m ms s r at, refl, refl, refl, refl, refl),
   )
-  cuts_come n opening s r id (Keeper []) at is = absurd (omega arith)
-  cuts_come n opening s r id (Idle m) at is = absurd (omega arith)
-  cuts_come n opening s r id (Waiting m t k) at is = absurd (omega arith)
-  cuts_come n opening s r id (Holding m t) at is = absurd (omega arith)
+  cuts_come n opening s r id (Keeper []) at at_zero is = absurd (omega arith)
+  cuts_come n opening s r id (Idle m) at at_zero is = absurd (omega arith)
+  cuts_come n opening s r id (Waiting m t k) at at_zero is = absurd (omega arith)
+  cuts_come n opening s r id (Holding m t) at at_zero is = absurd (omega arith)
 
   -- each join comes after
   pub joins_come : JoinsComeAfter K F
@@ -419,14 +425,10 @@ module _ {B H L : Type 0} (K : Ghosts B H L) (F : Form) where
         laws.next_shown r.next r.serving s.words g.words.shows ∙ (next ∙ sym g.book.turn),
       )
 
-  -- the book at home
-  shelved_one : (b c : B) → shelf true b ≡ shelf true c → b ≡ c
-  shelved_one b c e = grind (arith, common_steps, unwrapped)
-
-  -- the same of a book that is known to be at home
-  pub turn_is_next : FormLaws F → (n : ℕ) (opening b : B) → TurnIsNext K F n opening b
-  turn_is_next laws n opening b s r none_out at_home = let z = word_zero laws n opening s r none_out in
-      z.1 ∙ ap K.turn (shelved_one r.current b (sym z.0 ∙ at_home))
+  -- a load changes nothing
+  pub peeks_change_nothing : PeeksChangeNothing K F
+  peeks_change_nothing s i inside = let same = set_own s.words i inside in
+      ap (λ (z : List ℕ). let t : Board B H L = record { words = z; homes = s.homes; views = s.views } in t) same
 
   -- a keeper with no seat changes nothing
   pub nobody_comes : NobodyComesIn K F

@@ -5,6 +5,7 @@ pub mod Seats
 pub mod Worlds
 pub mod Schedules
 pub mod Linear
+pub mod Beginnings
 pub mod Steps
 pub mod Boards
 pub mod Guards

@@ -11,14 +11,13 @@ use Rattle.atomic_table.proofs.Lists.{at_longer, at_last}
 use Rattle.ticket_lock.specs.declared.chronicle.Chronicle.{Ghosts}
 use Rattle.ticket_lock.specs.declared.seat_state.Memo.{Memo}
 use Rattle.ticket_lock.specs.declared.seat_state.SeatState.{SeatState}
-use Rattle.ticket_lock.specs.declared.seat_state.SeatState.TheVariants.{Idle, Waiting, Holding}
+use Rattle.ticket_lock.specs.declared.seat_state.SeatState.TheVariants.{Keeper, Idle, Waiting, Holding}
 use Rattle.ticket_lock.specs.World.{Form, World, Event, takes, misses, enters, hands_on, memo, shown, out, HandsOn}
 use Rattle.ticket_lock.specs.World.{taken, missed, entered, handed, Happens, Good}
-use Rattle.ticket_lock.specs.Schedule.{idle_from, Opened, Runs}
+use Rattle.ticket_lock.specs.Schedule.{idle_from, nobodies, Opened, Runs}
 use Rattle.ticket_lock.specs.Linearizable.{book_after, journal_after, Call, FoundFull, HeadTellsCapacity, Linearizable}
-use Rattle.ticket_lock.specs.Standing.{seat_of}
 use Rattle.ticket_lock.proofs.Sums.{snoc_at, at_below}
-use Rattle.ticket_lock.proofs.Schedules.{good_opened}
+use Rattle.ticket_lock.proofs.Schedules.{each_idle, good_opened}
 use Rattle.ticket_lock.proofs.Machine.{FormLaws, seats_stay, good_take, good_miss, good_enter, good_hand}
 
 module _ {A : Type 0} where
@@ -43,14 +42,22 @@ module _ {A : Type 0} where
   no_longer xs x e = some-ne-none x (sym (at_last xs x (length xs) refl) ∙ (ap (λ (z : List A).
       get_elem? z (length xs)) (sym e) ∙ at_end xs))
 
-module _ {H L : Type 0} (h : H) (xs : List L) where
-  -- an idle seat of an opened world is the one of its place, and has no number
-  idle_named : (k c j : ℕ) (v : SeatState H L) → get_elem? (idle_from h xs k c) j ≡ some v → (seat_of v ≡ k + j)
-      × (out v ≡ 0)
-  idle_named k zero j v e = absurd (some-ne-none v (sym e))
-  idle_named k (suc c) zero v e = let same : Idle (memo k h xs) ≡ v = some-injective (Idle (memo k h xs)) v e in
-      (ap seat_of (sym same) ∙ omega arith, ap out (sym same))
-  idle_named k (suc c) (suc j) v e = let i = idle_named (suc k) c j v e in (i.0 ∙ omega arith, i.1)
+module _ {H L : Type 0} where
+  -- which seat it is, and for a keeper j
+  abbrev seat_or : ℕ → SeatState H L → ℕ
+  seat_or j (Keeper ms) = j
+  seat_or j (Idle m) = m.seat
+  seat_or j (Waiting m t looks) = m.seat
+  seat_or j (Holding m t) = m.seat
+
+  -- a seat of an opened world is the one of its place, and has no number
+  idle_named : (h : H) (xs : List L) (c d j : ℕ) (v : SeatState H L)
+      → get_elem? (idle_from h xs 0 c ++ nobodies d) j ≡ some v → (seat_or j v ≡ j) × (out v ≡ 0)
+  idle_named h xs c d j v e = ⊎_elim
+      (λ (i : (i : ℕ) × (Idle (memo i h xs) ≡ v) × (i ≡ 0 + j)).
+      (ap (seat_or j) (sym i.1) ∙ (i.2 ∙ omega arith), ap out (sym i.1)))
+      (λ (s : Keeper [] ≡ v). (ap (seat_or j) (sym s), ap out (sym s)))
+      (each_idle h xs 0 c d j v e)
 
 module _ {B H L : Type 0} (K : Ghosts B H L) where
   -- the book after all events
@@ -173,7 +180,7 @@ module _ {B H L : Type 0} (K : Ghosts B H L) (F : Form) (laws : FormLaws F) (n :
   record Past (es : List (Event B)) (w : World B H L) : Type 0 where
     good : (q : List ℕ) × Good K F n b w q
     book : last_book K b es ≡ w.current
-    named : (j : ℕ) (v : SeatState H L) → get_elem? w.seats j ≡ some v → seat_of v ≡ j
+    named : (j : ℕ) (v : SeatState H L) → get_elem? w.seats j ≡ some v → seat_or j v ≡ j
     begun : (j : ℕ) (v : SeatState H L) → get_elem? w.seats j ≡ some v → out v ≡ 1 → Begun K es j
     each_call : (k i r p : ℕ) (l : L) → Call K b es k i r p l → (get_elem? (K.lines w.current) p ≡ some l)
         × (K.line_seat l ≡ k)
@@ -194,7 +201,7 @@ module _ {B H L : Type 0} (K : Ghosts B H L) (F : Form) (laws : FormLaws F) (n :
   -- an event that is no hand on adds no call
   quiet : (es : List (Event B)) (e : Event B) (w v : World B H L) → ((k : ℕ) (c : B) → e ≡ hands_on k c → ⊥)
       → ((c : B) → book_after e c ≡ c) → v.current ≡ w.current → Past es w
-      → (q : List ℕ) → Good K F n b v q → ((j : ℕ) (x : SeatState H L) → get_elem? v.seats j ≡ some x → seat_of x ≡ j)
+      → (q : List ℕ) → Good K F n b v q → ((j : ℕ) (x : SeatState H L) → get_elem? v.seats j ≡ some x → seat_or j x ≡ j)
       → ((j : ℕ) (x : SeatState H L) → get_elem? v.seats j ≡ some x → out x ≡ 1 → Begun K (es ++ e ∷ []) j)
       → Past (es ++ e ∷ []) v
   unfolding call_less full_less
@@ -245,11 +252,11 @@ module _ {B H L : Type 0} (K : Ghosts B H L) (F : Form) (laws : FormLaws F) (n :
       }
 
   -- a seat keeps its number where another view of that seat stands in its place
-  named_stays : (w : World B H L) (j : ℕ) (new : SeatState H L) → seat_of new ≡ j → ((k : ℕ) (v : SeatState H L)
-      → get_elem? w.seats k ≡ some v → seat_of v ≡ k)
-      → (k : ℕ) (v : SeatState H L) → get_elem? (set w.seats j new) k ≡ some v → seat_of v ≡ k
+  named_stays : (w : World B H L) (j : ℕ) (new : SeatState H L) → seat_or j new ≡ j → ((k : ℕ) (v : SeatState H L)
+      → get_elem? w.seats k ≡ some v → seat_or k v ≡ k)
+      → (k : ℕ) (v : SeatState H L) → get_elem? (set w.seats j new) k ≡ some v → seat_or k v ≡ k
   named_stays w j new is all =
-      seats_stay (λ k v. seat_of v ≡ k) (λ k v. seat_of v ≡ k) w.seats j new is (λ k v _ _ same. same) all
+      seats_stay (λ k v. seat_or k v ≡ k) (λ k v. seat_or k v ≡ k) w.seats j new is (λ k v _ _ same. same) all
 
   -- each seat that has a number has begun, after an event of the seat j that is no hand on of another
   begun_stays : (es : List (Event B)) (e : Event B) (w : World B H L) (j : ℕ) (new : SeatState H L) → (out new ≡ 1
@@ -607,9 +614,9 @@ module _ {B H L : Type 0} (K : Ghosts B H L) (F : Form) (laws : FormLaws F) (n :
   past_none w o = record {
     good = ([], good_opened K F laws n b w o);
     book = sym o.current;
-    named = λ j v at. let i = idle_named (K.head b) (K.lines b) 0 n j v (subst (λ (z : List (SeatState H L)).
-        get_elem? z j ≡ some v) o.seats at) in i.0 ∙ omega arith;
-    begun = λ j v at is. let i = idle_named (K.head b) (K.lines b) 0 n j v (subst (λ (z : List (SeatState H L)).
+    named = λ j v at. (idle_named (K.head b) (K.lines b) n o.keepers j v (subst (λ (z : List (SeatState H L)).
+        get_elem? z j ≡ some v) o.seats at)).0;
+    begun = λ j v at is. let i = idle_named (K.head b) (K.lines b) n o.keepers j v (subst (λ (z : List (SeatState H L)).
         get_elem? z j ≡ some v) o.seats at) in let none_out = i.1 in absurd (omega arith);
     each_call = λ k i r p l c. absurd (some-ne-none (hands_on k c.ends.0) (sym c.ends.1));
     each_line = λ p l past at. let below = at_below (K.lines w.current) p l at in let same = ap (λ (z : B).

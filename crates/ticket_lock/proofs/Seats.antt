@@ -79,11 +79,11 @@ module _ {H L : Type 0} where
       → keeper_of h xs k (c - k) ≡ Keeper (memo k h xs ∷ memos_from h xs (k + 1) (c - (k + 1)))
   keeper_step h xs k c less = grind (arith, common_steps, suc, keeper_of, memo, memos_from)
 
--- the working form of a lock's end, with the seats that came back
-abbrev pub Ended : {B H L : Type 0} → Ghosts B H L → Form → ℕ → B → List (SeatState H L) → B → Type 0
-Ended {B} {H} {L} K F n opening given b =
+-- the working form of a lock's end, with the seats that came back and the words of the table
+abbrev pub Ended : {B H L : Type 0} → Ghosts B H L → Form → ℕ → B → List (SeatState H L) → B → List ℕ → Type 0
+Ended {B} {H} {L} K F n opening given b ws =
     (w : World B H L) × Good K F n opening w [] × (w.home ≡ true) × (w.current ≡ b) × (w.next ≡ K.turn b)
-    × (w.seats ≡ given)
+    × (w.seats ≡ given) × (w.words ≡ ws)
 
 module _ {H L : Type 0} where
   -- idle seats have no number
@@ -149,14 +149,14 @@ module _ {B H L : Type 0} (K : Ghosts B H L) (F : Form) (n : ℕ) (opened : B) w
     shelved = r.shelved;
   }
 
-  -- a keeper that gives its first seat away keeps the rule
-  abbrev pub splits_ok : (id : ℕ) (m : Memo H L) (ms : List (Memo H L)) → Splits Rule id (Keeper (m ∷ ms)) (Keeper ms) (Idle m)
+  -- a keeper that becomes its first seat, and gives the others to another one, keeps the rule
+  abbrev pub splits_ok : (id : ℕ) (m : Memo H L) (ms : List (Memo H L)) → Splits Rule id (Keeper (m ∷ ms)) (Idle m) (Keeper ms)
   splits_ok id m ms s r at =
       let old : SeatState H L = Keeper (m ∷ ms) in
-      let new : SeatState H L = Keeper ms in
+      let new : SeatState H L = Idle m in
       let g = r.good in
       let mine = g.seats.each_seat id old at in
-      let right : List (SeatState H L) = Idle m ∷ [] in with_views s (set s.views id new ++ right) r record {
+      let right : List (SeatState H L) = Keeper ms ∷ [] in with_views s (set s.views id new ++ right) r record {
         queued = λ i k e. let v = queue_beside s.views r.serving r.queue id old new tt at g.seats.queued i k e in
             (v.0, at_longer (set s.views id new) right k v.0 v.1, v.2);
         counted = let p = total_set out s.views id old new at in let q =
@@ -166,11 +166,11 @@ module _ {B H L : Type 0} (K : Ghosts B H L) (F : Form) (n : ℕ) (opened : B) w
         each_seat = λ j v e. ⊎_elim
             (λ (t : get_elem? (set s.views id new) j ≡ some v). seats_stay
             (Knows K opened r.current r.home r.serving r.queue)
-            (Knows K opened r.current r.home r.serving r.queue) s.views id new (λ a x e. mine (suc a) x e)
+            (Knows K opened r.current r.home r.serving r.queue) s.views id new (mine 0 m refl)
             (λ k u _ _ same. same) g.seats.each_seat j v t)
-            (λ (t : (j ≡ length (set s.views id new)) × (Idle m ≡ v)). subst
-            (Knows K opened r.current r.home r.serving r.queue j) t.1 (mine 0 m refl))
-            (snoc_at (set s.views id new) (Idle m) v j e);
+            (λ (t : (j ≡ length (set s.views id new)) × (Keeper ms ≡ v)). subst
+            (Knows K opened r.current r.home r.serving r.queue j) t.1 (λ a x e. mine (suc a) x e))
+            (snoc_at (set s.views id new) (Keeper ms) v j e);
         away = λ out. let a = holder_beside s.views id old new tt at (g.seats.away out) in
             (a.0, a.1, a.2, at_longer (set s.views id new) right a.0 (Holding a.1 a.2) a.3);
       }
@@ -271,7 +271,7 @@ module _ {B H L : Type 0} (K : Ghosts B H L) (F : Form) (n : ℕ) (opened : B) w
   pub closes_ok : (id : ℕ) (ms : List (Memo H L)) (ws : List ℕ) (xs : List (std.Option B)) → length ms ≡ n
       → Final (Seen Rule id (Keeper ms)) ws xs
       → (b : B) × (get_elem? xs 0 ≡ some (std.Some b)) × K.lawful b × (K.head b ≡ K.head opened)
-      × Ended K F n opened (idles ms) b
+      × Ended K F n opened (idles ms) b ws
       × ((a : ℕ) (m : Memo H L) → get_elem? ms a ≡ some m → Remembers K opened b m)
   closes_ok id ms ws xs long f =
       let s = f.0 in
@@ -329,6 +329,7 @@ module _ {B H L : Type 0} (K : Ghosts B H L) (F : Form) (n : ℕ) (opened : B) w
           refl,
           next ∙ sym g.book.turn,
           refl,
+          f.2,
         ),
         mine,
       )
@@ -336,7 +337,7 @@ module _ {B H L : Type 0} (K : Ghosts B H L) (F : Form) (n : ℕ) (opened : B) w
   -- the same of any keeper, and of what came out of the slot
   pub closes_from : (id seats : ℕ) (v : SeatState H L) (ws : List ℕ) (xs : List (std.Option B)) (r : std.Option B)
       → stage_of v ≡ 0 → length (memos_of v) ≡ n → Final (Seen Rule id v) ws xs → get_elem? xs 0 ≡ some r
-      → (b : B) × (r ≡ std.Some b) × K.lawful b × (K.head b ≡ K.head opened) × Ended K F n opened (idles (memos_of v)) b
+      → (b : B) × (r ≡ std.Some b) × K.lawful b × (K.head b ≡ K.head opened) × Ended K F n opened (idles (memos_of v)) b ws
       × ((a : ℕ) (m : Memo H L) → get_elem? (memos_of v) a ≡ some m → Remembers K opened b m)
   closes_from id seats (Keeper ms) ws xs r is long f at = let c = closes_ok id ms ws xs long f in
       (c.0, some-injective r (std.Some c.0) (sym at ∙ c.1), c.2, c.3, c.4, c.5)
@@ -348,11 +349,11 @@ module _ {B H L : Type 0} (K : Ghosts B H L) (F : Form) (n : ℕ) (opened : B) w
   pub closed_book : (id seats : ℕ) (v : SeatState H L) (ws : List ℕ) (xs : List (std.Option B)) (r : std.Option B)
       (b : B) → stage_of v ≡ 0 → length (memos_of v) ≡ n → Final (Seen Rule id v) ws xs → get_elem? xs 0 ≡ some r
       → r ≡ std.Some b
-      → K.lawful b × (K.head b ≡ K.head opened) × Ended K F n opened (idles (memos_of v)) b
+      → K.lawful b × (K.head b ≡ K.head opened) × Ended K F n opened (idles (memos_of v)) b ws
       × ((a : ℕ) (m : Memo H L) → get_elem? (memos_of v) a ≡ some m → Remembers K opened b m)
   closed_book id seats v ws xs r b is long f at found = let c = closes_from id seats v ws xs r is long f at in
       let same : c.0 ≡ b = unwrapped c.0 b (sym c.1 ∙ found) in
-      subst (λ (z : B). K.lawful z × (K.head z ≡ K.head opened) × Ended K F n opened (idles (memos_of v)) z
+      subst (λ (z : B). K.lawful z × (K.head z ≡ K.head opened) × Ended K F n opened (idles (memos_of v)) z ws
       × ((a : ℕ) (m : Memo H L) → get_elem? (memos_of v) a ≡ some m → Remembers K opened z m)) same
       (c.2, c.3, c.4, c.5)
 
@@ -364,16 +365,16 @@ module _ {B H L : Type 0} (K : Ghosts B H L) (F : Form) (n : ℕ) (opened : B) w
   opens_from turn seats ws value items shows size lawful small is count same laid = grind (arith, common_steps, opening, keeper_of, opens_ok)
 
 module _ {S H L : Type 0} where
-  -- the keeper after a seat was cut off it
+  -- the keeper of the seats that are left, after one was cut
   pub cut_keeper : (h : H) (xs : List L) (k c : ℕ) (old new : Me S (SeatState H L))
-      → old ≡ (keeper_of h xs k (c - k), []) → k < c → new ≡ (left_of old.0, old.1)
+      → old ≡ (keeper_of h xs k (c - k), []) → k < c → new ≡ (right_of old.0, [])
       → new ≡ (keeper_of h xs (k + 1) (c - (k + 1)), [])
-  cut_keeper h xs k c old new is less told = grind (arith, common_steps, left_of, keeper_step)
+  cut_keeper h xs k c old new is less told = grind (arith, common_steps, right_of, keeper_step)
 
-  -- the seat that was cut off
+  -- the seat that the keeper became
   pub cut_seat : (h : H) (xs : List L) (k c : ℕ) (old new : Me S (SeatState H L)) → old ≡ (keeper_of h xs k (c - k), [])
-      → k < c → new ≡ (right_of old.0, []) → new ≡ (Idle (memo k h xs), [])
-  cut_seat h xs k c old new is less told = grind (arith, common_steps, right_of, keeper_step)
+      → k < c → new ≡ (left_of old.0, old.1) → new ≡ (Idle (memo k h xs), [])
+  cut_seat h xs k c old new is less told = grind (arith, common_steps, left_of, keeper_step)
 
   -- a view that is an idle seat of number k
   pub is_idle : (m : Memo H L) (k : ℕ) (me : Me S (SeatState H L)) → me ≡ (Idle m, []) → m.seat ≡ k

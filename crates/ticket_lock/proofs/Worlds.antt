@@ -1,6 +1,6 @@
 -- A world that stands under the invariant is good.
-use Rattle.std.proofs.Common.{◌≡◌, ℕ, zero, suc, ◌+◌, ◌^◌, ◌<◌, ◌≤◌, true, List, [], ◌∷◌, length, sym, refl, ap, ◌∙◌}
-use Rattle.std.proofs.Common.{subst, arith, true≢false}
+use Rattle.std.proofs.Common.{◌≡◌, ℕ, zero, suc, ◌+◌, ◌<◌, List, [], ◌∷◌, length, sym, refl, ap, ◌∙◌}
+use Rattle.std.proofs.Common.{get_or, subst, arith, true≢false}
 use mathlib.Core.Logic.{dite}
 use mathlib.Core.Option.{some, some-injective, some-ne-none}
 use native.Mathlib.Decide.{ℕ_discrete}
@@ -11,7 +11,6 @@ use Rattle.ticket_lock.specs.declared.seat_state.SeatState.{SeatState}
 use Rattle.ticket_lock.specs.declared.seat_state.SeatState.TheVariants.{Keeper, Idle, Waiting, Holding}
 use Rattle.ticket_lock.specs.World.{Form, World, wrap, memos, HasNumber, Remembers, Knows, Good}
 use Rattle.ticket_lock.specs.GoodWorld.{Owns, GoodWorld, Shut}
-use Rattle.ticket_lock.specs.Schedule.{idle_from, Begins}
 use Rattle.ticket_lock.specs.Standing.{RestingTablesAreGood, world_of}
 use Rattle.ticket_lock.proofs.Seats.{Ended}
 use Rattle.ticket_lock.proofs.Sums.{wrap_small, one_place, at_below}
@@ -82,43 +81,30 @@ module _ {B H L : Type 0} (K : Ghosts B H L) (F : Form) (laws : FormLaws F) (n :
     own_lines = λ j m s. (remembered j s.1 m s.0 (g.seats.each_seat j s.0 s.2) s.3).own_lines;
   }
 
+-- the first of some words
+first_word : (ws : List ℕ) (t : ℕ) → get_elem? ws 0 ≡ some t → get_or ws 0 0 ≡ t
+first_word [] t there = absurd (some-ne-none t (sym there))
+first_word (w ∷ ws) t there = some-injective w t there
+
 module _ {B H L : Type 0} (K : Ghosts B H L) (F : Form) (laws : FormLaws F) where
   -- a lock that ends in the working form has ended well
-  pub shut : (n : ℕ) (opening : B) (given back : List (SeatState H L)) (b : B) → Ended K F n opening given b
-      → back ≡ given
-      → Shut K F opening back b
-  shut n opening given back b e same = record {
-    world = e.0;
-    good = good_world K F laws n opening e.0 [] e.1;
-    seats = e.5 ∙ sym same;
-    none_out = λ j t o. let p = owner K F laws n opening e.0 [] e.1 j t o in some-ne-none j (sym p.1);
-    home = e.2;
-    current = e.3;
-  }
+  pub shut : (n : ℕ) (opening : B) (given back : List (SeatState H L)) (b : B) (ws : List ℕ) (t : ℕ)
+      → Ended K F n opening given b ws → back ≡ given → get_elem? ws 0 ≡ some t → Shut K F opening back b t
+  shut n opening given back b ws t e same there =
+      let found : t ≡ e.0.next = sym (first_word ws t there)
+      ∙ (ap (λ (z : List ℕ). get_or z 0 0) (sym e.6) ∙ laws.next_shown e.0.next e.0.serving e.0.words e.1.words.shows) in
+      record {
+        world = e.0;
+        good = good_world K F laws n opening e.0 [] e.1;
+        seats = e.5 ∙ sym same;
+        none_out = λ j t o. let p = owner K F laws n opening e.0 [] e.1 j t o in some-ne-none j (sym p.1);
+        home = e.2;
+        current = e.3;
+        word = ap (λ (z : List ℕ). get_or z 0 0) e.6 ∙ first_word ws t there;
+        next = found ∙ e.4;
+      }
 
   -- whatever stands in the table under the rule shows a good world
   pub resting : RestingTablesAreGood K F
   resting n opening s r =
       (good_world K F laws n opening (world_of s r.next r.serving r.home r.current) r.queue r.good, r.shelved)
-
--- the seats that were cut off are those of an opened world
-pub begins : {B H L : Type 0} (K : Ghosts B H L) (F : Form) (n : ℕ) (b value : B) (ws : List ℕ)
-    (seats : List (SeatState H L))
-    → 0 < n → n ≤ 64 → K.lawful b → K.turn b < 2 ^ 64 → F.Shows (K.turn b) (K.turn b) ws → value ≡ b
-    → seats ≡ idle_from (K.head value) (K.lines value) 0 n → Begins K F n b seats
-begins K F n b value ws seats some_seats few lawful first shows same is = record {
-  world = record { words = ws; next = K.turn b; serving = K.turn b; seats = seats; home = true; current = b };
-  opened = record {
-    some_seats = some_seats;
-    few = few;
-    lawful = lawful;
-    first = first;
-    words = shows;
-    next = refl;
-    serving = refl;
-    seats = is ∙ ap (λ (z : _). idle_from (K.head z) (K.lines z) 0 n) same;
-    home = refl;
-    current = refl;
-  };
-  handed_out = refl;
-}

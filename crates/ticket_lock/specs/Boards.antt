@@ -1,6 +1,7 @@
 -- What the steps of the running lock do to its table: a take, a look and a hand on are each one event of the world that
--- the table shows, and every other step lies before all seats are handed out or after one has come back.
-use Rattle.std.specs.Prelude.{◌≡◌, ◌≢◌, ℕ, ◌+◌, true, List, [], ◌∷◌, ◌++◌, length, slice_index, slice_set}
+-- the table shows, every other step of a seat lies before all seats are handed out or after one has come back, and a load
+-- without a seat, which is made at any time, leaves the table as it is.
+use Rattle.std.specs.Prelude.{◌≡◌, ◌≢◌, ℕ, ◌+◌, ◌<◌, true, List, [], ◌∷◌, ◌++◌, length, slice_index, slice_set}
 use Rattle.std.specs.Prelude as std
 use mathlib.Core.Option.{some}
 use lib.ListN.{get_elem?}
@@ -84,10 +85,10 @@ module _ {B H L : Type 0} (K : Ghosts B H L) (F : Form) where
   abbrev pub IsOpen : World B H L → Type 0
   IsOpen w = (j : ℕ) (ms : List (Memo H L)) → get_elem? w.seats j ≡ some (Keeper ms) → ms ≡ []
 
-  -- A seat is cut off a keeper before the lock is open, and nothing else changes
+  -- A keeper becomes a seat, and another keeper has its other seats, before the lock is open, and nothing else changes
   abbrev pub CutsComeBefore : Type 0
   CutsComeBefore = (n : ℕ) (opening : B) (s : Board B H L) (r : Standing K F n opening s) (id : ℕ) (v : SeatState H L)
-      → get_elem? s.views id ≡ some v → stage_of (right_of v) ≡ 1
+      → get_elem? s.views id ≡ some v → stage_of v ≡ 0 → stage_of (left_of v) ≡ 1
       → (IsOpen (shows s r) → ⊥) × Regroups n opening (shows s r)
       record { words = s.words; homes = s.homes; views = slice_set s.views id (left_of v) ++ right_of v ∷ [] }
 
@@ -106,6 +107,11 @@ module _ {B H L : Type 0} (K : Ghosts B H L) (F : Form) where
       → Regroups n opening (shows s r)
       record { words = s.words; homes = s.homes; views = s.views ++ nobody ∷ [] }
 
+  -- A load without a seat, as by which a seat that waits estimates how far away its turn is, leaves the table as it is
+  abbrev pub PeeksChangeNothing : Type 0
+  PeeksChangeNothing = (s : Board B H L) (i : ℕ) → i < length s.words
+      → record { words = slice_set s.words i (slice_index s.words i); homes = s.homes; views = s.views } ≡ s
+
   -- An event leaves an open lock open, and one that is not open as it is
   abbrev pub EventsStayInside : Type 0
   EventsStayInside = (e : Event B) (w u : World B H L) → Happens K F e w u
@@ -122,9 +128,3 @@ module _ {B H L : Type 0} (K : Ghosts B H L) (F : Form) where
   WordZeroIsTurn n opening = (s : Board B H L) (r : Standing K F n opening s)
       → ((j t : ℕ) → Owns (shows s r) j t → ⊥)
       → (s.homes ≡ shelf true r.current) × (slice_index s.words 0 ≡ K.turn r.current)
-
-  -- Where a table under the rule has the book b at home and no seat has a number, word 0 is the turn of b: it is the
-  -- number that the next take would have had
-  abbrev pub TurnIsNext : ℕ → B → B → Type 0
-  TurnIsNext n opening b = (s : Board B H L) (r : Standing K F n opening s)
-      → ((j t : ℕ) → Owns (shows s r) j t → ⊥) → s.homes ≡ shelf true b → slice_index s.words 0 ≡ K.turn b

@@ -1,5 +1,5 @@
 -- The good world, in sentences over all seats.
-use Rattle.std.specs.Prelude.{◌≡◌, ℕ, ◌+◌, ◌<◌, ◌≤◌, true, false, List}
+use Rattle.std.specs.Prelude.{◌≡◌, ℕ, ◌+◌, ◌<◌, ◌≤◌, true, false, List, slice_index}
 use mathlib.Core.Option.{some}
 use mathlib.Core.List.{IsPrefix}
 use lib.ListN.{get_elem?}
@@ -48,11 +48,14 @@ module _ {B H L : Type 0} where
     pub own_lines : (j : ℕ) (m : Memo H L) → HasSeen w j m → own K m.seat (K.lines w.current) ≡ own K m.seat m.seen
 
   -- how a lock ends: in a good world whose seats are just those given back, none of which has a number, with the
-  -- book b at home
-  pub record Shut (K : Ghosts B H L) (F : Form) (opening : B) (given : List (SeatState H L)) (b : B) : Type 0 where
+  -- book b at home, and whose word 0 is t, which is the turn of b: the number that the next take would have had
+  pub record Shut (K : Ghosts B H L) (F : Form) (opening : B) (given : List (SeatState H L)) (b : B) (t : ℕ)
+      : Type 0 where
     pub world : World B H L
     pub good : GoodWorld K F opening world
     pub seats : world.seats ≡ given
     pub none_out : (j t : ℕ) → Owns world j t → ⊥
     pub home : world.home ≡ true
     pub current : world.current ≡ b
+    pub word : slice_index world.words 0 ≡ t
+    pub next : t ≡ K.turn b

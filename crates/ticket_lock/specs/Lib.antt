@@ -5,4 +5,5 @@ pub mod Schedule
 pub mod Linearizable
 pub mod Standing
 pub mod Tokens
+pub mod Beginnings
 pub mod Boards

@@ -61,8 +61,12 @@ module _ {B H L : Type 0} (K : Ghosts B H L) where
     pub room_grew : (k i r j a s p : ℕ) (l : L) (f : FoundFull b es k i r) (c : Call b es j a s p l) → r < s
         → K.capacity f.full.0 < K.capacity c.ends.0
 
+  -- the events es, which ended in the world u of a lock that was opened round the book b, are linearizable
+  abbrev pub HasLinearized : B → List (Event B) → World B H L → Type 0
+  HasLinearized b es u = K.lawful u.current × IsSequentialHistory b es (K.lines u.current)
+
   -- Every list of events from every opened world is linearizable: the journal that it leaves is lawful, and is a
   -- sequential history of its calls in an order that keeps the order of calls that do not overlap
   abbrev pub Linearizable : Form → Type 0
   Linearizable F = (n : ℕ) (b : B) (w u : World B H L) (es : List (Event B)) → Opened K F n b w → Runs K F es w u
-      → K.lawful u.current × IsSequentialHistory b es (K.lines u.current)
+      → HasLinearized b es u

@@ -89,14 +89,15 @@ module _ {H L : Type 0} where
   abbrev pub nobody : SeatState H L
   nobody = Keeper []
 
-  -- a keeper after its first seat was cut off
+  -- A keeper is cut: it becomes the first of its seats, so that each seat is at the place of its number, and a new keeper
+  -- has the others
   abbrev pub left_of : SeatState H L → SeatState H L
-  left_of (Keeper (m ∷ ms)) = Keeper ms
+  left_of (Keeper (m ∷ ms)) = Idle m
   left_of v = v
 
-  -- the seat that is cut off a keeper
+  -- the keeper of the others
   abbrev pub right_of : SeatState H L → SeatState H L
-  right_of (Keeper (m ∷ ms)) = Idle m
+  right_of (Keeper (m ∷ ms)) = Keeper ms
   right_of v = nobody
 
   -- a keeper that has taken in an idle seat

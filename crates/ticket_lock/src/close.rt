@@ -3,7 +3,6 @@ ghost use Rattle.std.specs.Prelude.{◌≡◌, ◌+◌, ◌<◌, [], length, All
 ghost use Rattle.ticket_lock.specs.Standing.{stage_of, memos_of, idles, IsIdle};
 ghost use Rattle.ticket_lock.specs.Forms.{partitioned_form};
 ghost use Rattle.ticket_lock.specs.GoodWorld.{Shut};
-ghost use Rattle.ticket_lock.specs.Boards.{TurnIsNext};
 ghost use Rattle.ticket_lock.specs.Tokens.{seat_count, opening_book, IsSeatOf, seat_state, seat_number, seat_seen};
 ghost use Rattle.ticket_lock.specs.Tokens.{Stands};
 
@@ -34,18 +33,32 @@ impl<B: Chronicle> TicketLock<B> {
     /// Ends the lock, and gives its book back. It asks for all seats of this lock, idle.
     ///
     /// The lock ends in a good world whose seats are those given back, all idle. The book is lawful, its head is that
-    /// at opening, and its turn is the number that the next take would have had: word 0 of whatever table stands under
-    /// the lock's rule with this book at home and no number out. Its journal begins with what each
-    /// seat has seen, and holds in each seat's name just the lines that the seat has seen in its name.
+    /// at opening, and its turn is word 0, the number that the next take would have had
+    /// ([`close_with_next`](TicketLock::close_with_next) returns that word). Its journal begins with what each seat has
+    /// seen, and holds in each seat's name just the lines that the seat has seen in its name.
     pub fn close(self, seats: Vec<Seat<B>>) -> B
         requires all { vec_len seats ≡ seat_count self }
         requires own { All (IsSeatOf B.head self) seats.items }
         ensures lawful { B.lawful result }
         ensures head { B.head result ≡ B.head (opening_book self) }
-        ensures next { TurnIsNext B.Chronicle partitioned_form (seat_count self) (opening_book self) result }
         ensures world { Shut B.Chronicle partitioned_form (opening_book self)
-            (map (λ s. seat_state s) seats.items) result }
+            (map (λ s. seat_state s) seats.items) result (B.turn result) }
         ensures seen { All (λ s. Stands B.Chronicle (seat_number s) (seat_seen s) result) seats.items }
+    {
+        let (book, _next) = self.close_with_next(seats);
+        book
+    }
+
+    /// Does what [`close`](TicketLock::close) does, and returns word 0 of the table beside the book, as the table had it
+    /// when it was taken apart: the number that the next take would have had, which is the book's turn.
+    pub fn close_with_next(self, seats: Vec<Seat<B>>) -> (B, u64)
+        requires all { vec_len seats ≡ seat_count self }
+        requires own { All (IsSeatOf B.head self) seats.items }
+        ensures lawful { B.lawful result.0 }
+        ensures head { B.head result.0 ≡ B.head (opening_book self) }
+        ensures world { Shut B.Chronicle partitioned_form (opening_book self)
+            (map (λ s. seat_state s) seats.items) result.0 result.1 }
+        ensures seen { All (λ s. Stands B.Chronicle (seat_number s) (seat_seen s) result.0) seats.items }
     {
         let TicketLock {
             board,
@@ -56,8 +69,9 @@ impl<B: Chronicle> TicketLock<B> {
         let mut keeper = board.shared.load_new_seat::<Sit>(0).1;
         gather(&board, &mut keeper, seats);
         let mut closed = board.close_with(keeper);
+        let next = closed.word(0);
         let book = closed.take(0).unwrap();
         closed.free();
-        book
+        (book, next)
     }
 }

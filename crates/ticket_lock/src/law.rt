@@ -6,7 +6,7 @@ ghost use Rattle.ticket_lock.specs.Forms.{first_form, partitioned_form};
 ghost use Rattle.ticket_lock.specs.Standing.{RestingTablesAreGood};
 ghost use Rattle.ticket_lock.specs.Boards.{TakesAreEvents, LooksAreEvents, HandOnsAreEvents, CutsComeBefore};
 ghost use Rattle.ticket_lock.specs.Boards.{JoinsComeAfter, NobodyComesIn, EventsStayInside, NothingHappensOutside};
-ghost use Rattle.ticket_lock.specs.Boards.{WordZeroIsTurn};
+ghost use Rattle.ticket_lock.specs.Boards.{PeeksChangeNothing, WordZeroIsTurn};
 
 use crate::chronicle::Chronicle;
 
@@ -53,15 +53,19 @@ pub fn steps_are_events<B: Chronicle>()
     ensures hand_ons { HandOnsAreEvents B.Chronicle partitioned_form }
 {}
 
-/// The other steps on that table change no word, no number and no book, and lie outside the time in which the lock is
-/// open, that is, in which no keeper has a seat: a seat is cut off a keeper before that time, and joined to one after
-/// it. Every event of an open lock leaves it open, and where one keeper has all seats nothing happens.
+/// The other steps of seats on that table change no word, no number and no book, and lie outside the time in which the
+/// lock is open, that is, in which no keeper has a seat: a keeper becomes a seat before that time, and a seat is joined
+/// to one after it. Every event of an open lock leaves it open, and if one keeper has all seats nothing happens.
+///
+/// While the lock is open, `TicketLock::enter` also loads words without a seat, to estimate how far away its turn is:
+/// such a load is no event. It leaves the table as it is, and no contract depends on what it found.
 pub fn other_steps_are_outside<B: Chronicle>()
     ensures before { CutsComeBefore B.Chronicle partitioned_form }
     ensures after { JoinsComeAfter B.Chronicle partitioned_form }
     ensures nobody { NobodyComesIn B.Chronicle partitioned_form }
     ensures inside { EventsStayInside B.Chronicle partitioned_form }
     ensures outside { NothingHappensOutside B.Chronicle partitioned_form }
+    ensures peeks { PeeksChangeNothing B.Chronicle partitioned_form }
 {}
 
 /// Where no seat of a standing table has a number, the book is at home, and word 0, where the next number is taken, is

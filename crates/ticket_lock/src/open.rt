@@ -2,7 +2,8 @@
 ghost use Rattle.std.specs.Prelude.{◌≡◌, ◌^◌, ◌<◌, ◌≤◌, ◌⊎◌, [], ◌∷◌, length, vec_len, vec_capacity, All, IfOk, IfErr};
 ghost use Rattle.std.specs.Prelude.{IsErrAnd, map};
 ghost use Rattle.ticket_lock.specs.Standing.{keeper_of, heads_of, seen_of, IsIdle};
-ghost use Rattle.ticket_lock.specs.Schedule.{idle_from, Begins};
+ghost use Rattle.ticket_lock.specs.Beginnings.{Begins};
+ghost use Rattle.ticket_lock.specs.Schedule.{idle_from};
 ghost use Rattle.ticket_lock.specs.Forms.{partitioned_form};
 ghost use Rattle.ticket_lock.specs.Tokens.{seat_count, opening_book, IsSeatOf, AreNumbered, seat_state, seat_seen};
 ghost use Rattle.ticket_lock.specs.declared.open.OpenFault.TheVariants.{SeatCount, NoMemory};
@@ -66,15 +67,21 @@ fn lay<B: Chronicle>(alloc: Global, book: B, seats: u8) -> Result<(Board<B>, Pla
     }
 }
 
-// Cuts the seats off the keeper.
-fn cut<B: Chronicle>(board: &Board<B>, keeper: &mut Place<B>, all: &mut Vec<Seat<B>>, seats: u8)
-    requires table { (keeper.old.table_id ≡ board.now.shared.table_id) × (0 < board.now.shared.table_id.words)
+// Cuts the seats from their keeper, one after the other: the keeper becomes a seat, and a new one has the others. So
+// each seat is at the place of its number among the table's views. The last keeper, which has none, comes back.
+fn cut<B: Chronicle>(
+    board: &Board<B>,
+    keeper: Place<B>,
+    all: &mut Vec<Seat<B>>,
+    seats: u8,
+) -> Place<B>
+    requires table { (keeper.table_id ≡ board.now.shared.table_id) × (0 < board.now.shared.table_id.words)
         × (board.now.shared.key.seats ≡ seats) }
-    requires keeper { keeper.old.me
+    requires keeper { keeper.me
         ≡ (keeper_of (B.head board.now.shared.key.book.value) (B.lines board.now.shared.key.book.value) 0 seats, []) }
     requires room { (all.old.items ≡ []) × (seats ≤ vec_capacity all.old) }
-    ensures keeper { (keeper.new.table_id ≡ keeper.old.table_id)
-        × (keeper.new.me ≡ (
+    ensures keeper { (result.table_id ≡ board.now.shared.table_id)
+        × (result.me ≡ (
           keeper_of (B.head board.now.shared.key.book.value)
               (B.lines board.now.shared.key.book.value) seats 0,
           [],
@@ -88,16 +95,23 @@ fn cut<B: Chronicle>(board: &Board<B>, keeper: &mut Place<B>, all: &mut Vec<Seat
     ensures numbers { AreNumbered all.new.items }
     ensures room { (vec_len all.new ≡ seats) × (seats ≤ vec_capacity all.new) }
 {
+    let mut keeper = keeper;
     for number in 0..seats {
-        let place = board.shared.split_seat::<Cut>(keeper);
+        let mut place = keeper;
+        keeper = board.shared.split_seat::<Cut>(&mut place);
         all.push_reserved(Seat { place, number });
     }
+    keeper
 }
 
 impl<B: Chronicle> TicketLock<B> {
     /// A lock round a lawful book, and its seats, numbered from 0. There can be 1 to 64 seats. Each seat has seen the
     /// book's journal, and the first number handed out is the book's turn. The memory of all later calls is asked for
     /// here.
+    ///
+    /// The lock begins with a table under its rule, whose views are the seats handed out and a keeper that has none. In
+    /// the world that this table shows every list of events leaves a good world, in which the k-th entry is by the seat
+    /// that made the k-th take, and a journal that is a sequential history of the calls.
     ///
     /// Refusals, of which the first is tried first: `SeatCount` where `seats` is 0 or above 64, and `NoMemory`. The
     /// book comes back unchanged.
@@ -128,15 +142,14 @@ impl<B: Chronicle> TicketLock<B> {
         let Ok(mut all) = Vec::with_capacity(alloc, usize::from(seats)) else {
             return Err((OpenFault::NoMemory, book));
         };
-        let (board, mut keeper) = match lay(alloc, book, seats) {
+        let (board, keeper) = match lay(alloc, book, seats) {
             Ok(made) => made,
             Err(book) => {
                 all.destroy_empty();
                 return Err((OpenFault::NoMemory, book));
             }
         };
-        cut(&board, &mut keeper, &mut all, seats);
-        drop(keeper);
+        drop(cut(&board, keeper, &mut all, seats));
         let sleepers = Sleepers::new(seats);
         let lock = TicketLock {
             board,

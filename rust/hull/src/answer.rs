@@ -1,8 +1,8 @@
-//! What a reply in numbers tells, in types of Rust. Both libraries tell by the same numbers.
+//! Replies in numbers, as types of Rust. Both libraries use the same numbers.
 use crate::raw::{code, ClearanceTold, HitTold, Reply, WitnessTold};
 use crate::{Clearance, Distance, Entry, Fault, Hit, Nearest, Place, Point, Relation, Separation, Strip, Witness};
 
-/// How often a point is held that was added.
+/// The multiplicity of a point that was added.
 pub(crate) fn times_added(reply: Reply) -> Result<u32, Fault> {
     match reply.code {
         code::ADDED => Ok(1),
@@ -11,7 +11,7 @@ pub(crate) fn times_added(reply: Reply) -> Result<u32, Fault> {
     }
 }
 
-/// How often a point is still held that was removed; `None` where it was not there.
+/// The multiplicity that is left of a point that was removed; `None` if it was not there.
 pub(crate) fn times_left(reply: Reply) -> Result<Option<u32>, Fault> {
     match reply.code {
         code::REMOVED => Ok(Some(0)),
@@ -69,7 +69,7 @@ pub(crate) fn bounds(reply: Reply) -> Option<(Point, Point)> {
     (reply.code == code::BOX).then(|| (reply.point(), reply.other_point()))
 }
 
-/// Two corners.
+/// Two vertices.
 pub(crate) fn points(reply: Reply) -> Option<(Point, Point)> {
     (reply.code == code::POINTS).then(|| (reply.point(), reply.other_point()))
 }
@@ -139,7 +139,7 @@ pub(crate) fn strip(told: WitnessTold) -> Option<Strip> {
     (told.code == code::EDGE).then_some(Strip { from: told.a, to: told.b, farthest: told.c })
 }
 
-/// A number that is told: of points, of corners, also where those have no room, or the doubled area.
+/// A number in a reply: of points, of vertices, also if those do not fit, or twice the area.
 pub(crate) fn number(reply: Reply) -> Result<u128, Fault> {
     match reply.code {
         code::NUMBER | code::CORNERS | code::TOO_SMALL => Ok(u128::from(reply.high) << 64 | u128::from(reply.number)),
@@ -147,7 +147,7 @@ pub(crate) fn number(reply: Reply) -> Result<u128, Fault> {
     }
 }
 
-/// The fault of a code that is none of a call's answers.
+/// The fault of a code that is no reply of a call.
 pub(crate) fn fault_of(code: u32) -> Fault {
     match code {
         code::OUT_OF_RANGE => Fault::OutOfRange,

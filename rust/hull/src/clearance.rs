@@ -1,8 +1,8 @@
-//! How far outlines are apart, as numbers that compare exactly.
+//! Distances of polygons, as numbers that compare exactly.
 use crate::raw::{self, ClearanceTold};
 use std::cmp::Ordering;
 
-/// How far an outline is from another one, or from a segment. Two are compared exactly, by the fractions that their squares are.
+/// A distance of two polygons, or of a polygon and a segment. Two are compared exactly, by the fractions that their squares are.
 #[derive(Clone, Copy, Debug)]
 pub struct Clearance {
     told: ClearanceTold,
@@ -13,17 +13,18 @@ impl Clearance {
         Clearance { told }
     }
 
-    /// The greatest float that is not above the distance.
+    /// Returns the greatest float that is not above the distance.
     pub fn down(&self) -> f64 {
         self.scaled(self.told.lower)
     }
 
-    /// The least float that is not below the distance: [`down`](Clearance::down) where it is a float, else the next one.
+    /// Returns the least float that is not below the distance: [`down`](Clearance::down) if it is a float, else the next one.
     pub fn up(&self) -> f64 {
         self.scaled(self.told.upper)
     }
 
-    /// The square of the distance: the words of its numerator and of its denominator, the highest first. It is not in lowest terms.
+    /// Returns the square of the distance: the words of its numerator and of its denominator, the highest first. It is not in
+    /// lowest terms.
     pub fn squared(&self) -> ([u64; 3], [u64; 2]) {
         (self.told.numerator, self.told.denominator)
     }

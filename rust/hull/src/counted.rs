@@ -1,4 +1,4 @@
-//! A value that several own together: `Arc`, but for memory that is refused, which is told.
+//! A value that several own together: `Arc`, except that refused memory is an error.
 use crate::Fault;
 use std::alloc::{alloc, dealloc, Layout};
 use std::ops::Deref;
@@ -26,7 +26,7 @@ impl<T> Counted<T> {
         Ok(Counted(at))
     }
 
-    /// Whether nobody else owns it.
+    /// Whether it has no other owner.
     pub(crate) fn is_alone(&self) -> bool {
         self.owned().owners.load(Ordering::Acquire) == 1
     }

@@ -1,4 +1,4 @@
-//! Points from floats and back, and corners as well-known text.
+//! Points from floats and back, and vertices as well-known text.
 use crate::{Fault, Point, COORDINATE_LIMIT};
 use std::fmt::{self, Write};
 
@@ -18,10 +18,10 @@ pub struct Lattice {
     pub power: i32,
 }
 
-/// What came of two floats.
+/// What became of two floats.
 #[derive(Clone, Copy, Debug, PartialEq, Eq)]
 pub struct Rounded {
-    /// The point of the lattice next to them, of two coordinates as near the even one.
+    /// The point of the lattice nearest to them, ties to even.
     pub point: Point,
     /// Whether both were on the lattice, so that nothing was rounded.
     pub is_exact: bool,
@@ -54,21 +54,21 @@ impl Lattice {
         }
     }
 
-    /// The point of two floats; [`Fault::OutOfRange`] where one is not finite, or too great for the lattice.
+    /// Returns the point of two floats. Fails with [`Fault::OutOfRange`] if one is not finite, or too great for the lattice.
     pub fn point(self, x: f64, y: f64) -> Result<Rounded, Fault> {
         let (x, y) = (self.coordinate(x)?, self.coordinate(y)?);
         Ok(Rounded { point: Point { x: x.0, y: y.0 }, is_exact: x.1 && y.1 })
     }
 
-    /// The floats of a point: exact for powers from -960 to 1000.
+    /// Returns the floats of a point: exact for powers from -960 to 1000.
     pub fn floats(self, point: Point) -> (f64, f64) {
         (scaled(point.x as f64, -self.power), scaled(point.y as f64, -self.power))
     }
 }
 
-/// The direction in whole numbers of one in two floats. Both are multiplied by the power of two that takes the one greater in size
-/// to at least 2^39 and below 2^40. Where both are whole then, the direction is the very same; else each is rounded to the
-/// nearest, of two as near to the even one. Of (0, 0) it is (0, 0). [`Fault::OutOfRange`] where one is not finite.
+/// Returns the direction of two floats in integers. Both are multiplied by the power of two that makes the greater one at least
+/// 2^39 and less than 2^40 in size. If both are integers then, it is the same direction; else each is rounded to the nearest, ties
+/// to even. (0, 0) stays (0, 0). Fails with [`Fault::OutOfRange`] if one is not finite.
 ///
 /// ```
 /// # use hull::{direction_of, Point};
@@ -87,13 +87,13 @@ pub fn direction_of(dx: f64, dy: f64) -> Result<Rounded, Fault> {
     Lattice { power: 39 - exponent }.point(dx, dy)
 }
 
-/// The direction in which a point is asked for: in that of (0, 0) the first one is.
+/// The direction in which a point is asked for: for (0, 0) the first one is.
 pub(crate) fn asked_along(dx: f64, dy: f64) -> Result<Point, Fault> {
     let at = direction_of(dx, dy)?.point;
     Ok(if at == (Point { x: 0, y: 0 }) { Point { x: -1, y: 0 } } else { at })
 }
 
-/// A text that grows as memory goes.
+/// A text that grows as memory is there.
 struct Text(String);
 
 impl Write for Text {
@@ -131,9 +131,9 @@ pub(crate) fn try_wkt(corners: &[Point], power: i32) -> Result<String, Fault> {
     Ok(text.0)
 }
 
-/// Corners as well-known text (OGC 06-103r4), which GEOS, PostGIS and QGIS read: `POLYGON EMPTY`, a `POINT`, a `LINESTRING`, or a
-/// `POLYGON` whose ring is closed and runs counterclockwise, as the corners do. Coordinates are divided by 2^`power`, and written
-/// with as few digits as tell the float from all others. Panics where memory is refused.
+/// Returns vertices as well-known text (OGC 06-103r4), which GEOS, PostGIS and QGIS read: `POLYGON EMPTY`, a `POINT`, a
+/// `LINESTRING`, or a `POLYGON` whose ring is closed and runs counterclockwise. Coordinates are divided by 2^`power`, and written
+/// with the fewest digits that give that float again. Panics if memory is refused.
 pub fn wkt(corners: &[Point], power: i32) -> String {
     try_wkt(corners, power).unwrap_or_else(|fault| panic!("{fault}"))
 }

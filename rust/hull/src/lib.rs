@@ -1,4 +1,4 @@
-//! A convex hull of points with whole coordinates, which takes points in and lets them go: safe Rust over `libhull.a`.
+//! An exact convex hull of points with integer coordinates that come and go: safe Rust over `libhull.a`.
 //!
 //! ```
 //! use hull::{Hull, Place, Point};
@@ -12,8 +12,8 @@
 //! # Ok::<(), hull::Fault>(())
 //! ```
 //!
-//! A [`Hull`] may go to another thread (`Send`), but be used by one at a time: share it as `Mutex<Hull>`, or open a
-//! [`SharedHull`] (over `libhull_shared.a`), at which each thread has a [`Seat`] and whose calls are kept in a journal.
+//! A [`Hull`] may go to another thread (`Send`), but be used by one at a time: share it as `Mutex<Hull>`, or open a [`SharedHull`]
+//! (over `libhull_shared.a`), of which each thread has a [`Seat`] and whose calls have their lines in a journal.
 mod answer;
 mod clearance;
 mod counted;
@@ -42,97 +42,97 @@ pub use shared::{JournalPart, Limits, Opening, Seat, SharedHull, Stats, CAPACITY
 
 /// The greatest size of a coordinate, of a point and of a direction: 2^40.
 pub const COORDINATE_LIMIT: i64 = 1 << 40;
-/// The greatest limit of a hull: how many different points one may hold.
+/// The greatest limit of a set: how many different points it may have.
 pub const POINT_LIMIT: u32 = 1 << 20;
-/// How often a point may be held.
+/// The greatest multiplicity of a point.
 pub const MULTIPLICITY_LIMIT: u32 = 65535;
 
-/// The point of calls that ask for none.
+/// The point of calls that need none.
 pub(crate) const NOWHERE: Point = Point { x: 0, y: 0 };
 
-/// Why a call was refused. The hull is as it was.
+/// Why a call failed. The set is as it was.
 #[derive(Clone, Copy, Debug, PartialEq, Eq)]
 pub enum Fault {
     /// A coordinate is larger than [`COORDINATE_LIMIT`] in size.
     OutOfRange,
     /// Both components of a direction are 0.
     ZeroDirection,
-    /// The point is new and there are as many as the limit, or it is held [`MULTIPLICITY_LIMIT`] times.
+    /// The point is new and there are as many as the limit, or its multiplicity is [`MULTIPLICITY_LIMIT`].
     TooMany,
     /// Memory was refused.
     NoMemory,
-    /// A held point does not stand behind the one before it, by x and then y.
+    /// A point does not follow the one before it, by x and then y.
     OutOfOrder,
     /// A limit, a capacity or a number of seats is 0 or too great.
     BadLimit,
-    /// The seat is out, or the shared hull has none of this number.
+    /// The seat is acquired, or the shared hull has none of this number.
     NoSeat,
-    /// The points are not the corners of a hull, in their order.
+    /// The points are not a convex polygon.
     NoOutline,
     /// The shared hull is closed.
     NotOpen,
-    /// A seat of the shared hull is out.
+    /// A seat or a reader of the shared hull is acquired.
     SeatsOut,
     /// The journal of the shared hull is full: the call was not made.
     Full,
-    /// The shared hull was in use by others for as long as the seat waits: the call was not made.
+    /// The call was not admitted for as long as the seat waits, and was not made.
     Busy,
-    /// The text is none of a journal: this line of it, from 1, has the first fault, of this number (1 its form, 2 a number, 3 a
+    /// The text is not a journal: this line of it, from 1, has the first fault, of this number (1 its form, 2 a number, 3 a
     /// coordinate, 4 a seat, 5 a word, 6 the text ends before its end line, 7 no header).
     NoJournal { line: u64, fault: u8 },
-    /// The journal is of version 1 or 2, in which points are not counted: it can't be gone on with.
+    /// The journal is of version 1 or 2, which does not count points, so it can't be continued.
     OldRules,
-    /// The journal is no legal history: this line of its text, from 1, is the first that is not right.
+    /// The journal is not a legal history: this line of its text, from 1, is the first that is wrong.
     Illegal { line: u64 },
-    /// The journal has lines by so many seats, more than were asked for.
+    /// The journal has lines by this many seats, more than were asked for.
     TooFewSeats { wanted: u32 },
-    /// The system refused a call on the file of the journal, with this `errno`.
+    /// The system refused a call on the journal file, with this `errno`.
     NoFile { errno: i32 },
-    /// The file is none of a journal, or more of it is wrong than a torn end, from this line of it on, from 1.
+    /// The file is not a journal, or damaged, from this line on, from 1.
     Damaged { line: u64 },
 }
 
 impl fmt::Display for Fault {
     fn fmt(&self, f: &mut fmt::Formatter<'_>) -> fmt::Result {
         f.write_str(match self {
-            Fault::NoJournal { line, fault } => return write!(f, "the text is none of a journal: line {line}: fault {fault}"),
-            Fault::Illegal { line } => return write!(f, "the journal is no legal history: line {line} of its text"),
+            Fault::NoJournal { line, fault } => return write!(f, "the text is not a journal: line {line}: fault {fault}"),
+            Fault::Illegal { line } => return write!(f, "the journal is not a legal history: line {line} of its text"),
             Fault::TooFewSeats { wanted } => return write!(f, "the journal has lines by {wanted} seats"),
             Fault::NoFile { errno } => {
                 return write!(f, "the file of the journal: {}", std::io::Error::from_raw_os_error(*errno))
             }
-            Fault::Damaged { line } => return write!(f, "the file is damaged, or none of a journal, from line {line} on"),
-            Fault::OldRules => "points are not counted in journals before version 3",
+            Fault::Damaged { line } => return write!(f, "the file is damaged, or not a journal, from line {line} on"),
+            Fault::OldRules => "journals before version 3 do not count points",
             Fault::OutOfRange => "a coordinate is out of range",
             Fault::ZeroDirection => "a direction is zero",
-            Fault::TooMany => "there are as many points as the limit, or the point is held as often as may be",
+            Fault::TooMany => "there are as many points as the limit, or the multiplicity is the greatest",
             Fault::NoMemory => "memory was refused",
-            Fault::OutOfOrder => "the held points are not in order",
+            Fault::OutOfOrder => "the points are not in order",
             Fault::BadLimit => "a limit of a hull is out of range",
-            Fault::NoOutline => "the points are not the corners of a hull, in their order",
+            Fault::NoOutline => "the points are not a convex polygon",
             Fault::NoSeat => "there is no such seat at the hull",
             Fault::NotOpen => "the hull is closed",
-            Fault::SeatsOut => "a seat of the hull is out",
+            Fault::SeatsOut => "a seat of the hull is acquired",
             Fault::Full => "the journal of the hull is full",
-            Fault::Busy => "the hull is in use by others",
+            Fault::Busy => "the hull was in use by others for too long",
         })
     }
 }
 
 impl std::error::Error for Fault {}
 
-/// Where a point lies.
+/// The location of a point.
 #[derive(Clone, Copy, Debug, PartialEq, Eq, Hash)]
 pub enum Place {
     /// The hull covers the point, which is not on its boundary.
     Inside,
-    /// The point is on the boundary: a corner, on an edge, or on a hull of one point or one line.
+    /// The point is on the boundary: a vertex, on an edge, or on a hull that is a point or a segment.
     On,
     /// The hull does not cover the point.
     Outside,
 }
 
-/// A hull, which holds each of its points at least once. Questions are over the points, each taken once.
+/// A set of points, each with a multiplicity. Questions are about their convex hull.
 pub struct Hull {
     room: NonNull<u8>,
 }
@@ -142,7 +142,7 @@ pub struct Hull {
 unsafe impl Send for Hull {}
 
 impl Hull {
-    /// An empty hull for at most `limit` different points, 1 to [`POINT_LIMIT`].
+    /// Returns an empty set for at most `limit` different points, 1 to [`POINT_LIMIT`].
     pub fn new(limit: u32) -> Result<Hull, Fault> {
         if !(1..=POINT_LIMIT).contains(&limit) {
             return Err(Fault::BadLimit);
@@ -154,33 +154,32 @@ impl Hull {
         Ok(Hull { room })
     }
 
-    /// A hull of some points in any order, each held as often as it stands among them, for at most `limit` different points:
-    /// what adding them one by one makes, in a small part of the time.
+    /// Returns a set of some points in any order, with their multiplicities, for at most `limit` different points: as adding them
+    /// one by one, in a small part of the time.
     pub fn from_points(limit: u32, points: &[Point]) -> Result<Hull, Fault> {
         let mut hull = Hull::new(limit)?;
         hull.load(points)?;
         Ok(hull)
     }
 
-    /// Holds just these points, each as often as it stands among them, in the place of all that was held, and tells how many
-    /// different points that are. A fault leaves the hull as it was.
+    /// Replaces all points by these, with their multiplicities, and returns how many different points there are. A fault leaves
+    /// the set as it was.
     pub fn load(&mut self, points: &[Point]) -> Result<usize, Fault> {
         // SAFETY: as in `call`; the points are a slice's own, and a slice's pointer is not null.
         let reply = unsafe { raw::hull_load(self.room.as_ptr(), points.as_ptr(), points.len()) };
         answer::number(reply).map(|number| number as usize)
     }
 
-    /// Holds just these points, which stand in order by x and then y, each once and as often as it says, in the place of all that
-    /// was held. A fault leaves the hull as it was; how often a point is held is out of range at 0 and above
-    /// [`MULTIPLICITY_LIMIT`].
+    /// Replaces all points by these, which are in order by x and then y, each once with its multiplicity. A fault leaves the set
+    /// as it was; a multiplicity of 0 or above [`MULTIPLICITY_LIMIT`] is out of range.
     pub fn load_held(&mut self, held: &[Held]) -> Result<(), Fault> {
         // SAFETY: as in `load`.
         let reply = unsafe { raw::hull_load_held(self.room.as_ptr(), held.as_ptr(), held.len()) };
         answer::number(reply).map(|_| ())
     }
 
-    /// Writes the held points that do not stand before `start`, in order by x and then y, to the front of the array until it is
-    /// full, and tells how many they are.
+    /// Writes the points from `start` on, in order by x and then y, to the front of the array until it is full, and returns how
+    /// many it wrote.
     pub fn held_from(&self, start: Point, out: &mut [Held]) -> Result<usize, Fault> {
         // SAFETY: as in `call`; the array is a slice's own.
         let reply =
@@ -188,7 +187,7 @@ impl Hull {
         answer::number(reply).map(|number| number as usize)
     }
 
-    /// The points that are held, in order by x and then y, each with how often.
+    /// Returns the points, in order by x and then y, each with its multiplicity.
     pub fn held(&self) -> Result<Vec<Held>, Fault> {
         let mut all = Vec::new();
         all.try_reserve_exact(self.len()).map_err(|_| Fault::NoMemory)?;
@@ -199,8 +198,8 @@ impl Hull {
         Ok(all)
     }
 
-    /// The held point that is nearest to `point`, of several the first by x and then y, and the square of how far it is; `None` where
-    /// none is held. All points are looked at that are not much farther along x.
+    /// Returns the point that is nearest to `point`, of several the first by x and then y, and the square of its distance; `None`
+    /// if there is none. It reads all points that are not much farther along x.
     pub fn nearest_held(&self, point: Point) -> Result<Option<(Point, u128)>, Fault> {
         // SAFETY: as in `call`.
         let reply = unsafe { raw::hull_nearest_held(self.room.as_ptr(), point.x, point.y) };
@@ -208,7 +207,7 @@ impl Hull {
         Ok(answer::extreme(reply)?.map(|nearest| (nearest, squared)))
     }
 
-    /// Another hull that holds the same, each point as often, with the same limit.
+    /// Returns another set with the same points, multiplicities and limit.
     pub fn try_clone(&self) -> Result<Hull, Fault> {
         let mut other = Hull::new(self.limit())?;
         other.load_held(&self.held()?)?;
@@ -221,84 +220,83 @@ impl Hull {
         Layout::from_size_align(size, alignment).expect("the room of a hull has a layout")
     }
 
-    /// Makes a call by its kind. Those that change the hull are made by a `&mut self` alone.
+    /// Makes a call by its kind. Only a `&mut self` makes those that change the set.
     fn call(&self, kind: u32, at: Point) -> Reply {
         // SAFETY: a hull lies in the room, from `new` to `drop`; since `Hull` is not `Sync`, no other call is under way.
         unsafe { raw::hull_call(self.room.as_ptr(), kind, at.x, at.y) }
     }
 
-    /// The hull, for a question that the corners answer, which is counted: they are gathered once questions are many beside them.
+    /// The set, after a hint that a question follows: its vertices are gathered once questions are many.
     fn settled(&self) -> *mut u8 {
         // SAFETY: as in `call`.
         unsafe { raw::hull_settle(self.room.as_ptr()) };
         self.room.as_ptr()
     }
 
-    /// Holds a point once more, and tells how often it is held now: 1 where it is new.
+    /// Adds a point, and returns its multiplicity now: 1 if it is new.
     pub fn add(&mut self, point: Point) -> Result<u32, Fault> {
         answer::times_added(self.call(kind::ADD, point))
     }
 
-    /// Holds a point once less, and tells how often it is still held: 0 where it is there no more; `None` where it was not
-    /// there.
+    /// Removes a point once, and returns the multiplicity that is left: 0 if it is gone; `None` if it was not there.
     pub fn remove(&mut self, point: Point) -> Result<Option<u32>, Fault> {
         answer::times_left(self.call(kind::REMOVE, point))
     }
 
-    /// Where a point lies.
+    /// The location of a point.
     pub fn place(&self, point: Point) -> Result<Place, Fault> {
         // SAFETY: as in `call`.
         answer::place(unsafe { raw::hull_place(self.settled(), point.x, point.y) })
     }
 
-    /// The left and the right point that bound the hull as it is seen from `point`, of several on one line the farthest;
-    /// `None` where there is no point, or the hull covers the one asked about.
+    /// Returns the left and the right tangent point seen from `point`, of several on one line the farthest; `None` if there is no
+    /// point, or the hull covers the one asked about.
     pub fn tangents(&self, point: Point) -> Result<Option<(Point, Point)>, Fault> {
         // SAFETY: as in `call`.
         answer::tangents(unsafe { raw::hull_tangents(self.settled(), point.x, point.y) })
     }
 
-    /// The point that lies farthest in a direction, of several the first by x and then by y; `None` where there is none.
+    /// Returns the farthest point in a direction, of several the first by x and then by y; `None` if there is none.
     pub fn extreme(&self, direction: Point) -> Result<Option<Point>, Fault> {
         // SAFETY: as in `call`.
         answer::extreme(unsafe { raw::hull_extreme(self.settled(), direction.x, direction.y) })
     }
 
-    /// The same in a direction of two floats, taken to whole numbers by [`direction_of`]; in the direction (0, 0) the first point
-    /// by x and then by y.
+    /// The same for a direction of two floats, scaled to integers by [`direction_of`]; for the direction (0, 0) the first point by
+    /// x and then by y.
     pub fn extreme_d(&self, dx: f64, dy: f64) -> Result<Option<Point>, Fault> {
         self.extreme(exchange::asked_along(dx, dy)?)
     }
 
-    /// How often a point is held: 0 where it is not there.
+    /// Returns the multiplicity of a point: 0 if it is not there.
     pub fn multiplicity(&self, point: Point) -> Result<u32, Fault> {
         answer::number(self.call(kind::MULTIPLICITY, point)).map(|times| times as u32)
     }
 
-    /// Twice the area, 0 for a point and a line.
+    /// Returns twice the area, 0 for a point and a segment.
     pub fn doubled_area(&self) -> u128 {
         // SAFETY: as in `call`.
         let reply = unsafe { raw::hull_call(self.settled(), kind::AREA, NOWHERE.x, NOWHERE.y) };
         u128::from(reply.high) << 64 | u128::from(reply.number)
     }
 
-    /// How many different points there are.
+    /// Returns how many different points there are.
     pub fn len(&self) -> usize {
         self.call(kind::COUNT, NOWHERE).number as usize
     }
 
-    /// Whether there is no point.
+    /// Returns whether there is no point.
     pub fn is_empty(&self) -> bool {
         self.len() == 0
     }
 
-    /// How many different points the hull takes.
+    /// Returns how many different points the set may have.
     pub fn limit(&self) -> u32 {
         // SAFETY: as in `call`.
         unsafe { raw::hull_limit(self.room.as_ptr()) }.number as u32
     }
 
-    /// Makes the calls of some requests, and tells how many it made.
+    /// Makes the calls of some requests, and returns how many it made.
     fn serve(&self, requests: &[raw::Request], replies: &mut [Reply]) -> usize {
         // SAFETY: as in `call`; both arrays were written, and are as long as is told.
         unsafe {
@@ -321,24 +319,23 @@ impl Hull {
         many::all(kind, points, |requests, replies| self.serve(requests, replies), told)
     }
 
-    /// Where each of the points lies.
+    /// Returns the location of each of the points.
     pub fn place_all(&self, points: &[Point]) -> Result<Vec<Place>, Fault> {
         self.ask_all(kind::PLACE, points, answer::place)
     }
 
-    /// The tangent points seen from each of the points, as by [`tangents`](Hull::tangents).
+    /// Returns the tangent points seen from each of the points, as [`tangents`](Hull::tangents).
     pub fn tangents_all(&self, points: &[Point]) -> Result<Vec<Option<(Point, Point)>>, Fault> {
         self.ask_all(kind::TANGENTS, points, answer::tangents)
     }
 
-    /// The farthest point in each of the directions, as by [`extreme`](Hull::extreme).
+    /// Returns the farthest point in each of the directions, as [`extreme`](Hull::extreme).
     pub fn extreme_all(&self, directions: &[Point]) -> Result<Vec<Option<Point>>, Fault> {
         self.ask_all(kind::EXTREME, directions, answer::extreme)
     }
 
-    /// Holds each of the points once more, in their order, and tells for each how often it is held then: 0 where it was refused,
-    /// since there are too many or for want of memory; those behind it are added still. [`Fault::OutOfRange`] of any of them leaves
-    /// the hull as it was.
+    /// Adds each of the points, in order, and returns for each its multiplicity then: 0 if it failed, since there are too many or
+    /// for want of memory; those after it are still added. [`Fault::OutOfRange`] for any of them leaves the set as it was.
     pub fn add_all(&mut self, points: &[Point]) -> Result<Vec<u32>, Fault> {
         check_all(points)?;
         self.ask_all(kind::ADD, points, |reply| match answer::times_added(reply) {
@@ -347,8 +344,8 @@ impl Hull {
         })
     }
 
-    /// Holds each of the points once less, in their order, and tells how many of them were there. [`Fault::OutOfRange`] of any of
-    /// them leaves the hull as it was.
+    /// Removes each of the points once, in order, and returns how many of them were there. [`Fault::OutOfRange`] for any of them
+    /// leaves the set as it was.
     pub fn remove_all(&mut self, points: &[Point]) -> Result<usize, Fault> {
         check_all(points)?;
         let mut there = 0;
@@ -360,18 +357,18 @@ impl Hull {
         Ok(there)
     }
 
-    /// The hull as well-known text, its coordinates divided by 2^`power`: see [`wkt`].
+    /// Returns the hull as well-known text, its coordinates divided by 2^`power`: see [`wkt`].
     pub fn wkt(&self, power: i32) -> Result<String, Fault> {
         exchange::try_wkt(&self.corners()?, power)
     }
 
-    /// Lets all points go. The limit stays.
+    /// Removes all points. The limit stays.
     pub fn clear(&mut self) {
         // SAFETY: as in `call`.
         unsafe { raw::hull_clear(self.room.as_ptr()) };
     }
 
-    /// The corners, counterclockwise from the first by x and then by y, each once and none inside an edge.
+    /// Returns the vertices, counterclockwise from the first by x and then by y, each once and none inside an edge.
     pub fn vertices(&self) -> Result<Vertices, Fault> {
         self.corners().map(Vertices::of)
     }
@@ -381,7 +378,7 @@ impl Hull {
         outline::written_corners(|out| unsafe { raw::hull_vertices(self.room.as_ptr(), out.as_mut_ptr(), out.len()) })
     }
 
-    /// The outline that the hull has now, which any number of threads may ask at once.
+    /// Returns the convex polygon of the hull now, which any number of threads may query at once.
     pub fn outline(&self) -> Result<Outline, Fault> {
         Outline::of(self.corners()?)
     }
@@ -397,7 +394,7 @@ fn check_all(points: &[Point]) -> Result<(), Fault> {
     }
 }
 
-/// Adds points one by one. Panics where one is refused: [`Hull::add`] tells why as a [`Fault`].
+/// Adds points one by one. Panics if one fails: [`Hull::add`] returns a [`Fault`] instead.
 impl Extend<Point> for Hull {
     fn extend<I: IntoIterator<Item = Point>>(&mut self, points: I) {
         for point in points {
@@ -414,8 +411,8 @@ impl<'a> Extend<&'a Point> for Hull {
     }
 }
 
-/// A hull of some points, each held as often as it comes, for [`POINT_LIMIT`] different ones. Panics where they are refused:
-/// [`Hull::from_points`] tells why as a [`Fault`].
+/// Makes a set of some points, with their multiplicities, for [`POINT_LIMIT`] different ones. Panics if that fails:
+/// [`Hull::from_points`] returns a [`Fault`] instead.
 impl FromIterator<Point> for Hull {
     fn from_iter<I: IntoIterator<Item = Point>>(points: I) -> Hull {
         let points: Vec<Point> = points.into_iter().collect();
@@ -423,14 +420,14 @@ impl FromIterator<Point> for Hull {
     }
 }
 
-/// An empty hull for [`POINT_LIMIT`] points. Panics where memory is refused.
+/// Makes an empty set for [`POINT_LIMIT`] points. Panics if memory is refused.
 impl Default for Hull {
     fn default() -> Hull {
         Hull::new(POINT_LIMIT).unwrap_or_else(|fault| panic!("{fault}"))
     }
 }
 
-/// Another hull that holds the same, as [`Hull::try_clone`], which does not panic where memory is refused.
+/// Makes another set with the same points, as [`Hull::try_clone`], which does not panic if memory is refused.
 impl Clone for Hull {
     fn clone(&self) -> Hull {
         self.try_clone().unwrap_or_else(|fault| panic!("{fault}"))
@@ -453,7 +450,7 @@ impl fmt::Debug for Hull {
     }
 }
 
-/// The corners of a hull as it was when it was asked.
+/// The vertices of a hull as it was when it was asked.
 #[derive(Clone, Debug)]
 pub struct Vertices(std::vec::IntoIter<Point>);
 
@@ -462,7 +459,7 @@ impl Vertices {
         Vertices(corners.into_iter())
     }
 
-    /// The corners that are left to be told.
+    /// The vertices that are left.
     pub fn as_slice(&self) -> &[Point] {
         self.0.as_slice()
     }

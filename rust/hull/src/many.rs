@@ -4,8 +4,8 @@ use crate::{Fault, Point};
 
 const AT_ONCE: usize = 256;
 
-/// Makes one kind of call at each of the points, in their order, and hands each reply on, up to the first that is refused for
-/// itself, which says why. `serve` makes some calls, and tells how many it made.
+/// Makes one kind of call at each of the points, in order, and passes each reply on, up to the first that fails for itself.
+/// `serve` makes some calls, and returns how many it made.
 pub(crate) fn at_each(
     kind: u32,
     points: &[Point],

@@ -1,24 +1,25 @@
-//! Outlines that move straight.
+//! Polygons that move straight.
 use crate::answer;
 use crate::counted::Counted;
 use crate::outline::{Corners, Outline};
 use crate::raw::{self, code, Reply};
 use crate::{Fault, Hit, Point};
 
-/// When an outline that moves straight first meets one that stands ([`Corners::first_meeting`]).
+/// When a polygon that moves straight first intersects one that does not move ([`Corners::first_meeting`]).
 #[derive(Clone, Copy, Debug, PartialEq, Eq)]
 pub struct Motion {
-    /// Where the corner arrives, and how far on the way; at [`Entry::Start`](crate::Entry::Start) where they meet before it moves.
+    /// Where the vertex arrives, and how far along; [`Entry::Start`](crate::Entry::Start) if they intersect before it moves.
     pub hit: Hit,
-    /// A corner that arrives first,
+    /// A vertex that arrives first,
     pub corner: Point,
-    /// of the outline that moves; or of the one that stands, at the other as it lay before it moved.
+    /// of the polygon that moves; else of the other, at the moving one as it was before.
     pub moves: bool,
 }
 
 impl Corners {
-    /// When the other outline, which moves straight by `way`, each component at most [`COORDINATE_LIMIT`](crate::COORDINATE_LIMIT) in
-    /// size, first meets this one, which stands; `None` where they don't meet, and where one of them has no corners.
+    /// Returns when the other polygon, which moves straight by `way`, each component at most
+    /// [`COORDINATE_LIMIT`](crate::COORDINATE_LIMIT) in size, first intersects this one; `None` if they never do, and if one of
+    /// them has no vertices.
     pub fn first_meeting(&self, other: &Corners, way: Point) -> Result<Option<Motion>, Fault> {
         let (these, those) = (self.corners(), other.corners());
         // SAFETY: both are outlines, which nobody writes.
@@ -31,7 +32,7 @@ impl Corners {
 }
 
 impl Outline {
-    /// Another outline of as many corners, which a call writes.
+    /// Another polygon of as many vertices, which a call writes.
     fn rewritten(&self, write: impl Fn(&[Point], &mut [Point]) -> Reply) -> Result<Outline, Fault> {
         let mut corners = Vec::new();
         corners.try_reserve_exact(self.corners().len()).map_err(|_| Fault::NoMemory)?;
@@ -43,7 +44,7 @@ impl Outline {
         }
     }
 
-    /// The outline moved by a vector; [`Fault::OutOfRange`] where a coordinate would be.
+    /// Returns the polygon translated by a vector. Fails with [`Fault::OutOfRange`] if a coordinate would be.
     pub fn moved(&self, by: Point) -> Result<Outline, Fault> {
         // SAFETY: the corners are an outline, and the array has as many, which were written.
         self.rewritten(|these, out| unsafe {
@@ -51,9 +52,9 @@ impl Outline {
         })
     }
 
-    /// The outline turned about the origin by the angle of `by`, and magnified by its length; [`Fault::OutOfRange`] where a coordinate
-    /// would be, and [`Fault::ZeroDirection`]. By a rational angle, as of (3, 4), all others are to be magnified as much, which (5, 0)
-    /// does.
+    /// Returns the polygon rotated about the origin by the angle of `by`, and scaled by its length. Fails with
+    /// [`Fault::OutOfRange`] if a coordinate would be, and [`Fault::ZeroDirection`]. For a rational angle, as of (3, 4), scale all
+    /// others alike, which (5, 0) does.
     pub fn turned(&self, by: Point) -> Result<Outline, Fault> {
         // SAFETY: the same.
         self.rewritten(|these, out| unsafe {

@@ -1,4 +1,4 @@
-//! The corners of a hull, which any number of threads ask at once.
+//! Convex polygons, the vertices of a hull, which any number of threads query at once.
 use crate::counted::Counted;
 use crate::exchange::asked_along;
 use crate::raw::{self, code, kind, Reply, Request};
@@ -8,14 +8,16 @@ use std::fmt;
 use std::hash::{Hash, Hasher};
 use std::ops::Deref;
 
-/// The corners of a hull, as [`Hull::vertices`](crate::Hull::vertices) tells them, to be asked as that hull was when they were
-/// taken ([`Corners`] has the questions). Nothing of it is ever written, so threads share it with no lock; a clone is the same corners.
+/// A convex polygon: the vertices of a hull, as [`Hull::vertices`](crate::Hull::vertices) returns them, which answers as that hull
+/// did then ([`Corners`] has the questions). Nothing of it is ever written, so threads share it without a lock; a clone shares the
+/// vertices.
 #[derive(Clone)]
 pub struct Outline {
     pub(crate) corners: Counted<Vec<Point>>,
 }
 
-/// What is asked of the corners of a hull, wherever they lie: in an [`Outline`], or in the view of a reader of a shared hull.
+/// The questions of a convex polygon, wherever its vertices are: in an [`Outline`], or in the snapshot of a reader of a shared
+/// hull.
 #[repr(transparent)]
 pub struct Corners {
     points: [Point],
@@ -41,109 +43,109 @@ impl fmt::Debug for Outline {
     }
 }
 
-/// A direction that parts an outline from a segment: no corner has a greater product with it than `farthest`, a corner, and both
-/// ends of the segment have.
+/// A direction that separates a polygon from a segment: no vertex has a greater product with it than `farthest`, a vertex, and
+/// both ends of the segment have.
 #[derive(Clone, Copy, Debug, PartialEq, Eq)]
 pub struct Separation {
-    /// A corner that lies farthest in the direction.
+    /// A vertex that is farthest in the direction.
     pub farthest: Point,
     /// The direction, each component at most 2^41 in size: a product takes 128 bits.
     pub direction: Point,
 }
 
-/// Where the point of an outline is that is nearest to another point.
+/// The point of a polygon that is nearest to another point.
 #[derive(Clone, Copy, Debug, PartialEq, Eq)]
 pub enum Nearest {
-    /// The outline covers the point: it is its own nearest.
+    /// The polygon covers the point, which is its own nearest.
     Covered,
-    /// At a corner.
+    /// At a vertex.
     Corner(Point),
-    /// At its foot on the edge from one corner to the next, strictly between them.
+    /// At its foot on the edge from one vertex to the next, strictly between them.
     Edge(Point, Point),
 }
 
-/// How one outline stands to another.
+/// How one polygon is related to another.
 #[derive(Clone, Copy, Debug, PartialEq, Eq)]
 pub enum Relation {
     // written by tools/table.py: relations
-    /// They have no point in common.
+    /// They are disjoint.
     Apart,
-    /// They have, and a line has them on its two sides: nothing inside the one is covered by the other.
+    /// They intersect, and a line has them on its two sides: nothing inside the one is covered by the other.
     Touching,
-    /// They have, and no line has them on its two sides.
+    /// They intersect, and no line has them on its two sides.
     Overlapping,
-    /// The second covers whatever the first covers, and not the other way.
+    /// The second covers all that the first covers, and not the other way.
     Within,
-    /// The first covers whatever the second covers, and not the other way.
+    /// The first covers all that the second covers, and not the other way.
     Covers,
     /// Each covers the other.
     Equal,
     // end of what tools/table.py writes
 }
 
-/// A strip that holds an outline, between the line of an edge and its parallel through a corner farthest from it. Its width is the
-/// side of that corner, up to 84 bits, divided by the length of the edge.
+/// A strip that contains a polygon, between the line of an edge and its parallel through a vertex farthest from it. Its width is
+/// the side of that vertex, up to 84 bits, divided by the length of the edge.
 #[derive(Clone, Copy, Debug, PartialEq, Eq)]
 pub struct Strip {
-    /// The corner where the edge begins; the outline lies left of it.
+    /// The vertex at which the edge begins; the polygon is left of it.
     pub from: Point,
-    /// The next corner.
+    /// The next vertex.
     pub to: Point,
-    /// A corner farthest from the edge.
+    /// A vertex farthest from the edge.
     pub farthest: Point,
 }
 
-/// What shows that two outlines meet, or that they are apart.
+/// Why two polygons intersect, or what separates them.
 #[derive(Clone, Copy, Debug, PartialEq, Eq)]
 pub enum Witness {
-    /// The first one covers this corner of the second.
+    /// The first one covers this vertex of the second.
     Covered(Point),
-    /// The second covers this corner of the first.
+    /// The second covers this vertex of the first.
     Within(Point),
-    /// The segment between two corners of the first crosses the one between two corners of the second.
+    /// The segment between two vertices of the first crosses the one between two vertices of the second.
     Crossing([Point; 2], [Point; 2]),
-    /// This parts the first from the second: each corner of that has a greater product with the direction than the farthest.
+    /// This separates the first from the second: each vertex of that has a greater product with the direction than the farthest.
     Apart(Separation),
 }
 
-/// Where two outlines are nearest to one another. Of two corners the squared distance is that of the two; of a corner and an edge it
-/// is the square of the side of the corner at the edge, up to 84 bits, divided by the squared length of the edge.
+/// Where two polygons are nearest to one another. Between two vertices the squared distance is that of the two; between a vertex
+/// and an edge it is the square of the side of the vertex at the edge, up to 84 bits, divided by the squared length of the edge.
 #[derive(Clone, Copy, Debug, PartialEq, Eq)]
 pub enum Distance {
-    /// They have a point in common.
+    /// They intersect.
     Zero,
-    /// At a corner of the first and a corner of the second.
+    /// At a vertex of the first and a vertex of the second.
     Corners(Point, Point),
-    /// At a corner of the first and its foot on an edge of the second, strictly between the ends of that.
+    /// At a vertex of the first and its foot on an edge of the second, strictly between the ends of that.
     CornerAndEdge(Point, [Point; 2]),
-    /// At the foot on an edge of the first, strictly between its ends, of a corner of the second.
+    /// At the foot on an edge of the first, strictly between its ends, of a vertex of the second.
     EdgeAndCorner([Point; 2], Point),
 }
 
-/// Where a way first comes into an outline.
+/// Where a segment or a ray enters a polygon.
 #[derive(Clone, Copy, Debug, PartialEq, Eq)]
 pub enum Entry {
-    /// At its start, which the outline covers.
+    /// At its start, which the polygon covers.
     Start,
-    /// Across the edge from one corner to the next, or at an end of it.
+    /// Across the edge from one vertex to the next, or at an end of it.
     Edge(Point, Point),
-    /// At this corner, of an outline that lies on the way's line.
+    /// At this vertex, of a polygon that is on its line.
     Corner(Point),
 }
 
-/// Where a way first comes into an outline, or leaves it, and that it has gone `part / whole` until then, exactly: of a segment, or in lengths of
-/// a ray's direction.
+/// Where a segment or a ray enters a polygon, or a ray leaves it, and how far along that is: `part / whole`, exactly, of a
+/// segment, or in lengths of a ray's direction.
 #[derive(Clone, Copy, Debug, PartialEq, Eq)]
 pub struct Hit {
-    /// The start, an edge or a corner.
+    /// The start, an edge or a vertex.
     pub place: Entry,
-    /// So far on the way,
+    /// How far along it is,
     pub part: u128,
     /// divided by this, which is not 0.
     pub whole: u128,
 }
 
-/// The corners that a call writes to an array, which may be too short for them.
+/// The vertices that a call writes to an array, which may be too short for them.
 pub(crate) fn written_corners(write: impl Fn(&mut [Point]) -> Reply) -> Result<Vec<Point>, Fault> {
     let mut corners = Vec::new();
     loop {
@@ -164,8 +166,8 @@ pub(crate) fn written_corners(write: impl Fn(&mut [Point]) -> Reply) -> Result<V
 }
 
 impl Outline {
-    /// The outline of these corners: counterclockwise from the first by x and then by y, and none inside an edge;
-    /// [`Fault::NoOutline`] where they are not.
+    /// Returns the polygon of these vertices: counterclockwise from the first by x and then by y, and none inside an edge. Fails
+    /// with [`Fault::NoOutline`] if they are not.
     pub fn new(corners: &[Point]) -> Result<Outline, Fault> {
         let mut own = Vec::new();
         own.try_reserve_exact(corners.len()).map_err(|_| Fault::NoMemory)?;
@@ -173,9 +175,9 @@ impl Outline {
         Outline::of(own)
     }
 
-    /// The outline of any points. [`Fault::OutOfRange`], and [`Fault::TooMany`] as [`Hull::load`](crate::Hull::load) tells it. Where
-    /// they are the corners of a convex polygon in their order, from whatever corner on and in either sense, it takes a few passes
-    /// over them; else they are sorted.
+    /// Returns the convex polygon of any points. Fails with [`Fault::OutOfRange`], and [`Fault::TooMany`] as
+    /// [`Hull::load`](crate::Hull::load). If they are the vertices of a convex polygon in order, from any vertex on and in either
+    /// sense, it makes a few passes over them; else it sorts them.
     pub fn of_points(points: &[Point]) -> Result<Outline, Fault> {
         let corners = written_corners(|out| {
             // SAFETY: both arrays are slices' own and were written.
@@ -204,17 +206,17 @@ impl Deref for Outline {
 }
 
 impl Corners {
-    /// The corners, as what is asked of them.
+    /// The vertices, as what is asked of them.
     ///
     /// # Safety
     ///
-    /// They are an outline: the corners of a hull from the first by x and then by y, counterclockwise.
+    /// They are a convex polygon: the vertices of a hull from the first by x and then by y, counterclockwise.
     pub(crate) unsafe fn of(points: &[Point]) -> &Corners {
         // SAFETY: it has the layout of the slice, and lives as long.
         unsafe { &*(points as *const [Point] as *const Corners) }
     }
 
-    /// The corners.
+    /// The vertices.
     pub fn corners(&self) -> &[Point] {
         &self.points
     }
@@ -224,23 +226,23 @@ impl Corners {
         unsafe { raw::hull_outline_call(self.points.as_ptr(), self.points.len(), kind, at.x, at.y) }
     }
 
-    /// Where a point lies.
+    /// Returns the location of a point.
     pub fn place(&self, point: Point) -> Result<Place, Fault> {
         answer::place(self.ask(kind::PLACE, point))
     }
 
-    /// The left and the right tangent point seen from `point`; `None` where there is no point, or the outline covers it.
+    /// Returns the left and the right tangent point seen from `point`; `None` if there is no point, or the polygon covers it.
     pub fn tangents(&self, point: Point) -> Result<Option<(Point, Point)>, Fault> {
         answer::tangents(self.ask(kind::TANGENTS, point))
     }
 
-    /// The farthest point in a direction, of several the first by x and then by y; `None` where there is none.
+    /// Returns the farthest point in a direction, of several the first by x and then by y; `None` if there is none.
     pub fn extreme(&self, direction: Point) -> Result<Option<Point>, Fault> {
         answer::extreme(self.ask(kind::EXTREME, direction))
     }
 
-    /// The same in a direction of two floats, taken to whole numbers by [`direction_of`](crate::direction_of); in the direction
-    /// (0, 0) the first point by x and then by y.
+    /// The same for a direction of two floats, scaled to integers by [`direction_of`](crate::direction_of); for the direction (0,
+    /// 0) the first point by x and then by y.
     pub fn extreme_d(&self, dx: f64, dy: f64) -> Result<Option<Point>, Fault> {
         self.extreme(asked_along(dx, dy)?)
     }
@@ -268,28 +270,28 @@ impl Corners {
         many::all(kind, points, serve, told)
     }
 
-    /// Where each of the points lies.
+    /// Returns the location of each of the points.
     pub fn place_all(&self, points: &[Point]) -> Result<Vec<Place>, Fault> {
         self.ask_all(kind::PLACE, points, answer::place)
     }
 
-    /// The tangent points seen from each of the points, as by [`tangents`](Corners::tangents).
+    /// Returns the tangent points seen from each of the points, as [`tangents`](Corners::tangents).
     pub fn tangents_all(&self, points: &[Point]) -> Result<Vec<Option<(Point, Point)>>, Fault> {
         self.ask_all(kind::TANGENTS, points, answer::tangents)
     }
 
-    /// The farthest point in each of the directions, as by [`extreme`](Corners::extreme).
+    /// Returns the farthest point in each of the directions, as [`extreme`](Corners::extreme).
     pub fn extreme_all(&self, directions: &[Point]) -> Result<Vec<Option<Point>>, Fault> {
         self.ask_all(kind::EXTREME, directions, answer::extreme)
     }
 
-    /// Twice the area, 0 for a point and a line.
+    /// Returns twice the area, 0 for a point and a segment.
     pub fn doubled_area(&self) -> u128 {
         let reply = self.ask(kind::AREA, NOWHERE);
         u128::from(reply.high) << 64 | u128::from(reply.number)
     }
 
-    /// Whether the outline and the segment from `a` to `b`, which may be one point, have a point in common.
+    /// Returns whether the polygon intersects the segment from `a` to `b`, which may be one point.
     pub fn meets_segment(&self, a: Point, b: Point) -> Result<bool, Fault> {
         let corners = &self.points;
         // SAFETY: the corners are an outline, as `Outline::new` saw, and nobody writes them.
@@ -297,7 +299,8 @@ impl Corners {
         answer::number(told).map(|number| number == 1)
     }
 
-    /// What parts the outline from the segment from `a` to `b`; `None` where they meet, and for an outline of no corners.
+    /// Returns what separates the polygon from the segment from `a` to `b`; `None` if they intersect, and for a polygon without
+    /// vertices.
     pub fn apart_from_segment(&self, a: Point, b: Point) -> Result<Option<Separation>, Fault> {
         let corners = &self.points;
         // SAFETY: the same.
@@ -305,76 +308,76 @@ impl Corners {
         answer::separation(told)
     }
 
-    /// Where the point is that is nearest to `point`; `None` for an outline of no corners.
+    /// Returns where the point is that is nearest to `point`; `None` for a polygon without vertices.
     pub fn nearest(&self, point: Point) -> Result<Option<Nearest>, Fault> {
         // SAFETY: the same.
         let told = unsafe { raw::hull_outline_nearest(self.points.as_ptr(), self.points.len(), point.x, point.y) };
         answer::nearest(told)
     }
 
-    /// The least and the greatest point of the smallest box with sides along the axes; `None` for an outline of no corners.
+    /// Returns the least and the greatest point of the bounding box; `None` for a polygon without vertices.
     pub fn bounding_box(&self) -> Option<(Point, Point)> {
         // SAFETY: the same.
         answer::bounds(unsafe { raw::hull_outline_box(self.points.as_ptr(), self.points.len()) })
     }
 
-    /// How far the outline reaches in a direction: the greatest product of a corner with it less the least; `None` for an outline of
-    /// no corners. Divided by the length of the direction it is the width along it.
+    /// Returns the extent of the polygon in a direction: the greatest product of a vertex with it less the least; `None` for a
+    /// polygon without vertices. Divide it by the length of the direction for the width along it.
     pub fn width_along(&self, direction: Point) -> Result<Option<u128>, Fault> {
         // SAFETY: the same.
         let told = unsafe { raw::hull_outline_width(self.points.as_ptr(), self.points.len(), direction.x, direction.y) };
         answer::width(told)
     }
 
-    /// The two corners that are farthest from one another; `None` for an outline of no corners.
+    /// Returns the two vertices that are farthest from one another; `None` for a polygon without vertices.
     pub fn diameter(&self) -> Option<(Point, Point)> {
         // SAFETY: the same.
         answer::points(unsafe { raw::hull_outline_diameter(self.points.as_ptr(), self.points.len()) })
     }
 
-    /// Where the outline is least wide: no direction has a narrower strip; `None` where there are fewer than two corners.
+    /// Returns where the polygon is least wide: no direction has a narrower strip; `None` if there are fewer than two vertices.
     pub fn least_width(&self) -> Option<Strip> {
         // SAFETY: the same.
         answer::strip(unsafe { raw::hull_outline_least_width(self.points.as_ptr(), self.points.len()) })
     }
 
-    /// Whether the two outlines have a point in common, boundaries included.
+    /// Returns whether the two polygons intersect, boundaries included.
     pub fn meets(&self, other: &Corners) -> bool {
         let (these, those) = (&self.points, &other.points);
         // SAFETY: the same, of both.
         unsafe { raw::hull_outline_meets(these.as_ptr(), these.len(), those.as_ptr(), those.len()) }.number == 1
     }
 
-    /// Whether this outline covers whatever the other one covers.
+    /// Returns whether this polygon contains the other one.
     pub fn contains(&self, other: &Corners) -> bool {
         let (these, those) = (&self.points, &other.points);
         // SAFETY: the same.
         unsafe { raw::hull_outline_contains(these.as_ptr(), these.len(), those.as_ptr(), those.len()) }.number == 1
     }
 
-    /// How this outline stands to the other one.
+    /// Returns how this polygon is related to the other one.
     pub fn relation(&self, other: &Corners) -> Relation {
         let (these, those) = (&self.points, &other.points);
         // SAFETY: the same.
         answer::relation(unsafe { raw::hull_outline_relation(these.as_ptr(), these.len(), those.as_ptr(), those.len()) }.number)
     }
 
-    /// Whether all of the other outline lies inside this one, with no point of it on the boundary.
+    /// Returns whether this polygon contains the other one with no point of it on the boundary.
     pub fn contains_inside(&self, other: &Corners) -> bool {
         let (these, those) = (&self.points, &other.points);
         // SAFETY: the same.
         unsafe { raw::hull_outline_contains_inside(these.as_ptr(), these.len(), those.as_ptr(), those.len()) }.number == 1
     }
 
-    /// Whether the two outlines are no farther apart than `numerator / denominator`, exactly; false where one of them has no corners.
-    /// A length with the denominator 0 is longer than any distance.
+    /// Returns whether their distance is at most `numerator / denominator`, exactly; false if one of them has no vertices. A
+    /// length with the denominator 0 is longer than any distance.
     pub fn within(&self, other: &Corners, numerator: u64, denominator: u32) -> bool {
         let (these, those) = (&self.points, &other.points);
         // SAFETY: the same.
         unsafe { raw::hull_outline_within(these.as_ptr(), these.len(), those.as_ptr(), those.len(), numerator, denominator) }.number == 1
     }
 
-    /// The same of the outline and the segment from `a` to `b`, which may be one point.
+    /// The same for the segment from `a` to `b`, which may be one point.
     pub fn within_segment(&self, a: Point, b: Point, numerator: u64, denominator: u32) -> Result<bool, Fault> {
         let corners = &self.points;
         // SAFETY: the same.
@@ -384,12 +387,12 @@ impl Corners {
         answer::number(told).map(|number| number == 1)
     }
 
-    /// And of a point.
+    /// The same for a point.
     pub fn within_point(&self, point: Point, numerator: u64, denominator: u32) -> Result<bool, Fault> {
         self.within_segment(point, point, numerator, denominator)
     }
 
-    /// How this outline stands to the segment from `a` to `b`, which may be one point.
+    /// Returns how this polygon is related to the segment from `a` to `b`, which may be one point.
     pub fn relation_to_segment(&self, a: Point, b: Point) -> Result<Relation, Fault> {
         let corners = &self.points;
         // SAFETY: the same.
@@ -397,7 +400,7 @@ impl Corners {
         answer::number(told).map(|number| answer::relation(number as u64))
     }
 
-    /// How far the two outlines are apart; `None` where one of them has no corners.
+    /// Returns the distance of the two polygons; `None` if one of them has no vertices.
     pub fn clearance(&self, other: &Corners) -> Option<Clearance> {
         let (these, those) = (&self.points, &other.points);
         // SAFETY: the same.
@@ -405,48 +408,49 @@ impl Corners {
         answer::clearance(told).ok().flatten()
     }
 
-    /// How far the segment from `a` to `b`, which may be one point, is from the outline; `None` for an outline of no corners.
+    /// Returns the distance of the polygon and the segment from `a` to `b`, which may be one point; `None` for a polygon without
+    /// vertices.
     pub fn clearance_to_segment(&self, a: Point, b: Point) -> Result<Option<Clearance>, Fault> {
         let corners = &self.points;
         // SAFETY: the same.
         answer::clearance(unsafe { raw::hull_outline_clearance_to_segment(corners.as_ptr(), corners.len(), a.x, a.y, b.x, b.y) })
     }
 
-    /// How far a point is from the outline; `None` for an outline of no corners.
+    /// Returns the distance of the polygon and a point; `None` for a polygon without vertices.
     pub fn clearance_to_point(&self, point: Point) -> Result<Option<Clearance>, Fault> {
         self.clearance_to_segment(point, point)
     }
 
-    /// Where the ray from `from` in a direction first comes in; `None` where it misses.
+    /// Returns where the ray from `from` in a direction enters; `None` if it misses.
     pub fn cast_ray(&self, from: Point, direction: Point) -> Result<Option<Hit>, Fault> {
         let corners = &self.points;
         // SAFETY: the same.
         answer::hit(unsafe { raw::hull_outline_cast_ray(corners.as_ptr(), corners.len(), from.x, from.y, direction.x, direction.y) })
     }
 
-    /// The last point in the outline of that ray; `None` where it misses.
+    /// Returns the last point of that ray in the polygon; `None` if it misses.
     pub fn last_on_ray(&self, from: Point, direction: Point) -> Result<Option<Hit>, Fault> {
         let corners = &self.points;
         // SAFETY: the same.
         answer::hit(unsafe { raw::hull_outline_last_on_ray(corners.as_ptr(), corners.len(), from.x, from.y, direction.x, direction.y) })
     }
 
-    /// Where the segment from `a` to `b` first comes in; `None` where it misses. Its last point in the outline is where that from `b`
-    /// to `a` comes in.
+    /// Returns where the segment from `a` to `b` enters; `None` if it misses. Its last point in the polygon is where that from `b`
+    /// to `a` enters.
     pub fn cast_segment(&self, a: Point, b: Point) -> Result<Option<Hit>, Fault> {
         let corners = &self.points;
         // SAFETY: the same.
         answer::hit(unsafe { raw::hull_outline_cast_segment(corners.as_ptr(), corners.len(), a.x, a.y, b.x, b.y) })
     }
 
-    /// Where the two outlines meet, or what parts them; `None` where one of them has no corners.
+    /// Returns where the two polygons intersect, or what separates them; `None` if one of them has no vertices.
     pub fn witness(&self, other: &Corners) -> Option<Witness> {
         let (these, those) = (&self.points, &other.points);
         // SAFETY: the same.
         answer::witness(unsafe { raw::hull_outline_witness(these.as_ptr(), these.len(), those.as_ptr(), those.len()) })
     }
 
-    /// Where the two outlines are nearest to one another; `None` where one of them has no corners.
+    /// Returns where the two polygons are nearest to one another; `None` if one of them has no vertices.
     pub fn distance(&self, other: &Corners) -> Option<Distance> {
         let (these, those) = (&self.points, &other.points);
         // SAFETY: the same.

@@ -1,4 +1,4 @@
-//! Many outlines at once.
+//! Many polygons at once.
 use crate::answer;
 use crate::outline::{Corners, Outline};
 use crate::raw::{self, code, CornersAt};
@@ -12,7 +12,7 @@ fn many<T: Clone>(one: T, count: usize) -> Result<Vec<T>, Fault> {
     Ok(all)
 }
 
-/// Where the corners of outlines lie.
+/// The vertices of polygons.
 fn places(outlines: &[Outline]) -> Result<Vec<CornersAt>, Fault> {
     let mut all = Vec::new();
     all.try_reserve_exact(outlines.len()).map_err(|_| Fault::NoMemory)?;
@@ -20,8 +20,8 @@ fn places(outlines: &[Outline]) -> Result<Vec<CornersAt>, Fault> {
     Ok(all)
 }
 
-/// Which outlines are no farther apart than `numerator / denominator`, exactly, or, with 0 / 1, have a point in common: the pairs of
-/// their places, the lesser first, in their order. By a sweep over their boxes.
+/// Returns which polygons have a distance of at most `numerator / denominator`, exactly, or, with 0 / 1, intersect: the pairs of
+/// their indices, the lesser first, in order. By a sweep over their boxes.
 pub fn pairs_within(outlines: &[Outline], numerator: u64, denominator: u32) -> Result<Vec<(usize, usize)>, Fault> {
     let all = places(outlines)?;
     let mut room = outlines.len();
@@ -40,7 +40,7 @@ pub fn pairs_within(outlines: &[Outline], numerator: u64, denominator: u32) -> R
 }
 
 impl Corners {
-    /// How this outline stands to each of the others, in their order.
+    /// Returns how this polygon is related to each of the others, in order.
     pub fn relations(&self, others: &[Outline]) -> Result<Vec<Relation>, Fault> {
         let (these, all) = (self.corners(), places(others)?);
         let mut told = many(0, all.len())?;
@@ -49,7 +49,7 @@ impl Corners {
         Ok(told.iter().map(|&relation| answer::relation(relation.into())).collect())
     }
 
-    /// Whether the outline meets each of the segments, in their order.
+    /// Returns whether the polygon intersects each of the segments, in order.
     pub fn meets_segments(&self, segments: &[[Point; 2]]) -> Result<Vec<bool>, Fault> {
         let these = self.corners();
         let mut told = many(0, segments.len())?;
@@ -60,7 +60,7 @@ impl Corners {
         (asked == segments.len()).then(|| told.iter().map(|&meets| meets == 1).collect()).ok_or(Fault::OutOfRange)
     }
 
-    /// For each corner the place of the first of the points that is there: which input it is. `None` where none is.
+    /// Returns for each vertex the index of the first of the points that is equal to it: which input it is. `None` if none is.
     pub fn indices(&self, points: &[Point]) -> Result<Vec<Option<usize>>, Fault> {
         let these = self.corners();
         let mut told = many(0, these.len())?;

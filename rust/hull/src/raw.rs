@@ -1,5 +1,4 @@
-//! The headers `include/hull_common.h`, `hull.h` and `hull_shared.h`, declared for Rust: what they say of each call stands
-//! there.
+//! The headers `include/hull_common.h`, `hull.h` and `hull_shared.h`, declared for Rust: each call is described there.
 
 /// A point, or a direction, by its coordinates.
 #[repr(C)]
@@ -30,13 +29,13 @@ impl std::fmt::Display for Point {
     }
 }
 
-/// A point that is held, and how often.
+/// A point and its multiplicity.
 #[repr(C)]
 #[derive(Clone, Copy, Debug, PartialEq, Eq, PartialOrd, Ord, Hash)]
 pub struct Held {
     /// The point.
     pub point: Point,
-    /// How often it is held.
+    /// Its multiplicity.
     pub times: u32,
 }
 
@@ -83,14 +82,14 @@ pub(crate) struct SeatReply {
     pub has_line: u32,
 }
 
-/// Where the corners of an outline lie, and how many they are.
+/// The vertices of a polygon, and their number.
 #[repr(C)]
 pub(crate) struct CornersAt {
     pub corners: *const Point,
     pub count: usize,
 }
 
-/// What a reader holds.
+/// A reader's snapshot.
 #[repr(C)]
 pub(crate) struct View {
     pub count: usize,
@@ -121,7 +120,7 @@ impl Line {
 // SAFETY: calls from several threads on one line are what it is for; none moves it.
 unsafe impl Sync for Line {}
 
-/// Where a call writes to: an array for corners, or a part; neither, where both are null.
+/// Where a call writes to: an array for vertices, or a part; neither, if both are null.
 #[repr(C)]
 pub(crate) struct Target {
     pub out: *mut Point,
@@ -129,10 +128,10 @@ pub(crate) struct Target {
     pub part: *mut u8,
 }
 
-/// The time of a call that waits for ever.
+/// The deadline of a call that waits for ever.
 pub(crate) const NEVER: u64 = u64::MAX;
 
-/// How a line stands.
+/// The state of a line.
 #[repr(C)]
 pub(crate) struct State {
     pub out: u32,
@@ -150,7 +149,7 @@ pub(crate) struct State {
 
 pub(crate) type Hook = extern "C" fn(context: *mut u8, part: *mut u8);
 
-/// What shows how outlines stand.
+/// A witness of how polygons are related.
 #[repr(C)]
 #[derive(Clone, Copy)]
 pub(crate) struct WitnessTold {
@@ -161,7 +160,7 @@ pub(crate) struct WitnessTold {
     pub d: Point,
 }
 
-/// How far outlines are apart.
+/// A distance of polygons.
 #[repr(C)]
 #[derive(Clone, Copy, Debug)]
 pub(crate) struct ClearanceTold {
@@ -173,7 +172,7 @@ pub(crate) struct ClearanceTold {
     pub denominator: [u64; 2],
 }
 
-/// Where a way first comes into an outline.
+/// Where a segment or a ray enters a polygon.
 #[repr(C)]
 #[derive(Clone, Copy)]
 pub(crate) struct HitTold {
@@ -468,14 +467,14 @@ extern "C" {
 extern "C" {
     pub(crate) fn hull_shared_desk_size() -> usize;
     pub(crate) fn hull_shared_desk_alignment() -> usize;
-    pub(crate) fn hull_shared_seat_size_with_line() -> usize;
+    pub(crate) fn hull_shared_seat_size() -> usize;
     pub(crate) fn hull_shared_seat_alignment() -> usize;
     pub(crate) fn hull_shared_make_desk(room: *mut u8);
-    pub(crate) fn hull_shared_make_seat_with_line(room: *mut u8);
+    pub(crate) fn hull_shared_make_seat(room: *mut u8);
     pub(crate) fn hull_shared_open(desk: *mut u8, limit: u32, first: u64, capacity: u32, seats: u32) -> u32;
     pub(crate) fn hull_shared_reopen(desk: *mut u8, text: *const u8, length: usize, capacity: u32, seats: u32) -> Reply;
-    pub(crate) fn hull_shared_lend_with_line(desk: *mut u8, line: *mut u8, room: *mut u8, number: u32) -> u32;
-    pub(crate) fn hull_shared_give_back_with_line(desk: *mut u8, room: *mut u8) -> u32;
+    pub(crate) fn hull_shared_lend(desk: *mut u8, line: *mut u8, room: *mut u8, number: u32) -> u32;
+    pub(crate) fn hull_shared_give_back(desk: *mut u8, room: *mut u8) -> u32;
     pub(crate) fn hull_shared_call_into(line: *mut u8, seat: *mut u8, kind: u32, x: i64, y: i64, to: Target, until: u64) -> SeatReply;
     pub(crate) fn hull_shared_reader_size() -> usize;
     pub(crate) fn hull_shared_reader_alignment() -> usize;

@@ -1,4 +1,4 @@
-//! Who reads a shared hull beside its seats, with no lock.
+//! Readers of a shared hull, beside its seats, without a lock.
 use crate::answer;
 use crate::counted::Counted;
 use crate::outline::Corners;
@@ -7,9 +7,9 @@ use crate::shared::{Desk, Room};
 use crate::{Fault, Point, NOWHERE};
 use std::fmt;
 
-/// A reader of a shared hull ([`SharedHull::lend_reader`](crate::SharedHull::lend_reader)), which holds a view: the corners as they
-/// were behind one line of the journal. It takes no lock, no turn and no line, waits for nobody, and nobody waits for it. It may go
-/// to another thread, and goes back to its hull when it is dropped.
+/// A reader of a shared hull ([`SharedHull::lend_reader`](crate::SharedHull::lend_reader)), which has a snapshot: the vertices as
+/// of one line of the journal. It takes no lock, no turn and no line, and waits for no call. It may go to another thread, and is
+/// released when it is dropped.
 ///
 /// ```
 /// use hull::{Limits, Place, Point, SharedHull};
@@ -50,9 +50,9 @@ impl Reader {
         Ok(reader)
     }
 
-    /// Takes the newest view, where the reader does not hold it: it shows what each call did that had returned before. False where
-    /// others were in the way a thousand times, and the view is the one from before. [`Fault::NoMemory`] where there is none for the
-    /// corners: the view is as it was.
+    /// Takes the newest snapshot, if the reader does not have it: it shows what each call did that had returned before. Returns
+    /// false if others were in the way a thousand times, and the snapshot is the one from before. With [`Fault::NoMemory`], which
+    /// says that there is none for the vertices, it is as it was.
     pub fn read(&mut self) -> Result<bool, Fault> {
         // SAFETY: a reader lies in the room, and `&mut self` keeps other calls away.
         let told = unsafe { raw::hull_shared_read(self.room.at()) };
@@ -71,24 +71,24 @@ impl Reader {
         Ok(told.code == code::VIEWED)
     }
 
-    /// Whether the view is still the newest: one look.
+    /// Returns whether the snapshot is still the newest: one load.
     pub fn is_newest(&self) -> bool {
         // SAFETY: a reader lies in the room, and is not `Sync`.
         self.lines.is_some() && unsafe { raw::hull_shared_is_newest(self.room.at()) == 1 }
     }
 
-    /// The view, to be asked as an outline.
+    /// Returns the snapshot, as a polygon.
     pub fn view(&self) -> &Corners {
         // SAFETY: they are an outline.
         unsafe { Corners::of(&self.corners[..self.count]) }
     }
 
-    /// The number of the line behind which the view is true; `None` where it is that of a hull with no line.
+    /// Returns the number of the snapshot's line; `None` if it is that of a hull with no line.
     pub fn line(&self) -> Option<u64> {
         self.line
     }
 
-    /// The newest view: the one that is held, or another that is taken. [`Fault::NoMemory`].
+    /// Returns the newest snapshot: this one, or another that is taken. Fails with [`Fault::NoMemory`].
     pub fn newest(&mut self) -> Result<&Corners, Fault> {
         if !self.is_newest() {
             self.read()?;

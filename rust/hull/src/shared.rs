@@ -16,19 +16,19 @@ use std::ptr::{null_mut, NonNull};
 use std::sync::{Mutex, MutexGuard, PoisonError, RwLock};
 use std::time::Duration;
 
-/// The greatest capacity of a shared hull: how many lines of its journal may be held at most.
+/// The greatest capacity of a shared hull: how many lines its journal may have.
 pub const CAPACITY_LIMIT: u32 = (1 << 24) - 1;
 /// The greatest number of seats of a shared hull.
 pub const SEAT_LIMIT: u32 = 64;
 
-/// What a shared hull is opened with.
+/// The limits that a shared hull is opened with.
 #[derive(Clone, Copy, Debug, PartialEq, Eq)]
 pub struct Limits {
-    /// How many different points it may hold, 1 to [`POINT_LIMIT`](crate::POINT_LIMIT).
+    /// How many different points it may have, 1 to [`POINT_LIMIT`](crate::POINT_LIMIT).
     pub points: u32,
     /// The number of the first call.
     pub first: u64,
-    /// How many lines of the journal are held at most, until a seat takes them out ([`Seat::drain`]), 1 to [`CAPACITY_LIMIT`].
+    /// How many lines the journal may have until a seat drains it ([`Seat::drain`]), 1 to [`CAPACITY_LIMIT`].
     pub capacity: u32,
     /// How many seats there are, 1 to [`SEAT_LIMIT`].
     pub seats: u32,
@@ -37,7 +37,7 @@ pub struct Limits {
 /// The greatest number of readers of a shared hull.
 pub const READER_LIMIT: u32 = 64;
 
-/// Memory in which a desk, a seat, a reader or a part lies, which is given back when it is dropped.
+/// The storage of a desk, a seat, a reader or a part, which is freed when it is dropped.
 pub(crate) struct Room {
     at: NonNull<u8>,
     layout: Layout,
@@ -66,7 +66,7 @@ impl Drop for Room {
     }
 }
 
-/// What takes the lines out when half of those that may be are held.
+/// What drains when half of the lines are used.
 type Keep = Box<dyn FnMut(&JournalPart) + Send>;
 
 thread_local! {
@@ -74,8 +74,8 @@ thread_local! {
     static PANIC: Cell<Option<Box<dyn Any + Send>>> = const { Cell::new(None) };
 }
 
-/// A desk, on which there is one call at a time, and the line in which the calls of its seats wait. The hull and each seat that is out
-/// own it together.
+/// A desk, on which there is one call at a time, and the line in which the calls of its seats wait. The hull and each acquired
+/// seat own it together.
 pub(crate) struct Desk {
     room: Mutex<Room>,
     line: Line,
@@ -83,7 +83,7 @@ pub(crate) struct Desk {
     journal: RwLock<Option<Journal>>,
 }
 
-/// Where the file of a journal is kept, which is closed when it is taken; who asks what is safe reads it.
+/// The journal file, which is closed when it is taken out of this; a thread that asks what is durable reads it.
 struct Journal(NonNull<u8>);
 
 // SAFETY: its calls may be made by any thread, but for the last, which ends it.
@@ -96,7 +96,7 @@ fn name_of(path: &Path) -> Result<CString, Fault> {
     CString::new(path.as_os_str().as_bytes()).map_err(|_| Fault::NoFile { errno: EINVAL })
 }
 
-/// The fault of a call on the file of a journal, which told this.
+/// The fault of a call on the journal file.
 fn fault_of_file(told: &Reply, errno: u64) -> Fault {
     match told.code {
         code::NO_FILE => Fault::NoFile { errno: errno as i32 },
@@ -116,7 +116,7 @@ impl Desk {
         }
     }
 
-    /// What is safe of the journal in the file, as a call on it tells.
+    /// Which lines of the journal are durable in the file, as a call on it returns it.
     fn safe(&self, ask: impl FnOnce(*mut u8) -> Reply) -> Result<u64, Fault> {
         let journal = self.journal.read().unwrap_or_else(PoisonError::into_inner);
         let told = ask(journal.as_ref().ok_or(Fault::NotOpen)?.0.as_ptr());
@@ -126,7 +126,7 @@ impl Desk {
         }
     }
 
-    /// Ends the file of the journal, if there is one, and with it the desk, which is locked.
+    /// Ends the journal file, if there is one, and with it the desk, which is locked.
     fn end_journal(&self, _: &MutexGuard<'_, Room>) -> Result<(), Fault> {
         let mut journal = self.journal.write().unwrap_or_else(PoisonError::into_inner);
         let at = match *journal {
@@ -135,7 +135,7 @@ impl Desk {
         };
         // SAFETY: nobody else has it or the desk, since both locks are taken; it is used no more but where it goes on.
         let told = unsafe { raw::hull_shared_journal_close(at.as_ptr()) };
-        if told.code == code::SEATS_OUT {
+        if told.code == code::SEATS_OUT || told.code == code::IN_USE {
             return Err(Fault::SeatsOut);
         }
         *journal = None;
@@ -163,7 +163,7 @@ impl Drop for Desk {
     }
 }
 
-/// The hook of a line: hands the part to what the hull was given.
+/// The hook of a line: passes the part to what the hull was given.
 extern "C" fn keep_part(context: *mut u8, part: *mut u8) {
     // SAFETY: the context is a desk, which its seat owns meanwhile; the part lies at its place, and is the line's: it is not dropped.
     let (desk, part) = unsafe {
@@ -178,31 +178,31 @@ extern "C" fn keep_part(context: *mut u8, part: *mut u8) {
     }
 }
 
-/// How the calls of a shared hull stand at one moment ([`SharedHull::stats`]).
+/// The state of the calls of a shared hull at one moment ([`SharedHull::stats`]).
 #[derive(Clone, Copy, Debug, PartialEq, Eq)]
 pub struct Stats {
-    /// How many seats are out.
+    /// How many seats are acquired.
     pub out: u32,
-    /// How many calls are inside.
+    /// How many calls are admitted.
     pub inside: u32,
-    /// How many sleep until they may come in.
+    /// How many sleep and wait for admission.
     pub sleepers: u32,
-    /// How many sleep until there is room in the journal.
+    /// How many sleep and wait for space in the journal.
     pub for_room: u32,
-    /// How many lines are held behind the call that was served last.
+    /// How many lines the journal had after the last call.
     pub held: u32,
-    /// The number that is served now, the one behind that call's; 0 before the first.
+    /// The number that is served now, the one after that call's; 0 before the first.
     pub turn: u64,
-    /// The seat whose call has that number, and for how long it has been inside, to some milliseconds.
+    /// The seat whose call has that number, and how long it has been admitted, to some milliseconds.
     pub seat: Option<(u32, Duration)>,
-    /// The seat that slept and is to come in next.
+    /// The seat that is designated to enter next.
     pub named: Option<u32>,
-    /// The seat that takes lines out for [`SharedHull::on_half_full`], and for how long it has.
+    /// The seat that drains for [`SharedHull::on_half_full`], and for how long it has.
     pub drainer: Option<(u32, Duration)>,
 }
 
-/// One hull that up to [`SEAT_LIMIT`] threads change and question at once. Each call takes effect at one moment between
-/// its beginning and its end, in the order of the calls' numbers, and has its line in a journal.
+/// One hull that up to [`SEAT_LIMIT`] threads change and query at once. Each call takes effect at one moment between its beginning
+/// and its end, in the order of the calls' numbers, and has its line in a journal.
 ///
 /// ```
 /// use hull::{Limits, Point, SharedHull};
@@ -218,42 +218,44 @@ pub struct SharedHull {
 }
 
 impl SharedHull {
-    /// Opens an empty hull, whose seats are all to be lent. All memory but that of points is asked for here.
+    /// Opens an empty hull. Everything but points is allocated here.
     pub fn open(limits: Limits) -> Result<SharedHull, Fault> {
         Opening::new()?.open(limits)
     }
 
-    /// The same, but questions are answered also where as many lines are held as may be: by what is held, with no line.
+    /// The same, but questions are answered also when the journal is full, with no line.
     pub fn open_answering(limits: Limits) -> Result<SharedHull, Fault> {
         Opening::new()?.open_answering(limits)
     }
 
-    /// The same, but the line of each call is let go with its answer: the text of the journal has none. `capacity` is not read.
+    /// The same, but each line is discarded after its reply is returned: the text of the journal has none. `capacity` is not read.
     pub fn open_without_journal(limits: Limits) -> Result<SharedHull, Fault> {
         Opening::new()?.open_without_journal(limits)
     }
 
-    /// Opens a hull that goes on where a journal ends, with the points that it left: `text` is the journal's, whole, as
-    /// [`SharedHull::close`] or the program `hullbook` wrote it. Limit and numbers are the journal's. Its lines count as taken out:
-    /// those of later calls alone are in the texts of this hull, and `hullbook check OLD NEW..` judges all in their order.
+    /// Opens a hull that continues a journal, with the points that it left: `text` is the whole journal, as [`SharedHull::close`]
+    /// or the program `hullbook` wrote it. Limit and numbers are the journal's. Its lines count as drained: the texts of this hull
+    /// have only lines of later calls, and `hullbook check OLD NEW..` judges all in order.
     ///
-    /// [`Fault::NoJournal`], [`Fault::OldRules`], [`Fault::TooFewSeats`] and [`Fault::Illegal`] tell why a text is not gone on with.
+    /// Fails with [`Fault::NoJournal`], [`Fault::OldRules`], [`Fault::TooFewSeats`] and [`Fault::Illegal`] if the text can't be
+    /// continued.
     pub fn reopen(text: &str, capacity: u32, seats: u32) -> Result<SharedHull, Fault> {
         Opening::new()?.reopen(text, capacity, seats)
     }
 
-    /// Opens a hull whose journal is kept in a file, which is made, or gone on with: the hull holds what it left then, and the limit is
-    /// its own. A thread writes the lines to the file when it is asked to ([`SharedHull::sync`], [`Seat::wait_safe`]), each `every` where
-    /// that is given, and where half of `limits.capacity` are held; calls wait for room. `limits.first` is not read, and `limits.seats`
-    /// is at most one less than [`SEAT_LIMIT`]. No seat of such a hull is drained by its caller: nothing more is safe behind that.
+    /// Opens a hull whose journal is kept in a file, which is made, or read: then the hull has the points that it left, and its
+    /// limit. A thread writes the lines to the file when a thread waits for one ([`SharedHull::sync`], [`Seat::wait_safe`]), each
+    /// `every` if that is given, and when half of `limits.capacity` are used; calls wait for space. `limits.first` is not read,
+    /// and `limits.seats` is at most one less than [`SEAT_LIMIT`]. Do not drain a seat of such a hull: no later line would be
+    /// durable.
     ///
-    /// [`Fault::NoFile`], [`Fault::Damaged`] and [`Fault::Illegal`], with the line of the file, and those of opening.
+    /// Fails with [`Fault::NoFile`], [`Fault::Damaged`] and [`Fault::Illegal`], with the line of the file, and those of opening.
     pub fn keep(path: impl AsRef<Path>, limits: Limits, every: Option<Duration>) -> Result<SharedHull, Fault> {
         Opening::new()?.keep(path, limits, every)
     }
 
-    /// A hull that is to be opened, in whichever of these ways, whose calls publish what they leave for so many readers, 1 to
-    /// [`READER_LIMIT`] ([`SharedHull::lend_reader`]); [`Fault::BadLimit`] and [`Fault::NoMemory`].
+    /// A hull that you open in one of these ways, and that has up to so many readers, 1 to [`READER_LIMIT`]
+    /// ([`SharedHull::lend_reader`]). Fails with [`Fault::BadLimit`] and [`Fault::NoMemory`].
     ///
     /// ```
     /// # let limits = hull::Limits { points: 1000, first: 0, capacity: 4096, seats: 2 };
@@ -270,8 +272,9 @@ impl SharedHull {
         }
     }
 
-    /// Makes such a file short that no hull keeps now: the additions that leave the same points, up to the same number, which is told.
-    /// [`Fault::NoFile`], [`Fault::Damaged`], [`Fault::Illegal`] and [`Fault::NoMemory`], and the file is as it was.
+    /// Compacts such a file, of a hull that is not open: to the additions that leave the same points, up to the same number, which
+    /// is returned. Fails with [`Fault::NoFile`], [`Fault::Damaged`], [`Fault::Illegal`] and [`Fault::NoMemory`], and the file is
+    /// as it was, or leaves the same points, if its folder could not be synced after the new file took its name.
     pub fn compact(path: impl AsRef<Path>) -> Result<u64, Fault> {
         let path = name_of(path.as_ref())?;
         // SAFETY: the path ends with a 0.
@@ -282,21 +285,21 @@ impl SharedHull {
         }
     }
 
-    /// The number of the first line that is not safe in the file: those before it are there for good, however the process ends.
-    /// [`Fault::NotOpen`] where the hull keeps no file or is closed; [`Fault::NoFile`] where a write was refused: nothing more is safe.
+    /// Returns the number of the first line that is not durable. Fails with [`Fault::NotOpen`] if the hull has no file or is
+    /// closed; [`Fault::NoFile`] if a write failed: no later line will be durable.
     pub fn safe(&self) -> Result<u64, Fault> {
         // SAFETY: the journal is there as long as it is read.
         self.desk.safe(|at| unsafe { raw::hull_shared_journal_safe(at) })
     }
 
-    /// Waits until the lines of all calls are safe that were answered before, and tells the number of the first line that is not.
+    /// Waits until the lines of all calls that have returned are durable, and returns the number of the first line that is not.
     pub fn sync(&self) -> Result<u64, Fault> {
         // SAFETY: as above.
         self.desk.safe(|at| unsafe { raw::hull_shared_journal_sync(at, raw::NEVER) })
     }
 
-    /// Whether a call that finds no room waits until some seat has taken lines out, and is made then, in place of [`Fault::Full`].
-    /// [`Fault::SeatsOut`] where a seat is out.
+    /// Decides whether a call that finds the journal full waits until a seat has drained it, and is made then, instead of failing
+    /// with [`Fault::Full`]. Fails with [`Fault::SeatsOut`] if a seat is acquired.
     pub fn wait_for_room(&mut self, waits: bool) -> Result<(), Fault> {
         self.unused()?;
         // SAFETY: no seat is out, and so no call is under way.
@@ -304,12 +307,12 @@ impl SharedHull {
         Ok(())
     }
 
-    /// Has lines taken out by themselves: the thread whose call finds half of those that may be held, or no room, takes them out by its
-    /// seat, asking how many points there are, and hands them to `keep`, beside the calls of others. One thread does so at a time, so
-    /// that the parts come in their order. Where calls outrun it, they are told [`Fault::Full`], or wait ([`SharedHull::wait_for_room`]).
-    /// Where `keep` panics, so does the call in which it ran, which was made; `keep` makes no call by a seat of its thread.
+    /// Has the hull drain itself: the thread whose call finds half of the lines used, or no space, drains by its seat, asking how
+    /// many points there are, and passes the part to `keep`, beside the calls of others. One thread does so at a time, so that the
+    /// parts come in order. If calls outrun it, they fail with [`Fault::Full`], or wait ([`SharedHull::wait_for_room`]). If `keep`
+    /// panics, so does the call in which it ran, which was made; `keep` makes no call by a seat of its thread.
     ///
-    /// [`Fault::SeatsOut`] where a seat is out, [`Fault::NoMemory`].
+    /// Fails with [`Fault::SeatsOut`] if a seat is acquired, and [`Fault::NoMemory`].
     pub fn on_half_full(&mut self, keep: impl FnMut(&JournalPart) + Send + 'static) -> Result<(), Fault> {
         self.unused()?;
         *self.desk.keep.lock().unwrap_or_else(PoisonError::into_inner) = Some(Box::new(keep));
@@ -321,13 +324,13 @@ impl SharedHull {
         }
     }
 
-    /// No seat is out: neither of a caller, nor of a thread that keeps the journal.
+    /// No seat is acquired: neither by you, nor by the thread of the journal file.
     fn unused(&self) -> Result<(), Fault> {
         let keeps = self.desk.journal.read().unwrap_or_else(PoisonError::into_inner).is_some();
         (!keeps && self.desk.is_alone()).then_some(()).ok_or(Fault::SeatsOut)
     }
 
-    /// How the calls of the hull's seats stand. It waits for nothing; while calls go on, its numbers may be of moments apart.
+    /// Returns the state of the hull's calls. It waits for nothing; while calls go on, its numbers may be of different moments.
     pub fn stats(&self) -> Stats {
         // SAFETY: the line lies with the desk, and all that is read is read by atomic steps.
         let told = unsafe { raw::hull_shared_stats(self.desk.line.at()) };
@@ -345,33 +348,33 @@ impl SharedHull {
         }
     }
 
-    /// Lends the seat of a number, 0 and up; [`Fault::NoSeat`] where it is out or there is none, and [`Fault::NotOpen`]
-    /// once the hull is closed.
+    /// Acquires the seat of a number, 0 and up. Fails with [`Fault::NoSeat`] if it is acquired or there is none, and
+    /// [`Fault::NotOpen`] after the hull is closed.
     pub fn lend(&self, number: u32) -> Result<Seat, Fault> {
         // SAFETY: the two that are asked read nothing; the room is of that size and alignment, and nobody else's; the
         // desk lies in its own, and its lock keeps other calls away.
         unsafe {
-            let room = Room::new(raw::hull_shared_seat_size_with_line(), raw::hull_shared_seat_alignment())?;
-            raw::hull_shared_make_seat_with_line(room.at());
-            match raw::hull_shared_lend_with_line(self.desk.lock().at(), self.desk.line.at(), room.at(), number) {
+            let room = Room::new(raw::hull_shared_seat_size(), raw::hull_shared_seat_alignment())?;
+            raw::hull_shared_make_seat(room.at());
+            match raw::hull_shared_lend(self.desk.lock().at(), self.desk.line.at(), room.at(), number) {
                 code::LENT => Ok(Seat { room, desk: self.desk.clone(), number, turn: None, corners: 64, patience: None }),
                 other => Err(answer::fault_of(other)),
             }
         }
     }
 
-    /// Lends a reader, of those that the hull was opened for ([`SharedHull::for_readers`]); [`Fault::NoSeat`] where as many are out, and
-    /// [`Fault::NotOpen`] once the hull is closed.
+    /// Acquires a reader, of those that the hull was opened for ([`SharedHull::for_readers`]). Fails with [`Fault::NoSeat`] if as
+    /// many are acquired, and [`Fault::NotOpen`] after the hull is closed.
     pub fn lend_reader(&self) -> Result<Reader, Fault> {
         Reader::new(&self.desk)
     }
 
-    /// Closes the hull, unless it is closed, and returns the text of its journal, of the lines that were not taken out, which the
-    /// program `hullbook` judges.
+    /// Closes the hull, unless it is closed, and returns the text of its journal, of the lines that were not drained, which
+    /// `hullbook check` judges.
     ///
-    /// [`Fault::SeatsOut`] where a seat is out: the hull stays open. [`Fault::NoMemory`] where there is none for the
-    /// text: the hull is closed, and this may be called again. Where the hull keeps a file, the text stands last in it, or
-    /// [`Fault::NoFile`] tells that it does not: the hull is closed.
+    /// Fails with [`Fault::SeatsOut`] if a seat or a reader is acquired: the hull stays open, and keeps its file. After
+    /// [`Fault::NoMemory`], which says that there is none for the text, you may call it again: the hull is closed. If the hull has
+    /// a file, the text is its last segment; [`Fault::NoFile`] if it could not be written: the hull is closed.
     pub fn close(&self) -> Result<String, Fault> {
         let desk = self.end()?;
         text_of(&desk)
@@ -396,7 +399,8 @@ impl SharedHull {
     }
 }
 
-/// A shared hull that is not open yet: each of its functions opens it as that of [`SharedHull`] with the same name ([`SharedHull::for_readers`]).
+/// A shared hull that is not open yet: each of its functions opens it as that of [`SharedHull`] with the same name
+/// ([`SharedHull::for_readers`]).
 pub struct Opening {
     desk: Counted<Desk>,
 }
@@ -406,7 +410,7 @@ impl Opening {
         Ok(Opening { desk: Counted::new(Desk::new()?)? })
     }
 
-    /// The hull, where its desk was opened.
+    /// The hull, if its desk was opened.
     fn opened(self, told: u32) -> Result<SharedHull, Fault> {
         match told {
             code::OPEN => Ok(SharedHull { desk: self.desk }),
@@ -513,13 +517,13 @@ fn written_into(mut text: Vec<u8>, mut write: impl FnMut(&mut [u8]) -> Reply) ->
     }
 }
 
-/// Lines that a seat took out of a journal ([`Seat::drain`]). They are kept until it is dropped.
+/// A segment of a journal: lines that a seat drained ([`Seat::drain`]). They are kept until it is dropped.
 pub struct JournalPart {
     room: Room,
 }
 
 impl JournalPart {
-    /// A part with room for so many lines.
+    /// A part with space for so many lines.
     fn new(lines: u32) -> Result<JournalPart, Fault> {
         // SAFETY: the two that are asked read nothing; the room is of that size and alignment, and nobody else's.
         unsafe {
@@ -533,15 +537,15 @@ impl JournalPart {
         }
     }
 
-    /// The text of the lines: a journal that has the number of the first of them as its own first number. `hullbook check` judges
-    /// the texts of all parts in their order.
+    /// Returns the text of the lines: a journal with the number of the first of them as its own first number. `hullbook check`
+    /// judges the texts of all parts in order.
     pub fn text(&self) -> Result<String, Fault> {
         // SAFETY: the part lies in the room, and writing its text leaves it as it is; no other thread has it, since it is not
         // `Sync`; the array was written.
         written(|text| unsafe { raw::hull_shared_part_text(self.room.at(), text.as_mut_ptr(), text.len()) })
     }
 
-    /// The lines of that text, from the header to the end line.
+    /// Returns the lines of that text, from the header to the end line.
     pub fn lines(&self) -> Result<impl Iterator<Item = String>, Fault> {
         let text = self.text()?;
         let mut rest = 0;
@@ -552,8 +556,8 @@ impl JournalPart {
         }))
     }
 
-    /// That text in pieces of whole lines, each of at most so many bytes, or a line that is longer: one piece is in memory at a
-    /// time. Behind a fault there is none any more.
+    /// Returns that text in blocks of whole lines, each of at most so many bytes, or a line that is longer: one block is in memory
+    /// at a time. After a fault there is none any more.
     pub fn pieces(&self, bytes: usize) -> impl Iterator<Item = Result<String, Fault>> + '_ {
         // SAFETY: as in `text`.
         pieces_of(bytes, |line, text| unsafe {
@@ -567,7 +571,7 @@ impl JournalPart {
     }
 }
 
-/// A text in pieces of whole lines, of which a call writes those from a line on to an array.
+/// A text in blocks of whole lines, of which a call writes those from a line on to an array.
 fn pieces_of<'a>(bytes: usize, write: impl Fn(u64, &mut [u8]) -> Reply + 'a) -> impl Iterator<Item = Result<String, Fault>> + 'a {
     let mut next = Some(0);
     std::iter::from_fn(move || {
@@ -615,13 +619,12 @@ impl fmt::Debug for SharedHull {
     }
 }
 
-/// A seat at a shared hull, by which one thread at a time makes calls. It may go to another thread (`Send`), and goes
-/// back to its hull when it is dropped.
+/// A seat of a shared hull, by which one thread at a time makes calls. It may go to another thread (`Send`), and is released when
+/// it is dropped.
 ///
-/// Each call waits for its turn: one that others pass comes in after at most half a millisecond for each that waits before it, or tells
-/// [`Fault::Busy`] where it was to wait for less ([`wait_at_most`](Seat::wait_at_most)). [`Fault::Full`]
-/// where as many lines are held as may be: the call is not made, and there is room again behind a
-/// [`drain`](Seat::drain), which is never refused so.
+/// Each call waits for its turn: it is admitted after at most half a millisecond for each that waits before it, or fails with
+/// [`Fault::Busy`] if it waits for less ([`wait_at_most`](Seat::wait_at_most)). It fails with [`Fault::Full`] if the journal is
+/// full: the call is not made, and there is space again after a [`drain`](Seat::drain), which never fails so.
 pub struct Seat {
     room: Room,
     desk: Counted<Desk>,
@@ -632,18 +635,18 @@ pub struct Seat {
 }
 
 impl Seat {
-    /// The number of the seat.
+    /// Returns the number of the seat.
     pub fn number(&self) -> u32 {
         self.number
     }
 
-    /// The number of the seat's last call that was served, under which it has its line in the journal.
+    /// Returns the number of the journal line of the seat's last call.
     pub fn turn(&self) -> Option<u64> {
         self.turn
     }
 
-    /// How long calls of the seat wait until they come in, or for room: for ever, which is how a seat begins, with `None`, and not at all
-    /// with no time. Where they have not come in by then they tell [`Fault::Busy`], and are not made.
+    /// Sets how long calls of the seat wait for admission, or for space: for ever, which is the default, with `None`, and not at
+    /// all with no time. If they were not admitted by then, they fail with [`Fault::Busy`], and are not made.
     pub fn wait_at_most(&mut self, time: Option<Duration>) {
         self.patience = time;
     }
@@ -658,8 +661,8 @@ impl Seat {
         }
     }
 
-    /// Waits until the lines of all calls of the seat are safe in the file that the hull keeps ([`SharedHull::keep`]), for as long as
-    /// calls of the seat wait: [`Fault::Busy`] where they are not by then, and the faults of [`SharedHull::safe`].
+    /// Waits until the lines of all calls of the seat are durable in the journal file ([`SharedHull::keep`]), for as long as calls
+    /// of the seat wait. Fails with [`Fault::Busy`] if they are not by then, and the faults of [`SharedHull::safe`].
     pub fn wait_safe(&self) -> Result<(), Fault> {
         let until = self.until();
         // SAFETY: the journal is there as long as it is read.
@@ -670,38 +673,36 @@ impl Seat {
         told.map(|_| ())
     }
 
-    /// Gives the seat back to its hull, as dropping it does.
+    /// Releases the seat, as dropping it does.
     pub fn give_back(self) {}
 
-    /// Holds a point once more, and tells how often it is held now: 1 where it is new.
+    /// Adds a point, and returns its multiplicity now: 1 if it is new.
     pub fn add(&mut self, point: Point) -> Result<u32, Fault> {
         self.call(kind::ADD, point).and_then(answer::times_added)
     }
 
-    /// Holds a point once less, and tells how often it is still held: 0 where it is there no more; `None` where it was
-    /// not there.
+    /// Removes a point once, and returns the multiplicity that is left: 0 if it is gone; `None` if it was not there.
     pub fn remove(&mut self, point: Point) -> Result<Option<u32>, Fault> {
         self.call(kind::REMOVE, point).and_then(answer::times_left)
     }
 
-    /// Where a point lies.
+    /// Returns the location of a point.
     pub fn place(&mut self, point: Point) -> Result<Place, Fault> {
         self.call(kind::PLACE, point).and_then(answer::place)
     }
 
-    /// The left and the right point that bound the hull as it is seen from `point`, as
-    /// [`Hull::tangents`](crate::Hull::tangents).
+    /// Returns the left and the right tangent point seen from `point`, as [`Hull::tangents`](crate::Hull::tangents).
     pub fn tangents(&mut self, point: Point) -> Result<Option<(Point, Point)>, Fault> {
         self.call(kind::TANGENTS, point).and_then(answer::tangents)
     }
 
-    /// The point that lies farthest in a direction, as [`Hull::extreme`](crate::Hull::extreme).
+    /// Returns the farthest point in a direction, as [`Hull::extreme`](crate::Hull::extreme).
     pub fn extreme(&mut self, direction: Point) -> Result<Option<Point>, Fault> {
         self.call(kind::EXTREME, direction).and_then(answer::extreme)
     }
 
-    /// The corners, as [`Hull::vertices`](crate::Hull::vertices). They are asked for with room for as many as there were before,
-    /// and again where there are more: each asking has its line in the journal.
+    /// Returns the vertices, as [`Hull::vertices`](crate::Hull::vertices). It asks with space for as many as there were before,
+    /// and again if there are more: each question has its line in the journal.
     pub fn vertices(&mut self) -> Result<Vertices, Fault> {
         let mut corners = Vec::new();
         loop {
@@ -720,26 +721,25 @@ impl Seat {
         }
     }
 
-    /// How many corners there are.
+    /// Returns how many vertices there are.
     pub fn corners(&mut self) -> Result<usize, Fault> {
         self.call(kind::VERTICES, NOWHERE).and_then(answer::number).map(|corners| corners as usize)
     }
 
-    /// Twice the area, 0 for a point and a line.
+    /// Returns twice the area, 0 for a point and a segment.
     pub fn doubled_area(&mut self) -> Result<u128, Fault> {
         self.call(kind::AREA, NOWHERE).and_then(answer::number)
     }
 
-    /// How many different points there are.
+    /// Returns how many different points there are.
     pub fn count(&mut self) -> Result<usize, Fault> {
         self.call(kind::COUNT, NOWHERE).and_then(answer::number).map(|points| points as usize)
     }
 
-    /// Asks how many points there are, and takes all lines that the hull holds then out of its journal: that of this call is the
-    /// last. Under the lock only the lists change hands.
+    /// Asks how many points there are, and drains all lines of the journal: that of this call is the last. Under the lock only the
+    /// lists are exchanged.
     ///
-    /// [`Fault::NoMemory`] where there is no room for the lines: no call is made then. [`Fault::Full`] where the journal has no
-    /// room for the call, which is not made, and nothing is taken out: a hull is to be drained before.
+    /// Fails with [`Fault::NoMemory`] if there is none for the lines: no call is made then.
     pub fn drain(&mut self) -> Result<JournalPart, Fault> {
         // SAFETY: a seat lies in the room, and `&mut self` keeps other calls away.
         let part = JournalPart::new(unsafe { raw::hull_shared_capacity(self.room.at()) })?;
@@ -751,12 +751,12 @@ impl Seat {
         self.call_into(kind, at, &mut [])
     }
 
-    /// Makes a call; corners are written to the array, all of which was written.
+    /// Makes a call; vertices are written to the array, all of which was written.
     fn call_into(&mut self, kind: u32, at: Point, out: &mut [Point]) -> Result<Reply, Fault> {
         self.call_to(kind, at, Target { out: out.as_mut_ptr(), room: out.len(), part: null_mut() })
     }
 
-    /// Makes a call in the line of the desk; what it writes to is the caller's alone.
+    /// Makes a call in the line of the desk; what it writes to is only the caller's.
     fn call_to(&mut self, kind: u32, at: Point, to: Target) -> Result<Reply, Fault> {
         let until = self.until();
         // SAFETY: a seat lies in the room, which was lent with this line, and `&mut self` keeps other calls away.
@@ -775,7 +775,7 @@ impl Seat {
 impl Drop for Seat {
     fn drop(&mut self) {
         // SAFETY: the seat lies in its room and went out of this desk, whose lock keeps other calls away.
-        unsafe { raw::hull_shared_give_back_with_line(self.desk.lock().at(), self.room.at()) };
+        unsafe { raw::hull_shared_give_back(self.desk.lock().at(), self.room.at()) };
     }
 }
 

@@ -1,7 +1,6 @@
 //! What has to hold of a schedule, whatever it was.
 use super::schedule::{Game, Outcome, Seen};
 use hull_book::{Answer, CheckResult, Journal, Line, check};
-use hull_plain::PlainSet;
 use std::alloc::Global;
 use std::process::Abort;
 
@@ -61,8 +60,7 @@ fn judge_schedule(rt: &impl Abort, game: &Game, workers: u8, end: &Outcome) {
 /// All that has to hold of the schedule, with a legal journal.
 pub(super) fn judge(rt: &impl Abort, alloc: Global, game: &Game, workers: u8, end: &Outcome) {
     judge_schedule(rt, game, workers, end);
-    let set = PlainSet::new(alloc, end.journal.limit());
-    assert_eq!(rt; check(set, &end.journal), CheckResult::Legal);
+    assert_eq!(rt; check(alloc, &end.journal), CheckResult::Legal);
 }
 
 // Whether the lines are by the same seats, in the same order.
@@ -115,7 +113,7 @@ pub(super) fn judge_next(
             assert!(rt; same);
         }
         None => {
-            let found = check(PlainSet::new(alloc, journal.limit()), &journal);
+            let found = check(alloc, &journal);
             let kept = known.push(journal).is_ok();
             assert_eq!(rt; (found, kept), (CheckResult::Legal, true));
         }

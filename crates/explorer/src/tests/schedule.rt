@@ -222,7 +222,7 @@ fn hire(
             panic!(rt; "there is a ledger for each seat")
         };
         let number = seat.number();
-        assert!(rt; ledger.seat() == number && ledger.count() == 0);
+        assert!(rt; ledger.seat() == number && ledger.total() == 0);
         assert!(rt; usize::from(number) < workers);
         players.push_reserved(Player {
             number,

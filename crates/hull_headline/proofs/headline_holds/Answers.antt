@@ -1,17 +1,17 @@
--- the law of the lock leads to a good world, which says each sentence
+-- the headline of books over any set, at this one, whose soundness says what it stores
 use Rattle.std.proofs.Common.{refl}
-use Rattle.hull_headline.proofs.Good.{first_come, one_holder, bridges, multiplicities, legal, in_order, ledgers}
+use Rattle.hull_headline.proofs.Good.{bridges_of}
 use Rattle.hull_headline.specs.Headline.{StoresBridgesOf, kept}
 use Rattle.hull_tree.specs.Sets.{hull_tree}
 use Rattle.hull_headline.proofs.headline_holds.Goals as goal
 
 pub returns : goal.returns
-returns c = let law = c.partitioned_schedules_hold.ensures in record {
-  first_come = first_come hull_tree kept (λ b lawful. lawful) law;
-  one_holder = one_holder hull_tree kept (λ b lawful. lawful) law;
-  bridges = bridges hull_tree kept (λ b lawful. lawful) StoresBridgesOf (λ t sound. (sound.built, refl)) law;
-  multiplicities = multiplicities hull_tree kept (λ b lawful. lawful) law;
-  legal = legal hull_tree kept (λ b lawful. lawful) law;
-  in_order = in_order hull_tree kept (λ b lawful. lawful) law;
-  ledgers = ledgers hull_tree kept (λ b lawful. lawful) law;
+returns c = let all = c.headline_holds_of_books_over.ensures in record {
+  first_come = all.first_come;
+  one_holder = all.one_holder;
+  bridges = bridges_of hull_tree kept StoresBridgesOf (λ t sound. (sound.built, refl)) all.sound all.multiplicities;
+  multiplicities = all.multiplicities;
+  legal = all.legal;
+  in_order = all.in_order;
+  ledgers = all.ledgers;
 }

@@ -1,11 +1,12 @@
 ghost use Rattle.std.specs.Prelude.{◌≡◌, ◌≤◌, ◌↔◌, ◌∷◌, IfOk, IfSome, IsTrue};
 ghost use Rattle.hull_program.specs.Words.{texts_of, words_as_texts};
-ghost use Rattle.hullbook.specs.Tasks.{AreBehindCheck, AreStatedWithinLimits, AreWithinLimits, IsWithinLimits, NamesWords};
+ghost use Rattle.hullbook.specs.Tasks.{AreBehindCheck, AreStatedWithinLimits, AreWithinLimits, IsRequestWithinLimits};
+ghost use Rattle.hullbook.specs.Tasks.{IsWithinLimits, NamesWords, RequestNamesWords};
 
-use super::{Options, Stated, Task};
+use super::{Options, Request, Stated, Task};
 use clap::{Arg, ArgAction, ArgMatches, Command};
 use hull_book::CAPACITY_LIMIT;
-use hull_program::{Refusal, path_of, refusal_of, word_of};
+use hull_program::{OptionFault, fault_of_words, path_of, word_of};
 use hull_set::POINT_LIMIT;
 use std::alloc::{AllocError, Global};
 
@@ -125,36 +126,39 @@ fn options_of(stated: &Stated) -> Options
         limit: stated.limit.unwrap_or(POINT_LIMIT),
         first: stated.first.unwrap_or(0),
         journal: stated.journal,
-        sparing: stated.sparing,
     }
 }
 
-/// What the words behind `run` ask for.
-fn run_task(alloc: Global, given: &ArgMatches<'_>, words: &[&str]) -> Result<Task, Refusal>
-    ensures limits { IfOk result IsWithinLimits }
-    ensures paths { IfOk result (NamesWords (texts_of words.now)) }
+/// What the words after `run` ask for.
+fn run_task(alloc: Global, given: &ArgMatches<'_>, words: &[&str]) -> Result<Request, OptionFault>
+    ensures limits { IfOk result IsRequestWithinLimits }
+    ensures paths { IfOk result (RequestNamesWords (texts_of words.now)) }
 {
     let Some(stated) = stated_of(given) else {
-        return Err(Refusal::Usage);
+        return Err(OptionFault::Usage);
     };
     let script = path_of(alloc, given, "script", words)?;
-    if !given.contains_id("after") {
-        return Ok(Task::Run(script, options_of(&stated)));
+    if given.contains_id("after") {
+        let journal = path_of(alloc, given, "after", words)?;
+        return Ok(Request::RunAfter(script, journal, stated));
     }
-    let journal = path_of(alloc, given, "after", words)?;
-    Ok(Task::RunAfter(script, journal, stated))
+    let options = options_of(&stated);
+    if stated.sparing {
+        return Ok(Request::RunSparing(script, options));
+    }
+    Ok(Request::Task(Task::Run(script, options)))
 }
 
 /// The words as strings, in their order.
-fn strings_of(alloc: Global, words: &[&str]) -> Result<Vec<String>, Refusal>
+fn strings_of(alloc: Global, words: &[&str]) -> Result<Vec<String>, OptionFault>
     ensures { IfOk result (λ found. words_as_texts found.items ≡ texts_of words.now) }
 {
     let Ok(mut found) = Vec::with_capacity(alloc, words.len()) else {
-        return Err(Refusal::Memory);
+        return Err(OptionFault::Memory);
     };
     for word in words {
         let Ok(text) = String::from_str(alloc, word) else {
-            return Err(Refusal::Memory);
+            return Err(OptionFault::Memory);
         };
         found.push_reserved(text);
     }
@@ -191,58 +195,89 @@ fn parts_behind<'a>(words: &'a [&'a str]) -> Option<&'a [&'a str]>
 }
 
 /// The parts behind `check`, of which there have to be so many, two or more: all words there, in their order.
-fn parts_task(alloc: Global, number: usize, words: &[&str]) -> Result<Task, Refusal>
-    ensures limits { IfOk result IsWithinLimits }
-    ensures paths { IfOk result (NamesWords (texts_of words.now)) }
+fn parts_task(alloc: Global, number: usize, words: &[&str]) -> Result<Request, OptionFault>
+    ensures limits { IfOk result IsRequestWithinLimits }
+    ensures paths { IfOk result (RequestNamesWords (texts_of words.now)) }
 {
     let Some(parts) = parts_behind(words) else {
-        return Err(Refusal::Usage);
+        return Err(OptionFault::Usage);
     };
     if parts.len() < 2 || parts.len() != number {
-        return Err(Refusal::Usage);
+        return Err(OptionFault::Usage);
     }
-    Ok(Task::CheckParts(strings_of(alloc, parts)?))
+    Ok(Request::CheckParts(strings_of(alloc, parts)?))
 }
 
 /// What the words behind `check` ask for. Of one path a wrong line can be explained.
-fn check_task(alloc: Global, given: &ArgMatches<'_>, words: &[&str]) -> Result<Task, Refusal>
-    ensures limits { IfOk result IsWithinLimits }
-    ensures paths { IfOk result (NamesWords (texts_of words.now)) }
+fn check_task(alloc: Global, given: &ArgMatches<'_>, words: &[&str]) -> Result<Request, OptionFault>
+    ensures limits { IfOk result IsRequestWithinLimits }
+    ensures paths { IfOk result (RequestNamesWords (texts_of words.now)) }
 {
     let Some(paths) = given.get_strs("part") else {
-        return Err(Refusal::Usage);
+        return Err(OptionFault::Usage);
     };
     let explains = given.get_flag("explain");
     if let [path] = paths {
-        return Ok(Task::Check(word_of(alloc, path, words)?, explains));
+        let path = word_of(alloc, path, words)?;
+        return Ok(if explains {
+            Request::Explain(path)
+        } else {
+            Request::Task(Task::Check(path))
+        });
     }
     if explains {
-        return Err(Refusal::Usage);
+        return Err(OptionFault::Usage);
     }
     parts_task(alloc, paths.len(), words)
 }
 
-/// What the words after the program's name ask for: `run SCRIPT` with its options, `check JOURNAL` with `--explain` or
-/// without, `check` with two parts of a journal or more, `upgrade JOURNAL`, or `compact JOURNAL`.
+/// What the words after the program's name ask for: a task of [`options`], `run SCRIPT` with `--sparing` or with
+/// `--after JOURNAL`, `check JOURNAL --explain`, `check` with two parts of a journal or more, or `compact JOURNAL`.
 ///
-/// Each path is one of the words, as it was written. `Usage` for any other words and for a number outside its limits; a
-/// question for help counts as one. `Memory` where memory was refused.
-pub fn options(alloc: Global, words: &[&str]) -> Result<Task, Refusal>
-    ensures limits { IfOk result IsWithinLimits }
-    ensures paths { IfOk result (NamesWords (texts_of words.now)) }
+/// Each path is one of the words, as it was written.
+///
+/// # Errors
+///
+/// `Usage` for any other words and for a number outside its limits; a question for help counts as one. `Memory` if
+/// memory was refused.
+pub fn request(alloc: Global, words: &[&str]) -> Result<Request, OptionFault>
+    ensures limits { IfOk result IsRequestWithinLimits }
+    ensures paths { IfOk result (RequestNamesWords (texts_of words.now)) }
 {
     let Ok(command) = command(alloc) else {
-        return Err(Refusal::Memory);
+        return Err(OptionFault::Memory);
     };
     let matches = match command.try_get_matches_from(words) {
         Ok(matches) => matches,
-        Err(error) => return Err(refusal_of(&error)),
+        Err(error) => return Err(fault_of_words(&error)),
     };
     match matches.subcommand() {
         Some(("run", given)) => run_task(alloc, given, words),
         Some(("check", given)) => check_task(alloc, given, words),
-        Some(("upgrade", given)) => Ok(Task::Upgrade(path_of(alloc, given, "journal", words)?)),
-        Some(("compact", given)) => Ok(Task::Compact(path_of(alloc, given, "journal", words)?)),
-        _ => Err(Refusal::Usage),
+        Some(("upgrade", given)) => {
+            let path = path_of(alloc, given, "journal", words)?;
+            Ok(Request::Task(Task::Upgrade(path)))
+        }
+        Some(("compact", given)) => Ok(Request::Compact(path_of(alloc, given, "journal", words)?)),
+        _ => Err(OptionFault::Usage),
+    }
+}
+
+/// The task that the words after the program's name ask for: `run SCRIPT` with `--capacity`, `--limit`, `--first` and
+/// `--journal`, `check JOURNAL`, or `upgrade JOURNAL`.
+///
+/// The path is one of the words, as it was written.
+///
+/// # Errors
+///
+/// `Usage` for any other words, also for those of a [`request`] that is no task, and for a number outside its limits.
+/// `Memory` if memory was refused.
+pub fn options(alloc: Global, words: &[&str]) -> Result<Task, OptionFault>
+    ensures limits { IfOk result IsWithinLimits }
+    ensures paths { IfOk result (NamesWords (texts_of words.now)) }
+{
+    match request(alloc, words)? {
+        Request::Task(task) => Ok(task),
+        _ => Err(OptionFault::Usage),
     }
 }

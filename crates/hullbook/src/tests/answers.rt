@@ -169,7 +169,6 @@ fn limit_two(rt: HostRuntime) -> Result<(), Fail> {
         limit: 2,
         first: 0,
         journal: false,
-        sparing: false,
     };
     let calls = "\
         add 0 0 = added\n\

@@ -1,6 +1,6 @@
 //! How a check ends where its input or its output is at fault.
 use super::{JOURNAL, Silence};
-use crate::check::{check_text, check_whole_text};
+use crate::check::{check_text, check_text_with, check_whole_text};
 use crate::run::RunFault;
 use hull_text::TextFault;
 use std::alloc::Global;
@@ -59,7 +59,7 @@ fn ends(
 ) -> Result<(Result<bool, RunFault>, usize), Fail> {
     let mut input = Counted::new(Pieces::new(journal.as_bytes(), 7).failing_at(reads));
     let mut output = Counted::new(Spout::new(alloc, 64, 5)?.failing_at(writes));
-    let ended = check_text(alloc, &mut input, &mut output, &Silence).map(|wrong| wrong.is_none());
+    let ended = check_text(alloc, &mut input, &mut output);
     Ok((ended, output.get_ref().bytes().len()))
 }
 
@@ -80,7 +80,7 @@ fn faults_of_a_journal_are_told(rt: HostRuntime) -> Result<(), Fail> {
 fn wrong_lines(alloc: Global, journal: &str, wanted: &str) -> Result<[Option<u32>; 2], Fail> {
     let mut output = Counted::new(Spout::new(alloc, 64, 5)?);
     let mut input = Counted::new(Pieces::new(journal.as_bytes(), 7));
-    let told = check_text(alloc, &mut input, &mut output, &Silence);
+    let told = check_text_with(alloc, &mut input, &mut output, &Silence);
     let mut input = Counted::new(Pieces::new(journal.as_bytes(), 7));
     let kept = check_whole_text(alloc, &mut input, &mut output, &Silence);
     if output.get_ref().bytes() != wanted.as_bytes() {
@@ -124,7 +124,7 @@ fn reaches_the_device(alloc: Global, journal: &str, wanted: &str) -> Result<bool
     let mut input = Counted::new(Pieces::new(journal.as_bytes(), 7));
     let device = Spout::new(alloc, 64, 64)?;
     let mut output = Counted::new(BufWriter::with_capacity(alloc, 64, device)?);
-    let ended = check_text(alloc, &mut input, &mut output, &Silence);
+    let ended = check_text(alloc, &mut input, &mut output);
     Ok(ended.is_ok() && output.get_ref().get_ref().bytes() == wanted.as_bytes())
 }
 

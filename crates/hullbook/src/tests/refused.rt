@@ -1,9 +1,9 @@
 //! Memory that is refused. `rt try --test --fail-alloc N` refuses the Nth allocation of each test.
-use super::{FIVE, FIVE_REPORT, JOURNAL, PLAIN, Silence, judges, runs_to};
+use super::{FIVE, FIVE_REPORT, JOURNAL, PLAIN, judges, runs_to};
 use crate::check::check_text;
 use crate::options::options;
 use crate::run::{RunFault, run};
-use hull_program::Refusal;
+use hull_program::OptionFault;
 use hull_text::TextFault;
 use std::alloc::Global;
 use std::process::Abort;
@@ -81,13 +81,10 @@ fn refused_memory_run(rt: HostRuntime) -> Result<(), Fail> {
 }
 
 // How a check of the journal ends, how many bytes it wrote, whether they call it legal, and how often it read.
-fn journal_check(
-    rt: &impl Abort,
-    alloc: Global,
-) -> (Result<Option<u32>, RunFault>, usize, bool, u64) {
+fn journal_check(rt: &impl Abort, alloc: Global) -> (Result<bool, RunFault>, usize, bool, u64) {
     let mut input = Counted::new(Pieces::new(JOURNAL.as_bytes(), 1));
     let mut output = Counted::new(spout(rt, alloc));
-    let ended = check_text(alloc, &mut input, &mut output, &Silence);
+    let ended = check_text(alloc, &mut input, &mut output);
     let written = output.get_ref().bytes();
     let legal = written == "legal\n".as_bytes();
     (ended, written.len(), legal, input.get_ref().calls())
@@ -98,9 +95,8 @@ fn journal_check(
 fn refused_memory_check(rt: HostRuntime) -> Result<(), Fail> {
     let (ended, written, legal, calls) = journal_check(&rt, rt.alloc());
     match ended {
-        Ok(wrong) => {
-            assert_eq!(rt; wrong, None);
-            assert!(rt; legal);
+        Ok(found) => {
+            assert!(rt; found && legal);
         }
         Err(fault) => {
             assert!(rt; is_memory(fault, JOURNAL, calls));
@@ -118,7 +114,7 @@ fn refused_memory_options(rt: HostRuntime) -> Result<(), Fail> {
     match options(rt.alloc(), &words) {
         Ok(_) => {}
         Err(fault) => {
-            assert_eq!(rt; fault, Refusal::Memory);
+            assert_eq!(rt; fault, OptionFault::Memory);
             assert!(rt; options(rt.alloc(), &words).is_ok());
         }
     }

@@ -1,25 +1,29 @@
 //! Eight threads on a book that one of them drains; the parts together are judged by the checker of parts.
-ghost use Rattle.std.specs.Prelude.{◌≡◌, ◌+◌, ◌<◌, ◌≤◌, [], All, length, vec_len, vec_capacity};
+ghost use Rattle.std.specs.Prelude.{◌≡◌, ◌+◌, ◌<◌, ◌≤◌, [], All, box_value, length, vec_len, vec_capacity};
 ghost use Rattle.std.specs.List.{AllZip};
 ghost use Rattle.ticket_lock.specs.Tokens.{AreNumbered, IsSeatOf, opening_book, seat_count, seat_number, seat_seen};
 ghost use Rattle.hull_book.specs.Answers.{HasRoom};
 ghost use Rattle.hull_book.specs.Books.{IsLawful};
+ghost use Rattle.hull_book.specs.Kinds.{kind_of};
 ghost use Rattle.hull_book.specs.Ledgers.{IsLedgerOf};
 ghost use Rattle.hull_book.specs.Marks.{plain};
 ghost use Rattle.hull_plain.specs.Sets.{plain_set};
+ghost use Rattle.hull_pool.specs.Handing.{HasCome, MayCall};
 ghost use Rattle.hull_pool.specs.Long.{IsSeatedLong, long_book_head};
 
 use super::{at, opened};
-use hull_book::{Call, Journal, Ledger, LongBook, PartsChecker, ReplayFault, Room, Then};
+use hull_book::{
+    Call, Journal, Journalled, Ledger, LongAnswer, LongBook, PartsChecker, ReplayFault, Room, Then,
+};
 use hull_plain::PlainSet;
-use hull_pool::{LongLock, LongSeat, close_book, make_call};
+use hull_pool::{LongLock, LongSeat, close_book, make_call, serve_and_hand_on};
 use std::alloc::Global;
 use std::process::Abort;
 use std::sync::Wait;
 use std::test::Fail;
 use std::thread;
 use std::thread::Threads;
-use ticket_lock::TicketLock;
+use ticket_lock::{Look, Seat, TicketLock};
 
 /// How many threads there are, and how many calls each makes.
 const MEMBERS: u8 = 8;
@@ -33,7 +37,7 @@ const EVERY: u32 = 10_000;
 const CAPACITY: u32 = 150_000;
 
 /// What a thread has: a seat, its ledger, the parts that it took out, and how many calls were refused.
-struct Member {
+pub(super) struct Member {
     number: u8,
     seat: Option<LongSeat<PlainSet>>,
     ledger: Ledger,
@@ -53,6 +57,73 @@ fn nth_call(rt: &impl Abort, number: u8, i: u32) -> Call {
     }
 }
 
+// Makes the member's call, after which this becomes of the lines that are held, and returns its answer.
+pub(super) fn answered<R: Wait>(
+    rt: &R,
+    lock: &LongLock<PlainSet>,
+    member: &mut Member,
+    call: Call,
+    then: Then,
+) -> LongAnswer
+    requires room { HasRoom then (long_book_head (opening_book lock.now)).journal.capacity }
+    requires ready { IsSeatedLong lock.now member.old.number member.old.ledger member.old.seat }
+    ensures ready { IsSeatedLong lock.now member.new.number member.new.ledger member.new.seat }
+{
+    let seat = member.seat.take().unwrap();
+    let ledger = &mut member.ledger;
+    let (seat, answer) = make_call(rt, lock, seat, member.number, call, ledger, then);
+    let none = member.seat.replace(seat);
+    let None = none else { unreachable!() };
+    answer
+}
+
+// The same by one look at the lock, whose next number has to be served.
+pub(super) fn answered_by_look(
+    rt: &impl Abort,
+    lock: &LongLock<PlainSet>,
+    member: &mut Member,
+    call: Call,
+    then: Then,
+) -> LongAnswer
+    requires room { HasRoom then (long_book_head (opening_book lock.now)).journal.capacity }
+    requires ready { IsSeatedLong lock.now member.old.number member.old.ledger member.old.seat }
+    ensures ready { IsSeatedLong lock.now member.new.number member.new.ledger member.new.seat }
+{
+    let seat = member.seat.take().unwrap();
+    let ledger = &mut member.ledger;
+    let (seat, answer) = look_and_serve(rt, lock, seat, member.number, call, ledger, then);
+    let none = member.seat.replace(seat);
+    let None = none else { unreachable!() };
+    answer
+}
+
+// Has a seat's call served, for which it takes a number and looks once.
+fn look_and_serve<B: Journalled>(
+    rt: &impl Abort,
+    lock: &TicketLock<Box<B>>,
+    seat: Seat<Box<B>>,
+    number: u8,
+    call: Call,
+    ledger: &mut Ledger,
+    then: B::Then,
+) -> (Seat<Box<B>>, B::Answer)
+    requires may { MayCall (kind_of B.Chronicle B.whole B.plain) lock.now number seat ledger.old }
+    requires room { B.room (B.head (box_value (opening_book lock.now))) then }
+    ensures { HasCome (kind_of B.Chronicle B.whole B.plain) lock.now number (seat_seen seat) result.0 ledger.new }
+{
+    match lock.look(lock.take(seat)) {
+        Look::Entered(guard) => serve_and_hand_on(guard, number, call, ledger, then),
+        Look::NotYet(_ticket) => panic!(rt; "the number is served"),
+    }
+}
+
+// Adds the part, if lines were taken out.
+fn add_part(rt: &impl Abort, parts: &mut Vec<Journal>, part: Option<Journal>) {
+    if let Some(part) = part {
+        assert!(rt; parts.push(part).is_ok());
+    }
+}
+
 // Makes the member's call, after which this becomes of the lines that are held; it keeps the part.
 fn calls<R: Wait + Abort>(
     rt: &R,
@@ -65,14 +136,8 @@ fn calls<R: Wait + Abort>(
     requires ready { IsSeatedLong lock.now member.old.number member.old.ledger member.old.seat }
     ensures ready { IsSeatedLong lock.now member.new.number member.new.ledger member.new.seat }
 {
-    let seat = member.seat.take().unwrap();
-    let ledger = &mut member.ledger;
-    let (seat, answer) = make_call(rt, lock, seat, member.number, call, ledger, then);
-    let none = member.seat.replace(seat);
-    let None = none else { unreachable!() };
-    match answer {
-        Ok((_reply, Some(part))) => assert!(rt; member.parts.push(part).is_ok()),
-        Ok((_reply, None)) => {}
+    match answered(rt, lock, member, call, then) {
+        Ok((_reply, part)) => add_part(rt, &mut member.parts, part),
         Err(_then) => member.refused = member.refused.wrapping_add(1),
     }
 }
@@ -149,7 +214,7 @@ fn work_all<R: Threads + Wait + Abort + Sync>(
 }
 
 // Makes a member of each seat, with its ledger, before any call.
-fn hire(
+pub(super) fn hire(
     rt: &impl Abort,
     alloc: Global,
     lock: &LongLock<PlainSet>,
@@ -165,6 +230,7 @@ fn hire(
     ensures ledgers { (ledgers.new.items ≡ []) × (vec_capacity ledgers.new ≡ vec_capacity ledgers.old) }
     ensures ready { All (λ m. IsSeatedLong lock.now m.number m.ledger m.seat) members.new.items }
     ensures many { vec_len members.new ≡ vec_len seats.old }
+    ensures room { vec_len seats.old ≤ vec_capacity members.new }
 {
     let workers = seats.len();
     while let Some(seat) = seats.pop() {
@@ -172,7 +238,7 @@ fn hire(
             panic!(rt; "there is a ledger for each seat")
         };
         let number = seat.number();
-        assert!(rt; ledger.seat() == number && ledger.count() == 0);
+        assert!(rt; ledger.seat() == number && ledger.total() == 0);
         assert!(rt; usize::from(number) < workers);
         members.push_reserved(Member {
             number,
@@ -192,7 +258,7 @@ fn keep(parts: &mut Vec<Journal>, own: Vec<Journal>) {
 }
 
 // Takes the members apart, the last first: their seats, their ledgers, and the parts that they took out.
-fn dismiss(
+pub(super) fn dismiss(
     rt: &impl Abort,
     lock: &LongLock<PlainSet>,
     members: &mut Vec<Member>,
@@ -265,6 +331,7 @@ fn checked(
     order: &[usize],
 ) -> Result<usize, (usize, ReplayFault)> {
     let [first, ..] = parts else { return Ok(0) };
+    let _limits = first.lines();
     let mut checker = PartsChecker::new(PlainSet::new(alloc, first.limit()), first);
     let mut lines = 0usize;
     for (i, place) in order.iter().enumerate() {

@@ -1,31 +1,58 @@
 //! Two seats on a book whose lines are let go, which has room for one and is never full; and the whole flow of two seats.
+ghost use Rattle.std.specs.Prelude.{◌≡◌, ◌+◌, ◌<◌, [], All, vec_len, vec_capacity};
+ghost use Rattle.ticket_lock.specs.Tokens.{IsSeatOf, opening_book, seat_seen};
+ghost use Rattle.hull_book.specs.Kinds.{drained};
+ghost use Rattle.hull_plain.specs.Sets.{plain_set};
+ghost use Rattle.hull_pool.specs.Handing.{MayCall};
+ghost use Rattle.hull_pool.specs.Long.{IsSeatedLong, long_book_head};
+
+use super::draining::{Member, answered, answered_by_look, dismiss, hire};
 use super::{at, opened};
 use hull_book::{Call, Journal, Ledger, LongAnswer, LongBook, Reply, Room, Then};
 use hull_plain::PlainSet;
-use hull_pool::{
-    LongLock, LongSeat, Member, close_book, make_call, serve_and_hand_on, two_seats_share,
-};
+use hull_pool::{LongLock, LongSeat, close_book, two_seats_share};
 use std::alloc::Global;
 use std::process::Abort;
 use std::sync::Wait;
 use std::test::Fail;
-use ticket_lock::{Look, TicketLock};
+use ticket_lock::TicketLock;
 
-// Has the call of seat 0 served, which takes a number and looks once.
-fn looks(
+// A list of three answers.
+fn listed(
     rt: &impl Abort,
-    lock: &LongLock<PlainSet>,
-    seat: LongSeat<PlainSet>,
-    call: Call,
-    ledger: &mut Ledger,
-) -> (LongSeat<PlainSet>, LongAnswer) {
-    match lock.look(lock.take(seat)) {
-        Look::Entered(guard) => serve_and_hand_on(guard, 0, call, ledger, Then::LetGo),
-        Look::NotYet(_ticket) => panic!(rt; "the number is served"),
-    }
+    alloc: Global,
+    first: LongAnswer,
+    second: LongAnswer,
+    third: LongAnswer,
+) -> Vec<LongAnswer> {
+    let mut answers = Vec::new(alloc);
+    assert!(rt; answers.push(first).is_ok());
+    assert!(rt; answers.push(second).is_ok());
+    assert!(rt; answers.push(third).is_ok());
+    answers
 }
 
-// Three calls of two seats: their answers, what is held then as a part, and how many have their line.
+// Three calls of two members: the first adds a point, the second counts, and the first, which looks once, removes the point.
+fn three_calls<R: Wait + Abort>(
+    rt: &R,
+    alloc: Global,
+    lock: &LongLock<PlainSet>,
+    zero: &mut Member,
+    one: &mut Member,
+) -> Vec<LongAnswer>
+    requires zero { IsSeatedLong lock.now zero.old.number zero.old.ledger zero.old.seat }
+    requires one { IsSeatedLong lock.now one.old.number one.old.ledger one.old.seat }
+    ensures zero { IsSeatedLong lock.now zero.new.number zero.new.ledger zero.new.seat }
+    ensures one { IsSeatedLong lock.now one.new.number one.new.ledger one.new.seat }
+{
+    let p = at(rt, 3, 4);
+    let added = answered(rt, lock, zero, Call::Add(p), Then::LetGo);
+    let counted = answered(rt, lock, one, Call::Count, Then::LetGo);
+    let removed = answered_by_look(rt, lock, zero, Call::Remove(p), Then::LetGo);
+    listed(rt, alloc, added, counted, removed)
+}
+
+// The answers of three calls of two seats, what is held then as a part, and how many have their line.
 fn all_let_go<R: Wait + Abort>(rt: &R, alloc: Global) -> (Vec<LongAnswer>, Journal, u64) {
     let (book, mut ledgers) = opened(rt, alloc, 7, 1, 2);
     let Ok(book) = LongBook::new(book) else {
@@ -37,20 +64,30 @@ fn all_let_go<R: Wait + Abort>(rt: &R, alloc: Global) -> (Vec<LongAnswer>, Journ
     let Ok((lock, mut seats)) = TicketLock::open(alloc, book, 2) else {
         panic!(rt; "there is memory for the lock")
     };
-    let one = seats.pop().unwrap();
-    let zero = seats.pop().unwrap();
-    let p = at(rt, 3, 4);
-    let (ledger, add) = (&mut ledgers[0], Call::Add(p));
-    let (zero, added) = make_call(rt, &lock, zero, 0, add, ledger, Then::LetGo);
-    let ledger = &mut ledgers[1];
-    let (one, counted) = make_call(rt, &lock, one, 1, Call::Count, ledger, Then::LetGo);
-    let (zero, removed) = looks(rt, &lock, zero, Call::Remove(p), &mut ledgers[0]);
-    seats.push_reserved(zero);
-    seats.push_reserved(one);
-    let mut answers = Vec::new(alloc);
-    for answer in [added, counted, removed] {
-        assert!(rt; answers.push(answer).is_ok());
-    }
+    let Ok(mut members) = Vec::with_capacity(alloc, 2) else {
+        panic!(rt; "there is memory for the members")
+    };
+    let mut parts = Vec::new(alloc);
+    hire(rt, alloc, &lock, &mut seats, &mut ledgers, &mut members);
+    let Some(mut zero) = members.pop() else {
+        panic!(rt; "there are two members")
+    };
+    let Some(mut one) = members.pop() else {
+        panic!(rt; "there are two members")
+    };
+    let answers = three_calls(rt, alloc, &lock, &mut zero, &mut one);
+    members.push_reserved(one);
+    members.push_reserved(zero);
+    dismiss(
+        rt,
+        &lock,
+        &mut members,
+        &mut seats,
+        &mut ledgers,
+        &mut parts,
+    );
+    members.destroy_empty();
+    assert!(rt; parts.is_empty());
     let (book, sum) = close_book(lock, seats, ledgers);
     assert_eq!(rt; book.drained(), 3);
     (answers, book.into_part(), sum)
@@ -74,6 +111,33 @@ fn lines_that_are_let_go_make_room(rt: HostRuntime) {
     assert_eq!(rt; (left, sum), ((10, 0), 3));
 }
 
+// The last seat and the last ledger, which are those of this number, before any call.
+fn last_member(
+    rt: &impl Abort,
+    lock: &LongLock<PlainSet>,
+    seats: &mut Vec<LongSeat<PlainSet>>,
+    ledgers: &mut Vec<Ledger>,
+    number: u8,
+) -> hull_pool::Member<PlainSet>
+    requires own { All (λ s. IsSeatOf long_book_head lock.now s × (seat_seen s ≡ [])) seats.old.items }
+    requires below { number < (long_book_head (opening_book lock.now)).workers }
+    ensures own { All (λ s. IsSeatOf long_book_head lock.now s × (seat_seen s ≡ [])) seats.new.items }
+    ensures ready { MayCall (drained plain_set) lock.now number result.seat result.ledger }
+    ensures left { (vec_len seats.new + 1 ≡ vec_len seats.old) × (vec_len ledgers.new + 1 ≡ vec_len ledgers.old) }
+    ensures room { (vec_capacity seats.new ≡ vec_capacity seats.old)
+        × (vec_capacity ledgers.new ≡ vec_capacity ledgers.old) }
+{
+    let Some(seat) = seats.pop() else {
+        panic!(rt; "a seat is left")
+    };
+    let Some(ledger) = ledgers.pop() else {
+        panic!(rt; "a ledger is left")
+    };
+    assert!(rt; seat.number() == number);
+    assert!(rt; ledger.seat() == number && ledger.total() == 0);
+    hull_pool::Member { seat, ledger }
+}
+
 // What two seats took out of a book, how many lines its journal has, and how many it holds at the end.
 fn both_share<R: Wait + Abort>(rt: &R, alloc: Global) -> (Option<Journal>, u64, usize) {
     let (book, mut ledgers) = opened(rt, alloc, 7, 4, 2);
@@ -89,14 +153,8 @@ fn both_share<R: Wait + Abort>(rt: &R, alloc: Global) -> (Option<Journal>, u64, 
     let Ok(room) = Room::reserve(alloc, 4) else {
         panic!(rt; "there is memory for the lines")
     };
-    let one = Member {
-        seat: seats.pop().unwrap(),
-        ledger: ledgers.pop().unwrap(),
-    };
-    let zero = Member {
-        seat: seats.pop().unwrap(),
-        ledger: ledgers.pop().unwrap(),
-    };
+    let one = last_member(rt, &lock, &mut seats, &mut ledgers, 1);
+    let zero = last_member(rt, &lock, &mut seats, &mut ledgers, 0);
     let added = Call::Add(at(rt, 3, 4));
     let (book, drained, sum) = two_seats_share(rt, lock, zero, one, room, seats, ledgers, added);
     let held = book.lines().len();

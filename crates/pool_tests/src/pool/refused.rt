@@ -115,8 +115,7 @@ fn runs_first<R: Threads + Wait + Abort + Sync>(
 
 // Whether the journal is legal. Where the checker is refused memory, the second attempt has it.
 fn is_legal(alloc: Global, journal: &Journal) -> bool {
-    let empty = || PlainSet::new(alloc, journal.limit());
-    check(empty(), journal) == CheckResult::Legal || check(empty(), journal) == CheckResult::Legal
+    check(alloc, journal) == CheckResult::Legal || check(alloc, journal) == CheckResult::Legal
 }
 
 /// A phase that is refused memory answers `NoMemory`: nothing of it ran, its book has no line more, and serves the

@@ -50,7 +50,7 @@ fn last_caller(
         panic!(rt; "a ledger is left")
     };
     assert!(rt; seat.number() == number);
-    assert!(rt; ledger.seat() == number && ledger.count() == 0);
+    assert!(rt; ledger.seat() == number && ledger.total() == 0);
     Caller {
         number,
         seat: Some(seat),

@@ -268,7 +268,7 @@ fn upper_found<H: Half>(u: H, w: H) -> Option<Counted> {
 }
 
 /// Both bridges and their turns, where the one half ends before the other begins.
-fn both_found<H: Half>(u: H, w: H) -> Option<(Counted, Counted)> {
+pub(crate) fn both_found<H: Half>(u: H, w: H) -> Option<(Counted, Counted)> {
     if before(u.last(), w.first()) {
         Some(both_bridges(u, w))
     } else {

@@ -8,5 +8,5 @@ use Rattle.hull_shared.proofs.telling.caught_up.Goals as goal
 pub publish-requires : goal.publish-requires
 publish-requires c = grind (arith, common_steps, held_by_changes, take_all)
 
-pub returns : goal.returns
-returns c = grind (arith, common_steps, of_part, take_all)
+pub returns-clause-told : goal.returns-clause-told
+returns-clause-told c = grind (arith, common_steps, of_part, take_all)

@@ -7,8 +7,8 @@ use Rattle.ticket_lock.proofs.Gather.{all_idle, all_push, at_place, numbers_from
 use Rattle.ticket_lock.proofs.Seats.{splits_from, cut_keeper, cut_seat, is_idle, seats_snoc}
 use Rattle.ticket_lock.proofs.open.cut.Goals as goal
 
-pub split_seat-place-requires : goal.split_seat-place-requires
-split_seat-place-requires g c = (
+pub split_seat-keeper-requires : goal.split_seat-keeper-requires
+split_seat-keeper-requires g c = (
   search rules,
   search rules,
   splits_from g.B.Chronicle partitioned_form _ _ _ c.loop-number.number c.args.seats _ _ _
@@ -18,7 +18,7 @@ split_seat-place-requires g c = (
 pub loop-number-preserved : goal.loop-number-preserved
 loop-number-preserved g c = record {
   table = search rules;
-  keeper = cut_keeper _ _ _ _ _ _ c.loop-number.invariant.keeper c.loop-number-test.true c.split_seat-place.ensures.2;
+  keeper = cut_keeper _ _ _ _ _ _ c.loop-number.invariant.keeper c.loop-number-test.true c.split_seat-keeper.ensures.4;
   long = search rules;
   room = search rules;
   own = all_push (λ (s : Seat g.row.B.Denot g.row.B-Head.Denot g.row.B-Line.Denot).
@@ -27,11 +27,11 @@ loop-number-preserved g c = record {
         search rules,
         is_idle _ _ _
             (cut_seat _ _ _ _ _ _ c.loop-number.invariant.keeper c.loop-number-test.true
-            c.split_seat-place.ensures.4) refl,
+            c.split_seat-keeper.ensures.2) refl,
       );
   views = seats_snoc _ _ _ _ _ _ _ c.push_reserved.ensures.items c.loop-number.invariant.views
       (ap (λ m. m.0) (cut_seat _ _ _ _ _ _ c.loop-number.invariant.keeper
-      c.loop-number-test.true c.split_seat-place.ensures.4));
+      c.loop-number-test.true c.split_seat-keeper.ensures.2));
 }
 
 pub returns-clause-own : goal.returns-clause-own

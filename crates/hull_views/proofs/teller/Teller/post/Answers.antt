@@ -1,9 +1,9 @@
 -- what was published is the last
-use Rattle.std.proofs.Common.{◌≡◌, ◌∙◌, ap, arith, length, sym}
+use Rattle.std.proofs.Common.{◌≡◌, ◌∙◌, ap, arith, length, sym, true≢false}
 use mathlib.Core.Logic.{∥∥₁_map}
 use Rattle.published_views.specs.Numbers.{told_number}
 use Rattle.published_views.specs.Views.{number_of, seen_lines}
-use Rattle.hull_views.proofs.Known.{all_shown, raised}
+use Rattle.hull_views.proofs.Known.{all_shown, fallen, raised}
 use Rattle.hull_views.proofs.teller.Teller.post.Goals as goal
 
 pub invariant_of-self : goal.invariant_of-self
@@ -12,6 +12,7 @@ invariant_of-self c =
     let number : number_of c.new-view.result ≡ length (seen_lines t.front) =
     ap (λ f. length (seen_lines f)) (c.new-view.ensures.front ∙ c.again.ensures) in
     record {
+      why = λ e. p.why (fallen _ e) (length (seen_lines t.front));
       own_history = t.own_history;
       own_hall = t.own_hall ∙ ap (λ h. h.history.book) (sym p.same);
       own_word = p.more.book ∙ t.own_word ∙ ap (λ h. h.newest.word.book) (sym p.same);
@@ -26,6 +27,7 @@ pub invariant_of-self-in-Err : goal.invariant_of-self-in-Err
 invariant_of-self-in-Err c =
     let t = c.args.self.now in let p = c.in-Err.ensures in
     record {
+      why = λ e. absurd (true≢false (sym e ∙ c.requires.speaks));
       own_history = t.own_history;
       own_hall = t.own_hall ∙ ap (λ h. h.history.book) (sym p.same);
       own_word = p.more.book ∙ t.own_word ∙ ap (λ h. h.newest.word.book) (sym p.same);

@@ -2,13 +2,14 @@
 use Rattle.std.specs.Arc.{arc_value}
 use Rattle.std.proofs.Common.{◌∙◌, arith, sym}
 use Rattle.hull_views.specs.Lists.{corners_in}
-use Rattle.hull_views.proofs.Known.{known_on, raised, shown_on}
+use Rattle.hull_views.proofs.Known.{fallen, known_on, raised, shown_on}
 use Rattle.hull_views.proofs.teller.Teller.record.Goals as goal
 
 pub invariant_of-self : goal.invariant_of-self
 invariant_of-self c =
     let t = c.args.self.now in let a = c.add_line.ensures in
     record {
+      why = λ yes. a.why (fallen _ yes);
       own_history = a.history;
       own_hall = a.history ∙ sym t.own_history ∙ t.own_hall;
       own_word = t.own_word;

@@ -1,6 +1,7 @@
 -- more entries than the limit are more points; and what is held as often as it stands among the points is what adding
 -- them leaves
 use Rattle.std.proofs.Common.{ap, ◌∙◌, arith, inl, inr, length, rules, ◌<◌}
+use Rattle.std.proofs.lemmas.Grind.{common_steps}
 use Rattle.lattice.specs.Plane.{Pair}
 use Rattle.hull_set.specs.declared.TheConstants.{MULTIPLICITY_LIMIT}
 use Rattle.std.proofs.lemmas.Map.Entries.{length-keys_of}
@@ -32,3 +33,7 @@ pub returns-in_err-entries-clause-too_many : goal.returns-in_err-entries-clause-
 returns-in_err-entries-clause-too_many g c = λ e.
     let f : (q : Pair) × (MULTIPLICITY_LIMIT < times_among c.args.points.now q) = search rules in
     inl (f.0, omega (arith, f.1, after_times c.args.points.now nothing_held f.0))
+
+-- no points have no entries, and the set of none is never refused
+pub returns-in_err-from_entries-clause-refused : goal.returns-in_err-from_entries-clause-refused
+returns-in_err-from_entries-clause-refused g c = λ _. grind (arith, common_steps, c.in_ok-entries.ensures.none, c.in_err-from_entries.ensures.refused, c.deref.ensures.value)

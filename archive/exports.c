@@ -1,0 +1,260 @@
+/* The public functions of libhull.a that take arrays, over the proved functions of the same name: an empty array may be null, and if a
+ * program asks for checked arrays, each array of vertices is first tested to be a convex polygon. The archive's proved objects have these
+ * functions as hull_proved_NAME, a name that tools/product.sh gives them, so that each public function has one name everywhere. */
+#include "hull.h"
+
+hull_reply hull_proved_vertices(const hull_set *h, hull_point *out, size_t room);
+size_t hull_proved_calls(hull_set *h, const hull_request *requests, size_t request_count, hull_reply *replies, size_t reply_room);
+hull_reply hull_proved_load(hull_set *h, const hull_point *points, size_t count);
+hull_reply hull_proved_held_from(const hull_set *h, int64_t x, int64_t y, hull_held *out, size_t room);
+hull_reply hull_proved_load_held(hull_set *h, const hull_held *held, size_t count);
+hull_reply hull_proved_bridges(const hull_set *h, uint32_t level, hull_bridge *out, size_t room);
+hull_reply hull_proved_outline_call(const hull_point *vertices, size_t count, uint32_t kind, int64_t x, int64_t y);
+size_t hull_proved_outline_calls(const hull_point *vertices, size_t count, const hull_request *requests, size_t request_count, hull_reply *replies, size_t reply_room);
+hull_reply hull_proved_outline_meets_segment(const hull_point *vertices, size_t count, int64_t ax, int64_t ay, int64_t bx, int64_t by);
+hull_reply hull_proved_outline_apart(const hull_point *vertices, size_t count, int64_t ax, int64_t ay, int64_t bx, int64_t by);
+hull_reply hull_proved_outline_nearest(const hull_point *vertices, size_t count, int64_t x, int64_t y);
+hull_reply hull_proved_outline_box(const hull_point *vertices, size_t count);
+hull_reply hull_proved_outline_width(const hull_point *vertices, size_t count, int64_t dx, int64_t dy);
+hull_reply hull_proved_outline_diameter(const hull_point *vertices, size_t count);
+hull_witness hull_proved_outline_least_width(const hull_point *vertices, size_t count);
+hull_reply hull_proved_outline_meets(const hull_point *vertices, size_t count, const hull_point *others, size_t other_count);
+hull_reply hull_proved_outline_contains(const hull_point *vertices, size_t count, const hull_point *others, size_t other_count);
+hull_reply hull_proved_outline_relation(const hull_point *vertices, size_t count, const hull_point *others, size_t other_count);
+hull_reply hull_proved_outline_contains_inside(const hull_point *vertices, size_t count, const hull_point *others, size_t other_count);
+hull_reply hull_proved_outline_within(const hull_point *vertices, size_t count, const hull_point *others, size_t other_count, uint64_t numerator, uint32_t denominator);
+hull_witness hull_proved_outline_witness(const hull_point *vertices, size_t count, const hull_point *others, size_t other_count);
+hull_witness hull_proved_outline_distance(const hull_point *vertices, size_t count, const hull_point *others, size_t other_count);
+hull_clearance hull_proved_outline_clearance(const hull_point *vertices, size_t count, const hull_point *others, size_t other_count);
+hull_clearance hull_proved_outline_clearance_to_segment(const hull_point *vertices, size_t count, int64_t ax, int64_t ay, int64_t bx, int64_t by);
+hull_reply hull_proved_outline_within_segment(const hull_point *vertices, size_t count, int64_t ax, int64_t ay, int64_t bx, int64_t by, uint64_t numerator, uint32_t denominator);
+hull_reply hull_proved_outline_relation_to_segment(const hull_point *vertices, size_t count, int64_t ax, int64_t ay, int64_t bx, int64_t by);
+hull_hit hull_proved_outline_cast_ray(const hull_point *vertices, size_t count, int64_t x, int64_t y, int64_t dx, int64_t dy);
+hull_hit hull_proved_outline_last_on_ray(const hull_point *vertices, size_t count, int64_t x, int64_t y, int64_t dx, int64_t dy);
+hull_hit hull_proved_outline_cast_segment(const hull_point *vertices, size_t count, int64_t ax, int64_t ay, int64_t bx, int64_t by);
+hull_reply hull_proved_is_outline(const hull_point *points, size_t count);
+hull_reply hull_proved_outline_of(const hull_point *points, size_t count, hull_point *out, size_t room);
+
+/* whether arrays of vertices are tested, as hull_check_arrays decides */
+static int is_checked;
+
+void hull_check_arrays(int is_on) {
+    __atomic_store_n(&is_checked, is_on, __ATOMIC_RELAXED);
+}
+
+/* the address of an array of so many elements, or one that is not null if it has none, which the proved functions require */
+static void *array(const void *elements, size_t count) {
+    static const uint64_t none = 0;
+    return (void *)(count == 0 ? (const void *)&none : elements);
+}
+
+static const hull_point *vertices_at(const hull_point *vertices, size_t count) {
+    return (const hull_point *)array(vertices, count);
+}
+
+/* why an array may not be asked, if arrays are tested, else HULL_OK */
+static uint32_t fault_of(const hull_point *vertices, size_t count) {
+    hull_reply r;
+    if (!__atomic_load_n(&is_checked, __ATOMIC_RELAXED)) {
+        return HULL_OK;
+    }
+    r = hull_proved_is_outline(vertices_at(vertices, count), count);
+    return r.code == HULL_NO_MEMORY ? HULL_NO_MEMORY : r.code == HULL_NUMBER && r.number == 1 ? HULL_OK : HULL_NO_OUTLINE;
+}
+
+static uint32_t fault_of_both(const hull_point *vertices, size_t count, const hull_point *others, size_t other_count) {
+    const uint32_t fault = fault_of(vertices, count);
+    return fault != HULL_OK ? fault : fault_of(others, other_count);
+}
+
+static hull_witness witness_refusal(uint32_t code) {
+    const hull_witness w = {.code = code};
+    return w;
+}
+
+static hull_clearance clearance_refusal(uint32_t code) {
+    const hull_clearance c = {.code = code};
+    return c;
+}
+
+static hull_hit hit_refusal(uint32_t code) {
+    const hull_hit h = {.code = code};
+    return h;
+}
+
+const char *hull_library_version(void) {
+    return HULL_VERSION;
+}
+
+/* (the kinds that only ask leave the set as it is) */
+hull_reply hull_ask(const hull_set *h, uint32_t kind, int64_t x, int64_t y) {
+    hull_set *set;
+    memcpy(&set, &h, sizeof set);
+    return hull_call(set, kind, x, y);
+}
+
+hull_reply hull_vertices(const hull_set *h, hull_point *out, size_t room) {
+    return hull_proved_vertices(h, array(out, room), room);
+}
+
+size_t hull_calls(hull_set *h, const hull_request *requests, size_t request_count, hull_reply *replies, size_t reply_room) {
+    return hull_proved_calls(h, array(requests, request_count), request_count, array(replies, reply_room), reply_room);
+}
+
+hull_reply hull_load(hull_set *h, const hull_point *points, size_t count) {
+    return hull_proved_load(h, vertices_at(points, count), count);
+}
+
+hull_reply hull_held_from(const hull_set *h, int64_t x, int64_t y, hull_held *out, size_t room) {
+    return hull_proved_held_from(h, x, y, array(out, room), room);
+}
+
+hull_reply hull_load_held(hull_set *h, const hull_held *held, size_t count) {
+    return hull_proved_load_held(h, array(held, count), count);
+}
+
+hull_reply hull_bridges(const hull_set *h, uint32_t level, hull_bridge *out, size_t room) {
+    return hull_proved_bridges(h, level, array(out, room), room);
+}
+
+hull_reply hull_outline_call(const hull_point *vertices, size_t count, uint32_t kind, int64_t x, int64_t y) {
+    const uint32_t fault = fault_of(vertices, count);
+    return fault != HULL_OK ? hull_refusal(fault) : hull_proved_outline_call(vertices_at(vertices, count), count, kind, x, y);
+}
+
+size_t hull_outline_calls(const hull_point *vertices, size_t count, const hull_request *requests, size_t request_count, hull_reply *replies, size_t reply_room) {
+    const uint32_t fault = fault_of(vertices, count);
+    if (fault != HULL_OK) {
+        size_t made = request_count < reply_room ? request_count : reply_room, i;
+        for (i = 0; i < made; i++) {
+            replies[i] = hull_refusal(fault);
+        }
+        return made;
+    }
+    return hull_proved_outline_calls(vertices_at(vertices, count), count,
+                              array(requests, request_count), request_count,
+                              array(replies, reply_room), reply_room);
+}
+
+hull_reply hull_outline_meets_segment(const hull_point *vertices, size_t count, int64_t ax, int64_t ay, int64_t bx, int64_t by) {
+    const uint32_t fault = fault_of(vertices, count);
+    return fault != HULL_OK ? hull_refusal(fault) : hull_proved_outline_meets_segment(vertices_at(vertices, count), count, ax, ay, bx, by);
+}
+
+hull_reply hull_outline_apart(const hull_point *vertices, size_t count, int64_t ax, int64_t ay, int64_t bx, int64_t by) {
+    const uint32_t fault = fault_of(vertices, count);
+    return fault != HULL_OK ? hull_refusal(fault) : hull_proved_outline_apart(vertices_at(vertices, count), count, ax, ay, bx, by);
+}
+
+hull_reply hull_outline_nearest(const hull_point *vertices, size_t count, int64_t x, int64_t y) {
+    const uint32_t fault = fault_of(vertices, count);
+    return fault != HULL_OK ? hull_refusal(fault) : hull_proved_outline_nearest(vertices_at(vertices, count), count, x, y);
+}
+
+hull_reply hull_outline_box(const hull_point *vertices, size_t count) {
+    const uint32_t fault = fault_of(vertices, count);
+    return fault != HULL_OK ? hull_refusal(fault) : hull_proved_outline_box(vertices_at(vertices, count), count);
+}
+
+hull_reply hull_outline_width(const hull_point *vertices, size_t count, int64_t dx, int64_t dy) {
+    const uint32_t fault = fault_of(vertices, count);
+    return fault != HULL_OK ? hull_refusal(fault) : hull_proved_outline_width(vertices_at(vertices, count), count, dx, dy);
+}
+
+hull_reply hull_outline_diameter(const hull_point *vertices, size_t count) {
+    const uint32_t fault = fault_of(vertices, count);
+    return fault != HULL_OK ? hull_refusal(fault) : hull_proved_outline_diameter(vertices_at(vertices, count), count);
+}
+
+hull_witness hull_outline_least_width(const hull_point *vertices, size_t count) {
+    const uint32_t fault = fault_of(vertices, count);
+    return fault != HULL_OK ? witness_refusal(fault) : hull_proved_outline_least_width(vertices_at(vertices, count), count);
+}
+
+hull_reply hull_outline_meets(const hull_point *vertices, size_t count, const hull_point *others, size_t other_count) {
+    const uint32_t fault = fault_of_both(vertices, count, others, other_count);
+    return fault != HULL_OK ? hull_refusal(fault)
+                            : hull_proved_outline_meets(vertices_at(vertices, count), count, vertices_at(others, other_count), other_count);
+}
+
+hull_reply hull_outline_contains(const hull_point *vertices, size_t count, const hull_point *others, size_t other_count) {
+    const uint32_t fault = fault_of_both(vertices, count, others, other_count);
+    return fault != HULL_OK ? hull_refusal(fault)
+                            : hull_proved_outline_contains(vertices_at(vertices, count), count, vertices_at(others, other_count), other_count);
+}
+
+hull_reply hull_outline_relation(const hull_point *vertices, size_t count, const hull_point *others, size_t other_count) {
+    const uint32_t fault = fault_of_both(vertices, count, others, other_count);
+    return fault != HULL_OK ? hull_refusal(fault)
+                            : hull_proved_outline_relation(vertices_at(vertices, count), count, vertices_at(others, other_count), other_count);
+}
+
+hull_reply hull_outline_contains_inside(const hull_point *vertices, size_t count, const hull_point *others, size_t other_count) {
+    const uint32_t fault = fault_of_both(vertices, count, others, other_count);
+    return fault != HULL_OK ? hull_refusal(fault)
+                            : hull_proved_outline_contains_inside(vertices_at(vertices, count), count, vertices_at(others, other_count), other_count);
+}
+
+hull_reply hull_outline_within(const hull_point *vertices, size_t count, const hull_point *others, size_t other_count, uint64_t numerator, uint32_t denominator) {
+    const uint32_t fault = fault_of_both(vertices, count, others, other_count);
+    return fault != HULL_OK ? hull_refusal(fault)
+                            : hull_proved_outline_within(vertices_at(vertices, count), count, vertices_at(others, other_count), other_count, numerator, denominator);
+}
+
+hull_witness hull_outline_witness(const hull_point *vertices, size_t count, const hull_point *others, size_t other_count) {
+    const uint32_t fault = fault_of_both(vertices, count, others, other_count);
+    return fault != HULL_OK ? witness_refusal(fault)
+                            : hull_proved_outline_witness(vertices_at(vertices, count), count, vertices_at(others, other_count), other_count);
+}
+
+hull_witness hull_outline_distance(const hull_point *vertices, size_t count, const hull_point *others, size_t other_count) {
+    const uint32_t fault = fault_of_both(vertices, count, others, other_count);
+    return fault != HULL_OK ? witness_refusal(fault)
+                            : hull_proved_outline_distance(vertices_at(vertices, count), count, vertices_at(others, other_count), other_count);
+}
+
+hull_clearance hull_outline_clearance(const hull_point *vertices, size_t count, const hull_point *others, size_t other_count) {
+    const uint32_t fault = fault_of_both(vertices, count, others, other_count);
+    return fault != HULL_OK ? clearance_refusal(fault)
+                            : hull_proved_outline_clearance(vertices_at(vertices, count), count, vertices_at(others, other_count), other_count);
+}
+
+hull_clearance hull_outline_clearance_to_segment(const hull_point *vertices, size_t count, int64_t ax, int64_t ay, int64_t bx, int64_t by) {
+    const uint32_t fault = fault_of(vertices, count);
+    return fault != HULL_OK ? clearance_refusal(fault)
+                            : hull_proved_outline_clearance_to_segment(vertices_at(vertices, count), count, ax, ay, bx, by);
+}
+
+hull_reply hull_outline_within_segment(const hull_point *vertices, size_t count, int64_t ax, int64_t ay, int64_t bx, int64_t by, uint64_t numerator, uint32_t denominator) {
+    const uint32_t fault = fault_of(vertices, count);
+    return fault != HULL_OK ? hull_refusal(fault)
+                            : hull_proved_outline_within_segment(vertices_at(vertices, count), count, ax, ay, bx, by, numerator, denominator);
+}
+
+hull_reply hull_outline_relation_to_segment(const hull_point *vertices, size_t count, int64_t ax, int64_t ay, int64_t bx, int64_t by) {
+    const uint32_t fault = fault_of(vertices, count);
+    return fault != HULL_OK ? hull_refusal(fault) : hull_proved_outline_relation_to_segment(vertices_at(vertices, count), count, ax, ay, bx, by);
+}
+
+hull_hit hull_outline_cast_ray(const hull_point *vertices, size_t count, int64_t x, int64_t y, int64_t dx, int64_t dy) {
+    const uint32_t fault = fault_of(vertices, count);
+    return fault != HULL_OK ? hit_refusal(fault) : hull_proved_outline_cast_ray(vertices_at(vertices, count), count, x, y, dx, dy);
+}
+
+hull_hit hull_outline_last_on_ray(const hull_point *vertices, size_t count, int64_t x, int64_t y, int64_t dx, int64_t dy) {
+    const uint32_t fault = fault_of(vertices, count);
+    return fault != HULL_OK ? hit_refusal(fault) : hull_proved_outline_last_on_ray(vertices_at(vertices, count), count, x, y, dx, dy);
+}
+
+hull_hit hull_outline_cast_segment(const hull_point *vertices, size_t count, int64_t ax, int64_t ay, int64_t bx, int64_t by) {
+    const uint32_t fault = fault_of(vertices, count);
+    return fault != HULL_OK ? hit_refusal(fault) : hull_proved_outline_cast_segment(vertices_at(vertices, count), count, ax, ay, bx, by);
+}
+
+hull_reply hull_is_outline(const hull_point *points, size_t count) {
+    return hull_proved_is_outline(vertices_at(points, count), count);
+}
+
+hull_reply hull_outline_of(const hull_point *points, size_t count, hull_point *out, size_t room) {
+    return hull_proved_outline_of(vertices_at(points, count), count, array(out, room), room);
+}

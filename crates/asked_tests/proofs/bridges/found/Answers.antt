@@ -1,0 +1,26 @@
+-- the last point of the one half is before the first of the other, so all points are
+use Rattle.lattice.specs.Plane.{IsBefore}
+use Rattle.bridge_search.proofs.Ends.{all_before}
+use Rattle.lattice.proofs.Tests.{passed}
+use Rattle.asked_tests.proofs.bridges.found.Goals as goal
+
+pub upper_bridge-upper-requires : goal.upper_bridge-upper-requires
+upper_bridge-upper-requires g c =
+    all_before (g.H.Half.tree c.args.u) (g.H.Half.tree c.args.w) (g.met.H.Half.bridged c.args.u)
+    (g.met.H.Half.bridged c.args.w)
+    (rw (c.last.ensures, c.first.ensures) at
+    (passed c.before-2.result (IsBefore c.last.result c.first.result) c.if-before.true c.before-2.ensures))
+
+pub upper_bridge_counted-counted-requires : goal.upper_bridge_counted-counted-requires
+upper_bridge_counted-counted-requires g c =
+    all_before (g.H.Half.tree c.args.u) (g.H.Half.tree c.args.w) (g.met.H.Half.bridged c.args.u)
+    (g.met.H.Half.bridged c.args.w)
+    (rw (c.last.ensures, c.first.ensures) at
+    (passed c.before-2.result (IsBefore c.last.result c.first.result) c.if-before.true c.before-2.ensures))
+
+pub lower_bridge-lower-requires : goal.lower_bridge-lower-requires
+lower_bridge-lower-requires g c =
+    all_before (g.H.Half.tree c.args.u) (g.H.Half.tree c.args.w) (g.met.H.Half.bridged c.args.u)
+    (g.met.H.Half.bridged c.args.w)
+    (rw (c.last.ensures, c.first.ensures) at
+    (passed c.before-2.result (IsBefore c.last.result c.first.result) c.if-before.true c.before-2.ensures))

@@ -1,0 +1,13 @@
+# Completion of hullbook and hulldraw for fish.
+complete -c hullbook -n __fish_use_subcommand -a 'run check compact upgrade'
+complete -c hullbook -n '__fish_seen_subcommand_from run' -l after -r -d 'continue after a journal'
+complete -c hullbook -n '__fish_seen_subcommand_from run' -l capacity -x -d 'journal lines'
+complete -c hullbook -n '__fish_seen_subcommand_from run' -l limit -x -d 'different points'
+complete -c hullbook -n '__fish_seen_subcommand_from run' -l first -x -d 'number of the first line'
+complete -c hullbook -n '__fish_seen_subcommand_from run' -l journal -d 'write the journal'
+complete -c hullbook -n '__fish_seen_subcommand_from run' -l sparing -d 'use the tree over buckets'
+complete -c hullbook -n '__fish_seen_subcommand_from check' -l explain -d 'say what an illegal line should have been'
+complete -c hulldraw -l line -x -d 'after so many calls'
+complete -c hulldraw -l bridges -d 'draw stored bridges'
+complete -c hulldraw -l size -x -d 'pixels'
+complete -c hulldraw -l film -d 'play the calls'

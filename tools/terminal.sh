@@ -1,0 +1,98 @@
+# What bin/hullbook adds on a terminal, after the words of the proved program, which is $program. Read by program.sh.
+# shellcheck shell=sh disable=SC2154 # $program and $top are set by the reader
+
+synopsis='usage: hullbook run SCRIPT [--capacity N] [--limit N] [--first N] [--sparing] [--journal] [--after JOURNAL]
+       hullbook check [--explain] JOURNAL..
+       hullbook compact JOURNAL
+       hullbook upgrade JOURNAL
+SCRIPT and JOURNAL are files; /dev/stdin is standard input. See man/hullbook.1 and docs/PROGRAM.md.'
+
+# prints what a fault of a text means, by its number
+meaning_of() {
+    case $1 in
+    1) echo 'its form: a field or a space is missing or one too many, a tab or a carriage return stands in it, or the text is too long' ;;
+    2) echo 'a number is spelled otherwise than digits with no leading zero, or is out of its range' ;;
+    3) echo 'a coordinate is out of range, or a direction is zero' ;;
+    4) echo 'a worker or a seat is above 63' ;;
+    5) echo 'a word is no call and no reply of this version of the text' ;;
+    6) echo 'a journal ends before its end line does' ;;
+    7) echo 'the first line is not the header of a journal of a known version' ;;
+    8) echo 'the file could not be read' ;;
+    10) echo 'there was not enough memory to read it' ;;
+    esac
+}
+
+# explains a fault on standard error: its number, its line, and the text of the line in the last file that was named
+explain_fault() {
+    file=
+    for word in "$@"; do [ -f "$word" ] && file=$word; done
+    echo "hullbook: fault $1: $(meaning_of "$1")" >&2
+    [ -z "$file" ] || [ "$#" -gt 4 ] || sed -n "$2{s/^/hullbook: line $2 is: /;p;q;}" "$file" | cut -c 1-200 >&2
+}
+
+# asks the program again for what it said, which is the same on the same files, and says more about it
+say_more() {
+    for word in "$@"; do
+        case $word in
+        --version | -V) echo "hullbook $(cat "$top/VERSION")" >&2 && return ;;
+        /dev/* | -) return ;;
+        esac
+    done
+    said=$("$program" "$@" 2>&1 >/dev/null)
+    case $said in
+    *usage) echo "$synopsis" >&2 ;;
+    *'line '*': fault '*)
+        number=${said##*fault }
+        line=${said#*line }
+        explain_fault "$number" "${line%%:*}" "$@"
+        ;;
+    esac
+}
+
+# counts the calls of a run that found its journal full: they are those after as many as its capacity
+count_refused() {
+    capacity=65536
+    script=
+    for word in "$@"; do
+        [ "${last:-}" = --capacity ] && capacity=$word
+        [ "$word" = --after ] && return
+        [ -f "$word" ] && [ "${last:-}" != --after ] && script=$word
+        last=$word
+    done
+    [ "$script" ] || return
+    calls=$(grep -c '^[0-9]' "$script")
+    [ "$calls" -le "$capacity" ] || echo "hullbook: $((calls - capacity)) of $calls calls found the journal full: see --capacity" >&2
+}
+
+# shows how long a program runs, from its second second on
+show_time() {
+    seconds=0
+    while kill -0 "$1" 2>/dev/null; do
+        sleep 1
+        seconds=$((seconds + 1))
+        [ "$seconds" -lt 2 ] || printf '\rhullbook: running, %s s ' "$seconds" >&2
+    done
+    [ "$seconds" -lt 2 ] || printf '\r\033[K' >&2
+}
+
+# runs the program with these words, and exits with its status
+run_on_terminal() {
+    if [ "${1:-}" = run ]; then
+        "$program" "$@" <&0 &
+        child=$!
+        trap 'kill -INT $child 2>/dev/null' INT
+        show_time $child &
+        watcher=$!
+        wait $child
+        status=$?
+        kill $watcher 2>/dev/null && wait $watcher 2>/dev/null
+    else
+        "$program" "$@"
+        status=$?
+    fi
+    case $status in
+    0) [ "${1:-}" != run ] || count_refused "$@" ;;
+    2 | 3 | 4) say_more "$@" ;;
+    esac
+    exit "$status"
+}
