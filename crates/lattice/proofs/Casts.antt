@@ -1,4 +1,4 @@
--- What the program's casts and sums of 64 and 128 bits are, at numbers of a known size.
+-- The results of the program's casts and sums in 64 and 128 bits, for numbers of a known size.
 use Rattle.std.proofs.Common.{◌≡◌, ◌+◌, ◌*◌, ◌^◌, ◌∙◌, arith, lit≤, FitsSigned}
 use Rattle.std.proofs.lemmas.Int.{to_z-of_z}
 use lib.IntN.{ℤ, ◌+ℤ◌, ◌-ℤ◌, ◌*ℤ◌}
@@ -8,19 +8,19 @@ use borrow.Author.Differences.{ints}
 use Rattle.lattice.specs.Plane.{IsWithin, widest, widest_side, nearest, IsCoordinate}
 use Rattle.lattice.specs.Integers.{within_add, within_sub, within_mul, within_more}
 
--- a number of 64 bits that is no larger than a coordinate
+-- a cast to 64 bits keeps a number that is no larger than a coordinate
 pub cast64 : (z : ℤ) → IsWithin widest z → to_z w64 (of_z w64 z) ≡ z
 cast64 z h = omega (arith, ints)
 
--- any number of 64 bits
+-- a cast to 64 bits keeps any number that fits
 pub cast_long : (z : ℤ) → FitsSigned w64 z → to_z w64 (of_z w64 z) ≡ z
 cast_long z h = to_z-of_z w64 z h
 
--- a number of 128 bits
+-- a cast to 128 bits keeps any number that fits
 pub cast128 : (z : ℤ) → FitsSigned w128 z → to_z w128 (of_z w128 z) ≡ z
 cast128 z h = to_z-of_z w128 z h
 
--- u - v in 64 bits, cast to 128
+-- u - v in 64 bits, cast to 128, is u - v
 pub cast_difference : (u v : ℤ) → IsWithin widest u → IsWithin widest v
     → to_z w128 (of_z w128 (to_z w64 (of_z w64 (to_z w64 (of_z w64 u) -ℤ to_z w64 (of_z w64 v))))) ≡ u -ℤ v
 cast_difference u v hu hv = omega (arith, ints)
@@ -39,14 +39,14 @@ cast_add m n h k = omega (arith, ints)
 pub coordinate_within : (z : ℤ) → IsCoordinate z → IsWithin widest z
 coordinate_within z h = omega (arith, ints)
 
--- a side times a difference of two coordinates
+-- a side times a difference of two coordinates is within 2^125
 pub weight_within : (u p r : ℤ) → IsWithin widest_side u → IsWithin widest p → IsWithin widest r
     → IsWithin (2 ^ 125) (u *ℤ (p -ℤ r))
 weight_within u p r hu hp hr =
     within_more (widest_side * (widest + widest)) (2 ^ 125) (u *ℤ (p -ℤ r)) (lit≤ tt)
     (within_mul widest_side (widest + widest) u (p -ℤ r) hu (within_sub widest widest p r hp hr))
 
--- a coordinate that a point told
+-- a coordinate that a point returned is kept by a cast to 64 bits
 pub cast_told : (z w : ℤ) → IsCoordinate z → z ≡ w → to_z w64 (of_z w64 z) ≡ w
 cast_told z w h e = cast64 z (coordinate_within z h) ∙ e
 
@@ -55,15 +55,15 @@ pub sum_fits : (m n : ℤ) → IsWithin (2 ^ 125) m → IsWithin (2 ^ 125) n
     → FitsSigned w128 (to_z w128 (of_z w128 m) +ℤ to_z w128 (of_z w128 n))
 sum_fits m n h k = omega (arith, ints)
 
--- a side
+-- a cast to 128 bits keeps a side
 pub cast_side : (z : ℤ) → IsWithin widest_side z → to_z w128 (of_z w128 z) ≡ z
 cast_side z h = omega (arith, ints)
 
--- a difference of coordinates
+-- a cast to 64 bits keeps a difference of coordinates
 pub cast_step : (z : ℤ) → IsWithin (2 * widest) z → to_z w64 (of_z w64 z) ≡ z
 cast_step z h = omega (arith, ints)
 
--- and cast to 128 bits
+-- such a difference, cast to 64 and then to 128 bits, is the same
 pub cast_wide : (z : ℤ) → IsWithin (2 * widest) z → to_z w128 (of_z w128 (to_z w64 (of_z w64 z))) ≡ z
 cast_wide z h = omega (arith, ints)
 
@@ -78,7 +78,7 @@ minor_within u v p q hu hv hp hq =
     within_mul (widest + widest) (widest + widest) (u -ℤ v) (p -ℤ q) (within_sub widest widest u v hu hv)
     (within_sub widest widest p q hp hq)
 
--- that is no larger than the widest product
+-- such a product is no larger than the widest product
 pub minor_small : (z : ℤ) → IsWithin (4 * (widest * widest)) z → IsWithin (2 ^ 125) z
 minor_small z h = within_more (4 * (widest * widest)) (2 ^ 125) z (lit≤ tt) h
 
@@ -104,7 +104,7 @@ pub cast_near_side : (m n : ℤ) → IsWithin (4 * (nearest * nearest)) m → Is
     → to_z w128 (of_z w128 (to_z w64 (of_z w64 (to_z w64 (of_z w64 m) -ℤ to_z w64 (of_z w64 n))))) ≡ m -ℤ n
 cast_near_side m n h k = omega (arith, ints)
 
--- and it is a side
+-- the difference of two such products is no larger than a side
 pub near_side_within : (m n : ℤ) → IsWithin (4 * (nearest * nearest)) m → IsWithin (4 * (nearest * nearest)) n
     → IsWithin widest_side (m -ℤ n)
 near_side_within m n h k =
@@ -116,7 +116,7 @@ pub cast_near_sum : (m n : ℤ) → IsWithin (4 * (nearest * nearest)) m → IsW
     → to_z w128 (of_z w128 (to_z w64 (of_z w64 (to_z w64 (of_z w64 m) +ℤ to_z w64 (of_z w64 n))))) ≡ m +ℤ n
 cast_near_sum m n h k = omega (arith, ints)
 
--- and it is a side
+-- the sum of two such products is no larger than a side
 pub near_sum_within : (m n : ℤ) → IsWithin (4 * (nearest * nearest)) m → IsWithin (4 * (nearest * nearest)) n
     → IsWithin widest_side (m +ℤ n)
 near_sum_within m n h k =

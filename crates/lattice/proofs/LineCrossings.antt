@@ -1,4 +1,4 @@
--- Where the lines of two edges cross, against a point: the last two cases of the search.
+-- The crossing of the lines of two edges, compared with a point: the last two cases of the search.
 use Rattle.std.proofs.Common.{◌≡◌, sym, ap, ◌∙◌, arith, ◌⊎◌, inl, inr, ⊎_elim, subst}
 use Rattle.std.proofs.lemmas.Int.{by_lt_z}
 use lib.IntN.{ℤ, pos, ◌+ℤ◌, ◌-ℤ◌, ◌*ℤ◌, neg_ℤ, *ℤ-zero, +ℤ_idl}
@@ -20,7 +20,7 @@ pub orient_start : (a b : Pair) → orient a b a ≡ pos 0
 unfolding orient
 orient_start a b = simp ring_laws (omega (arith, linear))
 
--- the side does not depend on where the triangle begins
+-- the side does not depend on the vertex at which the triangle begins
 pub orient_cycle : (a b c : Pair) → orient a b c ≡ orient b c a
 unfolding orient
 orient_cycle a b c = simp ring_laws (omega (arith, linear))
@@ -30,7 +30,7 @@ pub orient_other : (a b c : Pair) → orient b a c ≡ neg_ℤ (orient a b c)
 unfolding orient
 orient_other a b c = simp ring_laws (omega (arith, linear))
 
--- the bend of two lines by the two sides
+-- the bend of two lines is the negated sum of the two sides
 bend_is : (a b c d : Pair) → bend a b c d ≡ neg_ℤ (s1 a b c d +ℤ s2 a b c d)
 unfolding bend orient
 bend_is a b c d = simp ring_laws (omega (arith, linear))
@@ -74,12 +74,12 @@ bend_negative a b c d hab hbc hcd g1 g2 =
     (scale_nonnegative (bend a b c d) (c.x -ℤ b.x) (c.y -ℤ b.y) up (step_positive b c hbc))
     (slope_x a b c d b c) (slope_y a b c d b c) (inl (omega (arith, linear)))))
 
--- two lines that both bend right do cross
+-- two lines that both bend right have a crossing
 pub s_positive : (a b c d : Pair) → IsBefore a b → IsBefore b c → IsBefore c d → orient a b c <ℤ pos 0
     → orient c d b <ℤ pos 0 → pos 0 <ℤ (s1 a b c d +ℤ s2 a b c d)
 s_positive a b c d hab hbc hcd g1 g2 = omega (arith, linear, bend_negative a b c d hab hbc hcd g1 g2, bend_is a b c d)
 
--- a product and the same negated
+-- a product and the same product negated cancel
 cancels : (u v : ℤ) → u *ℤ v +ℤ neg_ℤ v *ℤ u ≡ pos 0
 cancels u v = simp ring_laws (omega (arith, linear))
 
@@ -103,7 +103,7 @@ add_nonnegative ax ay bx by (inl a) (inr b) = inl (omega (arith, linear))
 add_nonnegative ax ay bx by (inr a) (inl b) = inl (omega (arith, linear))
 add_nonnegative ax ay bx by (inr a) (inr b) = inr (omega (arith, linear))
 
--- a positive vector and one that is not negative
+-- a positive vector plus one that is not negative is positive
 add_positive : (ax ay bx by : ℤ) → IsPositive ax ay → IsNonnegative bx by → IsPositive (ax +ℤ bx) (ay +ℤ by)
 add_positive ax ay bx by (inl a) (inl b) = inl (omega (arith, linear))
 add_positive ax ay bx by (inl a) (inr b) = inl (omega (arith, linear))
@@ -115,12 +115,12 @@ weaken : (ux uy : ℤ) → IsPositive ux uy → IsNonnegative ux uy
 weaken ux uy (inl h) = inl h
 weaken ux uy (inr h) = inr (h.0, omega (arith, linear, h.1))
 
--- a vector that is not negative, times a number
+-- a vector that is not negative, times a number that is not, is not negative
 scale_both : (k ux uy : ℤ) → pos 0 ≤ℤ k → IsNonnegative ux uy → IsNonnegative (k *ℤ ux) (k *ℤ uy)
 scale_both k ux uy h (inl u) = scale_nonnegative k ux uy h (inl u)
 scale_both k ux uy h (inr u) = inr (ap (λ (z : ℤ). k *ℤ z) u.0 ∙ *ℤ-zero k, product_nn _ _ h u.1)
 
--- q is not before m
+-- the step from m to q is not negative if q is not before m
 pub step_nonnegative : (m q : Pair) → (IsBefore q m → ⊥) → IsNonnegative (q.x -ℤ m.x) (q.y -ℤ m.y)
 step_nonnegative m q n =
     by_lt_z m.x q.x (λ h. inl (omega (arith, linear)))
@@ -128,19 +128,19 @@ step_nonnegative m q n =
     (λ g. let e : q.x ≡ m.x = omega (arith, linear) in
     by_lt_z q.y m.y (λ k. absurd (n (inr (e, k)))) (λ k. inr (omega (arith, linear)))))
 
--- the excess at q is that at m and s times the step
+-- the excess at q is that at m plus s times the step
 excess_step : (u v dx cx mx qx : ℤ) → excess u v dx cx mx +ℤ (u +ℤ v) *ℤ (qx -ℤ mx) ≡ excess u v dx cx qx
 excess_step u v dx cx mx qx = simp ring_laws (omega (arith, linear))
 
--- and that at c is - s1 times the edge, so at q it is that and s times the step from c
+-- the excess at c is - s1 times the edge, so at q it is that plus s times the step from c
 excess_from : (u v dx cx qx : ℤ) → neg_ℤ u *ℤ (dx -ℤ cx) +ℤ (u +ℤ v) *ℤ (qx -ℤ cx) ≡ excess u v dx cx qx
 excess_from u v dx cx qx = simp ring_laws (omega (arith, linear))
 
--- a fact of two numbers under other names
+-- a fact of two numbers holds under other names of these numbers
 two : (P : ℤ → ℤ → Type 0) {a b c d : ℤ} → a ≡ c → b ≡ d → P a b → P c d
 two P {a} {b} {c} {d} e f h = subst (λ (z : ℤ). P z d) e (subst (λ (w : ℤ). P a w) f h)
 
--- The crossing is at or before m, and q, not before m, is not under ab and not over cd: then q is on cd, before c
+-- if the crossing is at or before m, and q, not before m, is not under ab and not over cd, then q is on cd, before c
 pub right_of_crossing : (a b c d m q : Pair) → IsBefore a b → IsBefore b c → IsBefore c d → orient a b c <ℤ pos 0
     → orient c d b <ℤ pos 0 → IsCrossingAtOrBefore a b c d m → (IsBefore q m → ⊥) → pos 0 ≤ℤ orient a b q
     → orient c d q ≤ℤ pos 0 → (orient c d q ≡ pos 0 → IsBefore q c → ⊥) → ⊥
@@ -178,7 +178,7 @@ right_of_crossing a b c d m q hab hbc hcd g1 g2 at_m mq gq1 gq2 tie =
     (scale_both (s1 a b c d +ℤ s2 a b c d) (q.x -ℤ c.x) (q.y -ℤ c.y) s_non
     (step_nonnegative c q (tie (omega (arith, linear))))))))))
 
--- The crossing is after m, and p, before m, is not over ab: then p is under cd
+-- if the crossing is after m, and p, before m, is not over ab, then p is under cd
 pub left_of_crossing : (a b c d m p : Pair) → IsBefore a b → IsBefore b c → IsBefore c d → orient a b c <ℤ pos 0
     → orient c d b <ℤ pos 0 → IsCrossingAfter a b c d m → IsBefore p m → orient a b p ≤ℤ pos 0 → orient c d p <ℤ pos 0
 left_of_crossing a b c d m p hab hbc hcd g1 g2 after pm gp1 =

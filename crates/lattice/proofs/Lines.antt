@@ -1,4 +1,4 @@
--- Two lines and three points: what the bridge search rests on.
+-- Two lines and three points: the facts that the bridge search uses.
 use Rattle.std.proofs.Common.{◌≡◌, ap, ◌∙◌, arith, ◌⊎◌, inl, inr, ⊎_elim}
 use Rattle.std.proofs.lemmas.Int.{by_lt_z}
 use lib.IntN.{ℤ, pos, ◌+ℤ◌, ◌-ℤ◌, ◌*ℤ◌, neg_ℤ, *ℤ-zero, zero-*ℤ}
@@ -34,20 +34,20 @@ IsPositive ux uy = (pos 0 <ℤ ux) ⊎ ((ux ≡ pos 0) × (pos 0 <ℤ uy))
 abbrev pub IsNonnegative : ℤ → ℤ → Type 0
 IsNonnegative ux uy = (pos 0 <ℤ ux) ⊎ ((ux ≡ pos 0) × (pos 0 ≤ℤ uy))
 
--- a product with zero on the right
+-- a product with zero on the right is zero
 pub times_zero : (k u : ℤ) → u ≡ pos 0 → k *ℤ u ≡ pos 0
 times_zero k u e = ap (λ (z : ℤ). k *ℤ z) e ∙ *ℤ-zero k
 
--- a product with zero on the left
+-- a product with zero on the left is zero
 pub zero_times : (k u : ℤ) → k ≡ pos 0 → k *ℤ u ≡ pos 0
 zero_times k u e = ap (λ (z : ℤ). z *ℤ u) e ∙ zero-*ℤ u
 
--- a positive multiple of a positive vector
+-- a positive multiple of a positive vector is positive
 pub scale_positive : (k ux uy : ℤ) → pos 0 <ℤ k → IsPositive ux uy → IsPositive (k *ℤ ux) (k *ℤ uy)
 scale_positive k ux uy h (inl u) = inl (product_pp _ _ h u)
 scale_positive k ux uy h (inr u) = inr (times_zero k ux u.0, product_pp _ _ h u.1)
 
--- a multiple, zero or positive, of a positive vector
+-- a multiple, zero or positive, of a positive vector is not negative
 pub scale_nonnegative : (k ux uy : ℤ) → pos 0 ≤ℤ k → IsPositive ux uy → IsNonnegative (k *ℤ ux) (k *ℤ uy)
 scale_nonnegative k ux uy h u =
     by_lt_z (pos 0) k
@@ -99,11 +99,11 @@ pub step_positive : (p q : Pair) → IsBefore p q → IsPositive (q.x -ℤ p.x) 
 step_positive p q (inl h) = inl (omega (arith, linear))
 step_positive p q (inr h) = inr (omega (arith, linear))
 
--- the same, where the step has the other sign
+-- the same, if the step has the other sign
 pub flip : (k u v : ℤ) → neg_ℤ k *ℤ (u -ℤ v) ≡ k *ℤ (v -ℤ u)
 flip k u v = simp ring_laws (omega (arith, linear))
 
--- from z to t the difference of the two sides moves with the bend: its part that is not negative, either way
+-- from z to t the difference of the two sides moves with the bend: its part that is not negative, in either direction
 pub bend_step : (p q a b t z : Pair)
     → ((pos 0 ≤ℤ bend p q a b) × IsBefore t z) ⊎ ((bend p q a b ≤ℤ pos 0) × IsBefore z t)
     → IsNonnegative (bend p q a b *ℤ (z.x -ℤ t.x)) (bend p q a b *ℤ (z.y -ℤ t.y))
@@ -142,12 +142,12 @@ under p q a b x t z hpq hab hxt htz fx gx fz gz gt =
     (slope_x p q a b t z) (slope_y p q a b t z) (inl (omega (arith, linear))))))
     (λ done. done)
 
--- y stands between x and t, from either side
+-- y is between x and t, from either side
 abbrev pub IsBetween : Pair → Pair → Pair → Type 0
 IsBetween x y t = (IsBefore x y × IsBefore y t) ⊎ (IsBefore t y × IsBefore y x)
 
--- t is strictly under pq if it is under ab, and y between x and t is under pq and not under ab, where x is not under
--- pq and strictly under ab
+-- t is strictly under pq if it is under ab, y between x and t is under pq and not under ab, and x is not under pq and
+-- strictly under ab
 pub over : (p q a b x y t : Pair) → IsBefore p q → IsBefore a b → IsBetween x y t → pos 0 ≤ℤ orient p q x
     → orient a b x <ℤ pos 0 → orient p q y ≤ℤ pos 0 → pos 0 ≤ℤ orient a b y → orient a b t ≤ℤ pos 0
     → orient p q t <ℤ pos 0

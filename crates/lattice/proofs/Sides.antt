@@ -1,4 +1,4 @@
--- The side of a point as seen along a line, by the steps between the points, and what a turn by 180 degrees makes of it.
+-- The side of a point as seen along a line, by the steps between the points, and after a rotation by 180 degrees.
 use Rattle.std.proofs.Common.{◌≡◌, ◌+ℤ◌, ◌-ℤ◌, arith}
 use Rattle.lattice.specs.Plane.{Pair, orient, distance_squared, turned_point}
 use Rattle.lattice.specs.Polynomials.{difference-eq, difference_rules}
@@ -58,29 +58,29 @@ unfolding orient
 side_less c d q s = rw (as_pair c, as_pair d, as_pair q, as_pair s)
     (simp difference_rules (difference-eq _ _ _ _ (omega arith)))
 
--- a turn by 180 degrees keeps sides
+-- a rotation by 180 degrees keeps sides
 pub side_turned : (a b c : Pair) → orient (turned_point a) (turned_point b) (turned_point c) ≡ orient a b c
 unfolding orient
 side_turned a b c = rw (as_pair a, as_pair b, as_pair c) (simp difference_rules (difference-eq _ _ _ _ (omega arith)))
 
--- a turn of the line is a turn of the point
+-- a rotation of the line has the same side as a rotation of the point
 pub side_turned_over : (a b t : Pair) → orient (turned_point a) (turned_point b) t ≡ orient a b (turned_point t)
 unfolding orient
 side_turned_over a b t =
     rw (as_pair a, as_pair b, as_pair t) (simp difference_rules (difference-eq _ _ _ _ (omega arith)))
 
--- a bend of all three points, of which the middle one is turned already
+-- the same of three points of which the middle one is rotated already
 pub side_turned_back : (a b c : Pair) → orient (turned_point a) b (turned_point c) ≡ orient a (turned_point b) c
 unfolding orient
 side_turned_back a b c =
     rw (as_pair a, as_pair b, as_pair c) (simp difference_rules (difference-eq _ _ _ _ (omega arith)))
 
--- a turn keeps distances
+-- a rotation keeps distances
 pub far_turned : (a b : Pair) → distance_squared (turned_point a) (turned_point b) ≡ distance_squared a b
 unfolding distance_squared
 far_turned a b = rw (as_pair a, as_pair b) (simp difference_rules (difference-eq _ _ _ _ (omega arith)))
 
--- the same of a point that is turned already
+-- the same of a point that is rotated already
 pub far_turned_back : (a b : Pair) → distance_squared (turned_point a) b ≡ distance_squared a (turned_point b)
 unfolding distance_squared
 far_turned_back a b = rw (as_pair a, as_pair b) (simp difference_rules (difference-eq _ _ _ _ (omega arith)))

@@ -1,4 +1,4 @@
--- A bridge stands where both its ends stay and each point of the new sets was there or lies on its inner side.
+-- A bridge stays if both its ends stay and each point of the new sets was in the old ones or lies on its inner side.
 use Rattle.std.proofs.Common.{◌⊎◌, refl, sym, subst, inl, inr}
 use Rattle.lattice.specs.Plane.{Pair}
 use Rattle.lattice.specs.Bridges.{IsBridge}
@@ -6,7 +6,7 @@ use Rattle.lattice.specs.Standing.{WithPoint, WithoutPoint, IsInnerToEdge}
 use Rattle.lattice.specs.Laws.{BridgeStandsAsPointComes, BridgeStandsAsPointGoes}
 use Rattle.lattice.specs.declared.side.Side.{Side}
 
--- the bridge of l and r is that of m and n
+-- the bridge of l and r is the bridge of m and n
 pub stands : (side : Side) (l r m n : Pair → Type 0) (u v : Pair) → IsBridge side l r u v → m u → n v
     → ((t : Pair) → m t → l t ⊎ IsInnerToEdge side u v t) → ((t : Pair) → n t → r t ⊎ IsInnerToEdge side u v t)
     → IsBridge side m n u v
@@ -25,13 +25,13 @@ stands side l r m n u v b i j f g = record {
     on_right : (t : Pair) → n t → IsInnerToEdge side u v t
     on_right t h = elim (g t h) [ inl k ↦ (b.inner_right t k, b.tie_right t k) | inr k ↦ k ]
 
--- a point of l with p is one of l, or lies on the inner side of an edge where p does
+-- a point of l with p is one of l, or lies on the inner side of an edge on whose inner side p lies
 inner_with : (side : Side) (l : Pair → Type 0) (u v p t : Pair) → IsInnerToEdge side u v p → WithPoint p l t
     → l t ⊎ IsInnerToEdge side u v t
 inner_with side l u v p t h (inl e) = inr (subst (IsInnerToEdge side u v) (sym e) h)
 inner_with side l u v p t h (inr k) = inl k
 
--- as a point comes
+-- the law of a bridge holds when a point is added
 pub as_comes : (side : Side) (l r : Pair → Type 0) → BridgeStandsAsPointComes side l r
 as_comes side l r u v p b = (
   (
@@ -46,7 +46,7 @@ as_comes side l r u v p b = (
   ),
 )
 
--- as one goes
+-- the law of a bridge holds when a point is removed
 pub as_goes : (side : Side) (l r : Pair → Type 0) → BridgeStandsAsPointGoes side l r
 as_goes side l r u v p b = (
   (

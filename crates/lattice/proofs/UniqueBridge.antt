@@ -1,4 +1,4 @@
--- Two sets have one upper bridge at most, and two halves have one.
+-- Two sets have at most one upper bridge, and at most one lower bridge.
 use Rattle.std.proofs.Common.{◌≡◌, ap, ◌∙◌, sym, arith, ◌⊎◌, inl, inr, ⊎_elim}
 use Rattle.std.proofs.lemmas.Int.{by_lt_z}
 use lib.IntN.{pos, ◌-ℤ◌, ◌*ℤ◌}
@@ -12,8 +12,8 @@ use Rattle.lattice.specs.Integers.{linear}
 use Rattle.lattice.proofs.Lines.{IsPositive, no_sum, bend, bend_step, bend_strict, slope_x, slope_y, step_positive}
 use Rattle.lattice.proofs.LineCrossings.{orient_start, orient_end}
 
--- where t is on pq, z on ab, and the step from t to z has the bend's sign or the bend is 0: z is not under pq, nor t
--- under ab
+-- if t is on pq, z on ab, and the step from t to z has the bend's sign or the bend is 0, then z is not under pq, and t
+-- not under ab
 level : (p q a b t z : Pair) → IsBefore p q → IsBefore a b → orient p q t ≡ pos 0 → orient a b z ≡ pos 0
     → orient p q z ≤ℤ pos 0 → orient a b t ≤ℤ pos 0
     → ((pos 0 ≤ℤ bend p q a b) × IsBefore t z) ⊎ ((bend p q a b ≤ℤ pos 0) × IsBefore z t)
@@ -32,7 +32,7 @@ level p q a b t z hpq hab ft gz fz gt way =
           (λ h. omega (arith, linear)),
     )
 
--- two bridges do not bend apart
+-- two bridges do not bend away from each other
 apart : (p q a b t z : Pair) → IsBefore p q → IsBefore a b → orient p q t ≡ pos 0 → orient a b z ≡ pos 0
     → orient p q z ≤ℤ pos 0 → orient a b t ≤ℤ pos 0
     → ((pos 0 <ℤ bend p q a b) × IsBefore t z) ⊎ ((bend p q a b <ℤ pos 0) × IsBefore z t) → ⊥
@@ -44,7 +44,7 @@ apart p q a b t z hpq hab ft gz fz gt way =
     (⊎_elim (λ h. inl (omega (arith, linear, h.0), h.1)) (λ h. inr (omega (arith, linear, h.0), h.1)) way))
     (slope_x p q a b t z) (slope_y p q a b t z) (inr (inr (bend_strict p q a b t z way)))
 
--- two upper bridges of the same sets are one
+-- two upper bridges of the same sets are equal
 pub one_bridge : (l r : Pair → Type 0) (p q a b : Pair) → IsAllBefore l r → IsUpperBridge l r p q
     → IsUpperBridge l r a b → (p ≡ a) × (q ≡ b)
 one_bridge l r p q a b o h k =
@@ -69,7 +69,7 @@ one_bridge l r p q a b o h k =
       equal_by q b (h.tie_right b k.to_right one.0).1 (k.tie_right q h.to_right two.1).1,
     )))
 
--- two sets have one lower bridge at most, since the turned sets have one upper bridge at most
+-- two sets have at most one lower bridge, since the rotated sets have at most one upper bridge
 pub one_lower_bridge : (l r : Pair → Type 0) (p q a b : Pair) → IsAllBefore l r → IsLowerBridge l r p q
     → IsLowerBridge l r a b → (p ≡ a) × (q ≡ b)
 one_lower_bridge l r p q a b o h k =

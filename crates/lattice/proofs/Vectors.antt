@@ -6,7 +6,7 @@ use Rattle.lattice.specs.Polynomials.{difference, as_difference, difference-eq, 
 use borrow.Author.Differences.{up, down}
 use Rattle.lattice.specs.Signs.{le_or_lt, product_nn, product_pp, cancel_nn}
 
--- a pair of whole numbers is one of differences of naturals, for identities over coordinates
+-- a pair of whole numbers is a pair of differences of naturals, for identities over coordinates
 pub as_pair : (p : Pair) → p ≡ record { x = difference (up p.x) (down p.x); y = difference (up p.y) (down p.y) }
 as_pair p = rw (← as_difference p.x, ← as_difference p.y) refl
 
@@ -51,11 +51,11 @@ pub ahead_nn : (u : Pair) → Ahead u → pos 0 ≤ℤ u.x
 ahead_nn u (inl h) = omega (arith, ints)
 ahead_nn u (inr h) = omega (arith, ints)
 
--- a sum of two that are not negative
+-- a sum of two numbers that are not negative is not negative
 sum_nn : (a b c : ℤ) → c ≡ a +ℤ b → pos 0 ≤ℤ a → pos 0 ≤ℤ b → pos 0 ≤ℤ c
 sum_nn a b c e h k = omega (arith, ints)
 
--- where v = (0, vy) with vy > 0
+-- bends to the left compose if v = (0, vy) with vy > 0
 vertical : (u w : Pair) (vy : ℤ) → pos 0 ≤ℤ u.x → pos 0 <ℤ vy → Ahead w
     → pos 0 ≤ℤ cross (record { x = pos 0; y = vy }) w → pos 0 ≤ℤ cross u w
 vertical u w vy hu v (inl h) vw = absurd (let p : pos 0 <ℤ (vy *ℤ w.x) = product_pp vy w.x v h in omega (arith, ints))
@@ -73,7 +73,7 @@ cross_trans u v w hu (inl h) hw uv vw =
 cross_trans u v w hu (inr h) hw uv vw =
     vertical u w v.y (ahead_nn u hu) h.1 hw (subst (λ (z : ℤ). pos 0 ≤ℤ (z *ℤ w.y -ℤ v.y *ℤ w.x)) h.0 vw)
 
--- the same where the first bend is strict
+-- the same, strictly, if the first bend is strict
 pub cross_trans_strict : (u v w : Pair) → Ahead u → Ahead v → Ahead w → pos 0 <ℤ cross u v → pos 0 ≤ℤ cross v w
     → pos 0 <ℤ cross u w
 cross_trans_strict u v w hu hv hw uv vw =
@@ -84,7 +84,7 @@ cross_trans_strict u v w hu hv hw uv vw =
       | inr h ↦ h
     ]
 
--- the same where the second bend is strict
+-- the same, strictly, if the second bend is strict
 pub cross_trans_strict_right : (u v w : Pair) → Ahead u → Ahead v → Ahead w → pos 0 ≤ℤ cross u v → pos 0 <ℤ cross v w
     → pos 0 <ℤ cross u w
 cross_trans_strict_right u v w hu hv hw uv vw =

@@ -4,7 +4,7 @@ use Rattle.std.specs.Prelude.{◌≡◌, ◌⊎◌, ℤ, pos, ◌<ℤ◌, ◌≤
 use Rattle.std.specs.List.{AllPairs, Contains}
 use Rattle.lattice.specs.Plane.{Pair, orient, IsBefore}
 
--- each point stands before all later ones, so none stands there twice
+-- each point is before all later ones, so the list has no point twice
 abbrev pub IsPointSet : List Pair → Type 0
 IsPointSet S = AllPairs IsBefore S
 
@@ -27,7 +27,7 @@ pub data Covers (S : List Pair) (q : Pair) : Type 0 where
   OnSegment : (a b : Pair) → Contains S a → Contains S b → IsOnSegment a b q → Covers S q
   InTriangle : (a b c : Pair) → Contains S a → Contains S b → Contains S c → IsInTriangle a b c q → Covers S q
 
--- p stands before q, as a test
+-- p is before q, as a test
 abbrev pub is_before : Pair → Pair → Bool
 is_before p q = cond (int_lt p.x q.x) true (cond (int_lt q.x p.x) false (int_lt p.y q.y))
 

@@ -1,17 +1,17 @@
--- Where two lines cross, against a point, without a division.
+-- The crossing of two lines, compared with a point without a division.
 use Rattle.std.specs.Prelude.{◌≡◌, ◌⊎◌, ℤ, ◌+ℤ◌, ◌*ℤ◌, ◌<ℤ◌, ◌≤ℤ◌}
 use Rattle.lattice.specs.Plane.{Pair, orient}
 
--- (x, y) stands before (u, v) or is equal to it: by the first number, and by the second where the first is the same
+-- (x, y) is before (u, v) or is equal to it: by the first number, and by the second if the first is the same
 abbrev pub IsAtOrBefore : ℤ → ℤ → ℤ → ℤ → Type 0
 IsAtOrBefore x y u v = (x <ℤ u) ⊎ ((x ≡ u) × (y ≤ℤ v))
 
--- the point (u*d + v*c) / (u + v) stands before m or is m, after multiplying by u + v
+-- the point (u*d + v*c) / (u + v) is before m or is m, after multiplying by u + v
 abbrev pub IsWeightedAtOrBefore : ℤ → ℤ → Pair → Pair → Pair → Type 0
 IsWeightedAtOrBefore u v c d m =
     IsAtOrBefore (u *ℤ d.x +ℤ v *ℤ c.x) (u *ℤ d.y +ℤ v *ℤ c.y) ((u +ℤ v) *ℤ m.x) ((u +ℤ v) *ℤ m.y)
 
--- the same point stands after m
+-- the same point is after m
 abbrev pub IsWeightedAfter : ℤ → ℤ → Pair → Pair → Pair → Type 0
 IsWeightedAfter u v c d m =
     (((u +ℤ v) *ℤ m.x) <ℤ (u *ℤ d.x +ℤ v *ℤ c.x))
@@ -25,10 +25,10 @@ s1 a b c d = orient a b c
 abbrev pub s2 : Pair → Pair → Pair → Pair → ℤ
 s2 a b c d = orient b a d
 
--- the crossing of the lines ab and cd stands before m or is m
+-- the crossing of the lines ab and cd is before m or is m
 abbrev pub IsCrossingAtOrBefore : Pair → Pair → Pair → Pair → Pair → Type 0
 IsCrossingAtOrBefore a b c d m = IsWeightedAtOrBefore (s1 a b c d) (s2 a b c d) c d m
 
--- the crossing of the lines ab and cd stands after m
+-- the crossing of the lines ab and cd is after m
 abbrev pub IsCrossingAfter : Pair → Pair → Pair → Pair → Pair → Type 0
 IsCrossingAfter a b c d m = IsWeightedAfter (s1 a b c d) (s2 a b c d) c d m

@@ -7,26 +7,26 @@ use Rattle.lattice.specs.Standing.{WithPoint, WithoutPoint, IsInnerToEdge}
 use Rattle.lattice.specs.declared.side.Side.{Side}
 use Rattle.lattice.specs.Crossing.{s1, s2}
 
--- two sets l and r, all of l before all of r, have one bridge at most on either side
+-- two sets l and r, all of l before all of r, have at most one bridge on either side
 abbrev pub BridgeIsUnique : Side → (Pair → Type 0) → (Pair → Type 0) → Type 0
 BridgeIsUnique side l r =
     (p q a b : Pair) → IsAllBefore l r → IsBridge side l r p q → IsBridge side l r a b → (p ≡ a) × (q ≡ b)
 
--- where a, b, c, d stand in their order and bend right at b and at c, the weights of their crossing have a positive
--- sum, and the point between c and d that has these weights has neither side of the line ab, so it lies on both lines
+-- if a, b, c, d are in this order and bend right at b and at c, the weights of their crossing have a positive sum, and
+-- the point between c and d that has these weights is on neither side of the line ab, so it lies on both lines
 abbrev pub CrossingIsOnBothLines : Type 0
 CrossingIsOnBothLines =
     (a b c d : Pair) → IsBefore a b → IsBefore b c → IsBefore c d → orient a b c <ℤ pos 0 → orient b c d <ℤ pos 0
     → (pos 0 <ℤ (s1 a b c d +ℤ s2 a b c d)) × (s1 a b c d *ℤ orient a b d +ℤ s2 a b c d *ℤ orient a b c ≡ pos 0)
 
--- as a point p comes to l or to r, their bridge stands where p lies on its inner side, and only there
+-- when a point p is added to l or to r, their bridge stays if and only if p lies on its inner side
 abbrev pub BridgeStandsAsPointComes : Side → (Pair → Type 0) → (Pair → Type 0) → Type 0
 BridgeStandsAsPointComes side l r =
     (u v p : Pair) → IsBridge side l r u v
     → (IsBridge side (WithPoint p l) r u v ↔ IsInnerToEdge side u v p)
     × (IsBridge side l (WithPoint p r) u v ↔ IsInnerToEdge side u v p)
 
--- as p goes from l or from r, it stands where p is not its end there, and only there
+-- when p is removed from l or from r, their bridge stays if and only if p is not its end there
 abbrev pub BridgeStandsAsPointGoes : Side → (Pair → Type 0) → (Pair → Type 0) → Type 0
 BridgeStandsAsPointGoes side l r =
     (u v p : Pair) → IsBridge side l r u v

@@ -1,4 +1,4 @@
--- Where a point lies, seen from a finite set of points: inside its hull, on its boundary, or outside.
+-- The location of a point relative to a finite set of points: inside its hull, on its boundary, or outside.
 use Rattle.std.specs.Prelude.{◌≤ℤ◌, List}
 use Rattle.std.specs.List.{All}
 use Rattle.lattice.specs.Plane.{Pair, product, IsZero}

@@ -7,7 +7,8 @@ pub record Pair : Type 0 where
   pub x : ℤ
   pub y : ℤ
 
--- positive where c lies left of the directed line from a to b, zero where it lies on that line, negative right of it
+-- positive if c lies left of the directed line from a to b, zero if it lies on that line, negative if it lies right of
+-- it
 unfoldable pub orient : Pair → Pair → Pair → ℤ
 orient a b c = (b.x -ℤ a.x) *ℤ (c.y -ℤ a.y) -ℤ (b.y -ℤ a.y) *ℤ (c.x -ℤ a.x)
 
@@ -19,11 +20,11 @@ product d p = d.x *ℤ p.x +ℤ d.y *ℤ p.y
 unfoldable pub distance_squared : Pair → Pair → ℤ
 distance_squared a b = (b.x -ℤ a.x) *ℤ (b.x -ℤ a.x) +ℤ (b.y -ℤ a.y) *ℤ (b.y -ℤ a.y)
 
--- p stands before q: by x, and by y where x is the same
+-- p is before q: by x, and by y if x is the same
 abbrev pub IsBefore : Pair → Pair → Type 0
 IsBefore p q = (p.x <ℤ q.x) ⊎ ((p.x ≡ q.x) × (p.y <ℤ q.y))
 
--- both coordinates negated: the point after a turn by 180 degrees about the origin
+-- both coordinates negated: the point after a rotation by 180 degrees about the origin
 abbrev pub turned_point : Pair → Pair
 turned_point p = record { x = neg_ℤ p.x; y = neg_ℤ p.y }
 
@@ -31,7 +32,7 @@ turned_point p = record { x = neg_ℤ p.x; y = neg_ℤ p.y }
 abbrev pub IsWithin : ℕ → ℤ → Type 0
 IsWithin k z = (neg_ℤ (pos k) ≤ℤ z) × (z ≤ℤ pos k)
 
--- a coordinate of a point, or a component of a direction, as the program takes them
+-- a coordinate of a point, or a component of a direction, as the program accepts them
 abbrev pub IsCoordinate : ℤ → Type 0
 IsCoordinate z = (neg_ℤ COORDINATE_LIMIT ≤ℤ z) × (z ≤ℤ COORDINATE_LIMIT)
 
@@ -43,11 +44,11 @@ IsInRange p = IsCoordinate p.x × IsCoordinate p.y
 abbrev pub IsZero : Pair → Type 0
 IsZero d = (d.x ≡ pos 0) × (d.y ≡ pos 0)
 
--- The size up to which coordinates are safe in 128 bits, whatever the limit below it is.
+-- the size up to which coordinates are safe in 128 bits, whatever lower limit `COORDINATE_LIMIT` sets
 abbrev pub widest : ℕ
 widest = 2 ^ 40
 
--- the size of `orient`, of `product` and of a squared distance at coordinates that are safe
+-- the size of `orient`, of `product` and of a squared distance, for coordinates that are safe in 128 bits
 abbrev pub widest_side : ℕ
 widest_side = 8 * (widest * widest)
 

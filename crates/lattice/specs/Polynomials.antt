@@ -1,5 +1,6 @@
--- Identities of the ring of whole numbers. `difference a b` is a - b for two naturals; each whole number is one, and
--- sums and products of such are such, so an identity becomes an equation of naturals, which omega decides.
+-- Identities of the ring of whole numbers. `difference a b` is a - b for two naturals. Each whole number is such a
+-- difference, and so are sums and products of differences, so an identity becomes an equation of naturals, which omega
+-- decides.
 use Rattle.std.proofs.Common.{◌≡◌, ℕ, ◌+◌, ◌-◌, ◌*◌, ℤ, pos, ◌+ℤ◌, ◌*ℤ◌, neg_ℤ, arith}
 use Rattle.std.proofs.Common.{◌⊎◌, inl, inr}
 use Rattle.std.proofs.lemmas.Bool.{cases_lt}
@@ -10,16 +11,16 @@ use borrow.Author.Differences.{up, down, same_in, sum_is_lem, neg_is, product_is
 abbrev raw : ℕ → ℕ → ℤ
 raw a b = pos a +ℤ neg_ℤ (pos b)
 
--- a - b, closed to computing
+-- a - b, as a name that does not compute
 pub difference : ℕ → ℕ → ℤ
 difference a b = raw a b
 
--- what the difference of two naturals is, as an equation of naturals
+-- the difference of two naturals, as an equation of naturals
 difference-is : (a b : ℕ) → up (difference a b) + b ≡ down (difference a b) + a
 unfolding difference
 difference-is a b = omega (arith, ints)
 
--- when two differences are equal
+-- two differences are equal if their crossed sums are
 pub difference-eq : (a b c d : ℕ) → a + d ≡ c + b → difference a b ≡ difference c d
 difference-eq a b c d e =
     same_in (difference a b) (difference c d) (omega (arith, difference-is a b, difference-is c d))
@@ -28,7 +29,7 @@ difference-eq a b c d e =
 pub as_difference : (z : ℤ) → z ≡ difference (up z) (down z)
 as_difference z = same_in z (difference (up z) (down z)) (omega (arith, difference-is (up z) (down z)))
 
--- a sum of differences
+-- a sum of differences is a difference
 pub difference-add : (a b c d : ℕ) → difference a b +ℤ difference c d ≡ difference (a + c) (b + d)
 difference-add a b c d =
     same_in (difference a b +ℤ difference c d) (difference (a + c) (b + d))
@@ -40,7 +41,7 @@ difference-add a b c d =
       sum_is_lem (difference a b) (difference c d),
     ))
 
--- a negated difference
+-- a negated difference is a difference
 pub difference-neg : (a b : ℕ) → neg_ℤ (difference a b) ≡ difference b a
 difference-neg a b =
     same_in (neg_ℤ (difference a b)) (difference b a)
@@ -50,7 +51,7 @@ difference-neg a b =
 split : (a b : ℕ) → ((k : ℕ) × (a ≡ b + k)) ⊎ ((k : ℕ) × (b ≡ a + k))
 split a b = elim (cases_lt a b) [ inl h ↦ inr (b - a, omega arith) | inr h ↦ inl (a - b, omega arith) ]
 
--- the equation of naturals behind a product of differences
+-- the equation of naturals for a product of differences
 prod : (u v w x a b c d : ℕ) → u + b ≡ v + a → w + d ≡ x + c
     → (u * w + v * x) + (a * d + b * c) ≡ (a * c + b * d) + (u * x + v * w)
 prod u v w x a b c d e f =
@@ -69,7 +70,7 @@ prod u v w x a b c d e f =
       ]
     ]
 
--- a product of differences
+-- a product of differences is a difference
 pub difference-mul : (a b c d : ℕ) → difference a b *ℤ difference c d ≡ difference (a * c + b * d) (a * d + b * c)
 difference-mul a b c d =
     same_in (difference a b *ℤ difference c d) (difference (a * c + b * d) (a * d + b * c))
@@ -81,9 +82,9 @@ difference-mul a b c d =
       product_is (difference a b) (difference c d),
     ))
 
--- when a difference is a natural number
+-- a difference is a natural number if the equation of naturals holds
 pub difference-pos : (a b n : ℕ) → a ≡ n + b → difference a b ≡ pos n
 difference-pos a b n e = same_in (difference a b) (pos n) (omega (arith, difference-is a b))
 
--- a polynomial of differences is a difference: `simp difference_rules` takes an identity to two naturals a side
+-- a polynomial of differences is a difference: `simp difference_rules` reduces an identity to two naturals on each side
 pub ruleset difference_rules = (difference-add, difference-neg, difference-mul)

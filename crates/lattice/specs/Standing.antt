@@ -1,5 +1,5 @@
--- When a bridge of two sets stays one as a point comes to one of them or goes from one: the law of a tree that keeps what
--- a change cannot alter.
+-- When a bridge of two sets stays their bridge after a point is added to one of them or removed from one: the law of a
+-- tree that keeps what a change cannot alter.
 use Rattle.std.specs.Prelude.{◌≡◌, ◌⊎◌, pos}
 use Rattle.lattice.specs.Plane.{Pair, orient}
 use Rattle.lattice.specs.Bridges.{IsInner, IsNotBeyond}

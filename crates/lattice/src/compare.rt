@@ -6,8 +6,8 @@ use super::direction::Direction;
 use super::point::Point;
 use super::wide::{difference, product_of_differences, sum_of_products};
 
-/// On which side of the directed line from `a` to `b` the point `c` lies: positive left of it, zero on it, negative
-/// right of it. The value is the doubled signed area of the triangle (Preparata and Shamos, 1985).
+/// Returns twice the signed area of the triangle abc (Preparata and Shamos, 1985): positive if `c` lies left of the
+/// directed line from `a` to `b`, zero if it lies on that line, negative if it lies right of it.
 #[tactic(auto, unfolding(crate::specs::Plane::orient))]
 pub fn orient(a: Point, b: Point, c: Point) -> i128
     ensures value { result ≡ plane.orient a b c }
@@ -17,7 +17,7 @@ pub fn orient(a: Point, b: Point, c: Point) -> i128
         - product_of_differences(b.y(), a.y(), c.x(), a.x())
 }
 
-/// How far `p` lies in the direction `d`: the sum of the products of their components.
+/// Returns how far `p` lies in the direction `d`: the sum of the products of their components.
 #[tactic(auto, unfolding(crate::specs::Plane::product))]
 pub fn product(d: Direction, p: Point) -> i128
     ensures value { result ≡ plane.product d p }
@@ -26,7 +26,7 @@ pub fn product(d: Direction, p: Point) -> i128
     sum_of_products(d.x(), p.x(), d.y(), p.y())
 }
 
-/// The square of the distance of two points.
+/// Returns the square of the distance of two points.
 #[tactic(auto, unfolding(crate::specs::Plane::distance_squared))]
 pub fn distance_squared(a: Point, b: Point) -> i128
     ensures value { result ≡ plane.distance_squared a b }
@@ -36,7 +36,7 @@ pub fn distance_squared(a: Point, b: Point) -> i128
     sum_of_products(x, x, y, y)
 }
 
-/// Whether `p` stands before `q`: by x, and by y where x is the same.
+/// Whether `p` is before `q`: by x, and by y if x is the same.
 pub fn before(p: Point, q: Point) -> bool
     ensures { IsTrue result ↔ IsBefore p q }
 {

@@ -7,7 +7,7 @@ use super::compare::orient;
 use super::point::Point;
 use super::wide::multiplied;
 
-/// u * (p - r) + v * (q - r), of two sides and three coordinates.
+/// Returns u * (p - r) + v * (q - r), of two sides and three coordinates.
 fn weighted(u: i128, p: i64, v: i128, q: i64, r: i64) -> i128
     requires first { IsWithin widest_side u }
     requires second { IsWithin widest_side v }
@@ -19,9 +19,9 @@ fn weighted(u: i128, p: i64, v: i128, q: i64, r: i64) -> i128
     multiplied(u, (p - r) as i128) + multiplied(v, (q - r) as i128)
 }
 
-/// Whether the point u*d + v*c, divided by u + v, stands before m or is m; asked without a division, by the signs of
-/// u*(d - m) + v*(c - m), first in x and only where that is zero in y.
-/// For callers that have the two sides of a crossing already.
+/// Whether the point u*d + v*c, divided by u + v, is before m or is m. It does not divide: it tests the sign of u*(d -
+/// m) + v*(c - m), first in x, and in y only if that is zero.
+/// For callers that already have the two sides of a crossing.
 pub fn weighted_at_or_before(u: i128, v: i128, c: Point, d: Point, m: Point) -> bool
     requires first { IsWithin widest_side u }
     requires second { IsWithin widest_side v }
@@ -37,9 +37,9 @@ pub fn weighted_at_or_before(u: i128, v: i128, c: Point, d: Point, m: Point) -> 
     weighted(u, d.y(), v, c.y(), m.y()) <= 0
 }
 
-/// Whether the crossing of the lines ab and cd stands before m or is m.
-/// The crossing is (s1*d + s2*c) / (s1 + s2), where s1 is the side of c as seen from ab, and s2 that of d as seen
-/// from ba; what is asked of the caller makes s1 + s2 positive, and the point is on both lines
+/// Whether the crossing of the lines ab and cd is before m or is m.
+/// The crossing is (s1*d + s2*c) / (s1 + s2), where s1 is the side of c as seen from ab, and s2 that of d as seen from
+/// ba. The requirements make s1 + s2 positive, and the point is on both lines
 /// ([`crossing_is_on_both_lines`](crate::crossing_is_on_both_lines)).
 pub fn crossing_at_or_before(a: Point, b: Point, c: Point, d: Point, m: Point) -> bool
     requires first { IsBefore a b }

@@ -26,8 +26,8 @@ impl Model for Direction {
 }
 
 impl Direction {
-    /// The direction of two components; `OutOfRange` where one of them is too large, else `ZeroDirection` where both
-    /// are zero.
+    /// Returns the direction with two components. Fails with `OutOfRange` if one of them is too large, else with
+    /// `ZeroDirection` if both are zero.
     pub fn new(dx: i64, dy: i64) -> Result<Direction, LatticeFault>
         ensures direction { IfOk result (λ d. d ≡ record { x = dx; y = dy }) }
         ensures in_range { IfOk result (λ _. IsCoordinate dx × IsCoordinate dy) }
@@ -44,7 +44,7 @@ impl Direction {
         }
     }
 
-    /// The first component.
+    /// Returns the first component.
     pub fn x(self) -> i64
         ensures value { result ≡ self.x }
         ensures range { IsCoordinate result }
@@ -53,7 +53,7 @@ impl Direction {
         self.dx
     }
 
-    /// The second component.
+    /// Returns the second component.
     pub fn y(self) -> i64
         ensures value { result ≡ self.y }
         ensures range { IsCoordinate result }

@@ -13,7 +13,7 @@ pub fn is_near(p: Point) -> bool
     -NEAR_LIMIT <= p.x() && p.x() <= NEAR_LIMIT && -NEAR_LIMIT <= p.y() && p.y() <= NEAR_LIMIT
 }
 
-/// The product of two numbers, which fits.
+/// Returns the product of two numbers, which fits.
 fn multiplied(a: i64, b: i64) -> i64
     requires { IsWithin (4 * (nearest * nearest)) (a *ℤ b) }
     ensures value { result ≡ a *ℤ b }
@@ -22,7 +22,7 @@ fn multiplied(a: i64, b: i64) -> i64
     a * b
 }
 
-/// (u - v) * (p - q), of four coordinates of near points.
+/// Returns (u - v) * (p - q), of four coordinates of near points.
 fn product_of_differences(u: i64, v: i64, p: i64, q: i64) -> i64
     requires first { IsWithin nearest u }
     requires second { IsWithin nearest v }
@@ -34,7 +34,7 @@ fn product_of_differences(u: i64, v: i64, p: i64, q: i64) -> i64
     multiplied(u - v, p - q)
 }
 
-/// u * p + v * q, of numbers whose products fit 64 bits.
+/// Returns u * p + v * q, of numbers whose products fit in 64 bits.
 pub fn sum_of_near_products(u: i64, p: i64, v: i64, q: i64) -> i128
     requires first { IsWithin (4 * (nearest * nearest)) (u *ℤ p) }
     requires second { IsWithin (4 * (nearest * nearest)) (v *ℤ q) }
@@ -45,7 +45,7 @@ pub fn sum_of_near_products(u: i64, p: i64, v: i64, q: i64) -> i128
     sum as i128
 }
 
-/// What [`orient`](crate::orient) tells, of three near points: multiplied in 64 bits, where that takes 128.
+/// Returns what [`orient`](crate::orient) returns, of three near points: it multiplies in 64 bits, `orient` in 128.
 #[tactic(auto, unfolding(crate::specs::Plane::orient))]
 pub fn orient_near(a: Point, b: Point, c: Point) -> i128
     requires first { IsNear a }

@@ -5,7 +5,8 @@ use super::COORDINATE_LIMIT;
 use super::fault::LatticeFault;
 use std::marker::Model;
 
-/// A point with two coordinates, each at most [`COORDINATE_LIMIT`] in size. Laid out as in C, whose arrays of points are lent.
+/// A point with two coordinates, each at most [`COORDINATE_LIMIT`] in size. Its layout is that of C, so that arrays of
+/// points can be borrowed from C.
 #[derive(Clone, Copy, PartialEq, Eq, PartialOrd, Ord, Debug)]
 #[repr(C)]
 pub struct Point {
@@ -33,7 +34,7 @@ pub(crate) fn is_coordinate(number: i64) -> bool
 }
 
 impl Point {
-    /// The point of two coordinates; `OutOfRange` where one of them is too large.
+    /// Returns the point with two coordinates. Fails with `OutOfRange` if one of them is too large.
     pub fn new(x: i64, y: i64) -> Result<Point, LatticeFault>
         ensures point { IfOk result (λ p. p ≡ record { x = x; y = y }) }
         ensures in_range { IfOk result (λ _. IsCoordinate x × IsCoordinate y) }
@@ -47,7 +48,7 @@ impl Point {
         }
     }
 
-    /// The first coordinate.
+    /// Returns the first coordinate.
     pub fn x(self) -> i64
         ensures value { result ≡ self.x }
         ensures range { IsCoordinate result }
@@ -55,7 +56,7 @@ impl Point {
         self.x
     }
 
-    /// The second coordinate.
+    /// Returns the second coordinate.
     pub fn y(self) -> i64
         ensures value { result ≡ self.y }
         ensures range { IsCoordinate result }
@@ -63,7 +64,7 @@ impl Point {
         self.y
     }
 
-    /// The point after a turn by 180 degrees about the origin: both coordinates negated.
+    /// Returns the point after a rotation by 180 degrees about the origin: both coordinates negated.
     pub fn turned(self) -> Point
         ensures { result ≡ turned_point self }
     {

@@ -1,8 +1,8 @@
-//! Differences of coordinates, and sums of two products of such, within 128 bits, for coordinates up to 2^40.
+//! Differences of coordinates, and sums of two products of such differences, in 128 bits, for coordinates up to 2^40.
 ghost use Rattle.std.specs.Prelude.{◌≡◌, ◌^◌, ◌*◌, ◌+ℤ◌, ◌-ℤ◌, ◌*ℤ◌};
 ghost use Rattle.lattice.specs.Plane.{IsWithin, widest, widest_side};
 
-/// The difference of two coordinates.
+/// Returns the difference of two coordinates.
 pub fn difference(a: i64, b: i64) -> i64
     requires first { IsWithin widest a }
     requires second { IsWithin widest b }
@@ -12,7 +12,7 @@ pub fn difference(a: i64, b: i64) -> i64
     a - b
 }
 
-/// The product of two numbers, which fits.
+/// Returns the product of two numbers, which fits.
 pub(crate) fn multiplied(a: i128, b: i128) -> i128
     requires { IsWithin (2 ^ 125) (a *ℤ b) }
     ensures value { result ≡ a *ℤ b }
@@ -21,7 +21,7 @@ pub(crate) fn multiplied(a: i128, b: i128) -> i128
     a * b
 }
 
-/// (u - v) * (p - q), of four coordinates: two subtractions of 64 bits and one product of 128.
+/// Returns (u - v) * (p - q), of four coordinates: two subtractions of 64 bits and one product of 128.
 pub(crate) fn product_of_differences(u: i64, v: i64, p: i64, q: i64) -> i128
     requires first { IsWithin widest u }
     requires second { IsWithin widest v }
@@ -33,7 +33,7 @@ pub(crate) fn product_of_differences(u: i64, v: i64, p: i64, q: i64) -> i128
     multiplied((u - v) as i128, (p - q) as i128)
 }
 
-/// u * p + v * q, of numbers no larger than differences of coordinates.
+/// Returns u * p + v * q, of numbers no larger than differences of coordinates.
 pub fn sum_of_products(u: i64, p: i64, v: i64, q: i64) -> i128
     requires first { IsWithin (2 * widest) u }
     requires second { IsWithin (2 * widest) p }

@@ -1,4 +1,4 @@
--- the two sides that are handed on are the weights of the crossing
+-- the two sides that are passed on are the weights of the crossing
 use Rattle.lattice.proofs.Casts.{cast_side}
 use Rattle.lattice.proofs.crossing.crossing_at_or_before.Goals as goal
 

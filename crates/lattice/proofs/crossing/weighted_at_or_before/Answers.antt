@@ -1,4 +1,4 @@
--- the weighted sum of x tells unless it is 0, and then that of y does
+-- the weighted sum of x decides unless it is 0, and then that of y does
 use Rattle.std.proofs.Common.{rules}
 use Rattle.lattice.proofs.Casts.{cast64, cast_told, coordinate_within}
 use Rattle.lattice.proofs.Weights.{weight_told, before_in_x, after_in_x, by_y}

@@ -1,4 +1,4 @@
--- a lower bridge is an upper one after a turn by 180 degrees
+-- a lower bridge is an upper one after a rotation by 180 degrees
 use Rattle.lattice.proofs.UniqueBridge.{one_lower_bridge}
 use Rattle.lattice.proofs.laws.lower_bridge_is_unique.Goals as goal
 
