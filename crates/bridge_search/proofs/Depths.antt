@@ -1,4 +1,4 @@
--- How deep points lie: one number each, and at most the height.
+-- The depths of points: each point has exactly one, at most the height.
 use Rattle.std.proofs.Common.{◌≡◌, ℕ, ◌+◌, ◌≤◌, inl, inr, arith}
 use Rattle.lattice.specs.Plane.{Pair}
 use Rattle.lattice.proofs.Order.{before_irrefl}
@@ -29,11 +29,11 @@ one_depth (Fork e f u w) p m n b (k, h, inl i) (l, g, inr j) =
 one_depth (Fork e f u w) p m n b (k, h, inr i) (l, g, inl j) =
     absurd (before_irrefl p (b.0 p p (on_at_depth u p l j) (on_at_depth w p k i)))
 
--- the depths of two ends are together at most the two heights
+-- the sum of the depths of two ends is at most the sum of the heights
 pub sum_within : (u w : Tree) (p q : Pair) (n : ℕ) → IsDepthSum u w p q n → n ≤ height_of u + height_of w
 sum_within u w p q n (i, j, a, b, h) = omega (arith, h, depth_within u p i a, depth_within w q j b)
 
--- the depths of two ends in turned halves are those of the turned ends
+-- the depths of two ends in rotated halves are those of the rotated ends
 pub sum_turned : (u w : Tree) (p q : Pair) (n : ℕ) → IsDepthSum (turned_tree w) (turned_tree u) p q n
     → IsDepthSum u w (turned_point q) (turned_point p) n
 sum_turned u w p q n (i, j, a, b, h) = (j, i, depth_turned u q j b, depth_turned w p i a, omega arith)

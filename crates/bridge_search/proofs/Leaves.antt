@@ -40,7 +40,7 @@ sets_in_row (x ∷ xs) ys s t o =
     ahead : (q : Pair) → Contains xs q → IsBefore x q
     ahead q (k, l, e) = subst (IsBefore x) e (s 0 (suc k) q (omega arith) (omega (arith, l)))
 
--- the points of a half that keeps the law stand in order
+-- the points of a half that keeps the law are in order
 pub points_in_order : (t : Tree) → IsBridged t → IsPointSet (points_of t)
 points_in_order (Leaf x) h = λ i j d lt l. absurd (omega (arith, lt, l))
 points_in_order (Fork e f u w) h =

@@ -1,4 +1,4 @@
--- What a test of `orient` against 0 says.
+-- The sign of a side, from the program's test of `orient` against 0.
 use Rattle.std.proofs.Common.{◌≡◌, ◌∙◌, arith, Bool, true, false}
 use Rattle.std.specs.Prelude.{◌↔◌}
 use Rattle.std.specs.Bool.{IsTrue}
@@ -11,15 +11,15 @@ use Rattle.lattice.specs.Plane.{Pair, orient, IsWithin, widest_side}
 use Rattle.lattice.specs.Crossing.{IsWeightedAtOrBefore, IsCrossingAtOrBefore}
 use Rattle.lattice.proofs.Casts.{cast_side}
 
--- where the test against 0 passes, the side is not negative
+-- if the test against 0 passes, the side is not negative
 pub not_under : (r z : ℤ) → IsWithin widest_side r → r ≡ z → le_z (pos 0) (to_z w128 (of_z w128 r)) ≡ true → pos 0 ≤ℤ z
 not_under r z f e h = omega (arith, ints)
 
--- where the test against 0 fails, the side is negative
+-- if the test against 0 fails, the side is negative
 pub is_under : (r z : ℤ) → IsWithin widest_side r → r ≡ z → le_z (pos 0) (to_z w128 (of_z w128 r)) ≡ false → z <ℤ pos 0
 is_under r z f e h = omega (arith, ints)
 
--- a crossing told by its two sides, which the program cast
+-- the test of a crossing by its two sides, which the program cast, is the test of the crossing
 pub crossing_told : (r : Bool) (s t : ℤ) (a b c d m : Pair) → IsWithin widest_side s → IsWithin widest_side t
     → s ≡ orient a b c → t ≡ orient b a d
     → (IsTrue r ↔ IsWeightedAtOrBefore (to_z w128 (of_z w128 s)) (to_z w128 (of_z w128 t)) c d m)

@@ -15,7 +15,7 @@ use Rattle.lattice.proofs.LineCrossings.{orient_start, orient_end, orient_cycle,
 abbrev pub Joined : (Pair → Type 0) → (Pair → Type 0) → Pair → Type 0
 Joined u v t = u t ⊎ v t
 
--- points behind those of the left half, none over the line
+-- the bridge stays if points are added after those of the left half, none over the line
 grow_left_after : (u1 u2 w : Pair → Type 0) (p q : Pair) → IsAllBefore u1 u2 → IsAllBefore u2 w
     → ((t : Pair) → u2 t → orient p q t ≤ℤ pos 0) → IsUpperBridge u1 w p q → IsUpperBridge (Joined u1 u2) w p q
 grow_left_after u1 u2 w p q o12 o2 low h = record {
@@ -28,7 +28,7 @@ grow_left_after u1 u2 w p q o12 o2 low h = record {
   tie_right = h.tie_right;
 }
 
--- points before those of the left half, all under the line
+-- the bridge stays if points are added before those of the left half, all under the line
 grow_left_before : (u1 u2 w : Pair → Type 0) (p q : Pair) → ((t : Pair) → u1 t → orient p q t <ℤ pos 0)
     → IsUpperBridge u2 w p q → IsUpperBridge (Joined u1 u2) w p q
 grow_left_before u1 u2 w p q low h = record {
@@ -43,7 +43,7 @@ grow_left_before u1 u2 w p q low h = record {
   tie_right = h.tie_right;
 }
 
--- points before those of the right half, none over the line
+-- the bridge stays if points are added before those of the right half, none over the line
 grow_right_before : (u w1 w2 : Pair → Type 0) (p q : Pair) → IsAllBefore w1 w2 → IsAllBefore u w1
     → ((t : Pair) → w1 t → orient p q t ≤ℤ pos 0) → IsUpperBridge u w2 p q → IsUpperBridge u (Joined w1 w2) p q
 grow_right_before u w1 w2 p q o12 o1 low h = record {
@@ -56,7 +56,7 @@ grow_right_before u w1 w2 p q o12 o1 low h = record {
       (λ a. h.tie_right t a e) s;
 }
 
--- points behind those of the right half, all under the line
+-- the bridge stays if points are added after those of the right half, all under the line
 grow_right_after : (u w1 w2 : Pair → Type 0) (p q : Pair) → ((t : Pair) → w2 t → orient p q t <ℤ pos 0)
     → IsUpperBridge u w1 p q → IsUpperBridge u (Joined w1 w2) p q
 grow_right_after u w1 w2 p q low h = record {
@@ -70,7 +70,7 @@ grow_right_after u w1 w2 p q low h = record {
       (λ a. let k : orient p q t <ℤ pos 0 = low t a in absurd (omega (arith, linear))) s;
 }
 
--- c in w is not under ab: u2 is not needed
+-- if c in w is not under ab, u2 is not needed
 pub to_left_of_left : (u1 u2 w : Pair → Type 0) (a b c p q : Pair) → IsAllBefore u1 u2 → IsAllBefore (Joined u1 u2) w
     → IsUpperBridge u1 u2 a b → w c → pos 0 ≤ℤ orient a b c → IsUpperBridge u1 w p q
     → IsUpperBridge (Joined u1 u2) w p q
@@ -82,7 +82,7 @@ to_left_of_left u1 u2 w a b c p q o12 o e inc g h =
     (h.inner_right c inc) g (e.inner_right t int))
     h
 
--- b in u is not under cd: w1 is not needed
+-- if b in u is not under cd, w1 is not needed
 pub to_right_of_right : (u w1 w2 : Pair → Type 0) (b c d p q : Pair) → IsAllBefore w1 w2 → IsAllBefore u (Joined w1 w2)
     → IsUpperBridge w1 w2 c d → u b → pos 0 ≤ℤ orient b c d → IsUpperBridge u w2 p q
     → IsUpperBridge u (Joined w1 w2) p q
@@ -95,7 +95,7 @@ to_right_of_right u w1 w2 b c d p q o12 o e inb g h =
     (e.inner_left t int))
     h
 
--- q is under ab: u1 is not needed
+-- if q is under ab, u1 is not needed
 past_left : (u1 u2 w : Pair → Type 0) (a b p q : Pair) → IsAllBefore u1 u2 → IsAllBefore (Joined u1 u2) w
     → IsUpperBridge u1 u2 a b → orient a b q <ℤ pos 0 → IsUpperBridge u2 w p q → IsUpperBridge (Joined u1 u2) w p q
 past_left u1 u2 w a b p q o12 o e g h =
@@ -106,7 +106,7 @@ past_left u1 u2 w a b p q o12 o e g h =
     (let z : orient a b b ≡ pos 0 = orient_end a b in omega (arith, linear)) (e.inner_left t int))
     h
 
--- p is under cd: w2 is not needed
+-- if p is under cd, w2 is not needed
 past_right : (u w1 w2 : Pair → Type 0) (c d p q : Pair) → IsAllBefore w1 w2 → IsAllBefore u (Joined w1 w2)
     → IsUpperBridge w1 w2 c d → orient c d p <ℤ pos 0 → IsUpperBridge u w1 p q → IsUpperBridge u (Joined w1 w2) p q
 past_right u w1 w2 c d p q o12 o e g h =
@@ -117,7 +117,7 @@ past_right u w1 w2 c d p q o12 o e g h =
     (let z : orient c d c ≡ pos 0 = orient_start c d in omega (arith, linear)) (e.inner_right t int))
     h
 
--- the crossing is at or before m, which no point of w is before
+-- if the crossing is at or before m, and no point of w is before m, u1 is not needed
 pub to_right_of_left : (u1 u2 w1 w2 : Pair → Type 0) (a b c d m p q : Pair) → IsAllBefore u1 u2 → IsAllBefore w1 w2
     → IsAllBefore (Joined u1 u2) (Joined w1 w2) → IsUpperBridge u1 u2 a b → IsUpperBridge w1 w2 c d
     → orient a b c <ℤ pos 0 → orient b c d <ℤ pos 0 → IsCrossingAtOrBefore a b c d m
@@ -132,7 +132,7 @@ to_right_of_left u1 u2 w1 w2 a b c d m p q ou ow o e f g1 g2 at low h =
     (⊎_elim (f.inner_left q) (f.inner_right q) h.to_right)
     (λ z. (⊎_elim (λ i. f.tie_left q i z) (λ i. f.tie_right q i z) h.to_right).0)))
 
--- the crossing is after m, which each point of u is before
+-- if the crossing is after m, and each point of u is before m, w2 is not needed
 pub to_left_of_right : (u1 u2 w1 w2 : Pair → Type 0) (a b c d m p q : Pair) → IsAllBefore u1 u2 → IsAllBefore w1 w2
     → IsAllBefore (Joined u1 u2) (Joined w1 w2) → IsUpperBridge u1 u2 a b → IsUpperBridge w1 w2 c d
     → orient a b c <ℤ pos 0 → orient b c d <ℤ pos 0 → IsCrossingAfter a b c d m
@@ -146,13 +146,13 @@ to_left_of_right u1 u2 w1 w2 a b c d m p q ou ow o e f g1 g2 after low h =
     (⊎_elim (e.inner_left p) (e.inner_right p) h.from_left))
     h
 
--- w is one point c, under ab
+-- if w is one point c, under ab, u1 is not needed
 pub to_right_of_left_one : (u1 u2 : Pair → Type 0) (a b c p q : Pair) → IsAllBefore u1 u2
     → IsAllBefore (Joined u1 u2) (λ t. t ≡ c) → IsUpperBridge u1 u2 a b → orient a b c <ℤ pos 0
     → IsUpperBridge u2 (λ t. t ≡ c) p q → IsUpperBridge (Joined u1 u2) (λ t. t ≡ c) p q
 to_right_of_left_one u1 u2 a b c p q ou o e g h = past_left u1 u2 (λ t. t ≡ c) a b p q ou o e (rw h.to_right g) h
 
--- u is one point b, under cd
+-- if u is one point b, under cd, w2 is not needed
 pub to_left_of_right_one : (w1 w2 : Pair → Type 0) (b c d p q : Pair) → IsAllBefore w1 w2
     → IsAllBefore (λ t. t ≡ b) (Joined w1 w2) → IsUpperBridge w1 w2 c d → orient b c d <ℤ pos 0
     → IsUpperBridge (λ t. t ≡ b) w1 p q → IsUpperBridge (λ t. t ≡ b) (Joined w1 w2) p q

@@ -15,7 +15,7 @@ use Rattle.lattice.proofs.LineCrossings.{orient_start, orient_end}
 use Rattle.bridge_search.proofs.Steps.{to_left_of_left, to_right_of_right, to_right_of_left, to_left_of_right}
 use Rattle.bridge_search.proofs.Steps.{to_right_of_left_one, to_left_of_right_one}
 
--- a half has a point
+-- a half has at least one point
 pub size_positive : (t : Tree) → 1 ≤ size_of t
 size_positive (Leaf x) = omega arith
 size_positive (Fork e f u w) = omega (arith, size_positive u, size_positive w)
@@ -25,31 +25,31 @@ pub on_first : (t : Tree) → On t (first_of t)
 on_first (Leaf x) = refl
 on_first (Fork e f u w) = inl (on_first u)
 
--- two edges that are the answer are the same
+-- two edges that are returned as the same result are equal
 same_edge : {e e' : Pair × Pair} → Some e ≡ Some e' → e ≡ e'
 same_edge h = cc
 
--- a depth in the left half of u is one more in u
+-- a depth in the left half of u is one less than in u
 pub depth_left : (e f : Pair × Pair) (u1 u2 w : Tree) (p q : Pair) (n : ℕ) → IsDepthSum u1 w p q n
     → IsDepthSum (Fork e f u1 u2) w p q (n + 1)
 depth_left e f u1 u2 w p q n (i, j, a, b, h) = (i + 1, j, (i, refl, inl a), b, omega arith)
 
--- from the right half of the left one, a fork deeper
+-- a depth in the right half of u is one less than in u
 pub depth_right_left : (e f : Pair × Pair) (u1 u2 w : Tree) (p q : Pair) (n : ℕ) → IsDepthSum u2 w p q n
     → IsDepthSum (Fork e f u1 u2) w p q (n + 1)
 depth_right_left e f u1 u2 w p q n (i, j, a, b, h) = (i + 1, j, (i, refl, inr a), b, omega arith)
 
--- from the left half of the right one, a fork deeper
+-- a depth in the left half of w is one less than in w
 pub depth_left_right : (e f : Pair × Pair) (u w1 w2 : Tree) (p q : Pair) (n : ℕ) → IsDepthSum u w1 p q n
     → IsDepthSum u (Fork e f w1 w2) p q (n + 1)
 depth_left_right e f u w1 w2 p q n (i, j, a, b, h) = (i, j + 1, a, (j, refl, inl b), omega arith)
 
--- from the right half of the right one, a fork deeper
+-- a depth in the right half of w is one less than in w
 pub depth_right : (e f : Pair × Pair) (u w1 w2 : Tree) (p q : Pair) (n : ℕ) → IsDepthSum u w2 p q n
     → IsDepthSum u (Fork e f w1 w2) p q (n + 1)
 depth_right e f u w1 w2 p q n (i, j, a, b, h) = (i, j + 1, a, (j, refl, inr b), omega arith)
 
--- into the left half of u
+-- the left half of u and w are ready for a turn
 in_left : (e f : Pair × Pair) (u1 u2 w : Tree) (m : Pair) → IsReady (Fork e f u1 u2) w m → IsReady u1 w m
 in_left e f u1 u2 w m r = record {
   left_bridged = r.left_bridged.3;
@@ -59,7 +59,7 @@ in_left e f u1 u2 w m r = record {
   by_right = r.by_right;
 }
 
--- into the right half of u
+-- the right half of u and w are ready for a turn
 in_right_left : (e f : Pair × Pair) (u1 u2 w : Tree) (m : Pair) → IsReady (Fork e f u1 u2) w m → IsReady u2 w m
 in_right_left e f u1 u2 w m r = record {
   left_bridged = r.left_bridged.4;
@@ -69,7 +69,7 @@ in_right_left e f u1 u2 w m r = record {
   by_right = r.by_right;
 }
 
--- into the left half of w
+-- u and the left half of w are ready for a turn
 in_left_right : (e f : Pair × Pair) (u w1 w2 : Tree) (m : Pair) → IsReady u (Fork e f w1 w2) m → IsReady u w1 m
 in_left_right e f u w1 w2 m r = record {
   left_bridged = r.left_bridged;
@@ -79,7 +79,7 @@ in_left_right e f u w1 w2 m r = record {
   by_right = λ t i. r.by_right t (inl i);
 }
 
--- into the right half of w
+-- u and the right half of w are ready for a turn
 in_right : (e f : Pair × Pair) (u w1 w2 : Tree) (m : Pair) → IsReady u (Fork e f w1 w2) m → IsReady u w2 m
 in_right e f u w1 w2 m r = record {
   left_bridged = r.left_bridged;
@@ -89,7 +89,7 @@ in_right e f u w1 w2 m r = record {
   by_right = λ t i. r.by_right t (inr i);
 }
 
--- a point of w is not under the edge of u
+-- if a point of w is not under the edge of u, the turn goes to the left half of u
 pub turn_left : (u w : Tree) (m a b c : Pair) → IsReady u w m → edge_of u ≡ Some (a, b) → On w c → pos 0 ≤ℤ orient a b c
     → IsTurn u w m (left_of u) w
 turn_left (Leaf x) w m a b c r e i g = absurd (cc)
@@ -102,7 +102,7 @@ turn_left (Fork e f u1 u2) w m a b c r h i g = record {
   deeper = depth_left e f u1 u2 w;
 }
 
--- a point of u is not under the edge of w
+-- if a point of u is not under the edge of w, the turn goes to the right half of w
 pub turn_right : (u w : Tree) (m b c d : Pair) → IsReady u w m → edge_of w ≡ Some (c, d) → On u b
     → pos 0 ≤ℤ orient b c d → IsTurn u w m u (right_of w)
 turn_right u (Leaf x) m b c d r h i g = absurd (cc)
@@ -115,7 +115,7 @@ turn_right u (Fork e f w1 w2) m b c d r h i g = record {
   deeper = depth_right e f u w1 w2;
 }
 
--- w is one point
+-- if w is one point under the edge of u, the turn goes to the right half of u
 pub turn_right_left_one : (u w : Tree) (m a b c : Pair) → IsReady u w m → edge_of u ≡ Some (a, b) → edge_of w ≡ None
     → c ≡ first_of w → orient a b c <ℤ pos 0 → IsTurn u w m (right_of u) w
 turn_right_left_one (Leaf x) w m a b c r h n k g = absurd (cc)
@@ -129,7 +129,7 @@ turn_right_left_one (Fork e f u1 u2) (Leaf x) m a b c r h n k g = record {
   deeper = depth_right_left e f u1 u2 (Leaf x);
 }
 
--- u is one point
+-- if u is one point under the edge of w, the turn goes to the left half of w
 pub turn_left_right_one : (u w : Tree) (m b c d : Pair) → IsReady u w m → edge_of w ≡ Some (c, d) → edge_of u ≡ None
     → b ≡ first_of u → orient b c d <ℤ pos 0 → IsTurn u w m u (left_of w)
 turn_left_right_one u (Leaf x) m b c d r h n k g = absurd (cc)
@@ -143,7 +143,7 @@ turn_left_right_one (Leaf x) (Fork e f w1 w2) m b c d r h n k g = record {
   deeper = depth_left_right e f (Leaf x) w1 w2;
 }
 
--- the lines of the two edges cross before m or at m
+-- if the lines of the two edges cross before m or at m, the turn goes to the right half of u
 pub turn_right_left : (u w : Tree) (m a b c d : Pair) → IsReady u w m → edge_of u ≡ Some (a, b)
     → edge_of w ≡ Some (c, d) → orient a b c <ℤ pos 0 → orient b c d <ℤ pos 0 → IsCrossingAtOrBefore a b c d m
     → IsTurn u w m (right_of u) w
@@ -160,7 +160,7 @@ turn_right_left (Fork e f u1 u2) (Fork e' f' w1 w2) m a b c d r h k g1 g2 at = r
   deeper = depth_right_left e f u1 u2 (Fork e' f' w1 w2);
 }
 
--- the lines of the two edges cross after m
+-- if the lines of the two edges cross after m, the turn goes to the left half of w
 pub turn_left_right : (u w : Tree) (m a b c d : Pair) → IsReady u w m → edge_of u ≡ Some (a, b)
     → edge_of w ≡ Some (c, d) → orient a b c <ℤ pos 0 → orient b c d <ℤ pos 0 → IsCrossingAfter a b c d m
     → IsTurn u w m u (left_of w)
@@ -177,7 +177,7 @@ turn_left_right (Fork e f u1 u2) (Fork e' f' w1 w2) m a b c d r h k g1 g2 at = r
   deeper = depth_left_right e' f' (Fork e f u1 u2) w1 w2;
 }
 
--- both are one point
+-- if both are one point, the search is done
 pub done : (u w : Tree) (m : Pair) → IsReady u w m → edge_of u ≡ None → edge_of w ≡ None → IsDone u w
 done (Fork e f u1 u2) w m r h k = absurd (cc)
 done (Leaf x) (Fork e f w1 w2) m r h k = absurd (cc)
@@ -193,13 +193,13 @@ done (Leaf x) (Leaf y) m r h k = record {
   depth = (0, 0, (refl, refl), (refl, refl), refl);
 }
 
--- at the start m is the first point of w
+-- no point of a half is before its first point
 pub first_by : (t : Tree) → IsBridged t → (p : Pair) → On t p → IsBefore p (first_of t) → ⊥
 first_by (Leaf x) h p i b = before_irrefl x (rw i at b)
 first_by (Fork e f u w) h p (inl i) b = first_by u h.3 p i b
 first_by (Fork e f u w) h p (inr i) b = before_not p (first_of u) b (h.0 (first_of u) p (on_first u) i)
 
--- the search begins at two halves in order
+-- two halves in order are ready for the first turn
 pub start : (u w : Tree) → IsBridged u → IsBridged w → IsAllBefore (On u) (On w) → IsReady u w (first_of w)
 start u w h k o = record {
   left_bridged = h;
@@ -217,7 +217,7 @@ on_edge (Fork g f u w) a b h e =
     let r : g.1 ≡ b = ap (λ (k : Pair × Pair). k.1) (same_edge e) in
     rw (← l, ← r) (inl h.1.from_left, inr h.1.to_right)
 
--- the ends of the two edges stand in order
+-- the ends of the two edges are in order
 pub in_order : (u w : Tree) (m a b c d : Pair) → IsReady u w m → edge_of u ≡ Some (a, b) → edge_of w ≡ Some (c, d)
     → IsBefore a b × IsBefore b c × IsBefore c d
 in_order (Leaf x) w m a b c d r h k = absurd (cc)
@@ -246,16 +246,16 @@ crossing_after a b c d m n =
     (λ k. inr (e, k))
     (λ k. absurd (n (inr (e, k))))))
 
--- a half that gives an edge has edges
+-- a half that returns an edge has edges
 pub is_fork : (t : Tree) (e : Pair × Pair) → edge_of t ≡ Some e → IsFork t
 is_fork (Leaf x) e h = absurd (cc)
 is_fork (Fork g f u w) e h = tt
 
--- a sum of depths under another name
+-- a sum of depths holds under another name of the number
 same_sum : (u w : Tree) (p q : Pair) (k n : ℕ) → k ≡ n → IsDepthSum u w p q k → IsDepthSum u w p q n
 same_sum u w p q k n e h = subst (λ (i : ℕ). IsDepthSum u w p q i) e h
 
--- before the first turn
+-- no turn has been made at the start
 pub reached_none : (u w : Tree) → IsBridged u → IsBridged w → IsAllBefore (On u) (On w) → (m : Pair) → m ≡ first_of w
     → IsReached u w u w m 0
 reached_none u w h k o m e = record {
@@ -265,7 +265,7 @@ reached_none u w h k o m e = record {
   within = omega arith;
 }
 
--- one turn more
+-- n turns and one more are n + 1
 pub reached_more : (u0 w0 u w u2 w2 : Tree) (m : Pair) (n : ℕ) → IsReached u0 w0 u w m n → IsTurn u w m u2 w2
     → IsReached u0 w0 u2 w2 m (n + 1)
 reached_more u0 w0 u w u2 w2 m n r t = record {
@@ -276,30 +276,30 @@ reached_more u0 w0 u w u2 w2 m n r t = record {
   within = omega (arith, r.within, t.shallower);
 }
 
--- where the search ends, it has the bridge of the halves that it began with
+-- if the search is done, it has the bridge of the halves that it began with
 pub reached_bridge : (u0 w0 u w : Tree) (m : Pair) (n : ℕ) (p q : Pair) → IsReached u0 w0 u w m n → IsDone u w
     → p ≡ first_of u → q ≡ first_of w → IsUpperBridge (On u0) (On w0) p q
 reached_bridge u0 w0 u w m n p q r d e f = rw (e, f) (r.lifts (first_of u) (first_of w) d.bridge)
 
--- and it took as many turns as the ends of the bridge are deep
+-- if the search is done, it took as many turns as the sum of the depths of the bridge's ends
 pub reached_depth : (u0 w0 u w : Tree) (m : Pair) (n : ℕ) (p q : Pair) → IsReached u0 w0 u w m n → IsDone u w
     → p ≡ first_of u → q ≡ first_of w → IsDepthSum u0 w0 p q n
 reached_depth u0 w0 u w m n p q r d e f =
     rw (e, f) (same_sum u0 w0 (first_of u) (first_of w) (0 + n) n (omega arith)
     (r.deeper (first_of u) (first_of w) 0 d.depth))
 
--- a search that was under way is so after one turn more, or none
+-- a search that was under way is under way after one turn more, or none
 pub under_way_on : (b : Bool) (u0 w0 u w v z : Tree) (m m2 : Pair) (n k : ℕ) → IsReached u0 w0 u w m n
     → IsAdvance b u w m n v z k → m2 ≡ m → IsReached u0 w0 v z m2 k
 under_way_on true u0 w0 u w v z m m2 n k r t e = rw (e, t.1) (reached_more u0 w0 u w v z m n r t.0)
 under_way_on false u0 w0 u w v z m m2 n k r t e = rw (t.0, t.1, t.2, e) r
 
--- where no turn was made, the bridge of the halves that the search began with is found
+-- if no turn was made, the bridge of the halves that the search began with is found
 pub under_way_bridge : (u0 w0 u w v z : Tree) (m : Pair) (n k : ℕ) (p q : Pair) → IsReached u0 w0 u w m n
     → IsAdvance false u w m n v z k → p ≡ first_of v → q ≡ first_of z → IsUpperBridge (On u0) (On w0) p q
 under_way_bridge u0 w0 u w v z m n k p q r t e f = reached_bridge u0 w0 u w m n p q r t.3 (rw t.0 at e) (rw t.1 at f)
 
--- and the turns so far are as many as its ends are deep
+-- if no turn was made, the turns so far are the sum of the depths of the bridge's ends
 pub under_way_depth : (u0 w0 u w v z : Tree) (m : Pair) (n k : ℕ) (p q : Pair) → IsReached u0 w0 u w m n
     → IsAdvance false u w m n v z k → p ≡ first_of v → q ≡ first_of z → IsDepthSum u0 w0 p q k
 under_way_depth u0 w0 u w v z m n k p q r t e f =

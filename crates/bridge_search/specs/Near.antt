@@ -13,7 +13,7 @@ use Rattle.bridge_search.specs.Trees.{Tree, Leaf, Fork, On}
 abbrev pub IsAllNear : Tree → Type 0
 IsAllNear t = (p : Pair) → On t p → IsNear p
 
--- a near point is near after a turn by 180 degrees
+-- a near point is near after a rotation by 180 degrees
 pub near_turned : (p : Pair) → IsNear p → IsNear (turned_point p)
 near_turned p h = (
   omega (arith, linear, h),
@@ -26,16 +26,16 @@ near_turned p h = (
 abbrev pub is_near : Pair → Bool
 is_near p = le_z (neg_ℤ NEAR_LIMIT) p.x && le_z p.x NEAR_LIMIT && le_z (neg_ℤ NEAR_LIMIT) p.y && le_z p.y NEAR_LIMIT
 
--- whether all points of the tree are
+-- whether all points of the tree are near
 abbrev pub are_near : Tree → Bool
 are_near (Leaf x) = is_near x
 are_near (Fork e f u w) = are_near u && are_near w
 
--- a test that passed
+-- a comparison that computes to true holds
 holds : {a b : ℤ} → le_z a b ≡ true → a ≤ℤ b
 holds {a} {b} h = le_z_yes (T_from_true (le_z a b) h)
 
--- a test of what holds
+-- a comparison that holds computes to true
 passes : {a b : ℤ} → a ≤ℤ b → le_z a b ≡ true
 passes {a} {b} h = is_true (le_z a b) h.le
   where
@@ -43,7 +43,7 @@ passes {a} {b} h = is_true (le_z a b) h.le
     is_true true h = refl
     is_true false h = absurd h
 
--- a point is near where it is said to be
+-- the test of a point is true if and only if the point is near
 pub near_told : (p : Pair) → IsTrue (is_near p) ↔ IsNear p
 near_told p = (
   λ h.
@@ -54,7 +54,7 @@ near_told p = (
   λ h. and_from _ _ (and_from _ _ (and_from _ _ (passes h.0) (passes h.1)) (passes h.2)) (passes h.3),
 )
 
--- so are all points of a tree
+-- the test of a tree is true if and only if all its points are near
 pub all_told : (t : Tree) → IsTrue (are_near t) ↔ IsAllNear t
 all_told (Leaf x) = (λ h p i. subst IsNear (sym i) ((near_told x).0 h), λ h. (near_told x).1 (h x refl))
 all_told (Fork e f u w) = (

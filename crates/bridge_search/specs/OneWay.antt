@@ -1,4 +1,4 @@
--- A bridged half is so in one way: what a ghost field asks.
+-- The law of a half has one proof: a ghost field requires that.
 use lib.IntN.{ℤ_set}
 use Rattle.lattice.specs.Plane.{Pair}
 use Rattle.lattice.specs.Bridges.{IsAllBefore, IsUpperBridge, IsLowerBridge}
@@ -7,19 +7,19 @@ use Rattle.bridge_search.specs.Trees.{Tree, Leaf, Fork, On, IsBridged}
 use Rattle.bridge_search.specs.Near.{IsAllNear}
 use Rattle.lattice.proofs.Order.{before_irrefl}
 
--- enough to show it where there is one
+-- a statement has at most one proof if it has, given one proof
 given : {A : Type 0} → (A → IsProp A) → IsProp A
 given f x y = f x x y
 
--- that two points are the same has one proof
+-- the equality of two points has one proof
 pub point_set : IsSet Pair
 point_set = hlevel ℤ_set
 
--- that one set stands before another has one proof
+-- the order of two sets has one proof
 all_before_prop : (l r : Pair → Type 0) → IsProp (IsAllBefore l r)
 all_before_prop l r = hlevel before_prop
 
--- that an edge is the upper bridge has one proof, where being a point of either set has one
+-- that an edge is the upper bridge has one proof, if membership in either set has one
 upper_prop : (l r : Pair → Type 0) (p q : Pair) → ((t : Pair) → IsProp (l t)) → ((t : Pair) → IsProp (r t))
     → IsProp (IsUpperBridge l r p q)
 upper_prop l r p q pl pr = hlevel (pl, pr, le_prop)
@@ -29,12 +29,12 @@ lower_prop : (l r : Pair → Type 0) (p q : Pair) → ((t : Pair) → IsProp (l 
     → IsProp (IsLowerBridge l r p q)
 lower_prop l r p q pl pr = hlevel (pl, pr, le_prop)
 
--- a point stands in one place of a half that keeps the law
+-- membership in a half that keeps the law has one proof: a point is only once in it
 pub on_prop : (t : Tree) → IsBridged t → (p : Pair) → IsProp (On t p)
 on_prop (Leaf x) h p = point_set p x
 on_prop (Fork e f u w) h p = either_prop (on_prop u h.3 p) (on_prop w h.4 p) (λ i j. before_irrefl p (h.0 p p i j))
 
--- that a half keeps the law has one proof
+-- the law of a half has one proof
 pub IsBridged-prop : (t : Tree) → IsProp (IsBridged t)
 IsBridged-prop (Leaf x) = hlevel
 IsBridged-prop (Fork e f u w) = given (λ h.

@@ -23,22 +23,22 @@ abbrev pub lower_of : Tree → Option (Pair × Pair)
 lower_of (Leaf x) = None
 lower_of (Fork e f u w) = Some f
 
--- the left half; of one point itself
+-- the left half; of one point, the point itself
 abbrev pub left_of : Tree → Tree
 left_of (Leaf x) = Leaf x
 left_of (Fork e f u w) = u
 
--- the right half; of one point itself
+-- the right half; of one point, the point itself
 abbrev pub right_of : Tree → Tree
 right_of (Leaf x) = Leaf x
 right_of (Fork e f u w) = w
 
--- the point farthest to the left in the tree
+-- the first point of the tree, farthest to the left
 abbrev pub first_of : Tree → Pair
 first_of (Leaf x) = x
 first_of (Fork e f u w) = first_of u
 
--- the point farthest to the right in the tree
+-- the last point of the tree, farthest to the right
 abbrev pub last_of : Tree → Pair
 last_of (Leaf x) = x
 last_of (Fork e f u w) = last_of w
@@ -48,7 +48,7 @@ abbrev pub IsFork : Tree → Type 0
 IsFork (Leaf x) = ⊥
 IsFork (Fork e f u w) = Unit {0}
 
--- the law of a half: at each fork all of the left half stands before all of the right one, and the stored edges are
+-- the law of a half: at each fork all of the left half is before all of the right one, and the stored edges are
 -- the two bridges of these halves
 abbrev pub IsBridged : Tree → Type 0
 IsBridged (Leaf x) = Unit {0}
@@ -56,12 +56,12 @@ IsBridged (Fork e f u w) =
     IsAllBefore (On u) (On w) × IsUpperBridge (On u) (On w) e.0 e.1 × IsLowerBridge (On u) (On w) f.0 f.1 × IsBridged u
     × IsBridged w
 
--- how many points the tree has
+-- the number of points of the tree
 abbrev pub size_of : Tree → ℕ
 size_of (Leaf x) = 1
 size_of (Fork e f u w) = size_of u + size_of w
 
--- how many forks stand above the deepest point
+-- the height: the most forks on a path to a point
 abbrev pub height_of : Tree → ℕ
 height_of (Leaf x) = 0
 height_of (Fork e f u w) = max (height_of u) (height_of w) + 1

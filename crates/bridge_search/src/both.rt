@@ -8,11 +8,11 @@ use super::search::Search;
 use super::turned::Turned;
 use lattice::Point;
 
-/// A bridge, from its end in the left half to its end in the right one, and how many turns its search took.
+/// A bridge, from its end in the left half to its end in the right one, and the number of turns of its search.
 pub type Counted = ((Point, Point), u32);
 
-/// The upper and the lower bridge of `u` and `w`, as [`upper_bridge_counted`](crate::upper_bridge_counted) finds them,
-/// each with the turns of its own search. All of `u` must stand before all of `w`.
+/// Returns the upper and the lower bridge of `u` and `w`, as [`upper_bridge_counted`](crate::upper_bridge_counted)
+/// finds them, each with the turns of its own search. All of `u` must be before all of `w`.
 pub fn both_bridges<H: Half>(u: H, w: H) -> (Counted, Counted)
     requires { IsAllBefore (On (H.tree u)) (On (H.tree w)) }
     ensures upper { IsUpperBridge (On (H.tree u)) (On (H.tree w)) result.0.0.0 result.0.0.1 }
@@ -25,8 +25,8 @@ pub fn both_bridges<H: Half>(u: H, w: H) -> (Counted, Counted)
     both_bridges_between(u, w, u.last(), w.first())
 }
 
-/// The same, for callers that have the last point of `u` and the first one of `w` already. The two searches go turn by
-/// turn beside each other, so that the one needs not wait for what the other reads.
+/// Returns the same, for callers that already have the last point of `u` and the first one of `w`. The two searches
+/// alternate turn by turn, so that neither has to wait for what the other reads.
 pub fn both_bridges_between<H: Half>(u: H, w: H, last: Point, first: Point) -> (Counted, Counted)
     requires in_order { IsAllBefore (On (H.tree u)) (On (H.tree w)) }
     requires last { last ≡ last_of (H.tree u) }

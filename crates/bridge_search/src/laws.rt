@@ -1,8 +1,8 @@
 //! Laws of the definitions: each function has an empty body, and its contract is the law.
 ghost use Rattle.bridge_search.specs.Laws.{DepthIsUnique};
 
-/// A point of a half lies one number of forks deep, and at most as deep as the half is high: so the number of turns
-/// that a search tells is one number for the ends that it found.
+/// A point of a half has exactly one depth, and it is at most the height of the half. So the number of turns that a
+/// search returns is determined by the ends that it found.
 pub fn depth_is_unique()
     ensures { DepthIsUnique }
 {}

@@ -1,4 +1,4 @@
-//! A small half for the tests, over a lent list of points.
+//! A small half for the tests, over a borrowed list of points.
 ghost use Rattle.std.specs.Prelude.{◌≡◌, ◌≤◌, ◌<◌, ◌⊎◌, ◌∷◌, [], Option, None, IfOk, IfSome, MatchOption, length};
 ghost use Rattle.lattice.specs.Plane as plane;
 ghost use Rattle.lattice.specs.Plane.{IsWithin, widest_side};
@@ -16,7 +16,7 @@ use std::test::Fail;
 /// A point, and the upper and the lower edge between the points before it and itself.
 pub type Entry = (Point, (Point, Point), (Point, Point));
 
-/// The half of the points of a list, which come from right to left. The right half is the last point alone.
+/// The half of the points of a list, which come from right to left. The right half of each fork is one point, the last.
 #[derive(Clone, Copy)]
 pub struct Listed<'a> {
     entries: &'a [Entry],
@@ -25,7 +25,7 @@ pub struct Listed<'a> {
     ghost short: { length entries.now ≤ highest },
 }
 
-/// The first of the points of a list that is not empty.
+/// Returns the first of the points of a list that is not empty.
 fn first_point(entries: &[Entry]) -> Point
     requires { 1 ≤ length entries.now }
     ensures { result ≡ first_of (listed_tree entries.now) }
@@ -38,7 +38,7 @@ fn first_point(entries: &[Entry]) -> Point
 }
 
 impl<'a> Listed<'a> {
-    /// The half of a list, or nothing where it is empty or longer than a half may be high.
+    /// Returns the half of a list, or `None` if it is empty or longer than a half may be high.
     pub fn new(entries: &'a [Entry]) -> Option<Listed<'a>>
         requires { IsBridged (listed_tree entries.now) }
         ensures { MatchOption result ((entries.now ≡ []) ⊎ (highest < length entries.now))
@@ -118,8 +118,8 @@ impl<'a> Half for Listed<'a> {
     ghost turned_fits = { λ p i. tt };
 }
 
-/// The upper and the lower bridge of two halves, or nothing where the one does not end before the other begins. They
-/// are searched one by one, and both at once.
+/// Returns the upper and the lower bridge of two halves, or `None` unless the first ends before the second begins. They
+/// are searched one after the other, and both at once.
 pub fn bridges<H: Half>(u: H, w: H) -> Option<((Point, Point), (Point, Point))>
     ensures { IfSome result (λ e. IsBridged (Fork e.0 e.1 (H.tree u) (H.tree w))) }
 {
@@ -133,8 +133,8 @@ pub fn bridges<H: Half>(u: H, w: H) -> Option<((Point, Point), (Point, Point))>
     None
 }
 
-/// The entry of a point behind the others, with the edges between them and it; nothing where the point does not
-/// stand after all of them.
+/// Returns the entry of a point after the others, with the edges between them and it, or `None` unless the point is
+/// after all of them.
 #[tactic(auto, using(crate::proofs::ListedTrees::bridged_more))]
 fn entry_behind(entries: &[Entry], point: Point) -> Option<Entry>
     requires { IsBridged (listed_tree entries.now) }
@@ -150,7 +150,7 @@ fn entry_behind(entries: &[Entry], point: Point) -> Option<Entry>
     Some((point, upper, lower))
 }
 
-/// Puts a point behind the others, which must all stand before it.
+/// Adds a point after the others, all of which must be before it.
 pub fn put_behind(entries: &mut Vec<Entry>, point: Point) -> Result<(), Fail>
     requires { IsBridged (listed_tree entries.old.items) }
     ensures { IfOk result (λ _. IsBridged (listed_tree entries.new.items)) }

@@ -8,7 +8,7 @@ use super::half::Half;
 use lattice::{Point, orient_near};
 use std::alloc::AllocError;
 
-/// A half whose points are all near ([`lattice::is_near`]): the same half, compared in 64 bits.
+/// A half all of whose points are near ([`lattice::is_near`]): the same half, compared in 64 bits.
 #[derive(Copy)]
 pub struct Near<H: Half> {
     half: H,
@@ -22,7 +22,7 @@ impl<H: Half> Clone for Near<H> {
 }
 
 impl<H: Half> Near<H> {
-    /// The half, whose points must all be near.
+    /// Returns the half, whose points must all be near, compared in 64 bits.
     pub fn new(half: H) -> Near<H>
         requires { IsAllNear (H.tree half) }
         ensures { ⟦<Near<H> as Half>⟧.tree result ≡ H.tree half }

@@ -6,7 +6,7 @@ ghost use Rattle.bridge_search.specs.Search.{IsReady, IsTurn, IsDone, IsAdvance,
 use super::half::Half;
 use lattice::{Point, weighted_at_or_before};
 
-/// A turn where `w` is one point: the half of `u`, whose upper edge is ab, that keeps the bridge.
+/// Returns the half of `u`, whose upper edge is ab, that keeps the bridge: a turn if `w` is one point.
 #[tactic(auto, using(crate::proofs::Turns::is_fork))]
 fn turn_left<H: Half>(u: H, w: H, a: Point, b: Point, m: Point) -> H
     requires ready { IsReady (H.tree u) (H.tree w) m }
@@ -21,7 +21,7 @@ fn turn_left<H: Half>(u: H, w: H, a: Point, b: Point, m: Point) -> H
     }
 }
 
-/// A turn where `u` is one point: the half of `w`, whose upper edge is cd, that keeps the bridge.
+/// Returns the half of `w`, whose upper edge is cd, that keeps the bridge: a turn if `u` is one point.
 #[tactic(auto, using(crate::proofs::Turns::is_fork))]
 fn turn_right<H: Half>(u: H, w: H, c: Point, d: Point, m: Point) -> H
     requires ready { IsReady (H.tree u) (H.tree w) m }
@@ -36,7 +36,7 @@ fn turn_right<H: Half>(u: H, w: H, c: Point, d: Point, m: Point) -> H
     }
 }
 
-/// A turn where both halves have an upper edge: ab that of `u`, cd that of `w`.
+/// Makes a turn if both halves have an upper edge: ab is that of `u`, cd that of `w`.
 fn turn_both<H: Half>(u: H, w: H, a: Point, b: Point, c: Point, d: Point, m: Point) -> (H, H)
     requires ready { IsReady (H.tree u) (H.tree w) m }
     requires left_edge { edge_of (H.tree u) ≡ Some (a, b) }
@@ -55,7 +55,7 @@ fn turn_both<H: Half>(u: H, w: H, a: Point, b: Point, c: Point, d: Point, m: Poi
     }
 }
 
-/// One turn: two halves that have the same upper bridge, or nothing where both are one point.
+/// Makes one turn: returns two halves that have the same upper bridge, or `None` if both are one point.
 fn turn<H: Half>(u: H, w: H, m: Point) -> Option<(H, H)>
     requires { IsReady (H.tree u) (H.tree w) m }
     ensures { MatchOption result (IsDone (H.tree u) (H.tree w))
@@ -69,8 +69,8 @@ fn turn<H: Half>(u: H, w: H, m: Point) -> Option<(H, H)>
     }
 }
 
-/// A search under way: the halves that keep the bridge, the first point of the right half as it began, and how many
-/// turns it took so far.
+/// A search under way: the halves that keep the bridge, the first point of the right half as it was at the start, and
+/// the number of turns so far.
 #[derive(Clone, Copy)]
 pub(crate) struct Search<H> {
     pub(crate) left: H,
@@ -80,7 +80,7 @@ pub(crate) struct Search<H> {
 }
 
 impl<H: Half> Search<H> {
-    /// The search for the upper bridge of `u` and `w`, whose first point is `parting`, before its first turn.
+    /// Returns the search for the upper bridge of `u` and `w`, whose first point is `parting`, before its first turn.
     pub(crate) fn new(u: H, w: H, parting: Point) -> Search<H>
         requires in_order { IsAllBefore (On (H.tree u)) (On (H.tree w)) }
         requires parting { parting ≡ first_of (H.tree w) }
@@ -95,7 +95,7 @@ impl<H: Half> Search<H> {
         }
     }
 
-    /// Makes one turn; false where both halves are one point, and then nothing changes.
+    /// Makes one turn. Returns false if both halves are one point, and then changes nothing.
     pub(crate) fn advance(&mut self) -> bool
         requires ready { IsReady (H.tree self.old.left) (H.tree self.old.right) self.old.parting }
         requires room { height_of (H.tree self.old.left) + height_of (H.tree self.old.right) + self.old.turns
@@ -116,7 +116,7 @@ impl<H: Half> Search<H> {
         }
     }
 
-    /// The ends of the bridge, once both halves are one point.
+    /// Returns the ends of the bridge. Both halves must be one point.
     pub(crate) fn ends(&self) -> (Point, Point)
         ensures left { result.0 ≡ first_of (H.tree self.now.left) }
         ensures right { result.1 ≡ first_of (H.tree self.now.right) }
@@ -125,13 +125,13 @@ impl<H: Half> Search<H> {
     }
 }
 
-/// The upper bridge of `u` and `w`, from its end in `u` to its end in `w`: no point of either half lies left of the
-/// line through the two ends, and those on it lie between them. All of `u` must stand before all of `w`.
-/// Beside it how many turns the search took: as many as the first end lies deep in `u` and the second one in `w`, so at
-/// most the two heights together. A depth is one number ([`depth_is_unique`](crate::depth_is_unique)).
+/// Returns the upper bridge of `u` and `w`, from its end in `u` to its end in `w`: no point of either half lies left of
+/// the line through the two ends, and those on it lie between them. All of `u` must be before all of `w`.
+/// Also returns the number of turns of the search: the depth of the first end in `u` plus that of the second in `w`, so
+/// at most the sum of the two heights. A depth is one number ([`depth_is_unique`](crate::depth_is_unique)).
 ///
-/// With ab the upper edge of `u`, cd that of `w`, and m the first point of `w` as the search began, each turn goes
-/// into a half that keeps the bridge (Overmars and van Leeuwen, 1981):
+/// With ab the upper edge of `u`, cd that of `w`, and m the first point of `w` at the start, each turn goes into a half
+/// that keeps the bridge (Overmars and van Leeuwen, 1981):
 ///
 /// | Case | Turn |
 /// |---|---|
@@ -155,8 +155,8 @@ pub fn upper_bridge_counted<H: Half>(u: H, w: H) -> ((Point, Point), u32)
     (search.ends(), search.turns)
 }
 
-/// The upper bridge of `u` and `w`, as [`upper_bridge_counted`] finds it, without the number of turns. All of `u` must
-/// stand before all of `w`.
+/// Returns the upper bridge of `u` and `w`, as [`upper_bridge_counted`] finds it, without the number of turns. All of
+/// `u` must be before all of `w`.
 pub fn upper_bridge<H: Half>(u: H, w: H) -> (Point, Point)
     requires { IsAllBefore (On (H.tree u)) (On (H.tree w)) }
     ensures { IsUpperBridge (On (H.tree u)) (On (H.tree w)) result.0 result.1 }

@@ -31,7 +31,7 @@ fn entries_of(alloc: Global, pairs: &[(i64, i64)]) -> Result<Vec<Entry>, Fail>
     Ok(entries)
 }
 
-/// The upper and the lower bridge of two lists of points.
+/// Returns the upper and the lower bridge of two lists of points.
 fn found(alloc: Global, left: &[(i64, i64)], right: &[(i64, i64)]) -> Result<(Ends, Ends), Fail> {
     let left = entries_of(alloc, left)?;
     let right = entries_of(alloc, right)?;
@@ -45,8 +45,7 @@ fn found(alloc: Global, left: &[(i64, i64)], right: &[(i64, i64)]) -> Result<(En
     Ok((ends(upper), ends(lower)))
 }
 
-/// Whether the lines ab and cd cross before m or at m; nothing where the points are not in order or not under the
-/// lines.
+/// Whether the lines ab and cd cross before m or at m; `None` if the points are not in order or not under the lines.
 fn crossing(a: Point, b: Point, c: Point, d: Point, m: Point) -> Option<bool> {
     let in_order = before(a, b) && before(b, c) && before(c, d);
     if in_order && orient(a, b, c) < 0 && orient(b, c, d) < 0 {
@@ -56,7 +55,7 @@ fn crossing(a: Point, b: Point, c: Point, d: Point, m: Point) -> Option<bool> {
     }
 }
 
-/// The upper and the lower bridge after a turn by 180 degrees.
+/// Returns the upper and the lower bridge after a rotation by 180 degrees.
 fn turned_bridges<H: Half>(u: H, w: H) -> Option<((Point, Point), (Point, Point))> {
     bridges(Turned::new(w), Turned::new(u))
 }
@@ -143,7 +142,7 @@ fn right_end(p: Point, left: &[Point], right: &[Point], upper: bool) -> Option<P
     None
 }
 
-/// The bridge by a search of all pairs of points.
+/// Returns the bridge by a search of all pairs of points.
 fn searched(left: &[Point], right: &[Point], upper: bool) -> Option<Ends> {
     for p in left {
         if let Some(q) = right_end(*p, left, right, upper) {
@@ -172,7 +171,7 @@ fn agrees(alloc: Global, left: &[(i64, i64)], right: &[(i64, i64)]) -> Result<bo
     )
 }
 
-/// The points of a grid of 4 columns and 3 rows that the bits of a number choose, from left to right.
+/// Returns the points of a grid of 4 columns and 3 rows that the bits of a number choose, from left to right.
 fn chosen(alloc: Global, bits: u32) -> Result<Vec<(i64, i64)>, Fail> {
     let mut pairs = Vec::new(alloc);
     for place in 0u32..12 {
@@ -183,7 +182,7 @@ fn chosen(alloc: Global, bits: u32) -> Result<Vec<(i64, i64)>, Fail> {
     Ok(pairs)
 }
 
-/// Whether both searches agree wherever the points are cut into two lists of up to four.
+/// Whether both searches agree for each split of the points into two lists of up to four.
 fn agrees_at_each_cut(alloc: Global, pairs: &[(i64, i64)]) -> Result<bool, Fail> {
     for cut in 1..pairs.len() {
         let (left, right) = pairs.split_at(cut);

@@ -8,15 +8,15 @@ use super::half::Half;
 use super::search::{upper_bridge, upper_bridge_counted};
 use lattice::Point;
 
-/// A half seen after a turn by 180 degrees about the origin: its points and edges are turned, its left half is the
-/// right one turned, and its upper edge the lower one turned.
+/// A half seen after a rotation by 180 degrees about the origin: its points and edges are rotated, its left half is the
+/// right one rotated, and its upper edge the lower one rotated.
 #[derive(Clone, Copy)]
 pub struct Turned<H> {
     half: H,
 }
 
 impl<H: Half> Turned<H> {
-    /// The half after the turn.
+    /// Returns the half after the rotation.
     pub fn new(half: H) -> Turned<H>
         ensures { ⟦<Turned<H> as Half>⟧.tree result ≡ turned_tree (H.tree half) }
     {
@@ -82,8 +82,8 @@ impl<H: Half> Half for Turned<H> {
     ghost turned_fits = { H.turned_fits };
 }
 
-/// The lower bridge of `u` and `w`, and how many turns the search took: as many as the first end lies deep in `u` and
-/// the second one in `w`, as those of [`upper_bridge_counted`]. All of `u` must stand before all of `w`.
+/// Returns the lower bridge of `u` and `w`, and the number of turns of the search: the depth of the first end in `u`
+/// plus that of the second in `w`, as for [`upper_bridge_counted`]. All of `u` must be before all of `w`.
 pub fn lower_bridge_counted<H: Half>(u: H, w: H) -> ((Point, Point), u32)
     requires { IsAllBefore (On (H.tree u)) (On (H.tree w)) }
     ensures bridge { IsLowerBridge (On (H.tree u)) (On (H.tree w)) result.0.0 result.0.1 }
@@ -94,9 +94,9 @@ pub fn lower_bridge_counted<H: Half>(u: H, w: H) -> ((Point, Point), u32)
     ((last.turned(), first.turned()), turns)
 }
 
-/// The lower bridge of `u` and `w`, from its end in `u` to its end in `w`: no point of either half lies right of the
-/// line through the two ends, and those on it lie between them. All of `u` must stand before all of `w`.
-/// It is the upper bridge of the two halves turned by 180 degrees.
+/// Returns the lower bridge of `u` and `w`, from its end in `u` to its end in `w`: no point of either half lies right
+/// of the line through the two ends, and those on it lie between them. All of `u` must be before all of `w`.
+/// It is the upper bridge of the two halves rotated by 180 degrees.
 pub fn lower_bridge<H: Half>(u: H, w: H) -> (Point, Point)
     requires { IsAllBefore (On (H.tree u)) (On (H.tree w)) }
     ensures { IsLowerBridge (On (H.tree u)) (On (H.tree w)) result.0 result.1 }

@@ -39,7 +39,7 @@ returns-clause-lower g c =
     (turns.under_way_bridge _ _ _ _ _ _ _ _ _ _ _ c.loop.invariant.1
     (rw still.1 at c.advance-in-loop.ensures.advance) c.ends-first_end.ensures.left c.ends-first_end.ensures.right))
 
--- the turned halves are as high as the halves, which are not too high
+-- the rotated halves are as high as the halves, which are not too high
 pub advance-requires-in-loop-clause-room : goal.advance-requires-in-loop-clause-room
 advance-requires-in-loop-clause-room g c =
     let u : height_of (g.H.Half.tree c.args.u) ≤ highest = g.met.H.Half.low c.args.u in

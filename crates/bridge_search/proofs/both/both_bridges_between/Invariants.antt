@@ -1,4 +1,4 @@
--- both searches have reached halves that have their bridge, the lower one turned by 180 degrees
+-- both searches have reached halves that have their bridge, the lower one rotated by 180 degrees
 use Rattle.std.proofs.Common.{◌+◌}
 use Rattle.bridge_search.specs.Trees.{size_of}
 use Rattle.bridge_search.specs.TurnedTrees.{turned_tree}

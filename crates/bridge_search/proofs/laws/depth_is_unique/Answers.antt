@@ -1,4 +1,4 @@
--- a point stands in one half of each fork only, so one way leads to it, at most as long as the half is high
+-- a point is in only one half of each fork, so one path leads to it, at most as long as the half is high
 use Rattle.bridge_search.proofs.Depths.{one_depth, depth_within}
 use Rattle.bridge_search.proofs.laws.depth_is_unique.Goals as goal
 

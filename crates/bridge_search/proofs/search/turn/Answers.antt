@@ -1,4 +1,4 @@
--- two halves without edges are one point each, and the search is done
+-- two halves without edges are one point each, and then the search is done
 use Rattle.std.proofs.Common.{sym, ◌∙◌}
 use Rattle.bridge_search.proofs.Turns as turns
 use Rattle.bridge_search.proofs.search.turn.Goals as goal

@@ -28,7 +28,7 @@ returns-else-orient-ge0 g c =
     (turns.turn_right_left_one _ _ _ _ _ _ c.requires.ready c.requires.edge c.requires.one c.first.ensures
     (is_under _ _ c.orient.ensures.size c.orient.ensures.value c.if-orient-ge0.false))
 
--- grind closes these at once; what is tried first takes long
+-- grind closes these at once; the tactic that is tried first takes long
 pub left-requires : goal.left-requires
 left-requires c = grind (arith, common_steps)
 

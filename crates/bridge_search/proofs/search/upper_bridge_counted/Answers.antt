@@ -1,4 +1,4 @@
--- each turn keeps the invariant, and where no turn is left both halves are one point
+-- each turn keeps the invariant, and if no turn is left both halves are one point
 use Rattle.bridge_search.proofs.Turns as turns
 use Rattle.bridge_search.proofs.search.upper_bridge_counted.Goals as goal
 

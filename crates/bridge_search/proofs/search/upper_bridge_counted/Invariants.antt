@@ -1,4 +1,4 @@
--- the halves reached have the bridge of the two halves asked for, and each turn makes them fewer points
+-- the halves reached have the bridge of the two halves of the call, and each turn reduces their points
 use Rattle.std.proofs.Common.{◌+◌}
 use Rattle.bridge_search.specs.Trees.{size_of}
 use Rattle.bridge_search.specs.Search.{IsReached}

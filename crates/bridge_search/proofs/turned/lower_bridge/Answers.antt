@@ -1,4 +1,4 @@
--- the upper bridge of the two halves turned by 180 degrees is their lower bridge
+-- the upper bridge of the two halves rotated by 180 degrees is their lower bridge
 use Rattle.bridge_search.specs.TurnedTrees.{halves_turned, lower_from_turned}
 use Rattle.bridge_search.proofs.turned.lower_bridge.Goals as goal
 

@@ -1,4 +1,4 @@
--- the upper bridge of the two halves turned by 180 degrees is their lower bridge, and a turn keeps the heights
+-- the upper bridge of the two halves rotated by 180 degrees is their lower bridge, and a rotation keeps the heights
 use Rattle.std.proofs.Common.{arith}
 use Rattle.bridge_search.specs.TurnedTrees.{halves_turned, lower_from_turned, height_turned}
 use Rattle.bridge_search.proofs.Depths.{sum_turned}

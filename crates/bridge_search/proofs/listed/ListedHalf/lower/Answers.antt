@@ -1,4 +1,4 @@
--- a list of one entry is a point, of more a fork that has its edges in its first entry
+-- a list of one entry is a point; a longer one is a fork, whose edges are in its first entry
 use Rattle.std.proofs.Common.{arith}
 use Rattle.bridge_search.proofs.ListedTrees.{edges_one, edges_more}
 use Rattle.bridge_search.proofs.listed.ListedHalf.lower.Goals as goal

@@ -1,4 +1,4 @@
--- the first point of a turned half is the last one, turned
+-- the first point of a rotated half is the last one, rotated
 use Rattle.std.proofs.Common.{sym, ap, ◌∙◌}
 use Rattle.lattice.specs.Plane.{turned_point}
 use Rattle.bridge_search.specs.TurnedTrees.{first_turned}

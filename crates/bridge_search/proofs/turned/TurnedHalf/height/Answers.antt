@@ -1,4 +1,4 @@
--- a turn by 180 degrees keeps each point at its depth
+-- a rotation by 180 degrees keeps each point at its depth
 use Rattle.std.proofs.Common.{sym, ◌∙◌}
 use Rattle.bridge_search.specs.TurnedTrees.{height_turned}
 use Rattle.bridge_search.proofs.turned.TurnedHalf.height.Goals as goal

@@ -1,4 +1,4 @@
--- the last point of a turned half is the first one, turned
+-- the last point of a rotated half is the first one, rotated
 use Rattle.std.proofs.Common.{sym, ap, ◌∙◌}
 use Rattle.lattice.specs.Plane.{turned_point}
 use Rattle.bridge_search.specs.TurnedTrees.{last_turned}
