@@ -1,2 +1,2 @@
--- What is known of the heap as a type.
+-- Facts about the heap as a type.
 pub use Rattle.std.proofs.alloc.Global.TheLaws.{lowered, lowers, the_row_laws}
