@@ -1,4 +1,4 @@
--- What taking points out one by one, putting them in and copying them make of a list.
+-- The results of removing points one by one, of inserting them, and of copying them.
 use Rattle.std.proofs.Common.{◌≡◌, ℕ, ◌+◌, ◌-◌, ◌<◌, ◌≤◌, zero, suc, List, [], ◌∷◌, ◌++◌, length, take, drop, arith, refl, ap}
 use Rattle.std.proofs.Common.{◌∙◌}
 use Rattle.std.proofs.Math.ListN.{length-take}
@@ -6,17 +6,17 @@ use Rattle.std.proofs.lemmas.List.Edits.{remove-append_right}
 use Rattle.std.specs.List.{remove}
 use Rattle.lattice.specs.Plane.{Pair}
 
--- what is behind what is behind
+-- dropping n points and one more drops n + 1
 pub drop_more : (n : ℕ) (L : List Pair) → drop 1 (drop n L) ≡ drop (suc n) L
 drop_more zero L = refl
 drop_more (suc n) [] = refl
 drop_more (suc n) (x ∷ xs) = drop_more n xs
 
--- so many points are the first ones
+-- the first n points of a list of at least n are n points
 pub take_length : (n : ℕ) (L : List Pair) → n ≤ length L → length (take n L) ≡ n
 take_length n L l = let k = length-take n L in omega (arith, k, l)
 
--- one point more was taken out
+-- if one point more was removed, the list is as after removing all up to there
 pub taken_more : (f j : ℕ) (L M : List Pair) → f ≤ j → j < length L → M ≡ take f L ++ drop j L
     → remove M f ≡ take f L ++ drop (j + 1) L
 taken_more f j L M a b e =

@@ -1,4 +1,4 @@
--- What moving one point between two blocks, putting one in or taking one out leaves of blocks that are filled.
+-- What remains true of filled blocks when a point moves between two of them, is inserted or is removed.
 use Rattle.std.proofs.Common.{◌≡◌, ℕ, ◌+◌, ◌-◌, ◌*◌, ◌/◌, ◌%◌, ◌<◌, ◌≤◌, zero, suc, min, List, [], ◌∷◌, ◌++◌, length, get_or, arith, refl, sym, ap}
 use Rattle.std.proofs.Common.{◌∙◌, subst, append_assoc, length-append}
 use Rattle.std.proofs.Math.ListN.{set}
@@ -10,7 +10,7 @@ use Rattle.lattice.specs.Plane.{Pair}
 use Rattle.tiered_list.specs.Blocks.{Block, TieredValue, IsFilled, IsFilledBut, points_of}
 use Rattle.tiered_list.specs.declared.TheConstants.{BLOCK}
 
--- n points fill blocks whose points are n
+-- blocks that n points fill have n points
 pub filled_total : (n : ℕ) (bs : List Block) → IsFilled n bs → length (points_of bs) ≡ n
 filled_total n [] f = sym f
 filled_total n (b ∷ rest) f =
@@ -20,12 +20,12 @@ filled_total n (b ∷ rest) f =
     let e = f.0.0 in
     omega (arith, l, r, o, e)
 
--- n points fill no more blocks than have room for them
+-- n points fill no more blocks than have the capacity for them
 pub filled_within : (n : ℕ) (bs : List Block) → IsFilled n bs → n ≤ BLOCK * length bs
 filled_within n [] f = omega (arith, f)
 filled_within n (b ∷ rest) f = let r = filled_within (n - BLOCK) rest f.1 in omega (arith, r)
 
--- where a point more is to come, the first block that is not full lacks one
+-- if a point is to be added, the first block that is not full lacks one
 pub hole_at_the_end : (h n : ℕ) (bs : List Block) → h * BLOCK ≤ n → n < h * BLOCK + BLOCK → n < BLOCK * length bs
     → IsFilled n bs → IsFilledBut h (n + 1) bs
 hole_at_the_end h n [] low high within f = absurd (omega (arith, within))
@@ -40,7 +40,7 @@ hole_at_the_end (suc h) n (b ∷ rest) low high within f = (
       (hole_at_the_end h (n - BLOCK) rest (omega (arith, low)) (omega (arith, low, high)) (omega (arith, low, within)) f.1),
 )
 
--- where the last point went, a point less fills the blocks
+-- if the last point was removed, one point less fills the blocks
 pub hole_filled_at_the_end : (h n : ℕ) (bs : List Block) → h * BLOCK ≤ n → n < h * BLOCK + BLOCK
     → IsFilledBut h (n + 1) bs → IsFilled n bs
 hole_filled_at_the_end h n [] low high f = absurd f
@@ -54,13 +54,13 @@ hole_filled_at_the_end (suc h) n (b ∷ rest) low high f = (
       (subst (λ (k : ℕ). IsFilledBut h k rest) (omega (arith, low)) f.1),
 )
 
--- a block that lacks one is among the blocks
+-- the index of a block that lacks a point is that of a block
 pub hole_within : (h n : ℕ) (bs : List Block) → IsFilledBut h n bs → h < length bs
 hole_within h n [] f = absurd f
 hole_within zero n (b ∷ rest) f = omega arith
 hole_within (suc h) n (b ∷ rest) f = let r = hole_within h (n - BLOCK) rest f.1 in omega (arith, r)
 
--- what the block that lacks one has: its points and room
+-- the number of points and the capacity of the block that lacks one
 pub hole_block : (h n : ℕ) (bs : List Block) (d : Block) → IsFilledBut h n bs
     → (deque_len (get_or bs h d) + 1 ≡ min BLOCK (n - h * BLOCK)) × (BLOCK ≤ deque_capacity (get_or bs h d))
 hole_block h n [] d f = absurd f
@@ -68,7 +68,7 @@ hole_block zero n (b ∷ rest) d f = (omega (arith, f.0), f.1)
 hole_block (suc h) n (b ∷ rest) d f =
     let r = hole_block h (n - BLOCK) rest d f.1 in (omega (arith, r.0), r.1)
 
--- and what the block before it has
+-- the number of points and the capacity of the block before it
 pub block_before_hole : (h n : ℕ) (bs : List Block) (d : Block) → IsFilledBut (suc h) n bs
     → (deque_len (get_or bs h d) ≡ min BLOCK (n - h * BLOCK)) × (BLOCK ≤ deque_capacity (get_or bs h d))
 block_before_hole h n [] d f = absurd f
@@ -76,7 +76,7 @@ block_before_hole zero n (b ∷ rest) d f = (omega (arith, f.0.0), f.0.1)
 block_before_hole (suc h) n (b ∷ rest) d f =
     let r = block_before_hole h (n - BLOCK) rest d f.1 in (omega (arith, r.0), r.1)
 
--- setting a block leaves the next one, and the one before
+-- setting a block keeps the next one, and the one before
 next_block : (h : ℕ) (bs : List Block) (d u : Block) → get_or (set bs h u) (suc h) d ≡ get_or bs (suc h) d
 next_block h [] d u = refl
 next_block zero (b ∷ rest) d u = refl
@@ -116,7 +116,7 @@ hole_moves_on zero n (b ∷ c ∷ rest) d e u v f within lu cu lv cv = (
 hole_moves_on (suc h) n (b ∷ rest) d e u v f within lu cu lv cv =
     (f.0, hole_moves_on h (n - BLOCK) rest d e u v f.1 (omega (arith, within)) lu cu lv cv)
 
--- two blocks whose points stay the same together leave the points as they were
+-- two blocks whose points together stay the same keep the points of the list
 two_blocks_same : (h : ℕ) (bs : List Block) (d e u v : Block) → suc h < length bs
     → u.items ++ v.items ≡ (get_or bs h d).items ++ (get_or bs (suc h) e).items
     → points_of (set (set bs h u) (suc h) v) ≡ points_of bs
@@ -134,7 +134,7 @@ set_both h [] u v = refl
 set_both zero (b ∷ rest) u v = refl
 set_both (suc h) (b ∷ rest) u v = ap (λ (z : List Block). b ∷ z) (set_both h rest u v)
 
--- a hole that moved: what is filled now, and the points as they were
+-- a hole that moved: what is filled now, and the same points
 pub record HoleMoved (h n : ℕ) (old new : List Block) : Type 0 where
   pub filled : IsFilledBut h n new
   pub points : points_of new ≡ points_of old
@@ -193,7 +193,7 @@ moved_on k h n bs a u q v p e f within at_a at_q ia ca iq cq =
           ∙ ap (λ (z : Block). (get_or bs k q).items ++ z.items) at_a');
     })
 
--- a point that comes fills the hole
+-- a point that is added fills the hole
 pub hole_filled : (h n : ℕ) (bs : List Block) (d u : Block) → IsFilledBut h n bs
     → deque_len u ≡ deque_len (get_or bs h d) + 1 → deque_capacity (get_or bs h d) ≤ deque_capacity u
     → IsFilled n (set bs h u)
@@ -201,7 +201,7 @@ hole_filled h n [] d u f l c = absurd f
 hole_filled zero n (b ∷ rest) d u f l c = ((omega (arith, l, f.0), omega (arith, c, f.1)), f.2)
 hole_filled (suc h) n (b ∷ rest) d u f l c = (f.0, hole_filled h (n - BLOCK) rest d u f.1 l c)
 
--- a point that goes into the hole goes into the points there
+-- a point that is inserted into the hole is inserted into the points there
 pub points_with : (h n o : ℕ) (bs : List Block) (d u : Block) (p : Pair) → IsFilledBut h n bs → h * BLOCK + o < n → o < BLOCK
     → u.items ≡ insert (get_or bs h d).items o p → points_of (set bs h u) ≡ insert (points_of bs) (h * BLOCK + o) p
 points_with h n o [] d u p f within low e = absurd f
@@ -215,7 +215,7 @@ points_with (suc h) n o (b ∷ rest) d u p f within low e =
     ∙ sym (insert-append_right b.items (points_of rest) BLOCK (suc h * BLOCK + o) p
     (let k = b.ok.0 in omega (arith, k, f.0.0, within)) (omega arith))
 
--- a block from which one of the points went has a hole
+-- a block from which one point was removed has a hole
 pub hole_dug : (h n o : ℕ) (bs : List Block) (d u : Block) → IsFilled n bs → h * BLOCK + o < n
     → deque_len u + 1 ≡ deque_len (get_or bs h d) → deque_capacity u ≡ deque_capacity (get_or bs h d)
     → IsFilledBut h n (set bs h u)
@@ -224,7 +224,7 @@ hole_dug zero n o (b ∷ rest) d u f within l c = (omega (arith, l, f.0.0), omeg
 hole_dug (suc h) n o (b ∷ rest) d u f within l c =
     (f.0, hole_dug h (n - BLOCK) o rest d u f.1 (omega (arith, within)) l c)
 
--- a point that goes out of a block goes out of the points
+-- a point that is removed from a block is removed from the points
 pub points_without : (h n o : ℕ) (bs : List Block) (d u : Block) → IsFilled n bs → h * BLOCK + o < n → o < BLOCK
     → u.items ≡ remove (get_or bs h d).items o → points_of (set bs h u) ≡ remove (points_of bs) (h * BLOCK + o)
 points_without h n o [] d u f within low e = absurd (omega (arith, f, within))
@@ -238,7 +238,8 @@ points_without (suc h) n o (b ∷ rest) d u f within low e =
     ∙ sym (remove-append_right b.items (points_of rest) BLOCK (suc h * BLOCK + o)
     (let k = b.ok.0 in omega (arith, k, f.0.0, within)) (omega arith))
 
--- where a place of n points stands: among the blocks, within one of them, and there is its point
+-- the location of an index below n: its block is one of the blocks, its offset is within that block, and its point is
+-- there
 pub record StandsAt (h o : ℕ) (bs : List Block) : Type 0 where
   pub block : h < length bs
   pub within : (d : Block) → o < deque_len (get_or bs h d)
@@ -261,7 +262,7 @@ stands_at (suc h) n o (b ∷ rest) f within low =
           ∙ ap (λ (k : ℕ). get_or (points_of rest) k p) (omega arith) ∙ r.point d p;
     }
 
--- a block more that is empty has room, and no point
+-- one more empty block adds capacity, and no point
 pub filled_and : (n : ℕ) (bs : List Block) (b : Block) → IsFilled n bs → deque_len b ≡ 0 → BLOCK ≤ deque_capacity b
     → IsFilled n (bs ++ b ∷ [])
 filled_and n [] b f l c = ((omega (arith, f, l), c), omega (arith, f))
@@ -271,13 +272,13 @@ pub points_and : (bs : List Block) (b : Block) → b.items ≡ [] → points_of 
 points_and [] b e = ap (λ (z : List Pair). z ++ []) e
 points_and (a ∷ rest) b e = ap (λ (z : List Pair). a.items ++ z) (points_and rest b e)
 
--- the room of blocks of which one lacks a point
+-- n points, of which one block lacks one, are within the capacity of the blocks
 pub hole_few : (h n : ℕ) (bs : List Block) → IsFilledBut h n bs → n ≤ BLOCK * length bs
 hole_few h n [] f = absurd f
 hole_few zero n (b ∷ rest) f = let r = filled_within (n - BLOCK) rest f.2 in omega (arith, r)
 hole_few (suc h) n (b ∷ rest) f = let r = hole_few h (n - BLOCK) rest f.1 in omega (arith, r)
 
--- the block behind the one that lacks a point
+-- the block after the one that lacks a point
 pub block_after_hole : (h n : ℕ) (bs : List Block) (d : Block) → IsFilledBut h n bs → suc h < length bs
     → (deque_len (get_or bs (suc h) d) ≡ min BLOCK (n - suc h * BLOCK)) × (BLOCK ≤ deque_capacity (get_or bs (suc h) d))
 block_after_hole h n [] d f within = absurd f
@@ -286,7 +287,7 @@ block_after_hole zero n (b ∷ c ∷ rest) d f within = (omega (arith, f.2.0.0),
 block_after_hole (suc h) n (b ∷ rest) d f within =
     let r = block_after_hole h (n - BLOCK) rest d f.1 (omega (arith, within)) in (omega (arith, r.0), r.1)
 
--- a block that the code has in hand: how many points it has, or one less, and that it has room for a full one
+-- a block that the code borrows: it has m points or one less, and the capacity of a full one
 pub record Holds (a : Block) (m : ℕ) : Type 0 where
   pub count : deque_len a ≡ m
   pub room : BLOCK ≤ deque_capacity a
@@ -302,7 +303,7 @@ before_hole k h n bs a e f at =
     let r = block_before_hole k n bs a (subst (λ (j : ℕ). IsFilledBut j n bs) e f) in
     subst (λ (z : Block). Holds z (min BLOCK (n - k * BLOCK))) (sym at) (record { count = r.0; room = r.1 })
 
--- the block of the hole, once the one before it changed
+-- the block of the hole, after the one before it changed
 pub at_hole : (k h n : ℕ) (bs : List Block) (u q : Block) → h ≡ suc k → IsFilledBut h n bs
     → q ≡ get_or (set bs k u) h q → Lacks q (min BLOCK (n - h * BLOCK))
 at_hole k h n bs u q e f at =
@@ -311,7 +312,7 @@ at_hole k h n bs u q e f at =
     ∙ subst (λ (j : ℕ). get_or (set bs k u) j q ≡ get_or bs j q) (sym e) (next_block k bs q u) in
     subst (λ (z : Block). Lacks z (min BLOCK (n - h * BLOCK))) (sym at') (record { count = r.0; room = r.1 })
 
--- the block behind the hole
+-- the block after the hole
 pub after_hole : (k h n : ℕ) (bs : List Block) (a : Block) → h ≡ suc k → IsFilledBut k n bs → h < length bs
     → a ≡ get_or bs h a → Holds a (min BLOCK (n - h * BLOCK))
 after_hole k h n bs a e f within at =
@@ -319,7 +320,7 @@ after_hole k h n bs a e f within at =
     subst (λ (z : Block). Holds z (min BLOCK (n - h * BLOCK))) (sym at)
     (subst (λ (j : ℕ). Holds (get_or bs j a) (min BLOCK (n - j * BLOCK))) (sym e) (record { count = r.0; room = r.1 }))
 
--- the block of the hole, once the one behind it changed
+-- the block of the hole, after the one after it changed
 pub still_hole : (k h n : ℕ) (bs : List Block) (u q : Block) → h ≡ suc k → IsFilledBut k n bs
     → q ≡ get_or (set bs h u) k q → Lacks q (min BLOCK (n - k * BLOCK))
 still_hole k h n bs u q e f at =
@@ -335,21 +336,21 @@ in_hole h n bs a f at =
     let r = hole_block h n bs a f in
     subst (λ (z : Block). Lacks z (min BLOCK (n - h * BLOCK))) (sym at) (record { count = r.0; room = r.1 })
 
--- what contracts see of blocks that n points fill
+-- the value that contracts see of blocks
 abbrev pub seen_of : List Block → TieredValue
 seen_of bs = record { items = points_of bs; room = BLOCK * length bs }
 
--- it is so many points as fill them
+-- the value has as many points as fill the blocks
 pub len_of : (n : ℕ) (bs : List Block) (v : TieredValue) → IsFilled n bs → seen_of bs ≡ v → n ≡ length v.items
 len_of n bs v f e = sym (filled_total n bs f) ∙ ap (λ (z : TieredValue). length z.items) e
 
--- where a place of what contracts see stands
+-- the location of an index of that value
 pub place_of : (i n : ℕ) (bs : List Block) (v : TieredValue) → IsFilled n bs → seen_of bs ≡ v → i < length v.items
     → StandsAt (i / BLOCK) (i % BLOCK) bs
 place_of i n bs v f e l =
     let s = len_of n bs v f e in stands_at (i / BLOCK) n (i % BLOCK) bs f (omega (arith, s, l)) (omega arith)
 
--- the point of that place in its block is the point there
+-- the point at that offset of its block is the point at the index
 pub point_of : (i : ℕ) (bs : List Block) (v : TieredValue) (a : Block) (p : Pair) → StandsAt (i / BLOCK) (i % BLOCK) bs
     → seen_of bs ≡ v → a ≡ get_or bs (i / BLOCK) a → p ≡ get_or a.items (i % BLOCK) p → p ≡ get_or v.items i p
 point_of i bs v a p s e at is =

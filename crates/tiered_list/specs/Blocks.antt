@@ -11,31 +11,31 @@ use Rattle.tiered_list.specs.declared.TheConstants.{BLOCK}
 abbrev pub Block : Type 0
 Block = VecDeque Pair heap_row.Denot
 
--- the points of blocks, one behind the other
+-- the points of blocks, one block after the other
 abbrev pub points_of : List Block → List Pair
 points_of blocks = flat_map (λ b. b.items) blocks
 
--- a block has so many points, and room for as many as a full one
+-- a block has so many points, and the capacity of a full one
 abbrev pub IsBlock : ℕ → Block → Type 0
 IsBlock n b = (deque_len b ≡ n) × (BLOCK ≤ deque_capacity b)
 
--- n points fill the blocks: each is full, up to one that has the rest, and those behind it have none
+-- n points fill the blocks: each is full, up to one that has the rest, and those after it are empty
 abbrev pub IsFilled : ℕ → List Block → Type 0
 IsFilled n [] = n ≡ 0
 IsFilled n (b ∷ rest) = IsBlock (min BLOCK n) b × IsFilled (n - BLOCK) rest
 
--- so they do, but that the block at h lacks one of its points
+-- n points fill the blocks, but the block at h lacks one of its points
 abbrev pub IsFilledBut : ℕ → ℕ → List Block → Type 0
 IsFilledBut h n [] = ⊥
 IsFilledBut zero n (b ∷ rest) = (deque_len b + 1 ≡ min BLOCK n) × (BLOCK ≤ deque_capacity b) × IsFilled (n - BLOCK) rest
 IsFilledBut (suc h) n (b ∷ rest) = IsBlock (min BLOCK n) b × IsFilledBut h (n - BLOCK) rest
 
--- the points of a list, and for how many it has room
+-- the points of a list, and its capacity
 pub record TieredValue : Type 0 where
   pub items : List Pair
   pub room : ℕ
 
--- what the type of such a list keeps: its points fill the blocks, whose room can be counted in 64 bits
+-- the invariant of the type of such a list: its points fill the blocks, whose capacity can be counted in 64 bits
 pub record IsTiered (len : ℕ) (blocks : List Block) : Type 0 where
   pub filled : IsFilled len blocks
   pub few : length blocks ≤ 2 ^ 53

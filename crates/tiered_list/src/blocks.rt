@@ -12,8 +12,8 @@ use std::collections::VecDeque;
 /// A ring of points.
 pub(crate) type Block = VecDeque<Point, Heap>;
 
-/// Makes the block at `at` one point short of what a list of one point more than `len` has there: one point of each block
-/// from there on moves to the next.
+/// Makes the block at `at` one point short of its share of a list of one point more than `len`: one point of each block
+/// from there on moves to the next block.
 pub(crate) fn open_hole(blocks: &mut Vec<Block, Heap>, at: usize, len: usize)
     requires within { len < BLOCK * length blocks.old.items }
     requires at { at ≤ len / BLOCK }
@@ -32,7 +32,7 @@ pub(crate) fn open_hole(blocks: &mut Vec<Block, Heap>, at: usize, len: usize)
     }
 }
 
-/// Puts a point into the block at `at`, which is one short of what a list of `len` points has there.
+/// Adds a point to the block at `at`, which is one short of its share of a list of `len` points.
 pub(crate) fn fill_hole(
     blocks: &mut Vec<Block, Heap>,
     at: usize,
@@ -52,7 +52,7 @@ pub(crate) fn fill_hole(
     };
 }
 
-/// Takes a point out of the block at `at`, which is one short then.
+/// Removes a point from the block at `at`, which is then one short.
 pub(crate) fn dig_hole(blocks: &mut Vec<Block, Heap>, at: usize, offset: usize, len: usize)
     requires filled { IsFilled len blocks.old.items }
     requires offset { at * BLOCK + offset < len }
@@ -66,8 +66,8 @@ pub(crate) fn dig_hole(blocks: &mut Vec<Block, Heap>, at: usize, offset: usize, 
     };
 }
 
-/// Fills the block at `at`, which is one short of what a list of `len` points has there: one point of each block behind it
-/// moves to the one before, so that the blocks are those of a list of one point less.
+/// Fills the block at `at`, which is one short of its share of a list of `len` points: one point of each later block
+/// moves to the block before it, so that the blocks are those of a list of one point less.
 pub(crate) fn close_hole(blocks: &mut Vec<Block, Heap>, at: usize, len: usize)
     requires some { 0 < len }
     requires at { at ≤ (len - 1) / BLOCK }
@@ -84,8 +84,8 @@ pub(crate) fn close_hole(blocks: &mut Vec<Block, Heap>, at: usize, len: usize)
     }
 }
 
-/// Adds empty blocks until there are `count`. Where memory is refused, and where `count` is more than [`MOST_BLOCKS`], those
-/// that were there are there, and maybe more.
+/// Adds empty blocks until there are `count`. If memory is refused, or `count` is more than [`MOST_BLOCKS`], the
+/// existing blocks stay, and some empty ones may have been added.
 pub(crate) fn add_blocks(blocks: &mut Vec<Block, Heap>, count: usize) -> Result<(), AllocError>
     ensures filled { (n : ℕ) → IsFilled n blocks.old.items → IsFilled n blocks.new.items }
     ensures points { points_of blocks.new.items ≡ points_of blocks.old.items }

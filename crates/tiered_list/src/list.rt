@@ -9,7 +9,7 @@ use lattice::Point;
 use std::alloc::AllocError;
 use std::marker::Model;
 
-/// A list of points in blocks. Contracts see its points, and for how many it has room.
+/// A list of points in blocks. Contracts see its points and its capacity.
 #[derive(Drop)]
 pub struct TieredList {
     blocks: Vec<Block, Heap>,
@@ -29,7 +29,7 @@ impl Model for TieredList {
 }
 
 impl TieredList {
-    /// A list of no points, with no room. Asks for no memory.
+    /// Returns a list of no points and no capacity. Does not allocate.
     pub fn new(alloc: Heap) -> TieredList
         ensures items { result.items ≡ [] }
     {
@@ -39,21 +39,21 @@ impl TieredList {
         }
     }
 
-    /// How many points it has.
+    /// Returns the number of points.
     pub fn len(&self) -> usize
         ensures { result ≡ length self.now.items }
     {
         self.len
     }
 
-    /// Whether it has none.
+    /// Whether it has no points.
     pub fn is_empty(&self) -> bool
         ensures { result ≡ (length self.now.items == 0) }
     {
         self.len() == 0
     }
 
-    /// The point at a place.
+    /// Returns the point at an index.
     pub fn get(&self, i: usize) -> Point
         requires { i < length self.now.items }
         ensures { result ≡ slice_index_or self.now.items i result }
@@ -61,7 +61,7 @@ impl TieredList {
         self.blocks[i / BLOCK][i % BLOCK]
     }
 
-    /// Makes room for `count` points; where memory is refused, it has at least the room that it had.
+    /// Raises the capacity to at least `count` points. If memory is refused, the capacity is at least what it was.
     pub fn reserve(&mut self, count: usize) -> Result<(), AllocError>
         ensures items { self.new.items ≡ self.old.items }
         ensures room { self.old.room ≤ self.new.room }
@@ -70,7 +70,7 @@ impl TieredList {
         add_blocks(&mut self.blocks, count.div_ceil(BLOCK))
     }
 
-    /// Puts a point in at a place; those from there on move to the next one.
+    /// Inserts a point at an index; the points from there on move up by one index.
     pub(crate) fn insert(&mut self, i: usize, point: Point)
         requires within { i ≤ length self.old.items }
         requires room { length self.old.items < self.old.room }
@@ -82,7 +82,7 @@ impl TieredList {
         fill_hole(&mut self.blocks, i / BLOCK, i % BLOCK, point, self.len);
     }
 
-    /// Takes the point at a place out; those behind it move to the one before.
+    /// Removes the point at an index; the later points move down by one index.
     pub(crate) fn remove(&mut self, i: usize)
         requires within { i < length self.old.items }
         ensures items { self.new.items ≡ remove self.old.items i }

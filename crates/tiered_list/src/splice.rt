@@ -1,4 +1,4 @@
-//! Points of a list in the place of others.
+//! Replacing some points of a list by others.
 ghost use Rattle.std.specs.Prelude.{◌≡◌, ◌+◌, ◌-◌, ◌<◌, ◌≤◌, ◌++◌, OnOk, OnErr, length, take, drop, vec_capacity};
 
 use super::BLOCK;
@@ -8,7 +8,7 @@ use lattice::Point;
 use std::alloc::AllocError;
 
 impl TieredList {
-    /// Takes out the points of the places `from` to `to`, that one not among them.
+    /// Removes the points from index `from` up to index `to`, exclusive.
     fn take_out(&mut self, from: usize, to: usize)
         requires order { from ≤ to }
         requires within { to ≤ length self.old.items }
@@ -20,7 +20,7 @@ impl TieredList {
         }
     }
 
-    /// Puts points in from a place on.
+    /// Inserts points from an index on.
     fn put_in(&mut self, at: usize, points: &[Point])
         requires within { at ≤ length self.old.items }
         requires room { length self.old.items + length points.now ≤ self.old.room }
@@ -34,7 +34,7 @@ impl TieredList {
         }
     }
 
-    /// Copies the points from a place on to a list that has room for them.
+    /// Appends copies of the points from an index on to a list that has the capacity for them.
     fn copy_rest(&self, from: usize, rest: &mut Vec<Point, Heap>)
         requires within { from ≤ length self.now.items }
         requires room { length self.now.items ≤ vec_capacity rest.old + from }
@@ -47,7 +47,7 @@ impl TieredList {
         }
     }
 
-    /// Puts copies of its points behind those of another list. Where memory is refused that list is as it was.
+    /// Appends copies of its points to another list. If memory is refused, that list is unchanged.
     pub fn copy_to(&self, out: &mut Vec<Point, Heap>) -> Result<(), AllocError>
         ensures items { OnOk result (out.new.items ≡ out.old.items ++ self.now.items) }
         ensures refused { OnErr result ((out.new.items ≡ out.old.items) × (0 < length self.now.items)) }
@@ -59,14 +59,14 @@ impl TieredList {
         Ok(())
     }
 
-    /// Whether exchanging some points one by one, each of which moves a point of each block behind it, takes longer than
+    /// Whether exchanging these points one by one, each of which moves one point of each later block, takes longer than
     /// writing the rest of the list again.
     fn is_more_than_the_rest(&self, exchanged: usize, from: usize) -> bool {
         exchanged.saturating_mul(self.len() / BLOCK + 16) > self.len().saturating_sub(from)
     }
 
-    /// Puts these points in the place of those from `from` to `to`. Asks for no memory: the list has room for them, and
-    /// `spare` for those from `to` on; what it has is lost.
+    /// Replaces the points from index `from` up to `to`, exclusive, by these points. Does not allocate: the list has
+    /// the capacity for them, and `spare` for the points from `to` on. The contents of `spare` are lost.
     pub fn splice(&mut self, from: usize, to: usize, points: &[Point], spare: &mut Vec<Point, Heap>)
         requires order { from ≤ to }
         requires within { to ≤ length self.old.items }
@@ -88,7 +88,7 @@ impl TieredList {
         }
     }
 
-    /// Keeps the first `len` points.
+    /// Keeps only the first `len` points.
     fn truncate(&mut self, len: usize)
         requires within { len ≤ length self.old.items }
         ensures items { self.new.items ≡ take len self.old.items }

@@ -1,4 +1,4 @@
--- a block more has no point
+-- one more empty block has no point
 use Rattle.std.proofs.Common.{◌∷◌, [], ◌∙◌, subst, sym, List, ap, length, length-append, arith}
 use Rattle.tiered_list.specs.Blocks.{Block, IsFilled, points_of}
 use Rattle.tiered_list.proofs.Filled.{filled_and, points_and}

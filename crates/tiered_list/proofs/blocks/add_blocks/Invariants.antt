@@ -1,4 +1,4 @@
--- the blocks of the start and empty ones behind them
+-- the blocks are those of the start with empty ones after them
 use Rattle.std.proofs.Common.{◌≡◌, ◌≤◌, ◌-◌, ℕ, length}
 use Rattle.tiered_list.specs.Blocks.{IsFilled, points_of}
 use Rattle.tiered_list.proofs.blocks.add_blocks.Given as goal

@@ -1,4 +1,4 @@
--- the hole goes up by one point that moves to the block before, until it is the place of the last point
+-- the hole moves up by one point that moves to the block before, until it is after the last point
 use Rattle.std.proofs.Common.{◌+◌, ◌-◌, ℕ, subst, ◌∙◌, arith}
 use Rattle.std.proofs.Math.ListN.{length-set}
 use Rattle.tiered_list.specs.Blocks.{IsFilledBut}

@@ -1,4 +1,4 @@
--- the hole came up to here, and no point was lost or changed its place
+-- the hole moved up to here, and no point was lost or changed its index
 use Rattle.std.proofs.Common.{◌≡◌, length}
 use Rattle.tiered_list.specs.Blocks.{IsFilledBut, points_of}
 use Rattle.tiered_list.proofs.blocks.close_hole.Given as goal

@@ -1,4 +1,4 @@
--- the point stands in the block where it does in the whole
+-- the point at an offset of its block is the point at its index of the list
 use Rattle.std.proofs.Common.{◌<◌, arith, ap, sym, subst, ◌∙◌}
 use Rattle.std.proofs.Math.ListN.{length-set}
 use Rattle.std.proofs.lemmas.Bool.{false≢true}

@@ -1,4 +1,4 @@
--- the block has room for the point, which stands there where it does in the whole
+-- the block has the capacity for the point, and its offset there is its index in the list
 use Rattle.std.proofs.Common.{◌+◌, ◌≤◌, arith, ap, ◌∙◌, subst}
 use Rattle.std.proofs.Math.ListN.{length-set}
 use Rattle.std.specs.List.{insert}

@@ -1,4 +1,4 @@
--- the last block that has a point gets a hole, which comes down by one point that moves to the next block
+-- the last block that has a point gets a hole, which moves down by one point that moves to the next block
 use Rattle.std.proofs.Common.{◌+◌, ◌-◌, ◌/◌, ℕ, refl, subst, ◌∙◌, arith}
 use Rattle.std.proofs.Math.ListN.{length-set}
 use Rattle.tiered_list.specs.Blocks.{IsFilledBut}

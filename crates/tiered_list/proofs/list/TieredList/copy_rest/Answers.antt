@@ -18,7 +18,7 @@ loop-i-preserved c =
       capacity = c.push_reserved.ensures.capacity ∙ c.loop-i.invariant.capacity;
     }
 
--- grind closes these at once; what is tried first takes long
+-- grind closes these at once; the tactic that is tried first takes long
 pub returns-clause-rest : goal.returns-clause-rest
 returns-clause-rest c = grind (arith, common_steps)
 

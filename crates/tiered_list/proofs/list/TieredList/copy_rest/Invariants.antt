@@ -1,4 +1,4 @@
--- those up to here were copied
+-- the points up to here were copied
 use Rattle.std.proofs.Common.{◌≡◌}
 use Rattle.std.specs.List.{between}
 use Rattle.tiered_list.proofs.list.TieredList.copy_rest.Given as goal

@@ -1,4 +1,4 @@
--- those up to here were copied
+-- the points up to here were copied
 use Rattle.std.proofs.Common.{◌≡◌, ◌+◌, ◌++◌, ◌≤◌, length, take}
 use Rattle.tiered_list.proofs.list.TieredList.copy_to.Given as goal
 

@@ -1,4 +1,4 @@
--- the point stands in its block
+-- the point is in its block
 use Rattle.std.proofs.Common.{◌%◌, ◌<◌, arith, sym, subst}
 use Rattle.std.specs.VecDeque.{deque_len}
 use Rattle.tiered_list.specs.Blocks.{Block}

@@ -1,4 +1,4 @@
--- where the point goes there is a hole then
+-- the block that the point is inserted into has a hole
 use Rattle.std.proofs.Common.{arith, ap}
 use Rattle.tiered_list.specs.Blocks.{TieredValue}
 use Rattle.tiered_list.proofs.Filled.{len_of}

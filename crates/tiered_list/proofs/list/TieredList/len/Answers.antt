@@ -1,4 +1,4 @@
--- the points of the blocks are so many
+-- the blocks have as many points as the list counts
 use Rattle.std.proofs.Common.{sym, ap, ◌∙◌, length}
 use Rattle.tiered_list.specs.Blocks.{TieredValue}
 use Rattle.tiered_list.proofs.Filled.{filled_total}

@@ -1,4 +1,4 @@
--- so many of them stand there
+-- the first i of the points are inserted
 use Rattle.std.proofs.Common.{◌≡◌, ◌++◌, take, drop}
 use Rattle.tiered_list.proofs.list.TieredList.put_in.Given as goal
 

@@ -1,4 +1,4 @@
--- where the point was there is a hole then, which is closed
+-- the removal leaves a hole, which is then closed
 use Rattle.std.proofs.Common.{arith}
 use Rattle.tiered_list.proofs.Filled.{len_of}
 use Rattle.tiered_list.proofs.list.TieredList.remove.Goals as goal

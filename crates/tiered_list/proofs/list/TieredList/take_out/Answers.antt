@@ -1,4 +1,4 @@
--- one point more was taken out
+-- one point more was removed
 use Rattle.std.proofs.Common.{◌∙◌, arith}
 use Rattle.tiered_list.proofs.Edits.{taken_more}
 use Rattle.tiered_list.proofs.list.TieredList.take_out.Goals as goal

@@ -1,4 +1,4 @@
--- so many of them went
+-- the points up to here were removed
 use Rattle.std.proofs.Common.{◌≡◌, ◌++◌, take, drop}
 use Rattle.tiered_list.proofs.list.TieredList.take_out.Given as goal
 

@@ -1,4 +1,4 @@
--- those that are left are the first ones
+-- the points that are left are the first ones
 use Rattle.std.proofs.Common.{◌≡◌, ◌≤◌, length, take}
 use Rattle.tiered_list.proofs.list.TieredList.truncate.Given as goal
 
