@@ -25,7 +25,7 @@ pub end_in : (c : Pair) (xs : List Pair) → EndsWith c xs → Contains xs c
 end_in c xs e = let r = ends_cut c xs e in
     subst (λ (z : List Pair). Contains z c) (sym r.1) (Contains-append_right r.0 (c ∷ []) c (0, omega arith, refl))
 
--- the first points of a list end with the one before their number
+-- the first i points of a list end with the one at i - 1
 pub end_of_first : (xs : List Pair) (i : ℕ) (p : Pair) → 0 < i → i ≤ length xs → p ≡ get_or xs (i - 1) p
     → EndsWith p (take i xs)
 end_of_first xs i p some l e =
@@ -34,7 +34,7 @@ end_of_first xs i p some l e =
     (subst (λ (z : Pair). EndsWith z (take (i - 1 + 1) xs))
     (sym (e ∙ get_or_free xs (i - 1) p origin (omega (arith, some, l)))) (ends_take xs (i - 1) (omega (arith, some, l))))
 
--- what stands after the end of a set stands after each of its points
+-- a point after the end of a set is after each of its points
 after_end : (x : Pair) (xs : List Pair) (t q : Pair) → IsPointSet (x ∷ xs) → Contains (x ∷ xs) t
     → IsBefore (end_of x xs) q → IsBefore t q
 after_end x [] t q s (zero, l, e) b = subst (λ (z : Pair). IsBefore z q) e b
@@ -58,20 +58,20 @@ first_in a xs rest e = subst (λ (z : List Pair). Contains z a) (sym e) (0, omeg
 
 -- ---- one step of the pass over them
 
--- a set of points of another has no more points
+-- a set whose points are all in another has no more points
 pub set_few : (C S : List Pair) → IsPointSet C → ((t : Pair) → Contains C t → Contains S t) → length C ≤ length S
 set_few C S o among = distinct_few C S
     (λ i j d l b e. before_irrefl _ (subst (λ (z : Pair). IsBefore z (get_or C j d)) e (o i j d l b)))
     (λ k d l. among _ (k, l, get_or_free C k _ d l))
 
--- the front of a set between, with one more point
+-- the points between two parts of a chain: those seen so far and one more
 module _ (side : Side) (S left right chain seen rest whole : List Pair) (p : Pair) (w : seen ++ p ∷ rest ≡ whole)
     (k : IsBetween S left right whole) (h : IsThinned side (left ++ seen) chain) where
-  -- the points so far, the next one, and the others
+  -- the points so far, the next one, and the others are the whole
   parts : left ++ seen ++ p ∷ [] ++ rest ≡ left ++ whole
   parts = grind (arith, common_steps, append_twice)
 
-  -- the points so far and the next one
+  -- the points so far and the next one are a set
   front : IsPointSet (left ++ seen ++ p ∷ [])
   front = set_left (left ++ seen ++ p ∷ []) rest
       (subst IsPointSet (sym parts) (set_left (left ++ whole) right k.ordered))
@@ -80,7 +80,7 @@ module _ (side : Side) (S left right chain seen rest whole : List Pair) (p : Pai
   pub next_set : IsPointSet (chain ++ p ∷ [])
   next_set = thinned_set side (left ++ seen) chain (p ∷ []) h front
 
-  -- there is room for it
+  -- the chain with the next one has no more points than S
   pub next_room : ((t : Pair) → Contains (left ++ right) t → Contains S t) → length chain + 1 ≤ length S
   next_room among = let l : length (chain ++ p ∷ []) ≤ length S = set_few (chain ++ p ∷ []) S next_set in_S in
       let m = length-append chain (p ∷ []) in omega (arith, l, m)
@@ -94,7 +94,7 @@ module _ (side : Side) (S left right chain seen rest whole : List Pair) (p : Pai
           (Contains-append_left (left ++ seen ++ p ∷ []) rest t
           (from_front (left ++ seen) chain (p ∷ []) h.among t m)))
 
-  -- it is one of those seen
+  -- removing inner points from the chain and the next one removes inner points from the points seen and the next one
   pub next_seen : (new : List Pair) → IsThinned side (chain ++ p ∷ []) new
       → (seen : List Pair) × (seen ++ rest ≡ whole) × IsThinned side (left ++ seen) new
   next_seen new q = (

@@ -18,11 +18,11 @@ use Rattle.lattice.proofs.Numbers.{nn_above, nn_zero}
 use Rattle.hull_geometry.proofs.Orientations.{orient_on_start, orient_on_end, strict_on, strict_back}
 use Rattle.std.proofs.lemmas.List.Elements.{All-head}
 
--- what is strictly inwards of a line
+-- a point strictly inwards of a line is beside the edge
 strictly : (side : Side) (t a b : Pair) → pos 0 <ℤ orient_on side a b t → IsBeside side t a b
 strictly side t a b h = record { inwards = nn_above _ h; before = λ k. h; after = λ k. h }
 
--- the start of an edge
+-- the start of an edge is beside it
 at_start : (side : Side) (a b : Pair) → IsBefore a b → IsBeside side a a b
 at_start side a b ab = record {
   inwards = nn_zero _ (orient_on_start side a b);
@@ -30,7 +30,7 @@ at_start side a b ab = record {
   after = λ k. absurd (before_not a b ab k);
 }
 
--- its end
+-- the end of an edge is beside it
 at_end : (side : Side) (a b : Pair) → IsBefore a b → IsBeside side b a b
 at_end side a b ab = record {
   inwards = nn_zero _ (orient_on_end side a b);
@@ -38,7 +38,7 @@ at_end side a b ab = record {
   after = λ k. absurd (before_irrefl b k);
 }
 
--- what is inwards of the segment
+-- a point inwards of the segment is beside the edge
 between : (side : Side) (t a b : Pair) → IsInwards side a b t → IsBeside side t a b
 between side t a b (at, tb, h) = record {
   inwards = h;
@@ -46,11 +46,11 @@ between side t a b (at, tb, h) = record {
   after = λ k. absurd (before_not t b tb k);
 }
 
--- the two first points of a set
+-- the first two points of a set are in order
 first_step : (a b : Pair) (rest : List Pair) → IsPointSet (a ∷ b ∷ rest) → IsBefore a b
 first_step a b rest s = All-head (IsBefore a) b rest (AllPairs-head a (b ∷ rest) s)
 
--- what is inner to a chain behind its second point is strictly inwards of the first edge
+-- a point that is inner to a chain after its second point is strictly inwards of the first edge
 after_edge : (side : Side) (a b : Pair) (rest : List Pair) (u : Pair) → IsPointSet (a ∷ b ∷ rest)
     → IsConvexFrom side a (b ∷ rest) → IsInnerFrom side b rest u → IsBefore b u × (pos 0 <ℤ orient_on side a b u)
 after_edge side a b [] u s h k = elim k [ ]
@@ -66,7 +66,7 @@ after_edge side a b (c ∷ rest) u s h (inr (inr k)) =
     let bu = before_trans b c u (first_step b c rest tail) later.0 in
     (bu, strict_on side a b c u (first_step a b (c ∷ rest) s) (first_step b c rest tail) bu h.0 (nn_above _ later.1))
 
--- what stands before the end of an edge and not outwards of it is beside all later edges
+-- a point before the end of an edge and not outwards of it is beside all later edges
 beside_later : (side : Side) (a b : Pair) (rest : List Pair) (t : Pair) → IsPointSet (a ∷ b ∷ rest)
     → IsConvexFrom side a (b ∷ rest) → IsBefore t b → pos 0 ≤ℤ orient_on side a b t → IsChain (IsBeside side t) b rest
 beside_later side a b [] t s h tb k = tt
@@ -76,7 +76,7 @@ beside_later side a b (c ∷ rest) t s h tb k =
     let in_next = strict_back side a b c t (first_step a b (c ∷ rest) s) bc tb k h.0 in
     (strictly side t b c in_next, beside_later side b c rest t tail h.1 (before_trans t b c tb bc) (nn_above _ in_next))
 
--- what is inner to a chain is beside each of its edges
+-- a point that is inner to a chain is beside each of its edges
 beside_from : (side : Side) (x : Pair) (rest : List Pair) (t : Pair) → IsPointSet (x ∷ rest)
     → IsConvexFrom side x rest → IsInner side (x ∷ rest) t → IsChain (IsBeside side t) x rest
 beside_from side x [] t s h k = tt
@@ -98,7 +98,7 @@ beside_from side x (y ∷ rest) t s h (inr (inr (inr k))) = (
   beside_from side y rest t (AllPairs-tail x (y ∷ rest) s) h.1 (inr k),
 )
 
--- what is inner to a chain from a point on stands after it
+-- a point that is inner to a chain from a point on is not before that point
 not_first : (side : Side) (x : Pair) (rest : List Pair) (t : Pair) → IsPointSet (x ∷ rest) → IsInnerFrom side x rest t
     → IsBefore x t
 not_first side x [] t s k = elim k [ ]
@@ -107,7 +107,7 @@ not_first side x (y ∷ rest) t s (inr (inl k)) = k.0
 not_first side x (y ∷ rest) t s (inr (inr k)) =
     before_trans x y t (first_step x y rest s) (not_first side y rest t (AllPairs-tail x (y ∷ rest) s) k)
 
--- no point of S stands before the first point of its chain
+-- no point of S is before the first point of its chain
 pub chain_first : (side : Side) (S : List Pair) (x : Pair) (rest : List Pair) → IsChainOf side S (x ∷ rest) → IsFirst S x
 chain_first side S x rest c t m b = go (c.inner t m)
   where
@@ -115,7 +115,7 @@ chain_first side S x rest c t m b = go (c.inner t m)
     go (inl e) = before_irrefl x (subst (λ (z : Pair). IsBefore z x) e b)
     go (inr k) = before_not x t (not_first side x rest t c.strict.ordered k) b
 
--- the end of a chain stands before nothing that is inner to it
+-- no point that is inner to a chain is after its end
 not_last : (side : Side) (x : Pair) (rest : List Pair) (t : Pair) → IsPointSet (x ∷ rest) → IsInner side (x ∷ rest) t
     → ¬ (IsBefore (end_of x rest) t)
 not_last side x [] t s (inl e) b = before_irrefl x (subst (IsBefore x) e b)
@@ -129,12 +129,12 @@ not_last side x (y ∷ rest) t s (inr (inr (inl k))) b =
 not_last side x (y ∷ rest) t s (inr (inr (inr k))) b =
     not_last side y rest t (AllPairs-tail x (y ∷ rest) s) (inr k) b
 
--- no point of S stands after the end of its chain
+-- no point of S is after the end of its chain
 pub chain_last : (side : Side) (S : List Pair) (x : Pair) (rest : List Pair) → IsChainOf side S (x ∷ rest)
     → IsLast S (end_of x rest)
 chain_last side S x rest c t m b = not_last side x rest t c.strict.ordered (c.inner t m) b
 
--- what holds of each point along a chain holds along the chain of each point
+-- if each point has a property along a chain, the chain has it for each point
 along_all : (side : Side) (S : List Pair) (x : Pair) (rest : List Pair) → IsPointSet (x ∷ rest)
     → ((t : Pair) → Contains (x ∷ rest) t → Contains S t)
     → ((t : Pair) → Contains S t → IsChain (IsBeside side t) x rest) → IsChain (IsEdge side S) x rest
@@ -159,7 +159,7 @@ chain_edges side S x rest c = along_all side S x rest c.strict.ordered c.among
 pub edge_support : {side : Side} {S : List Pair} {a b : Pair} → IsEdge side S a b → IsSupport side S a b
 edge_support e = record { from = e.from; to = e.to; forward = e.forward; inner = λ t m. (e.beside t m).inwards }
 
--- an edge of the lower chain, in the words of all hulls
+-- an edge of the lower chain is a lower edge in the terms of all hulls
 pub lower_edge : {S : List Pair} {a b : Pair} → IsEdge Lower S a b → IsLowerEdge S a b
 lower_edge {S} {a} {b} e = record {
   from = e.from;
@@ -172,7 +172,7 @@ lower_edge {S} {a} {b} e = record {
     not_both : (x : ℤ) → x ≡ pos 0 → pos 0 <ℤ x → ⊥
     not_both x e h = omega (arith, ints)
 
--- and of the upper chain
+-- an edge of the upper chain is an upper edge in those terms, read backwards
 pub upper_edge : {S : List Pair} {a b : Pair} → IsEdge Upper S a b → IsUpperEdge S b a
 upper_edge {S} {a} {b} e = record {
   from = e.to;

@@ -1,4 +1,4 @@
--- What one pass over points in order makes of a chain.
+-- What one pass over points in order does to a chain.
 use Rattle.std.proofs.lemmas.Grind.{common_steps}
 use Rattle.std.proofs.Common.{◌≡◌, ℕ, pos, ◌≤ℤ◌, inl, inr, refl, sym, ap, ◌∙◌, subst, List, arith, zero, suc, []}
 use Rattle.std.proofs.Common.{◌∷◌, ◌++◌, ◌<◌, ◌+◌, ◌-◌, length, get_or, take, length-append}
@@ -21,13 +21,12 @@ use Rattle.hull_geometry.proofs.PointLists.{right_part, append_none, append_twic
 use Rattle.hull_geometry.proofs.SameSide.{side_trans}
 use Rattle.lattice.proofs.LineCrossings.{orient_other}
 
--- three points in the order, of which the middle one does not lie outwards: it lies inwards of the segment of the
--- others
+-- if the middle one of three points in order does not lie outwards, it lies inwards of the segment between the others
 middle : (side : Side) (a b c : Pair) → IsBefore a b → IsBefore b c → orient_on side a b c ≤ℤ pos 0 → IsInwards side a c b
 middle Lower a b c ab bc h = (ab, bc, let e = orient_swap a c b in omega (arith, ints))
 middle Upper a b c ab bc h = grind (arith, common_steps, ab, orient-cycle, orient_other, ints)
 
--- what lies inwards of the first of two segments lies inwards of the long one
+-- a point inwards of the first of two segments lies inwards of the long one
 first_inwards : (side : Side) (a b c u : Pair) → IsBefore a b → IsBefore b c → orient_on side a b c ≤ℤ pos 0
     → IsInwards side a b u → IsInwards side a c u
 first_inwards Lower a b c u ab bc h (au, ub, k) = (
@@ -48,7 +47,7 @@ first_inwards Upper a b c u ab bc h (au, ub, k) = (
       omega (arith, ints),
 )
 
--- and of the second
+-- a point inwards of the second of two segments lies inwards of the long one
 second_inwards : (side : Side) (a b c u : Pair) → IsBefore a b → IsBefore b c → orient_on side a b c ≤ℤ pos 0
     → IsInwards side b c u → IsInwards side a c u
 second_inwards Lower a b c u ab bc h (bu, uc, k) = (
@@ -68,7 +67,7 @@ second_inwards Upper a b c u ab bc h (bu, uc, k) = (
       (let e = orient-cycle a b c in let f = orient_other a b c in omega (arith, ints)) k,
 )
 
--- the last two segments in one
+-- a point inner to the last two segments lies inwards of the long one
 last_two : (side : Side) (a b c u : Pair) → IsBefore a b → IsBefore b c → orient_on side a b c ≤ℤ pos 0
     → IsInnerFrom side a (b ∷ c ∷ []) u → IsInnerFrom side a (c ∷ []) u
 last_two side a b c u ab bc h (inl e) = inr (inl (subst (IsInwards side a c) (sym e) (middle side a b c ab bc h)))
@@ -77,7 +76,7 @@ last_two side a b c u ab bc h (inr (inr (inl e))) = inl e
 last_two side a b c u ab bc h (inr (inr (inr (inl k)))) = inr (inl (second_inwards side a b c u ab bc h k))
 last_two side a b c u ab bc h (inr (inr (inr (inr k)))) = elim k [ ]
 
--- the same behind more of the chain
+-- the same, after more of the chain
 behind_more : (side : Side) (x : Pair) (front : List Pair) (a b c u : Pair) → IsBefore a b → IsBefore b c
     → orient_on side a b c ≤ℤ pos 0 → IsInnerFrom side x (front ++ a ∷ b ∷ c ∷ []) u
     → IsInnerFrom side x (front ++ a ∷ c ∷ []) u
@@ -88,7 +87,7 @@ behind_more side x (y ∷ ys) a b c u ab bc h (inl e) = inl e
 behind_more side x (y ∷ ys) a b c u ab bc h (inr (inl k)) = inr (inl k)
 behind_more side x (y ∷ ys) a b c u ab bc h (inr (inr k)) = inr (inr (behind_more side y ys a b c u ab bc h k))
 
--- a chain without its last point but one
+-- a point inner to a chain is inner to it without its last point but one, if that one lies inwards
 without_inward : (side : Side) (front : List Pair) (a b c u : Pair) → IsBefore a b → IsBefore b c
     → orient_on side a b c ≤ℤ pos 0 → IsInner side (front ++ a ∷ b ∷ c ∷ []) u → IsInner side (front ++ a ∷ c ∷ []) u
 without_inward side [] a b c u ab bc h (inl e) = inl e
@@ -106,32 +105,32 @@ set_less (x ∷ xs) b ys s =
     (All-tail (IsBefore x) b ys (right_part (IsBefore x) xs (b ∷ ys) h)))
     (set_less xs b ys (AllPairs-tail x (xs ++ b ∷ ys) s))
 
--- a point after a set makes a longer one
+-- a set with a point added after all of it is a set
 pub set_longer : (xs : List Pair) (c : Pair) → IsPointSet xs → All (λ t. IsBefore t c) xs → IsPointSet (xs ++ c ∷ [])
 set_longer xs c s h = set-insert c xs [] (subst IsPointSet (append_none xs) s) h (λ k d l. absurd (omega arith))
 
--- one point is taken from the end of a chain
+-- one point is removed from the end of a chain
 module _ {side : Side} {chain : List Pair} {c : Pair} (e : EndsInwards side chain c) where
-  -- the chain and c
+  -- the chain and c end with a, b and c
   longer : chain ++ c ∷ [] ≡ e.front ++ e.a ∷ e.b ∷ c ∷ []
   longer = ap (λ (z : List Pair). z ++ c ∷ []) e.whole ∙ append_twice e.front (e.a ∷ e.b ∷ []) (c ∷ [])
 
-  -- the shorter chain and c
+  -- the shorter chain and c end with a and c
   shorter : take (length chain - 1) chain ++ c ∷ [] ≡ e.front ++ e.a ∷ c ∷ []
   shorter = ap (λ (z : List Pair). z ++ c ∷ []) e.kept ∙ append_twice e.front (e.a ∷ []) (c ∷ [])
 
-  -- the last three points stand in order
+  -- the last three points are in order
   last_three : IsPointSet (chain ++ c ∷ []) → IsPointSet (e.a ∷ e.b ∷ c ∷ [])
   last_three s = set_right e.front (e.a ∷ e.b ∷ c ∷ []) (subst IsPointSet longer s)
 
-  -- it stays a set
+  -- the shorter chain and c are a set
   pub popped_set : IsPointSet (chain ++ c ∷ []) → IsPointSet (take (length chain - 1) chain ++ c ∷ [])
   popped_set s = subst IsPointSet (sym shorter)
       (subst IsPointSet (append_twice e.front (e.a ∷ []) (c ∷ []))
       (set_less (e.front ++ e.a ∷ []) e.b (c ∷ [])
       (subst IsPointSet (longer ∙ sym (append_twice e.front (e.a ∷ []) (e.b ∷ c ∷ []))) s)))
 
-  -- what was inner stays inner
+  -- a point that was inner stays inner
   pub popped_inner : IsPointSet (chain ++ c ∷ []) → (u : Pair) → IsInner side (chain ++ c ∷ []) u
       → IsInner side (take (length chain - 1) chain ++ c ∷ []) u
   popped_inner s u k =
@@ -147,7 +146,7 @@ module _ {side : Side} {chain : List Pair} {c : Pair} (e : EndsInwards side chai
   pub popped_among : (t : Pair) → Contains (take (length chain - 1) chain) t → Contains chain t
   popped_among t m = grind (arith, common_steps, append_twice)
 
-  -- it is shorter
+  -- the chain gets shorter
   pub popped_short : length (take (length chain - 1) chain) < length chain
   popped_short =
       let k : length (take (length chain - 1) chain) ≡ length (e.front ++ e.a ∷ []) = ap length e.kept in
@@ -156,20 +155,20 @@ module _ {side : Side} {chain : List Pair} {c : Pair} (e : EndsInwards side chai
       let n = length-append e.front (e.a ∷ e.b ∷ []) in
       omega (arith, k, w, m, n)
 
--- a member of part of a chain and its new end is one of the chain and that end
+-- a member of a list that is part of a chain, with a new end, is one of the chain or that end
 pub with_end : (part chain : List Pair) (c : Pair) → ((t : Pair) → Contains part t → Contains chain t) → (t : Pair)
     → Contains (part ++ c ∷ []) t → Contains (chain ++ c ∷ []) t
 with_end part chain c h t m =
     elim (Contains-append_cases part (c ∷ []) t m)
     [ inl k ↦ Contains-append_left chain (c ∷ []) t (h t k) | inr k ↦ Contains-append_right chain (c ∷ []) t k ]
 
--- the points up to a place and the one there, counted on
+-- the first i + 1 points are the first i and the one at i, by recursion
 take_suc : (S : List Pair) (i : ℕ) (d : Pair) → i < length S → take (suc i) S ≡ take i S ++ get_or S i d ∷ []
 take_suc [] i d l = absurd (omega arith)
 take_suc (x ∷ xs) zero d l = refl
 take_suc (x ∷ xs) (suc i) d l = ap (λ (z : List Pair). x ∷ z) (take_suc xs i d (omega arith))
 
--- the points up to a place and the one there
+-- the first i + 1 points are the first i and the one at i
 pub take_next : (S : List Pair) (i : ℕ) (p : Pair) → i < length S → p ≡ get_or S i p → take (i + 1) S ≡ take i S ++ p ∷ []
 take_next S i p l e = let n : i + 1 ≡ suc i = omega arith in
     ap (λ (k : ℕ). take k S) n ∙ take_suc S i p l ∙ ap (λ (z : Pair). take i S ++ z ∷ []) (sym e)

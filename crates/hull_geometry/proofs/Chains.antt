@@ -31,11 +31,11 @@ end_extreme side S v s m h = (
       [ inl b ↦ b | inr (inl e) ↦ absurd (n e) | inr (inr b) ↦ absurd (h t i b) ]))),
 )
 
--- so is the first point of S
+-- the first point of S is extreme
 pub first_extreme : (S : List Pair) (v : Pair) → IsPointSet S → Contains S v → IsFirst S v → IsExtreme S v
 first_extreme = end_extreme Upper
 
--- and the last one
+-- the last point of S is extreme
 pub last_extreme : (S : List Pair) (v : Pair) → IsPointSet S → Contains S v → IsLast S v → IsExtreme S v
 last_extreme = end_extreme Lower
 
@@ -49,7 +49,7 @@ edges_convex side S u v w e f =
           (zero_between _ (All-contains (λ t. pos 0 ≤ℤ orient u v t) S w e.left f.to) h) f.along)
     ]
 
--- a corner that bends left, with S on the left of both its edges, is extreme
+-- a vertex that bends left, with S on the left of both its edges, is extreme
 corner_extreme : (S : List Pair) (u v w : Pair) → IsPointSet S → Contains S v → pos 0 <ℤ orient u v w → IsLeftOf S u v
     → IsLeftOf S v w → IsExtreme S v
 corner_extreme S u v w s m h a b =
@@ -69,7 +69,7 @@ pub edge_corner : (side : Side) (S : List Pair) (u v w : Pair) → IsPointSet S 
 edge_corner side S u v w s e f =
     corner_extreme S u v w s e.to (edges_convex side S u v w e f) e.left f.left
 
--- t stands strictly between the ends of an edge on this side
+-- t is strictly between the ends of an edge on this side
 abbrev BesideEdge : Side → List Pair → Pair → Type 0
 BesideEdge side S t = (a : Pair) × (b : Pair) × IsEdgeOn side S a b × IsAlong side a t × IsAlong side t b
 
@@ -99,7 +99,7 @@ between_edges S t m (a, b, e, at, tb) (c, d, f, tc, dt) =
     at tb tc dt (at_least _ _ (orient-cycle a b t) (All-contains (λ z. pos 0 ≤ℤ orient a b z) S t e.left m))
     (at_least _ _ (orient-cycle c d t) (All-contains (λ z. pos 0 ≤ℤ orient c d z) S t f.left m))
 
--- every extreme point stands on one of the two chains between the first point of S and the last
+-- every extreme point is on one of the two chains between the first point of S and the last
 pub extreme_on_chain : (S : List Pair) (first last : Pair) (ls us : List Pair) (t : Pair)
     → IsChain (IsLowerEdge S) first ls → end_of first ls ≡ last → IsChain (IsUpperEdge S) last us
     → end_of last us ≡ first
@@ -113,7 +113,7 @@ extreme_on_chain S first last ls us t lc le uc ue hf hl x =
       ]
     ]
 
--- the points of a chain after its start are extreme, where it goes on to the last point along its side
+-- the points of a chain after its start are extreme, if it goes on to the last point along its side
 chain_rest : (side : Side) (S : List Pair) (p u : Pair) (vs : List Pair) → IsPointSet S → IsEdgeOn side S p u
     → IsChain (IsEdgeOn side S) u vs → ((t : Pair) → Contains S t → ¬ (IsAlong side (end_of u vs) t))
     → All (IsExtreme S) (u ∷ vs)
@@ -129,12 +129,12 @@ pub lower_extreme : (S : List Pair) (first v : Pair) (vs : List Pair) → IsPoin
 lower_extreme S first v vs s c hf hl =
     All-cons (IsExtreme S) first (v ∷ vs) (first_extreme S first s c.0.from hf) (chain_rest Lower S first v vs s c.0 c.1 hl)
 
--- the points of an upper chain after its start are extreme, where it goes back to the first point
+-- the points of an upper chain after its start are extreme, if it goes back to the first point
 pub upper_rest_extreme : (S : List Pair) (last v : Pair) (vs : List Pair) → IsPointSet S
     → IsChain (IsUpperEdge S) last (v ∷ vs) → IsFirst S (end_of v vs) → All (IsExtreme S) (v ∷ vs)
 upper_rest_extreme S last v vs s c h = chain_rest Upper S last v vs s c.0 c.1 h
 
--- no lower edge and upper edge end at one point
+-- no lower edge and upper edge end at the same point
 pub no_common_corner : (S : List Pair) (u t c : Pair) → IsLowerEdge S u t → IsUpperEdge S c t → ⊥
 no_common_corner S u t c e f =
     let a : pos 0 ≤ℤ orient u t c = All-contains (λ z. pos 0 ≤ℤ orient u t z) S c e.left f.from in

@@ -1,4 +1,4 @@
--- What `with_point` and `without_point` make of a set.
+-- The results of `with_point` and `without_point` for a set.
 use Rattle.std.proofs.Common.{◌≡◌, ℕ, inl, inr, refl, sym, ◌∙◌, subst, List, arith, zero, suc, ◌<◌, [], ◌∷◌, ◌++◌}
 use Rattle.std.proofs.Common.{length, get_or}
 use Rattle.std.specs.List.{All, Contains}
@@ -9,7 +9,7 @@ use Rattle.lattice.proofs.Order.{before_trans, before_irrefl, before_total, is_b
 use Rattle.hull_geometry.proofs.PointLists.{AllPairs-cons, AllPairs-head, AllPairs-tail, all_append_right, left_part}
 use Rattle.hull_geometry.proofs.PointLists.{right_part, get_or_free}
 
--- p between the points before it and those after it
+-- adding p to a set inserts it between the points before it and those after it
 pub set-insert : (p : Pair) (xs ys : List Pair) → IsPointSet (xs ++ ys) → All (λ t. IsBefore t p) xs
     → All (IsBefore p) ys → IsPointSet (xs ++ p ∷ ys)
 set-insert p [] ys s a b = AllPairs-cons p ys b s
@@ -30,7 +30,7 @@ absent_between p xs ys a b m =
     (λ t h e. before_irrefl p (subst (λ (z : Pair). IsBefore z p) e h)) xs a)
     (All-weaker (IsBefore p) (λ t. ¬ (t ≡ p)) (λ t h e. before_irrefl p (subst (IsBefore p) e h)) ys b)) m refl
 
--- The chains of hull edges, and that their points are the extreme points.
+-- a property of all points of a set is one of all points of it without p
 pub all_without : (P : Pair → Type 0) (p : Pair) (S : List Pair) → IsPointSet S
     → ((t : Pair) → Contains S t → ¬ (t ≡ p) → P t) → All P (without_point p S)
 all_without P p [] s h = λ k d l. absurd (omega arith)

@@ -9,14 +9,14 @@ use Rattle.lattice.proofs.Vectors.{minus, opp, cross, Ahead, cross-opp_left, cro
 use Rattle.hull_geometry.proofs.Orientation.{orient_swap, orient-sum, at_least, ahead_of, behind_of, turned, orient-cycle}
 use Rattle.hull_geometry.proofs.Orientation.{along}
 
--- q between a and b in the order is between them in x
+-- a point q between a and b in the order is between them in x
 between_x : (a b q : Pair) → IsBefore a q → IsBefore q b → IsBetween a.x b.x q.x
 between_x a b q (inl h) (inl k) = inl (omega (arith, ints), omega (arith, ints))
 between_x a b q (inl h) (inr k) = inl (omega (arith, ints), omega (arith, ints, k.0))
 between_x a b q (inr h) (inl k) = inl (omega (arith, ints, h.0), omega (arith, ints))
 between_x a b q (inr h) (inr k) = inl (omega (arith, ints, h.0), omega (arith, ints, k.0))
 
--- and in y, where it stands on their line
+-- a point q between a and b in the order and on their line is between them in y
 between_y : (a b q : Pair)
     → ((pos 0 ≤ℤ neg_ℤ (a.y -ℤ q.y)) × (pos 0 ≤ℤ (b.y -ℤ q.y)))
     ⊎ ((neg_ℤ (a.y -ℤ q.y) ≤ℤ pos 0) × ((b.y -ℤ q.y) ≤ℤ pos 0)) → IsBetween a.y b.y q.y
@@ -33,7 +33,7 @@ on_segment a b q ha hb z = (
       (cross-opp_left (minus a q) (minus b q) ∙ orient_swap q b a ∙ ap neg_ℤ z)),
 )
 
--- a, b, c orient to the left round q, which lies between a and b in the order
+-- if a, b, c go round q to the left, and q is between a and b in the order, S covers q
 covered_by_sides : (S : List Pair) (q a b c : Pair) → Contains S a → Contains S b → Contains S c → IsBefore a q
     → IsBefore q b
     → pos 0 ≤ℤ orient q a b → pos 0 ≤ℤ orient q b c → pos 0 ≤ℤ orient q c a → Covers S q
@@ -55,7 +55,7 @@ covered_by_sides S q a b c ma mb mc ha hb ab bc ca =
       )
     ]
 
--- q on or left of an edge from a before it to b after it, and of one from c after it to d before it
+-- if q is on or left of an edge from a before it to b after it, and of one from c after it to d before it, S covers q
 pub covered_by_edges : (S : List Pair) (q a b c d : Pair) → Contains S a → Contains S b → Contains S c → Contains S d
     → IsBefore a q → IsBefore q b → IsBefore q c → IsBefore d q → pos 0 ≤ℤ orient q a b → pos 0 ≤ℤ orient q c d
     → Covers S q

@@ -26,10 +26,10 @@ use Rattle.hull_geometry.proofs.SameSide.{OneSide, more_beside}
 use Rattle.hull_geometry.proofs.Separators.{separated_by_wedge, wedge_before, wedge_behind}
 use Rattle.hull_geometry.proofs.Sightings.{more_irrefl, tangent_of}
 
--- a relation of which each two points can be told
+-- a relation that can be decided for each two points
 module _ (B : Pair → Pair → Type 0) (irreflexive : (x : Pair) → ¬ (B x x))
     (told : (x y : Pair) → B x y ⊎ ¬ (B x y)) where
-  -- of the points of a list on which it is transitive, none is better than some one of them
+  -- if the relation is transitive on the points of a list, no point is better than some one of them
   best_there : (P : Pair → Type 0) → ((u v w : Pair) → P u → P v → P w → B u v → B v w → B u w)
       → (t : Pair) (ts : List Pair) → All P (t ∷ ts) → (b : Pair) × Contains (t ∷ ts) b × All (λ u. ¬ (B u b)) (t ∷ ts)
   best_there P transitive t [] h =
@@ -48,7 +48,7 @@ module _ (B : Pair → Pair → Type 0) (irreflexive : (x : Pair) → ¬ (B x x)
         | inr n ↦ (r.0, later t r.0 (x ∷ xs) r.1, All-cons (λ u. ¬ (B u r.0)) t (x ∷ xs) n r.2)
       ]
 
--- whether a bend is above 0, or is 0 and a number below another, can be told
+-- whether a bend is above 0, or is 0 and a number below another, can be decided
 nearer_told : (orient_on near far : ℤ)
     → ((pos 0 <ℤ orient_on) ⊎ ((orient_on ≡ pos 0) × (near <ℤ far))) ⊎ ¬ ((pos 0 <ℤ orient_on) ⊎ ((orient_on ≡ pos 0) × (near <ℤ far)))
 nearer_told orient_on near far =
@@ -71,7 +71,7 @@ nearer_told orient_on near far =
     not_outwards h (inl b) = omega (arith, ints)
     not_outwards h (inr b) = omega (arith, ints, b.0)
 
--- of points on one side of q some one is farthest on a hand
+-- of points on one side of q one is farthest on a hand
 farthest_on : (hand : Hand) (q : Pair) (P : Pair → Type 0) → ((u v w : Pair) → P u → P v → P w → OneSide q u v w)
     → (t : Pair) (ts : List Pair) → All P (t ∷ ts) → (b : Pair) × IsTangent hand (t ∷ ts) q b
 farthest_on hand q P beside t ts h =
@@ -79,7 +79,7 @@ farthest_on hand q P beside t ts h =
     (λ u v w pu pv pw. more_beside hand q u v w (beside u v w pu pv pw)) t ts h in
     (r.0, tangent_of hand (t ∷ ts) q r.0 r.1 r.2)
 
--- the points before q, q where it is there, and the points after it
+-- a set split by q: the points before q, q if it is there, and the points after it
 pub record Parted (S : List Pair) (q : Pair) : Type 0 where
   pub behind : List Pair
   pub ahead : List Pair
@@ -87,7 +87,7 @@ pub record Parted (S : List Pair) (q : Pair) : Type 0 where
   pub all_ahead : All (IsBefore q) ahead
   pub whole : Contains S q ⊎ (S ≡ behind ++ ahead)
 
--- a list in order is parted by any point
+-- any point splits a list in order
 pub parted_at : (S : List Pair) (q : Pair) → IsPointSet S → Parted S q
 parted_at [] q s = record {
   behind = [];
@@ -138,8 +138,8 @@ parted_at (t ∷ ts) q s =
 abbrev InWedge : Pair → Pair → Pair → Pair → Type 0
 InWedge q l r t = pos 0 <ℤ (orient q r t +ℤ orient q t l)
 
--- where the leftmost of the points that come before q along a chain and the rightmost of those behind it leave q outside,
--- all of them lie within a wedge at q
+-- if the leftmost of the points before q along a chain and the rightmost of those after it leave q outside, all of them
+-- lie within a wedge at q
 within_wedge : (side : Side) (q l r : Pair) (F G : List Pair) → All (λ t. IsAlong side t q) F → All (IsAlong side q) G
     → IsLeftTangent F q l → IsRightTangent G q r → orient q l r <ℤ pos 0
     → All (InWedge q l r) F × All (InWedge q l r) G
@@ -157,7 +157,7 @@ within_wedge side q l r F G f g left right h = (
     rl : pos 0 <ℤ orient q r l
     rl = above_opposite _ _ (orient_swap q r l) h
 
--- the outermost points before q and after it, and what their sides of q say
+-- the outermost points before q and after it, by their sides of q, cover q or separate it
 round_told : (q b a : Pair) (bs cs : List Pair) → All (λ t. IsBefore t q) (b ∷ bs) → All (IsBefore q) (a ∷ cs)
     → Covers ((b ∷ bs) ++ (a ∷ cs)) q ⊎ Separated ((b ∷ bs) ++ (a ∷ cs)) q
 round_told q b a bs cs hb ha =

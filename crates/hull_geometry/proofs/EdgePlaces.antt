@@ -1,4 +1,4 @@
--- Where a point lies, by one edge of the hull or by two: a lower edge below it and an upper edge above it.
+-- The location of a point, by one edge of the hull or by two: a lower edge below it and an upper edge above it.
 use Rattle.std.proofs.Common.{◌≡◌, ℤ, pos, ◌-ℤ◌, ◌≤ℤ◌, ◌<ℤ◌, ◌⊎◌, List, arith}
 use Rattle.std.proofs.lemmas.Int.{ints}
 use Rattle.std.proofs.lemmas.List.Elements.{All-weaker}

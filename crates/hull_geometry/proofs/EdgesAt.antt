@@ -1,4 +1,4 @@
--- The edges between whose ends a point stands, and what its sides of them tell.
+-- The edges at a point, and the location that follows from its sides of them.
 use Rattle.std.proofs.Common.{◌≡◌, ℤ, pos, negsuc, ◌≤ℤ◌, ◌<ℤ◌, ◌⊎◌, inl, inr, sym, ap, ◌∙◌, subst, List, length, arith}
 use Rattle.std.specs.List.{All, Contains}
 use Rattle.std.proofs.lemmas.Int.{ints}
@@ -20,7 +20,7 @@ use Rattle.hull_geometry.proofs.NotCovered.{not_covered}
 use Rattle.hull_geometry.proofs.OneSided.{past_separated}
 use Rattle.hull_geometry.proofs.PointLists.{all_of}
 
--- c is not after v, and v stands before a
+-- if c is not after v, and v is before a, then c is before a
 pub up_to : (c v a : Pair) → ¬ (IsBefore v c) → IsBefore v a → IsBefore c a
 up_to c v a n h = elim (before_total c v) [
   | inl k ↦ before_trans c v a k h
@@ -28,18 +28,18 @@ up_to c v a n h = elim (before_total c v) [
   | inr (inr k) ↦ absurd (n k)
 ]
 
--- v stands before a, and d is not before a
+-- if v is before a, and d is not before a, then v is before d
 pub on_from : (v a d : Pair) → IsBefore v a → ¬ (IsBefore d a) → IsBefore v d
 on_from v a d h n = elim (before_total a d)
     [ inl k ↦ before_trans v a d h k | inr (inl e) ↦ subst (IsBefore v) e h | inr (inr k) ↦ absurd (n k) ]
 
 -- ---- from outside
 
--- before the first point is before all
+-- a point before the first point is before all points
 pub before_all : (S : List Pair) (first q : Pair) → IsFirst S first → IsBefore q first → All (IsBefore q) S
 before_all S first q h b = all_of (IsBefore q) S (λ s m. on_from q first s b (h s m))
 
--- after the last point is after all
+-- a point after the last point is after all points
 pub after_all : (S : List Pair) (last q : Pair) → IsLast S last → IsBefore last q → All (λ s. IsBefore s q) S
 after_all S last q h b = all_of (λ s. IsBefore s q) S (λ s m. up_to s last q (h s m) b)
 
@@ -51,7 +51,7 @@ outside_before S first q h b = not_covered S q (past_separated Upper S q (before
 pub outside_after : (S : List Pair) (last q : Pair) → IsLast S last → IsBefore last q → IsOutside S q
 outside_after S last q h b = not_covered S q (past_separated Lower S q (after_all S last q h b))
 
--- any point lies outside of no points
+-- any point lies outside of the hull of no points
 pub outside_nothing : (S : List Pair) (q : Pair) → length S ≡ 0 → IsOutside S q
 outside_nothing S q l = not_covered S q (past_separated Lower S q (λ k d h. absurd (omega (arith, h, l))))
 
@@ -91,7 +91,7 @@ outer_last S q h = (
   all_of (λ t. product (level (pos 1)) t ≤ℤ product (level (pos 1)) q) S (λ t m. right_unit t q (h t m)),
 )
 
--- a line has its own start on it
+-- the start of a line is not strictly left of it
 not_start : (c d q : Pair) → c ≡ q → pos 0 <ℤ orient c d q → ⊥
 not_start c d q e h = let z : orient c d q ≡ pos 0 = ap (orient c d) (sym e) ∙ orient_start c d in omega (arith, ints)
 
@@ -99,7 +99,7 @@ not_start c d q e h = let z : orient c d q ≡ pos 0 = ap (orient c d) (sym e) �
 pub touching_first : (S : List Pair) (q : Pair) → Contains S q → IsFirst S q → IsOnBoundary S q
 touching_first S q m h = (Member m, outer_first S q h)
 
--- so does the last one
+-- the last point lies on the boundary
 pub touching_last : (S : List Pair) (q : Pair) → Contains S q → IsLast S q → IsOnBoundary S q
 touching_last S q m h = (Member m, outer_last S q h)
 
@@ -112,7 +112,7 @@ touching_start S q e k n =
       on_line_outer S e.0 e.1 q (inl k.edge.along) k.edge.left (ap (orient e.0 e.1) (sym s) ∙ orient_start e.0 e.1),
     )
 
--- on the inner side of both edges at q, or on them: covered
+-- a point on the inner side of both edges at it, or on them, is covered
 covered_at : (S : List Pair) (q : Pair) (e f : Pair × Pair) → IsLowerEdgeAt S q e → IsUpperEdgeAt S q f
     → pos 0 ≤ℤ orient e.0 e.1 q → pos 0 ≤ℤ orient f.0 f.1 q → Covers S q
 covered_at S q e f k l low high =
@@ -126,7 +126,7 @@ covered_at S q e f k l low high =
       ]
     ]
 
--- on the inner side of both edges at q: inside
+-- a point on the inner side of both edges at it lies inside
 inside_at : (S : List Pair) (q : Pair) (e f : Pair × Pair) → IsLowerEdgeAt S q e → IsUpperEdgeAt S q f
     → pos 0 <ℤ orient e.0 e.1 q → pos 0 <ℤ orient f.0 f.1 q → IsInside S q
 inside_at S q e f k l low high =
@@ -140,14 +140,14 @@ inside_at S q e f k l low high =
       ]
     ]
 
--- on the line of one of the edges at q: outer
+-- a point on the line of one of the edges at it is outer
 outer_at : (S : List Pair) (q : Pair) (e f : Pair × Pair) → IsLowerEdgeAt S q e → IsUpperEdgeAt S q f
     → pos 0 ≤ℤ orient e.0 e.1 q → pos 0 ≤ℤ orient f.0 f.1 q → (orient e.0 e.1 q ≤ℤ pos 0) ⊎ (orient f.0 f.1 q ≤ℤ pos 0)
     → IsOuter S q
 outer_at S q e f k l low high (inl h) = on_line_outer S e.0 e.1 q (inl k.edge.along) k.edge.left (omega (arith, ints))
 outer_at S q e f k l low high (inr h) = on_line_outer S f.0 f.1 q (inr l.edge.along) l.edge.left (omega (arith, ints))
 
--- the sides of the two edges at q tell its sight
+-- the sides of the two edges at q determine its location
 pub seen_by : (first last : Pair) (S : List Pair) (q : Pair) (e f : Pair × Pair) (s : Sight) → IsBetweenEnds first last q
     → IsLowerEdgeAt S q e → IsUpperEdgeAt S q f → IsSightBy (orient e.0 e.1 q) (orient f.0 f.1 q) s
     → IsSightOf first last S q s

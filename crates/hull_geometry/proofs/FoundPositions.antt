@@ -20,7 +20,7 @@ ordered_from n S s l i j d lt k =
     (subst (λ (z : Pair). IsBefore (get_or S (n + i) d) z) (sym (get_or-drop n S j d))
     (s (n + i) (n + j) d (omega (arith, lt)) (omega (arith, k, m, l))))
 
--- where the point at m stands before p, so do all up to it
+-- if the point at m is before p, all points up to it are
 pub below_up_to : (S : List Pair) (p x : Pair) (m : ℕ) → IsPointSet S → m < length S → x ≡ get_or S m x → IsBefore x p
     → All (λ t. IsBefore t p) (take (m + 1) S)
 below_up_to S p x m s l e b k d h =
@@ -34,7 +34,7 @@ below_up_to S p x m s l e b k d h =
           subst (λ (z : Pair). IsBefore z p) (at ∙ ap (λ (i : ℕ). get_or S i d) same) b
     ])
 
--- where it does not, none from there on does
+-- if the point at m is not before p, no point from there on is
 pub rest_from : (S : List Pair) (p x : Pair) (m : ℕ) → IsPointSet S → m < length S → x ≡ get_or S m x → ¬ (IsBefore x p)
     → All (λ t. ¬ (IsBefore t p)) (drop m S)
 rest_from S p x m s l e n k d h b =
@@ -51,7 +51,7 @@ rest_from S p x m s l e n k d h b =
           n (subst (λ (z : Pair). IsBefore z p) (sym (at ∙ ap (λ (i : ℕ). get_or S i d) (sym same))) here)
     ]
 
--- where the first is not before p and not p, all stand after p
+-- if the first point is not before p and not p, all points are after p
 all_after : (x : Pair) (xs : List Pair) (p : Pair) → IsPointSet (x ∷ xs) → ¬ (IsBefore x p) → ¬ (x ≡ p)
     → All (IsBefore p) (x ∷ xs)
 all_after x xs p s n m =
@@ -60,7 +60,7 @@ all_after x xs p s n m =
     All-cons (IsBefore p) x xs first
     (All-weaker (IsBefore x) (IsBefore p) (λ t h. before_trans p x t first h) xs (AllPairs-head x xs s))
 
--- where the point at i is not before p and not p, all from there on stand after p
+-- if the point at i is not before p and not p, all points from there on are after p
 pub drop_after : (S : List Pair) (p : Pair) (i : ℕ) (d : Pair) → IsPointSet S → i < length S
     → All (λ t. ¬ (IsBefore t p)) (drop i S) → ¬ (get_or S i d ≡ p) → All (IsBefore p) (drop i S)
 drop_after [] p i d s l a n = absurd (omega arith)
@@ -72,14 +72,14 @@ pub found_absent : (S : List Pair) (p : Pair) (i : ℕ) → IsPositionOf S p (Er
 found_absent S p i h m =
     absent_between p (take i S) (drop i S) h.1 h.2 (subst (λ (z : List Pair). Contains z p) (cut S i h.0) m)
 
--- the first point that is not before p stands after it: p is not there
+-- if the first point that is not before p is after it, p is not in the list
 pub place_before : (S : List Pair) (p : Pair) (i : ℕ) (x : Pair) → IsPointSet S → i < length S
     → All (λ t. IsBefore t p) (take i S) → All (λ t. ¬ (IsBefore t p)) (drop i S) → x ≡ get_or S i x → IsBefore p x
     → IsPositionOf S p (Err i)
 place_before S p i x s l h n e b =
     (omega arith, h, drop_after S p i x s l n (λ k. before_irrefl p (subst (IsBefore p) (e ∙ k) b)))
 
--- the first point that is not before p is p
+-- if the first point that is not before p is p, its index is the position
 pub place_found : (S : List Pair) (p : Pair) (i : ℕ) (x : Pair) → i < length S → All (λ t. IsBefore t p) (take i S)
     → All (λ t. ¬ (IsBefore t p)) (drop i S) → x ≡ get_or S i x → ¬ (IsBefore p x) → IsPositionOf S p (Ok i)
 place_found S p i x l h n e b =
@@ -101,7 +101,7 @@ place_found S p i x l h n e b =
     front (y ∷ ys) zero a lt = All-head (λ t. ¬ (IsBefore t p)) y ys a
     front (y ∷ ys) (suc j) a lt = front ys j a (omega arith)
 
--- all points after the position of p stand after p
+-- all points after the position of p are after p
 pub found_after : (S : List Pair) (p : Pair) (i : ℕ) → IsPointSet S → IsPositionOf S p (Ok i)
     → All (IsBefore p) (drop (i + 1) S)
 found_after S p i s h k d l =
@@ -109,7 +109,7 @@ found_after S p i s h k d l =
     subst (λ (z : Pair). IsBefore p z) (sym (get_or-drop (i + 1) S k d))
     (subst (λ (z : Pair). IsBefore z (get_or S (i + 1 + k) d)) (h.1 d) (s i (i + 1 + k) d (omega arith) n))
 
--- a list around the position of p
+-- a list is the points before the position of p, p, and the points after it
 pub cut_around : (S : List Pair) (p : Pair) (i : ℕ) → IsPositionOf S p (Ok i) → take i S ++ p ∷ drop (i + 1) S ≡ S
 cut_around S p i h =
     sym (cut_at S i p h.0 ∙ ap (λ (z : Pair). take i S ++ z ∷ drop (suc i) S) (h.1 p)

@@ -1,4 +1,4 @@
--- The corners of a hull are on every fringe of its set, and the chain of a fringe is the chain of the set.
+-- The vertices of a hull are on every candidate list of its set, and the chain of a candidate list is the chain of the set.
 use Rattle.std.proofs.Common.{◌≡◌, pos, ◌≤ℤ◌, ◌<ℤ◌, ◌⊎◌, inl, inr, refl, sym, subst, List, arith, [], ◌∷◌}
 use Rattle.std.proofs.Common.{ℕ, zero, suc, Ok, take, drop, ◌+◌, ◌++◌}
 use Rattle.std.specs.List.{Contains}
@@ -20,9 +20,9 @@ use Rattle.hull_geometry.proofs.Passes.{member_inner, thinned_of}
 use Rattle.hull_geometry.proofs.SetLaws.{members_without}
 use Rattle.hull_geometry.proofs.Orientations.{orient_on_cycle, orient_on_swap, strict_back, stays_outwards}
 
--- ---- corners
+-- ---- vertices
 
--- no corner stands inwards of a segment between two points of the set: behind a point
+-- no vertex lies inwards of a segment between two points of the set, by recursion along the chain
 outwards_from : (side : Side) (S : List Pair) (x : Pair) (rest : List Pair) (t a b : Pair)
     → IsChain (IsEdge side S) x rest → Contains rest t → Contains S a → Contains S b → ¬ (IsInwards side a b t)
 outwards_from side S x [] t a b e m ma mb k = omega (arith, m.1)
@@ -36,7 +36,7 @@ outwards_from side S x (y ∷ ys) t a b e (zero, l, q) ma mb (at, tb, h) =
 outwards_from side S x (y ∷ ys) t a b e (suc k, l, q) ma mb i =
     outwards_from side S y ys t a b e.1 (k, omega (arith, l), q) ma mb i
 
--- no corner stands inwards of a segment between two points of the set
+-- no vertex lies inwards of a segment between two points of the set
 pub corner_outwards : (side : Side) (S chain : List Pair) (t a b : Pair) → IsChainOf side S chain → Contains chain t
     → Contains S a → Contains S b → ¬ (IsInwards side a b t)
 corner_outwards side S [] t a b c m ma mb k = omega (arith, m.1)
@@ -45,7 +45,8 @@ corner_outwards side S (x ∷ rest) t a b c (zero, l, q) ma mb k =
 corner_outwards side S (x ∷ rest) t a b c (suc k, l, q) ma mb i =
     outwards_from side S x rest t a b (chain_edges side S x rest c) (k, omega (arith, l), q) ma mb i
 
--- what is inner to a list of points of a set is one of them, or stands inwards of a segment between two: behind a point
+-- a point that is inner to a list of points of a set is one of them, or lies inwards of a segment between two, by
+-- recursion
 whence_from : (side : Side) (S : List Pair) (x : Pair) (rest : List Pair) (t : Pair)
     → ((u : Pair) → Contains (x ∷ rest) u → Contains S u)
     → ((a b : Pair) → Contains S a → Contains S b → ¬ (IsInwards side a b t)) → IsInnerFrom side x rest t
@@ -58,7 +59,7 @@ whence_from side S x (y ∷ ys) t among out (inr (inr k)) =
     let r = whence_from side S y ys t (λ u m. among u (suc m.0, omega (arith, m.1), m.2)) out k in
     (suc r.0, omega (arith, r.1), r.2)
 
--- a point that stands inwards of no segment between two points of the set is on the fringe
+-- a point that lies inwards of no segment between two points of the set is on the candidate list
 on_fringe : (side : Side) (S fringe : List Pair) (t : Pair) → ((u : Pair) → Contains fringe u → Contains S u)
     → ((a b : Pair) → Contains S a → Contains S b → ¬ (IsInwards side a b t)) → IsInner side fringe t
     → Contains fringe t
@@ -67,7 +68,7 @@ on_fringe side S (x ∷ rest) t among out (inl e) = (0, omega arith, sym e)
 on_fringe side S (x ∷ rest) t among out (inr k) =
     let r = whence_from side S x rest t among out k in (suc r.0, omega (arith, r.1), r.2)
 
--- the corners of a set that are left are on every fringe of what is left
+-- the vertices that stay when points are removed from a set are on every candidate list of the rest
 pub corners_kept : (side : Side) (S keys fringe chain : List Pair) → ((t : Pair) → Contains keys t → Contains S t)
     → IsFringeOf side keys fringe → IsChainOf side S chain → (t : Pair) → Contains chain t → Contains keys t
     → Contains fringe t
@@ -77,8 +78,8 @@ corners_kept side S keys fringe chain in_S f c t m n =
 
 -- ---- chains
 
--- what stands inwards of the segment between two points of a set, and between the ends of a chain of its edges, is
--- inner to the chain
+-- a point that lies inwards of the segment between two points of a set, and between the ends of a chain of its edges,
+-- is inner to the chain
 along : (side : Side) (S : List Pair) (x : Pair) (rest : List Pair) (u a b : Pair) → IsChain (IsEdge side S) x rest
     → Contains S a → Contains S b → IsInwards side a b u → ¬ (IsBefore u x) → ¬ (IsBefore (end_of x rest) u)
     → IsInner side (x ∷ rest) u
@@ -105,7 +106,7 @@ along side S x (y ∷ ys) u a b e ma mb i h k =
     further (inl q) = inr (inl q)
     further (inr m) = inr (inr (inr m))
 
--- what stands inwards of the segment between two points of a set is inner to the chain of the set
+-- a point that lies inwards of the segment between two points of a set is inner to the chain of the set
 pub between_inner : (side : Side) (S chain : List Pair) (u a b : Pair) → IsChainOf side S chain → Contains S a
     → Contains S b → IsInwards side a b u → IsInner side chain u
 between_inner side S [] u a b c ma mb i = absurd (c.inner a ma)
@@ -114,7 +115,7 @@ between_inner side S (x ∷ rest) u a b c ma mb i =
     (λ ux. chain_first side S x rest c a ma (before_trans a u x i.0 ux))
     (λ eu. chain_last side S x rest c b mb (before_trans (end_of x rest) u b eu i.1))
 
--- what is inner to points of a set is inner to the chain of the set: behind a point
+-- a point that is inner to points of a set is inner to the chain of the set, by recursion
 through_from : (side : Side) (S chain : List Pair) (x : Pair) (rest : List Pair) (u : Pair) → IsChainOf side S chain
     → ((t : Pair) → Contains (x ∷ rest) t → Contains S t) → IsInnerFrom side x rest u → IsInner side chain u
 through_from side S chain x [] u c among k = elim k [ ]
@@ -125,7 +126,7 @@ through_from side S chain x (y ∷ ys) u c among (inr (inl k)) =
 through_from side S chain x (y ∷ ys) u c among (inr (inr k)) =
     through_from side S chain y ys u c (λ t m. among t (suc m.0, omega (arith, m.1), m.2)) k
 
--- what is inner to a set in order is inner to the chain of the set
+-- a point that is inner to a set in order is inner to the chain of the set
 pub through : (side : Side) (S chain : List Pair) (u : Pair) → IsChainOf side S chain → IsInner side S u
     → IsInner side chain u
 through side [] chain u c k = elim k [ ]
@@ -133,7 +134,7 @@ through side (x ∷ rest) chain u c (inl e) =
     subst (IsInner side chain) (sym e) (c.inner x (0, omega arith, refl))
 through side (x ∷ rest) chain u c (inr k) = through_from side (x ∷ rest) chain x rest u c (λ t m. m) k
 
--- the chain of a fringe is the chain of the set
+-- the chain of a candidate list is the chain of the set
 pub chain_of_fringe : (side : Side) (S fringe chain : List Pair) → IsFringeOf side S fringe
     → IsChainOf side fringe chain → IsChainOf side S chain
 chain_of_fringe side S fringe chain f c = record {
@@ -142,8 +143,8 @@ chain_of_fringe side S fringe chain f c = record {
   inner = λ u m. through side fringe chain u c (f.inner u m);
 }
 
--- what a pass leaves of the corners before p, the points of the fringe between its neighbours, and the corners after it,
--- is the chain of what is left
+-- the result of a pass over the vertices before p, the points of the candidate list between its neighbours, and the
+-- vertices after it, is the chain of the set without p
 pub take_out_new : (side : Side) (S fringe chain middle new : List Pair) (p : Pair) (i : ℕ) → IsPointSet S
     → IsPositionOf chain p (Ok i) → ((t : Pair) → Contains chain t → (t ≡ p) ⊎ Contains fringe t)
     → IsBetween fringe (take i chain) (drop (i + 1) chain) middle
@@ -156,7 +157,7 @@ take_out_new side S fringe chain middle new p i s at among k h c f =
     (λ u m. inner_still side (without_point p S) S chain p s refl c.inner u (f.among u m)) k
     (thinned_of side (take i chain ++ middle ++ drop (i + 1) chain) new h)) h.strict.convex)
 
--- what is left of all points of a set is a fringe of it
+-- all points of a set without some inner ones are a candidate list of it
 pub whole_fringe : (side : Side) (S new : List Pair) → ThinsBetween side S [] [] new → IsFringeOf side S new
 whole_fringe side S new (middle, k, h) = record {
   ordered = h.ordered;
@@ -165,7 +166,7 @@ whole_fringe side S new (middle, k, h) = record {
       (λ j d l. absurd (omega (arith, l)))));
 }
 
--- a corner of a set is the point that left, or on every fringe of what is left
+-- a vertex of a set is the point that was removed, or on every candidate list of the rest
 pub corners_left : (side : Side) (S keys fringe chain : List Pair) (p : Pair) → IsPointSet S → keys ≡ without_point p S
     → IsChainOf side S chain → IsFringeOf side keys fringe → (t : Pair) → Contains chain t
     → (t ≡ p) ⊎ Contains fringe t

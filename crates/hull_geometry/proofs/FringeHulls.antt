@@ -1,4 +1,4 @@
--- A fringe of a set on both sides has the hull of the set.
+-- A candidate list of a set on both sides has the hull of the set.
 use Rattle.std.proofs.Common.{◌≡◌, ℤ, pos, ◌-ℤ◌, ◌*ℤ◌, ◌≤ℤ◌, ◌<ℤ◌, neg_ℤ, ◌⊎◌, inl, inr, sym, ap, ◌∙◌}
 use Rattle.std.proofs.Common.{subst, List, [], ◌∷◌, arith}
 use Rattle.std.specs.Prelude.{◌↔◌, ◌≢◌}
@@ -36,15 +36,15 @@ use Rattle.hull_geometry.proofs.Slopes.{stays, goes, drops, product-step}
 use Rattle.lattice.proofs.LineCrossings.{orient_other}
 use Rattle.hull_geometry.proofs.Surrounded.{product-level}
 
--- ---- what stands inwards of a segment, in a direction
+-- ---- a point inwards of a segment, in a direction
 
 -- t lies less far than a or b, or the three lie equally far
 abbrev IsOvertaken : Pair → Pair → Pair → Pair → Type 0
 IsOvertaken d a b t = (product d t <ℤ product d a) ⊎ ((product d t <ℤ product d b)
     ⊎ ((product d a ≡ product d t) × (product d b ≡ product d t)))
 
--- where t lies less far than a where b does, less far than b where a does, and not farther than a where they lie
--- equally far
+-- t is overtaken by a and b if it lies less far than a when b does, less far than b when a does, and not farther than a
+-- when these lie equally far
 overtaken : (d a b t : Pair) → (product d b <ℤ product d a → product d t <ℤ product d a)
     → (product d a <ℤ product d b → product d t <ℤ product d b)
     → (product d a ≡ product d b → product d t ≤ℤ product d a) → IsOvertaken d a b t
@@ -65,7 +65,7 @@ overtaken d a b t falling rising level = elim (le_or_lt (product d a) (product d
     equal : (x y z : ℤ) → x ≤ℤ y → y ≤ℤ x → x ≤ℤ z → z ≤ℤ x → (z <ℤ x) ⊎ ((z <ℤ y) ⊎ ((x ≡ z) × (y ≡ z)))
     equal x y z h k l m = inr (inr (omega (arith, ints), omega (arith, ints)))
 
--- where the direction faces the segment's side, and the other one as one looks back
+-- t is overtaken if the direction faces the segment's side, or the other side as seen from the opposite direction
 overtaken_facing : (side : Side) (d a b t : Pair) → Faces side d → Faces (opposite side) (opp d) → IsInwards side a b t
     → IsOvertaken d a b t
 overtaken_facing side d a b t faces back k =
@@ -78,7 +78,7 @@ overtaken_facing side d a b t faces back k =
     equal : (x y : ℤ) → x ≡ y → y ≤ℤ x
     equal x y e = omega (arith, ints)
 
--- in a level direction to the right what stands later lies no less far
+-- in a level direction to the right, a later point lies no less far
 level_right : (d p q : Pair) → d.y ≡ pos 0 → pos 0 ≤ℤ d.x → IsBefore p q → product d p ≤ℤ product d q
 level_right d p q e h b = more _ _ _ _ (product-step d p q) (product-level d (minus q p) e)
     (product_nn d.x (minus q p).x h (ahead_nn (minus q p) (ahead_of p q b)))
@@ -86,7 +86,7 @@ level_right d p q e h b = more _ _ _ _ (product-step d p q) (product-level d (mi
     more : (x y z w : ℤ) → x ≡ y -ℤ z → x ≡ w → pos 0 ≤ℤ w → z ≤ℤ y
     more x y z w e f h = omega (arith, ints)
 
--- and to the left no farther
+-- in a level direction to the left, a later point lies no farther
 level_left : (d p q : Pair) → d.y ≡ pos 0 → d.x ≤ℤ pos 0 → IsBefore p q → product d q ≤ℤ product d p
 level_left d p q e h b = less _ _ _ _ (product-step d p q) (product-level d (minus q p) e)
     (product_np d.x (minus q p).x h (ahead_nn (minus q p) (ahead_of p q b)))
@@ -133,20 +133,20 @@ overtaking d = elim (le_or_lt d.y (pos 0)) [
 
 -- ---- lines
 
--- two vectors in line with a third are in line
+-- two vectors in line with a third are in line, by their first components
 in_line_x : (w t b : Pair) → cross t b *ℤ w.x ≡ t.x *ℤ cross w b -ℤ b.x *ℤ cross w t
 in_line_x w t b = rw (as_pair w, as_pair t, as_pair b) (simp difference_rules (difference-eq _ _ _ _ (omega arith)))
 
--- by their second components
+-- the same by their second components
 in_line_y : (w t b : Pair) → cross t b *ℤ w.y ≡ t.y *ℤ cross w b -ℤ b.y *ℤ cross w t
 in_line_y w t b = rw (as_pair w, as_pair t, as_pair b) (simp difference_rules (difference-eq _ _ _ _ (omega arith)))
 
--- a difference of products with zeros
+-- a difference of products with zeros is zero
 none_of : (a x y u v : ℤ) → a ≡ x *ℤ u -ℤ y *ℤ v → u ≡ pos 0 → v ≡ pos 0 → a ≡ pos 0
 none_of a x y u v e f g = e ∙ ap (λ (z : ℤ). x *ℤ z -ℤ y *ℤ v) f ∙ ap (λ (z : ℤ). x *ℤ pos 0 -ℤ y *ℤ z) g
     ∙ omega (arith, ints)
 
--- two vectors in line with one ahead
+-- two vectors in line with one ahead are in line
 with_ahead : (w t b : Pair) → Ahead w → cross w t ≡ pos 0 → cross w b ≡ pos 0 → cross t b ≡ pos 0
 with_ahead w t b (inl h) e f = cancel_zero (cross t b) w.x h (none_of _ _ _ _ _ (in_line_x w t b) f e)
 with_ahead w t b (inr h) e f = cancel_zero (cross t b) w.y h.1 (none_of _ _ _ _ _ (in_line_y w t b) f e)
@@ -164,23 +164,23 @@ in_line q p t b n e f = orient-cross q t b ∙ elim (before_total q p) [
     back t e = cross-opp_left (minus p q) (minus t q)
         ∙ zero_opposite _ _ (cross_swap (minus t q) (minus p q)) (sym (orient-cross q p t) ∙ e)
 
--- what is as far as a point with no gap has none
+-- a number as far as one whose difference is 0 has the difference 0
 same_gap : (x y z a b : ℤ) → x -ℤ y ≡ a → x -ℤ z ≡ b → b ≡ pos 0 → y ≡ z → a ≡ pos 0
 same_gap x y z a b e f g h = omega (arith, ints)
 
--- what is farther than a point with no gap has one below 0
+-- a number farther than one whose difference is 0 has a difference below 0
 beyond : (x y z a b : ℤ) → x -ℤ y ≡ a → x -ℤ z ≡ b → b ≡ pos 0 → z <ℤ y → pos 0 ≤ℤ a → ⊥
 beyond x y z a b e f g h k = omega (arith, ints)
 
--- what covers stays covered by more points
+-- a point that some points cover is covered by more points
 pub covers_more : (T U : List Pair) (q : Pair) → ((t : Pair) → Contains T t → Contains U t) → Covers T q → Covers U q
 covers_more T U q f (Member m) = Member (f q m)
 covers_more T U q f (OnSegment a b ma mb h) = OnSegment a b (f a ma) (f b mb) h
 covers_more T U q f (InTriangle a b c ma mb mc h) = InTriangle a b c (f a ma) (f b mb) (f c mc) h
 
--- ---- a fringe on both sides
+-- ---- a candidate list on both sides
 
--- F is a fringe of S on both sides
+-- F is a candidate list of S on both sides
 module _ (F S : List Pair) (is_set : IsPointSet F) (of_set : IsPointSet S)
     (fringe : (side : Side) → IsFringe side (Contains F) (Contains S)) where
   -- the points of F are points of S
@@ -193,7 +193,7 @@ module _ (F S : List Pair) (is_set : IsPointSet F) (of_set : IsPointSet S)
       ⊎ ((a b : Pair) × Contains F a × Contains F b × IsBefore a t × IsBefore t b × (product d a ≡ product d t)
       × (product d b ≡ product d t)))
 
-  -- so is each point of S
+  -- each point of S is in F, or beaten by points of F
   beaten : (d t : Pair) → Contains S t → IsBeaten d t
   beaten d t m =
       let r = overtaking d in
@@ -206,7 +206,7 @@ module _ (F S : List Pair) (is_set : IsPointSet F) (of_set : IsPointSet S)
         ]
       ]
 
-  -- some point of F lies as far or farther
+  -- for each point of S, some point of F lies as far or farther
   reached : (d t : Pair) → Contains S t → (u : Pair) × Contains F u × (product d t ≤ℤ product d u)
   reached d t m = elim (beaten d t m) [
     | inl h ↦ (t, h, le_itself _)
@@ -217,7 +217,7 @@ module _ (F S : List Pair) (is_set : IsPointSet F) (of_set : IsPointSet S)
       equal : (x y : ℤ) → x ≡ y → y ≤ℤ x
       equal x y e = omega (arith, ints)
 
-  -- what lies less far than q in F does so in S
+  -- a point that is separated from F is separated from S
   separated : (q : Pair) → Separated F q → Separated S q
   separated q s = (
     s.0,
@@ -225,7 +225,7 @@ module _ (F S : List Pair) (is_set : IsPointSet F) (of_set : IsPointSet S)
         le_less_trans _ _ _ r.2 (All-contains (λ u. product s.0 u <ℤ product s.0 q) F r.0 s.1 r.1)),
   )
 
-  -- the two cover the same points
+  -- F and S cover the same points
   covers : (q : Pair) → Covers F q ↔ Covers S q
   covers q = (
     covers_more F S q among,
@@ -233,18 +233,18 @@ module _ (F S : List Pair) (is_set : IsPointSet F) (of_set : IsPointSet S)
         [ inl h ↦ h | inr s ↦ absurd (not_covered S q (separated q s) c) ],
   )
 
-  -- and have the same farthest points
+  -- a point that is farthest in F is farthest in S
   farthest : (d q : Pair) → IsFarthest F d q → IsFarthest S d q
   farthest d q h = all_of (λ t. product d t ≤ℤ product d q) S (λ t m. let r = reached d t m in
       le_trans _ _ _ r.2 (All-contains (λ u. product d u ≤ℤ product d q) F r.0 h r.1))
 
-  -- also those of fewer points
+  -- a point that is farthest in S is farthest in F
   farthest_of : (d q : Pair) → IsFarthest S d q → IsFarthest F d q
   farthest_of d q h =
       all_of (λ t. product d t ≤ℤ product d q) F (λ t m. All-contains (λ u. product d u ≤ℤ product d q) S t h (among t
       m))
 
-  -- the first of them
+  -- the first of the farthest points of F is that of S
   first_farthest : (d t : Pair) → IsFirstFarthest F d t → IsFirstFarthest S d t
   first_farthest d t h = (
     among t h.0,
@@ -262,7 +262,7 @@ module _ (F S : List Pair) (is_set : IsPointSet F) (of_set : IsPointSet S)
           (All-contains (λ z. product d z ≤ℤ product d t) F k.0 h.1 k.1)
       none u b e (inr (inr k)) = in_fringe k.0 k.2 (before_trans k.0 u t k.4 b) (k.6 ∙ e)
 
-  -- what no point of F lies right of, none of S does
+  -- if no point of F lies right of a line, no point of S does
   left_of : (u v : Pair) → IsLeftOf F u v → IsLeftOf S u v
   left_of u v h = all_of (λ t. pos 0 ≤ℤ orient u v t) S (λ t m.
       to_left _ _ _ (product-right u v t) (All-contains (λ z. product (across u v) z ≤ℤ product (across u v) u) S t
@@ -277,7 +277,7 @@ module _ (F S : List Pair) (is_set : IsPointSet F) (of_set : IsPointSet S)
 
   -- ---- vertices
 
-  -- what is extreme in F is so in S
+  -- a point that is extreme in F is extreme in S
   extreme : (p : Pair) → IsExtreme F p → IsExtreme S p
   extreme p h = (
     among p h.0,
@@ -315,7 +315,7 @@ module _ (F S : List Pair) (is_set : IsPointSet F) (of_set : IsPointSet S)
             (other s k.0 k.2 (before_apart k.0 p (before_trans k.0 t p k.4 b)))
       ]
 
-  -- and back
+  -- a point that is extreme in S is extreme in F
   extreme_of : (p : Pair) → IsExtreme S p → IsExtreme F p
   extreme_of p h = (member, λ c. h.1 (covers_more (without_point p F) (without_point p S) p kept c))
     where
@@ -339,17 +339,17 @@ module _ (F S : List Pair) (is_set : IsPointSet F) (of_set : IsPointSet S)
         ]
       ]
 
-  -- a way round F is one round S
+  -- a list that goes round F goes round S
   goes_round : (first u : Pair) (rest : List Pair) → GoesRound F first u rest → GoesRound S first u rest
   goes_round first u [] h = left_of u first h
   goes_round first u (v ∷ rest) h = (left_of u v h.0, goes_round first v rest h.1)
 
-  -- and one in order
+  -- a list in order round F is in order round S
   in_order : (list : List Pair) → IsInOrder F list → IsInOrder S list
   in_order [] h = h
   in_order (v ∷ rest) h = (goes_round v v rest h.0, h.1)
 
-  -- the two have the same vertices
+  -- a vertex list of F is a vertex list of S
   vertices : (list : List Pair) → IsVertexList F list → IsVertexList S list
   vertices list v = record {
     distinct = v.distinct;
@@ -393,11 +393,11 @@ module _ (F S : List Pair) (is_set : IsPointSet F) (of_set : IsPointSet S)
                 za)
           ]
 
-  -- a point of F as one of no more on a hand
+  -- a point of F is no farther on a hand than the tangent point
   no_more : (hand : Hand) (q p : Pair) → IsTangent hand F q p → (t : Pair) → Contains F t → IsNoMore hand q p t
   no_more hand q p h t m = All-contains (IsNoMore hand q p) F t h.1 m
 
-  -- the tangents from a point that is not covered touch the two in the same points
+  -- the tangents from a point that is not covered touch F and S in the same points
   tangents : (hand : Hand) (q p : Pair) → ¬ Covers F q → IsTangent hand F q p → IsTangent hand S q p
   tangents Left q p out h =
       let left = all_of (λ t. pos 0 ≤ℤ orient p q t) F (λ t m. back _ _ (orient_other q p t) (no_more Left q p h t
@@ -424,7 +424,7 @@ module _ (F S : List Pair) (is_set : IsPointSet F) (of_set : IsPointSet S)
         )),
       )
 
--- what is a fringe of a set on both sides answers for it
+-- a candidate list of a set on both sides answers for the set
 pub fringes_answer : FringesAnswer
 fringes_answer F S f s fringe = record {
   covers = covers F S f s fringe;

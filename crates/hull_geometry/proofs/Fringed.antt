@@ -1,4 +1,4 @@
--- What stands under an edge does not matter to a bridge.
+-- Points under an edge do not matter to a bridge.
 use Rattle.std.proofs.lemmas.Grind.{common_steps}
 use Rattle.std.proofs.Common.{◌≡◌, ℤ, pos, ◌≤ℤ◌, ◌<ℤ◌, ◌⊎◌, inl, inr, refl, sym, subst, arith, List, [], ◌∷◌, suc}
 use Rattle.std.specs.List.{Contains}
@@ -23,54 +23,54 @@ use Rattle.hull_geometry.proofs.Touching.{straight}
 
 -- ---- inner to an edge, by orientations
 
--- inwards of a line
+-- a point inner to a line is not outwards of it
 to_orient_on : (side : Side) (u v t : Pair) → IsInner side (orient u v t) → pos 0 ≤ℤ orient_on side u v t
 to_orient_on Lower u v t h = h
 to_orient_on Upper u v t h = nn_opposite _ _ (orient_other u v t) h
 
--- and back
+-- a point not outwards of a line is inner to it
 from_orient_on : (side : Side) (u v t : Pair) → pos 0 ≤ℤ orient_on side u v t → IsInner side (orient u v t)
 from_orient_on Lower u v t h = h
 from_orient_on Upper u v t h = np_opposite _ _ (orient_other v u t) h
 
--- on a line
+-- a point on a line is on it on either side
 to_none : (side : Side) (u v t : Pair) → orient u v t ≡ pos 0 → orient_on side u v t ≡ pos 0
 to_none Lower u v t e = e
 to_none Upper u v t e = zero_opposite _ _ (orient_other u v t) e
 
--- no bend is not inwards
+-- a number that is 0 is at most 0
 at_most : (x : ℤ) → x ≡ pos 0 → x ≤ℤ pos 0
 at_most x e = np_by x (pos 0) e (omega arith)
 
--- what lies strictly inwards of a line is inner to each edge along it
+-- a point strictly inwards of a line is inner to each edge along it
 pub strictly_inner : (side : Side) (u v t : Pair) → pos 0 <ℤ orient_on side u v t → IsInnerToEdge side u v t
 strictly_inner side u v t h = grind (arith, common_steps, from_orient_on, nn_above, above_not_np, to_none)
 
--- so is the start of an edge
+-- the start of an edge is inner to it
 pub start_inner : (side : Side) (u v : Pair) → IsBefore u v → IsInnerToEdge side u v u
 start_inner side u v uv = grind (arith, common_steps, from_orient_on, pos, orient_on_start, before_irrefl, before_not)
 
--- and its end
+-- the end of an edge is inner to it
 pub end_inner : (side : Side) (u v : Pair) → IsBefore u v → IsInnerToEdge side u v v
 end_inner side u v uv = grind (arith, common_steps, from_orient_on, pos, orient_on_end, before_not, before_irrefl)
 
 -- ---- under an edge
 
--- what stands before the start of an edge to which it is inner lies strictly inwards of its line
+-- a point that is inner to an edge and before its start lies strictly inwards of its line
 strictly_before : (side : Side) (u v a : Pair) → IsBefore a u → IsInnerToEdge side u v a → pos 0 <ℤ orient_on side u v a
 strictly_before side u v a au h = elim (le_or_lt (orient_on side u v a) (pos 0)) [
   | inl k ↦ absurd ((h.1 (straight side u v a (zero_between _ (to_orient_on side u v a h.0) k))).0 au)
   | inr k ↦ k
 ]
 
--- and what stands after its end
+-- a point that is inner to an edge and after its end lies strictly inwards of its line
 strictly_after : (side : Side) (u v b : Pair) → IsBefore v b → IsInnerToEdge side u v b → pos 0 <ℤ orient_on side u v b
 strictly_after side u v b vb h = elim (le_or_lt (orient_on side u v b) (pos 0)) [
   | inl k ↦ absurd ((h.1 (straight side u v b (zero_between _ (to_orient_on side u v b h.0) k))).1 vb)
   | inr k ↦ k
 ]
 
--- what stands inwards of a segment is inner to each edge to which its two ends are
+-- a point inwards of a segment is inner to each edge to which the segment's two ends are inner
 pub under_is_inner : (side : Side) → UnderAnEdgeIsInner side
 under_is_inner side u v a b t uv k ha hb = (inwards, λ e. (not_ahead e, not_behind e))
   where
@@ -91,23 +91,23 @@ under_is_inner side u v a b t uv k ha hb = (inwards, λ e. (not_ahead e, not_beh
         (stays_second side u v a t b uv k.0 k.1 (at_most _ (to_none side u v t e)) (to_orient_on side u v a ha.0)
         (strictly_after side u v b (before_trans v t b h k.1) hb))
 
--- the start of an edge stands inwards of no segment between two points that are inner to it
+-- the start of an edge does not lie inwards of a segment between two points that are inner to it
 start_is_no_under : (side : Side) (u v a b : Pair) → IsBefore u v → IsInwards side a b u → IsInnerToEdge side u v a
     → IsInnerToEdge side u v b → ⊥
 start_is_no_under side u v a b uv k ha hb = nn_not_below _ k.2
     (stays_first side u v a u b uv k.0 k.1 (at_most _ (orient_on_start side u v)) (strictly_before side u v a k.0 ha)
     (to_orient_on side u v b hb.0))
 
--- nor does its end
+-- the end of an edge does not lie inwards of such a segment
 end_is_no_under : (side : Side) (u v a b : Pair) → IsBefore u v → IsInwards side a b v → IsInnerToEdge side u v a
     → IsInnerToEdge side u v b → ⊥
 end_is_no_under side u v a b uv k ha hb = nn_not_below _ k.2
     (stays_second side u v a v b uv k.0 k.1 (at_most _ (orient_on_end side u v)) (to_orient_on side u v a ha.0)
     (strictly_after side u v b k.1 hb))
 
--- ---- fringes
+-- ---- candidate lists
 
--- what all points of a fringe are inner to, all points of its set are inner to
+-- if all points of a candidate list are inner to an edge, all points of its set are
 pub all_inner : (side : Side) (l m : Pair → Type 0) (u v : Pair) → IsFringe side l m → IsBefore u v
     → ((t : Pair) → l t → IsInnerToEdge side u v t) → (t : Pair) → m t → IsInnerToEdge side u v t
 all_inner side l m u v f uv h t i = elim (f.under t i) [
@@ -115,7 +115,7 @@ all_inner side l m u v f uv h t i = elim (f.under t i) [
   | inr k ↦ under_is_inner side u v k.0 k.1 t uv k.4 (h k.0 k.2) (h k.1 k.3)
 ]
 
--- two sets have the bridges of their fringes
+-- two sets have the bridges of their candidate lists
 pub of_fringes : (side : Side) (l m r s : Pair → Type 0) → BridgeIsOfFringes side l m r s
 of_fringes side l m r s u v f g o = (there, back)
   where
@@ -163,7 +163,7 @@ of_fringes side l m r s u v f g o = (there, back)
         right : (t : Pair) → r t → IsInnerToEdge side u v t
         right t i = (b.inner_right t (g.among t i), b.tie_right t (g.among t i))
 
--- a fringe with more points of the set is one
+-- a candidate list with more points of the set is a candidate list
 pub wider_fringe : (side : Side) (l k m : Pair → Type 0) → IsFringe side l m → ((t : Pair) → l t → k t)
     → ((t : Pair) → k t → m t) → IsFringe side k m
 wider_fringe side l k m f in_k in_m = record {
@@ -172,7 +172,7 @@ wider_fringe side l k m f in_k in_m = record {
       [ inl h ↦ inl (in_k t h) | inr h ↦ inr (h.0, h.1, in_k h.0 h.2, in_k h.1 h.3, h.4) ];
 }
 
--- two fringes are one of both sets together
+-- two candidate lists together are one of both sets together
 pub both_fringes : (side : Side) (l m r s : Pair → Type 0) → IsFringe side l m → IsFringe side r s
     → IsFringe side (λ t. l t ⊎ r t) (λ t. m t ⊎ s t)
 both_fringes side l m r s f g = record {
@@ -183,7 +183,7 @@ both_fringes side l m r s f g = record {
   ];
 }
 
--- what is inner to a list is one of its points, or stands inwards of a segment between two: behind a point
+-- a point that is inner to a list is one of its points, or lies inwards of a segment between two, by recursion
 whence_from : (side : Side) (x : Pair) (rest : List Pair) (t : Pair) → IsInnerFrom side x rest t
     → Contains rest t
     ⊎ ((a b : Pair) × Contains (x ∷ rest) a × Contains (x ∷ rest) b × IsInwards side a b t)
@@ -198,7 +198,7 @@ whence_from side x (y ∷ ys) t (inr (inr k)) = elim (whence_from side y ys t k)
     further : (zs : List Pair) (z t : Pair) → Contains zs t → Contains (z ∷ zs) t
     further zs z t (i, l, e) = (suc i, omega (arith, l), e)
 
--- the chain of a set is a fringe of it
+-- the chain of a set is a candidate list of it
 pub chain_fringe : (side : Side) → ChainIsAFringe side
 chain_fringe side S [] c = record {
   among = c.among;
@@ -217,7 +217,7 @@ chain_fringe side S (x ∷ rest) c = record {
       | inr m ↦ inr m
     ]
 
--- ---- a point that came
+-- ---- a point that was added
 
 -- two sets have one bridge on a side
 bridge_unique : (side : Side) (l r : Pair → Type 0) (p q a b : Pair) → IsAllBefore l r → IsBridge side l r p q
@@ -225,14 +225,14 @@ bridge_unique : (side : Side) (l r : Pair → Type 0) (p q a b : Pair) → IsAll
 bridge_unique Lower l r p q a b o h k = one_lower_bridge l r p q a b o h k
 bridge_unique Upper l r p q a b o h k = one_bridge l r p q a b o h k
 
--- where the bridge of two sets is that of the sets with a point more, the point is inner to it
+-- a point inner to one bridge of two sets is inner to the other, since the two are equal
 inner_to_old : (side : Side) (l r : Pair → Type 0) (u v p a b : Pair) → IsAllBefore l r → IsBridge side l r u v
     → IsBridge side l r a b → IsInnerToEdge side a b p → IsInnerToEdge side u v p
 inner_to_old side l r u v p a b o old again h =
     let same = bridge_unique side l r a b u v o again old in
     subst (λ (w : Pair). IsInnerToEdge side u w p) same.1 (subst (λ (w : Pair). IsInnerToEdge side w b p) same.0 h)
 
--- the bridge of a set with a point that came outwards of the old one ends at that point
+-- if a point outwards of the old bridge is added, the new bridge ends at it
 pub ends_there : (side : Side) (l r : Pair → Type 0) → BridgeEndsAtWhatCame side l r
 ends_there side l r u v p a b o old out = (
   λ new. elim new.from_left [

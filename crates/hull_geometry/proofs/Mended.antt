@@ -37,11 +37,11 @@ use Rattle.hull_geometry.proofs.SetLaws.{members_with, members_without}
 use Rattle.hull_geometry.proofs.Orientations.{orient_on_swap, inwards_from, inwards_to}
 use Rattle.lattice.proofs.Numbers.{nn_above}
 
--- the negation of a number at most 0
+-- the negation of a number at most 0 is at least 0
 not_below : (x y : ℤ) → y ≡ neg_ℤ x → x ≤ℤ pos 0 → pos 0 ≤ℤ y
 not_below x y e h = omega (arith, ints)
 
--- the end of the points before a place is the point before it
+-- the end of the points before an index is the point before it
 end_before : (xs : List Pair) (i : ℕ) (d : Pair) → i ≤ length xs → EndsWith d (take i xs)
     → (0 < i) × (d ≡ point_at xs (i - 1))
 end_before xs i d l e =
@@ -59,7 +59,7 @@ end_before xs i d l e =
     one_end c d [] e f = absurd e
     one_end c d (z ∷ zs) e f = sym e ∙ f
 
--- the first of the points from a place on is the one there
+-- the first of the points from an index on is the one there
 first_from : (xs : List Pair) (i : ℕ) (y : Pair) (rest : List Pair) → drop i xs ≡ y ∷ rest
     → (i < length xs) × (y ≡ point_at xs i)
 first_from xs i y rest e =
@@ -71,11 +71,11 @@ first_from xs i y rest e =
 
 -- ---- a new point
 
--- the chain of a set is a fringe of it
+-- the chain of a set is a candidate list of it
 pub fringe_of : (side : Side) (S chain : List Pair) → IsChainOf side S chain → IsFringeOf side S chain
 fringe_of side S chain c = record { ordered = c.strict.ordered; among = c.among; inner = c.inner }
 
--- and a fringe that bends is its chain
+-- a candidate list that bends is the chain
 pub chain_of : (side : Side) (S chain : List Pair) → IsFringeOf side S chain → IsConvex side chain
     → IsChainOf side S chain
 chain_of side S chain c h =
@@ -88,7 +88,7 @@ chain_of side S chain c h =
       inner = c.inner;
     }
 
--- where p stands inwards of a segment of a fringe, it stays
+-- if p lies inwards of a segment of a candidate list, the list is one of the set with p
 pub put_on_same : (side : Side) (S chain : List Pair) (p : Pair) (i : ℕ) → IsPositionOf chain p (Err i)
     → IsOverEdge side chain i p → IsFringeOf side S chain → IsFringeOf side (with_point p S) chain
 put_on_same side S chain p i at (some, l, h) c = record {
@@ -124,26 +124,26 @@ put_on_same side S chain p i at (some, l, h) c = record {
     go u (inl e) = subst (IsInner side chain) (sym e) inner_p
     go u (inr m) = c.inner u m
 
--- and the chain stays
+-- if p lies inwards of a segment of the chain, the chain is that of the set with p
 pub put_in_same : (side : Side) (S chain : List Pair) (p : Pair) (i : ℕ) → IsPositionOf chain p (Err i)
     → IsOverEdge side chain i p → IsChainOf side S chain → IsChainOf side (with_point p S) chain
 put_in_same side S chain p i at over c =
     chain_of side (with_point p S) chain (put_on_same side S chain p i at over (fringe_of side S chain c)) c.strict.convex
 
--- the points before p, and p
+-- the points before p, and p, are in order
 pub before_and : (side : Side) (chain : List Pair) (p : Pair) (i : ℕ) → IsPointSet chain → IsPositionOf chain p (Err i)
     → IsPointSet (take i chain ++ p ∷ [])
 before_and side chain p i s at =
     set_longer (take i chain) p (set_left (take i chain) (drop i chain) (subst IsPointSet (cut chain i at.0) s)) at.1
 
--- the points before p, p, and the points after it
+-- the points before p, p, and the points after it, are in order
 pub before_and_after : (chain : List Pair) (p : Pair) (i : ℕ) → IsPointSet chain → IsPositionOf chain p (Err i)
     → IsPointSet (take i chain ++ p ∷ [] ++ drop i chain)
 before_and_after chain p i s at =
     subst IsPointSet (sym (append_twice (take i chain) (p ∷ []) (drop i chain)))
     (set-insert p (take i chain) (drop i chain) (subst IsPointSet (cut chain i at.0) s) at.1 at.2)
 
--- a point that stood inwards of a segment, outwards of which p stands, is inwards of one of the two to p
+-- a point inwards of a segment, outwards of which p lies, is inwards of one of the two segments to p
 split : (side : Side) (xs : List Pair) (d p y : Pair) (rest : List Pair) (u : Pair) → EndsWith d xs → IsBefore d p
     → IsBefore p y → pos 0 <ℤ orient_on side d p y → IsInwards side d y u → IsInner side (xs ++ p ∷ [] ++ y ∷ rest) u
 split side xs d p y rest u e dp py h (du, uy, k) =
@@ -157,7 +157,7 @@ split side xs d p y rest u e dp py h (du, uy, k) =
           (pu, uy, nn_above _ (inwards_to side d p y u py dy uy h k))
     ]
 
--- what was inner to the chain is inner to the points before p, p and the points after it
+-- a point that was inner to the chain is inner to the points before p, p and the points after it
 inner_put : (side : Side) (chain : List Pair) (p : Pair) (i : ℕ) (right : List Pair) → drop i chain ≡ right
     → IsPositionOf chain p (Err i) → ¬ (IsOverEdge side chain i p) → (u : Pair)
     → IsInner side (take i chain ++ right) u → IsInner side (take i chain ++ p ∷ [] ++ right) u
@@ -186,7 +186,7 @@ inner_put side chain p i (y ∷ rest) is at n u k =
           ))
         ]
 
--- what is left of the points before p, p and the points after it is a fringe of the set with p
+-- the points before p, p and the points after it, without some inner ones, are a candidate list of the set with p
 pub put_on_new : (side : Side) (S chain new : List Pair) (p : Pair) (i : ℕ) → IsPositionOf chain p (Err i)
     → ¬ (IsOverEdge side chain i p) → IsThinned side (take i chain ++ p ∷ [] ++ drop i chain) new → IsFringeOf side S chain
     → IsFringeOf side (with_point p S) new
@@ -224,7 +224,7 @@ put_on_new side S chain new p i at n h c =
     go u (inr m) = inner_put side chain p i (drop i chain) refl at n u
         (subst (λ (z : List Pair). IsInner side z u) parts (c.inner u m))
 
--- what a pass leaves of them is the chain of the set with p
+-- the result of a pass over them is the chain of the set with p
 pub put_in_new : (side : Side) (S chain new : List Pair) (p : Pair) (i : ℕ) → IsPositionOf chain p (Err i)
     → ¬ (IsOverEdge side chain i p) → IsPassed side (take i chain ++ p ∷ [] ++ drop i chain) new → IsChainOf side S chain
     → IsChainOf side (with_point p S) new
@@ -233,14 +233,14 @@ put_in_new side S chain new p i at n h c =
     (put_on_new side S chain new p i at n (thinned_of side (take i chain ++ p ∷ [] ++ drop i chain) new h)
     (fringe_of side S chain c)) h.strict.convex
 
--- a list with p put in at a place
+-- inserting p at an index puts it between the points before the index and those from it on
 inserted : (xs : List Pair) (i : ℕ) (p : Pair) → i ≤ length xs → insert xs i p ≡ take i xs ++ p ∷ drop i xs
 inserted xs i p l =
     ap (λ (z : List Pair). insert z i p) (cut xs i l)
     ∙ insert-append_right (take i xs) (drop i xs) i i p (omega (arith, length-take i xs, l)) (omega arith)
     ∙ (let e : i - i ≡ 0 = omega arith in ap (λ (n : ℕ). take i xs ++ insert (drop i xs) n p) e)
 
--- the points before p, p and the points after it, as they are, are a fringe of the set with p
+-- the points before p, p and the points after it, as they are, are a candidate list of the set with p
 pub put_on_all : (side : Side) (S fringe : List Pair) (p : Pair) (i : ℕ) → IsPositionOf fringe p (Err i)
     → ¬ (IsOverEdge side fringe i p) → IsFringeOf side S fringe → IsFringeOf side (with_point p S) (insert fringe i p)
 put_on_all side S fringe p i at n c =
@@ -249,9 +249,9 @@ put_on_all side S fringe p i at n c =
     (put_on_new side S fringe (take i fringe ++ p ∷ [] ++ drop i fringe) p i at n
     (thinned_itself side (take i fringe ++ p ∷ [] ++ drop i fringe) (before_and_after fringe p i c.ordered at)) c)
 
--- ---- a point that left
+-- ---- a point that was removed
 
--- a point that is not on a fringe leaves it as it is
+-- a candidate list that does not have p is a candidate list of the set without p
 pub take_off_same : (side : Side) (keys S chain : List Pair) (p : Pair) (i : ℕ) → IsPointSet S
     → IsPositionOf chain p (Err i) → keys ≡ without_point p S → IsFringeOf side S chain → IsFringeOf side keys chain
 take_off_same side keys S chain p i s at e c =
@@ -262,13 +262,13 @@ take_off_same side keys S chain p i s at e c =
       inner = λ u m. c.inner u ((members_without p u S s).0 m).0;
     })
 
--- and the chain
+-- a chain that does not have p is the chain of the set without p
 pub take_out_same : (side : Side) (keys S chain : List Pair) (p : Pair) (i : ℕ) → IsPointSet S
     → IsPositionOf chain p (Err i) → keys ≡ without_point p S → IsChainOf side S chain → IsChainOf side keys chain
 take_out_same side keys S chain p i s at e c =
     chain_of side keys chain (take_off_same side keys S chain p i s at e (fringe_of side S chain c)) c.strict.convex
 
--- a point of the set is left, or is the one that left
+-- a point of the set is in the rest, or is the one that was removed
 pub left_or_gone : (p : Pair) (keys S : List Pair) (t : Pair) → keys ≡ without_point p S → Contains S t
     → (t ≡ p) ⊎ Contains keys t
 left_or_gone p keys S t e m = elim (before_total t p) [
@@ -280,13 +280,13 @@ left_or_gone p keys S t e m = elim (before_total t p) [
     other : ¬ (t ≡ p) → Contains keys t
     other n = subst (λ (z : List Pair). Contains z t) (sym e) (in_without p t S n m)
 
--- the points before p and those after it are a set of what is left
+-- the points before p and those after it are a set of the rest
 pub around_set : (chain : List Pair) (p : Pair) (i : ℕ) → IsPointSet chain → IsPositionOf chain p (Ok i)
     → IsPointSet (take i chain ++ drop (i + 1) chain)
 around_set chain p i s at =
     set_less (take i chain) p (drop (i + 1) chain) (subst IsPointSet (sym (cut_around chain p i at)) s)
 
--- they are points of what is left
+-- they are points of the rest
 pub around_among : (keys chain : List Pair) (p : Pair) (i : ℕ) → IsPointSet chain → IsPositionOf chain p (Ok i)
     → ((t : Pair) → Contains chain t → (t ≡ p) ⊎ Contains keys t) → (t : Pair)
     → Contains (take i chain ++ drop (i + 1) chain) t → Contains keys t
@@ -306,7 +306,7 @@ around_among keys chain p i s at among t m =
     other n k = elim (among t (subst (λ (z : List Pair). Contains z t) (cut_around chain p i at) k))
         [ inl e ↦ absurd (n e) | inr j ↦ j ]
 
--- p was one point more than these
+-- together they are one point less than with p
 pub around_few : (keys chain : List Pair) (p : Pair) (i : ℕ) → IsPointSet chain → IsPositionOf chain p (Ok i)
     → ((t : Pair) → Contains chain t → (t ≡ p) ⊎ Contains keys t) → length chain ≤ length keys + 1
 around_few keys chain p i s at among =
@@ -319,7 +319,7 @@ around_few keys chain p i s at among =
     ap (λ (z : List Pair). length z) (cut_around chain p i at) in
     omega (arith, few, a, b, c)
 
--- with all that stand between them the points are no more than are left
+-- with all points between them they are no more than the rest
 pub between_few : (S left right middle : List Pair) → IsBetween S left right middle
     → ((t : Pair) → Contains (left ++ right) t → Contains S t) → length (left ++ middle) + length right ≤ length S
 between_few S left right middle k among =
@@ -334,8 +334,8 @@ between_few S left right middle k among =
               [ inl n ↦ among t (Contains-append_left left right t n) | inr n ↦ k.among t n ]
         ]
 
--- what is left of the points before p, all that stand between its neighbours, and the points after it, is a fringe of
--- keys, of which each is inner to the list, and none is p
+-- the points before p, all points between its neighbours, and the points after it, without some inner ones, are a
+-- candidate list of keys; each of keys is inner to the list, and none is p
 pub take_off_new : (side : Side) (keys chain middle new : List Pair) (p : Pair) (i : ℕ) → IsPointSet chain
     → IsPositionOf chain p (Ok i) → ((t : Pair) → Contains chain t → (t ≡ p) ⊎ Contains keys t)
     → ((u : Pair) → Contains keys u → IsInner side chain u × ¬ (u ≡ p))
@@ -399,14 +399,14 @@ take_off_new side keys chain middle new p i cs at left_or inner k h =
           | inr (inr (inr n)) ↦ in_right u (drop (i + 1) chain) refl m n
         ]
 
--- what is left of a set is inner to a fringe of it, and no point of it is the one that left
+-- each point of a set without p is inner to a candidate list of the set, and none is p
 pub inner_still : (side : Side) (keys S fringe : List Pair) (p : Pair) → IsPointSet S → keys ≡ without_point p S
     → ((u : Pair) → Contains S u → IsInner side fringe u) → (u : Pair) → Contains keys u
     → IsInner side fringe u × ¬ (u ≡ p)
 inner_still side keys S fringe p s e inner u m =
     let in_S = (members_without p u S s).0 (subst (λ (z : List Pair). Contains z u) e m) in (inner u in_S.0, in_S.1)
 
--- where a bend at a place is tested, it tells whether p stands over the edge there
+-- the test of the bend at an index decides whether p is over the edge there
 pub over_edge : (side : Side) (chain : List Pair) (p a b : Pair) (i : ℕ) (v : ℤ) → 0 < i → i < length chain
     → a ≡ get_or chain (i - 1) a → b ≡ get_or chain i b → v ≡ orient_on side a p b → IsWithin widest_side v
     → IsTrue (le_z (to_z w128 (of_z w128 v)) (pos 0)) ↔ IsOverEdge side chain i p

@@ -1,4 +1,4 @@
--- The points of a list in order that stand between two others.
+-- The points of a list in order that are between two others.
 use Rattle.std.proofs.Common.{◌≡◌, ℕ, inl, inr, sym, subst, List, arith, take, drop, length, ◌<◌, ◌+◌}
 use Rattle.std.proofs.Common.{[], ◌∷◌, ◌++◌, get_or, Ok}
 use Rattle.std.specs.List.{All, Contains}
@@ -14,7 +14,7 @@ use Rattle.hull_geometry.proofs.ChainPasses.{take_next}
 use Rattle.hull_geometry.proofs.PointSets.{set_append, set_left, set_right, set_apart}
 use Rattle.hull_geometry.proofs.PointLists.{AllPairs-head, all_append_right}
 
--- up to p no point stands after p
+-- no point up to p is after p
 pub up_to_found : (S : List Pair) (p : Pair) (i : ℕ) → IsPositionOf S p (Ok i)
     → All (λ t. ¬ (IsBefore p t)) (take (i + 1) S)
 up_to_found S p i at =
@@ -23,7 +23,7 @@ up_to_found S p i at =
     (All-weaker (λ t. IsBefore t p) (λ t. ¬ (IsBefore p t)) (λ t b. before_not t p b) (take i S) at.2)
     (All-cons (λ t. ¬ (IsBefore p t)) p [] (before_irrefl p) (λ k d l. absurd (omega (arith, l)))))
 
--- what stands before the first of a set stands before all of it
+-- a point before the first of a set is before all of it
 pub before_all : (S : List Pair) (c t : Pair) → IsPointSet S → 0 < length S → c ≡ get_or S 0 c → IsBefore t c
     → All (IsBefore t) S
 before_all [] c t s l e b = absurd (omega (arith, l))
@@ -32,19 +32,20 @@ before_all (x ∷ xs) c t s l e b =
     All-cons (IsBefore t) x xs tx
     (All-weaker (IsBefore x) (IsBefore t) (λ u k. before_trans t x u tx k) xs (AllPairs-head x xs s))
 
--- a list is cut in two
+-- a list is its first n members and the rest
 cut_in : (S : List Pair) (n : ℕ) → S ≡ take n S ++ drop n S
 cut_in S n = sym (take-append-drop n S)
 
--- what stands in a cut list stands in one of its parts
+-- a member of a list is in one of these two parts
 in_parts : (S : List Pair) (n : ℕ) (t : Pair) → Contains S t → Contains (take n S ++ drop n S) t
 in_parts S n t m = subst (λ (z : List Pair). Contains z t) (cut_in S n) m
 
--- and back
+-- a member of one of the two parts is one of the list
 of_parts : (S : List Pair) (n : ℕ) (t : Pair) → Contains (take n S ++ drop n S) t → Contains S t
 of_parts S n t m = subst (λ (z : List Pair). Contains z t) (sym (cut_in S n)) m
 
--- the points behind those that do not stand after all of `left`, up to those that do not stand before all of `right`
+-- the points after those that are not after all of `left`, up to those that are not before all of `right`, are the ones
+-- between
 pub middle_between : (S left right : List Pair) (from to : ℕ) → IsPointSet S → IsPointSet (left ++ right)
     → ((t : Pair) → Contains (take from S) t → ¬ (All (λ u. IsBefore u t) left))
     → ((t : Pair) → Contains (drop from S) t → All (λ u. IsBefore u t) left)

@@ -1,4 +1,4 @@
--- A line with all of S strictly on one side and q on the other: S does not cover q.
+-- If a line has all of S strictly on one side and q on the other, S does not cover q.
 use Rattle.std.proofs.lemmas.Grind.{common_steps}
 use Rattle.std.proofs.Common.{◌≡◌, ℤ, pos, ◌+ℤ◌, ◌-ℤ◌, ◌*ℤ◌, ◌≤ℤ◌, ◌<ℤ◌, ◌⊎◌, inl, inr, sym, ap, ◌∙◌, List, arith}
 use Rattle.std.specs.List.{All}
@@ -22,7 +22,7 @@ balance : (f a b c : Pair) → cross b c *ℤ product f a +ℤ cross c a *ℤ pr
 unfolding product
 balance f a b c = rw (as_pair f, as_pair a, as_pair b, as_pair c) (simp difference_rules (difference-pos _ _ 0 (omega arith)))
 
--- three weights, of which none is below 0 and one is above, of three numbers above 0
+-- three weights, none of them below 0 and one above, of three numbers above 0 have a sum above 0
 mix : (a b c A B C : ℤ) → pos 0 <ℤ A → pos 0 <ℤ B → pos 0 <ℤ C → pos 0 ≤ℤ a → pos 0 ≤ℤ b → pos 0 ≤ℤ c
     → pos 0 <ℤ (a +ℤ b +ℤ c) → (a *ℤ A) +ℤ (b *ℤ B) +ℤ (c *ℤ C) ≡ pos 0 → ⊥
 mix a b c A B C hA hB hC ha hb hc h e = grind (arith, common_steps, pos, product_nn, ints, cancel_zero)
@@ -33,11 +33,11 @@ no_triangle : (f a b c : Pair) → pos 0 <ℤ product f a → pos 0 <ℤ product
 no_triangle f a b c ha hb hc A B C s =
     mix (cross b c) (cross c a) (cross a b) (product f a) (product f b) (product f c) ha hb hc A B C s (balance f a b c)
 
--- between, as seen from the point between
+-- two numbers of opposite signs, or 0
 abbrev Opposite : ℤ → ℤ → Type 0
 Opposite a b = ((a ≤ℤ pos 0) × (pos 0 ≤ℤ b)) ⊎ ((b ≤ℤ pos 0) × (pos 0 ≤ℤ a))
 
--- b * A = a * B where a and b are of opposite signs: both are 0
+-- if b * A = a * B and a and b have opposite signs, both are 0
 flat : (a b A B : ℤ) → pos 0 <ℤ A → pos 0 <ℤ B → Opposite a b → b *ℤ A ≡ a *ℤ B → a ≡ pos 0
 flat a b A B hA hB (inl h) e =
     let p : pos 0 ≤ℤ (b *ℤ A) = product_nn b A h.1 (omega (arith, ints)) in
@@ -48,7 +48,7 @@ flat a b A B hA hB (inr h) e =
     let n : (b *ℤ A) ≤ℤ pos 0 = product_np b A h.0 (omega (arith, ints)) in
     cancel_zero a B hB (omega (arith, ints))
 
--- two vectors in one line: their products with any vector stand as their first components
+-- the products of two vectors in one line with any vector have the ratio of their first components
 pub flat_x : (f a b : Pair) → cross a b ≡ pos 0 → b.x *ℤ product f a ≡ a.x *ℤ product f b
 unfolding product
 flat_x f a b e =
@@ -57,7 +57,7 @@ flat_x f a b e =
     (difference-eq _ _ _ _ (omega arith))) in
     r ∙ ap (λ (z : ℤ). a.x *ℤ product f b -ℤ f.y *ℤ z) e ∙ omega (arith, ints)
 
--- and as their second components
+-- they have the ratio of their second components
 flat_y : (f a b : Pair) → cross a b ≡ pos 0 → b.y *ℤ product f a ≡ a.y *ℤ product f b
 unfolding product
 flat_y f a b e =
@@ -66,7 +66,7 @@ flat_y f a b e =
     (difference-eq _ _ _ _ (omega arith))) in
     r ∙ ap (λ (z : ℤ). a.y *ℤ product f b +ℤ f.x *ℤ z) e ∙ omega (arith, ints)
 
--- the product with the zero vector
+-- the product with the zero vector is 0
 product_zero : (f a : Pair) → a.x ≡ pos 0 → a.y ≡ pos 0 → product f a ≡ pos 0
 unfolding product
 product_zero f a zx zy =
@@ -81,11 +81,11 @@ no_segment f a b ha hb e ox oy =
     (flat a.y b.y (product f a) (product f b) ha hb oy (flat_y f a b e)) in
     omega (arith, ints)
 
--- how much further q lies than t
+-- if q lies farther than t, the step from q to t has a positive product with the opposite direction
 further : (d t q : Pair) → product d t <ℤ product d q → pos 0 <ℤ product (opp d) (minus t q)
 further d t q h = above_by_less _ _ _ (product-minus d t q) h
 
--- between, as seen from the point between
+-- a number between two others has differences of opposite signs to them
 opposite : (a b v : ℤ) → IsBetween a b v → Opposite (a -ℤ v) (b -ℤ v)
 opposite a b v (inl h) = inl (omega (arith, ints), omega (arith, ints))
 opposite a b v (inr h) = inr (omega (arith, ints), omega (arith, ints))

@@ -1,4 +1,4 @@
--- Points that all stand before q, or all after it, are separated from q: along one side or the other, q is past them.
+-- Points that are all before q, or all after it, are separated from q: along one side or the other, q is past them.
 use Rattle.std.proofs.Common.{◌≡◌, ℕ, ℤ, pos, negsuc, ◌+ℤ◌, ◌*ℤ◌, ◌≤ℤ◌, ◌<ℤ◌, neg_ℤ, ◌⊎◌, inl, inr, sym, subst}
 use Rattle.std.proofs.Common.{List, arith, zero, suc, ◌+◌, [], ◌∷◌}
 use Rattle.std.specs.List.{All}
@@ -20,7 +20,7 @@ abbrev step : Side → Pair → Pair → Pair
 step Lower t q = opp (minus t q)
 step Upper t q = minus t q
 
--- it is ahead where q comes after t
+-- the step is ahead if q comes after t
 step_ahead : (side : Side) (t q : Pair) → IsAlong side t q → Ahead (step side t q)
 step_ahead Lower t q h = behind_of t q h
 step_ahead Upper t q h = ahead_of q t h
@@ -30,7 +30,7 @@ abbrev steep : Side → ℤ → Pair
 steep Lower k = record { x = k; y = pos 1 }
 steep Upper k = record { x = neg_ℤ k; y = negsuc 0 }
 
--- how far t lies behind q in it
+-- how far t is after q in this direction, by the step between them
 product-steep : (side : Side) (k : ℤ) (t q : Pair)
     → product (opp (steep side k)) (minus t q) ≡ k *ℤ (step side t q).x +ℤ (step side t q).y
 unfolding product
@@ -46,12 +46,12 @@ abbrev lift : ℤ → ℕ
 lift (pos n) = 0
 lift (negsuc n) = n + 1
 
--- it does
+-- the number lifts y above 0
 lift_is : (y : ℤ) → pos 0 ≤ℤ (pos (lift y) +ℤ y)
 lift_is (pos n) = omega (arith, ints)
 lift_is (negsuc n) = omega (arith, ints)
 
--- a product with a number above 0
+-- a product with a number above 0 is no smaller
 times_more : (a x : ℤ) → pos 0 ≤ℤ a → pos 0 <ℤ x → a ≤ℤ (a *ℤ x)
 times_more (pos m) (pos (suc n)) h k = omega (arith, ints)
 times_more (pos m) (pos zero) h k = absurd (omega (arith, ints))
@@ -73,13 +73,13 @@ lifted k w x y hk hw hy (inr h) =
     zero_right : (a : ℤ) → a *ℤ pos 0 ≡ pos 0
     zero_right a = omega (arith, ints)
 
--- k + w times x
+-- the product with a sum distributes
 distribute : (k w x y : ℤ) → (k +ℤ w) *ℤ x +ℤ y ≡ (k *ℤ x +ℤ y) +ℤ w *ℤ x
 distribute k w x y =
     rw (as_difference k, as_difference w, as_difference x, as_difference y)
     (simp (difference-add, difference-mul) (difference-eq _ _ _ _ (omega arith)))
 
--- a vector that is lifted stays so
+-- a vector that is lifted stays lifted by a greater number
 lifted_more : (k w x y : ℤ) → pos 0 ≤ℤ w → pos 0 ≤ℤ x → pos 0 <ℤ (k *ℤ x +ℤ y) → pos 0 <ℤ ((k +ℤ w) *ℤ x +ℤ y)
 lifted_more k w x y hw hx h = rw (distribute k w x y) (sum_above_left _ _ h (product_nn w x hw hx))
 

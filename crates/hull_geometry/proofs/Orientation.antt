@@ -11,56 +11,56 @@ pub orient-cross : (q a b : Pair) → orient q a b ≡ cross (minus a q) (minus 
 unfolding orient
 orient-cross q a b = refl
 
--- two points swapped: the other side
+-- swapping two points negates the side
 pub orient_swap : (q u v : Pair) → orient q u v ≡ neg_ℤ (orient q v u)
 unfolding orient
 orient_swap q u v = cross_swap (minus u q) (minus v q)
 
--- a point on a line through q: so is the other one on the line through it
+-- if a point is on a line through q, the other is on the line through it
 pub orient_swap_zero : (q u v : Pair) → orient q u v ≡ pos 0 → orient q v u ≡ pos 0
 orient_swap_zero q u v e = orient_swap q v u ∙ ap neg_ℤ e
 
--- the three points turned round keep the side
+-- rotating the three points keeps the side
 pub orient-cycle : (a b q : Pair) → orient a b q ≡ orient q a b
 unfolding orient
 orient-cycle a b q =
     rw (as_pair a, as_pair b, as_pair q) (simp difference_rules (difference-eq _ _ _ _ (omega arith)))
 
--- the triangle abc in three triangles with the corner q
+-- the triangle abc is the sum of three triangles with the vertex q
 pub orient-sum : (a b c q : Pair) → orient a b c ≡ orient q b c +ℤ orient q c a +ℤ orient q a b
 unfolding orient
 orient-sum a b c q =
     rw (as_pair a, as_pair b, as_pair c, as_pair q) (simp difference_rules (difference-eq _ _ _ _ (omega arith)))
 
--- how much farther q lies than t in a direction
+-- the product of the step from q to t with the opposite direction is how much farther q lies
 pub product-minus : (d t q : Pair) → product (opp d) (minus t q) ≡ product d q -ℤ product d t
 unfolding product
 product-minus d t q =
     rw (as_pair d, as_pair t, as_pair q) (simp difference_rules (difference-eq _ _ _ _ (omega arith)))
 
--- what is equal to a number at least 0 is at least 0
+-- a number equal to one at least 0 is at least 0
 pub at_least : (a b : ℤ) → a ≡ b → pos 0 ≤ℤ a → pos 0 ≤ℤ b
 at_least a b e h = omega (arith, ints)
 
--- what is equal to a number above 0 is above 0
+-- a number equal to one above 0 is above 0
 pub above : (a b : ℤ) → a ≡ b → pos 0 <ℤ a → pos 0 <ℤ b
 above a b e h = omega (arith, ints)
 
--- p before q: the vector from p to q is ahead
+-- if p is before q, the vector from p to q is ahead
 pub ahead_of : (p q : Pair) → IsBefore p q → Ahead (minus q p)
 ahead_of p q (inl h) = inl (omega (arith, ints))
 ahead_of p q (inr h) = inr (omega (arith, ints, h.0), omega (arith, ints, h.1))
 
--- p before q: the vector from q to p, turned, is ahead
+-- if p is before q, the vector from q to p, rotated, is ahead
 pub behind_of : (p q : Pair) → IsBefore p q → Ahead (opp (minus p q))
 behind_of p q (inl h) = inl (omega (arith, ints))
 behind_of p q (inr h) = inr (omega (arith, ints, h.0), omega (arith, ints, h.1))
 
--- a point not left of a line is left of the same line from its other end
+-- a point right of a line is not right of the same line from its other end
 pub turned : (q u v : Pair) → orient q u v <ℤ pos 0 → pos 0 ≤ℤ orient q v u
 turned q u v h = let e = orient_swap q v u in omega (arith, ints)
 
--- two vectors ahead, neither left of the other, point up both or down both
+-- of two vectors ahead in one line, both point up or both down
 pub along : (u b : Pair) → Ahead u → Ahead b → cross u b ≡ pos 0
     → ((pos 0 ≤ℤ u.y) × (pos 0 ≤ℤ b.y)) ⊎ ((u.y ≤ℤ pos 0) × (b.y ≤ℤ pos 0))
 along u b hu hb e =

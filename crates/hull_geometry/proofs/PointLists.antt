@@ -10,17 +10,17 @@ use Rattle.std.proofs.lemmas.List.Elements.{All-cons, All-head, All-tail, Contai
 use Rattle.lattice.specs.Covers.{IsPointSet}
 use Rattle.lattice.specs.Plane.{Pair, IsBefore}
 
--- what holds of each member
+-- if each member has a property, all have it
 pub all_of : (P : Pair → Type 0) (S : List Pair) → ((t : Pair) → Contains S t → P t) → All P S
 all_of P S h k d l = h (get_or S k d) (Contains-get_or S k d l)
 
--- one more point in front of a set
+-- a set with a point before all others in front is a set
 pub AllPairs-cons : (x : Pair) (xs : List Pair) → All (IsBefore x) xs → IsPointSet xs → IsPointSet (x ∷ xs)
 AllPairs-cons x xs a s zero (suc j) d lt l = a j d (omega arith)
 AllPairs-cons x xs a s (suc i) (suc j) d lt l = s i j d (omega arith) (omega arith)
 AllPairs-cons x xs a s i zero d lt l = absurd (omega arith)
 
--- the first point stands before all later ones
+-- the first point is before all later ones
 pub AllPairs-head : (x : Pair) (xs : List Pair) → IsPointSet (x ∷ xs) → All (IsBefore x) xs
 AllPairs-head x xs s k d l = s 0 (suc k) d (omega arith) (omega arith)
 
@@ -38,27 +38,27 @@ all_append_right P [] ys a b = b
 all_append_right P (x ∷ xs) ys a b =
     All-cons P x (xs ++ ys) (All-head P x xs a) (all_append_right P xs ys (All-tail P x xs a) b)
 
--- and of the left list alone
+-- a property of all members of two lists in a row is one of the left list
 pub left_part : (P : Pair → Type 0) (xs ys : List Pair) → All P (xs ++ ys) → All P xs
 left_part P [] ys a = λ k d l. absurd (omega arith)
 left_part P (x ∷ xs) ys a = All-cons P x xs (All-head P x (xs ++ ys) a) (left_part P xs ys (All-tail P x (xs ++ ys) a))
 
--- and of the right list alone
+-- a property of all members of two lists in a row is one of the right list
 pub right_part : (P : Pair → Type 0) (xs ys : List Pair) → All P (xs ++ ys) → All P ys
 right_part P [] ys a = a
 right_part P (x ∷ xs) ys a = right_part P xs ys (All-tail P x (xs ++ ys) a)
 
--- the member at a place does not depend on what stands for a missing one
+-- the member at an index does not depend on the default for a missing one
 pub get_or_free : (S : List Pair) (i : ℕ) (d e : Pair) → i < length S → get_or S i d ≡ get_or S i e
 get_or_free [] i d e l = absurd (omega arith)
 get_or_free (x ∷ xs) zero d e l = refl
 get_or_free (x ∷ xs) (suc i) d e l = get_or_free xs i d e (omega arith)
 
--- a list is what comes before a place and what comes from there on
+-- a list is its members before an index and those from there on
 pub cut : (S : List Pair) (i : ℕ) → i ≤ length S → S ≡ take i S ++ drop i S
 cut S i l = grind (arith, common_steps)
 
--- a list is what comes before a place, its member there, and the rest
+-- a list is its members before an index, its member there, and the rest
 pub cut_at : (S : List Pair) (i : ℕ) (d : Pair) → i < length S → S ≡ take i S ++ get_or S i d ∷ drop (suc i) S
 cut_at [] i d l = absurd (omega arith)
 cut_at (x ∷ xs) zero d l = refl
@@ -68,7 +68,7 @@ cut_at (x ∷ xs) (suc i) d l = ap (λ (z : List Pair). x ∷ z) (cut_at xs i d 
 pub later : (u t : Pair) (vs : List Pair) → Contains vs t → Contains (u ∷ vs) t
 later u t vs m = (suc m.0, omega (arith, m.1), m.2)
 
--- the one member of a list of one
+-- the member of a list of one is that one
 pub only_member : (x t : Pair) → Contains (x ∷ []) t → t ≡ x
 only_member x t (zero, l, e) = sym e
 only_member x t (suc i, l, e) = absurd (omega (arith, l))
@@ -78,19 +78,19 @@ pub append_none : (xs : List Pair) → xs ≡ xs ++ []
 append_none [] = refl
 append_none (x ∷ xs) = ap (λ (z : List Pair). x ∷ z) (append_none xs)
 
--- three lists in a row
+-- three lists in a row may be joined in either order
 pub append_twice : (xs ys zs : List Pair) → (xs ++ ys) ++ zs ≡ xs ++ (ys ++ zs)
 append_twice [] ys zs = refl
 append_twice (x ∷ xs) ys zs = ap (λ (z : List Pair). x ∷ z) (append_twice xs ys zs)
 
--- behind all of a list there is nothing
+-- nothing is left of a list after dropping all of it
 pub none_from : (n : ℕ) (xs : List Pair) → length xs ≤ n → drop n xs ≡ []
 none_from zero [] l = refl
 none_from zero (x ∷ xs) l = absurd (omega (arith, l))
 none_from (suc n) [] l = refl
 none_from (suc n) (x ∷ xs) l = none_from n xs (omega (arith, l))
 
--- no more of the first points than were asked for
+-- the first n points are at most n
 pub take_few : (n : ℕ) (xs : List Pair) → length (take n xs) ≤ n
 take_few n xs = let k = length-take n xs in omega (arith, k)
 
@@ -115,14 +115,14 @@ in_rest xs from i p l e =
 pub range_long : (xs : List Pair) (from to : ℕ) → to ≤ length xs → length (slice_range xs from to) ≡ to - from
 range_long xs from to inside = length-between xs from to inside
 
--- as many of the first points as there are, are all
+-- the first n points are all if there are no more than n
 pub all_taken : (n : ℕ) (xs : List Pair) → length xs ≤ n → take n xs ≡ xs
 all_taken zero [] l = refl
 all_taken zero (x ∷ xs) l = absurd (omega (arith, l))
 all_taken (suc n) [] l = refl
 all_taken (suc n) (x ∷ xs) l = ap (λ (z : List Pair). x ∷ z) (all_taken n xs (omega (arith, l)))
 
--- what is behind what is behind
+-- dropping n points and then k drops n + k
 pub drop_rest : (n k : ℕ) (xs : List Pair) → drop k (drop n xs) ≡ drop (n + k) xs
 drop_rest zero k xs = let e : k ≡ 0 + k = omega arith in ap (λ (m : ℕ). drop m xs) e
 drop_rest (suc n) k [] = none_from k [] (omega arith) ∙ sym (none_from (suc n + k) [] (omega arith))

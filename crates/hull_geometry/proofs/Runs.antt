@@ -1,5 +1,5 @@
--- The edge between two runs of corners is their bridge: what stands between its ends is on the other chain, and so
--- strictly inwards of it; what stands beyond an end is inwards of it since that end is a corner of the chain.
+-- The edge between two slices of vertices is their bridge: a point between its ends is on the other chain, and so
+-- strictly inwards of it; a point beyond an end is inwards of it since that end is a vertex of the chain.
 use Rattle.std.proofs.Common.{◌≡◌, ◌∙◌, pos, neg_ℤ, ◌<ℤ◌, ◌⊎◌, inl, inr, sym, subst, List}
 use Rattle.std.specs.List.{Contains}
 use Rattle.lattice.specs.Plane.{Pair, IsBefore}
@@ -17,12 +17,12 @@ use Rattle.hull_geometry.proofs.Fringed.{strictly_inner, start_inner, end_inner}
 use Rattle.hull_geometry.proofs.Orientations.{orient_on_cycle, orient_on_swap}
 use Rattle.lattice.proofs.LineCrossings.{orient_other}
 
--- an orientation seen from the other side
+-- an orientation on the other side is the negated one
 orient_on_opposite : (side : Side) (a b t : Pair) → orient_on (opposite side) a b t ≡ neg_ℤ (orient_on side a b t)
 orient_on_opposite Lower a b t = orient_other a b t
 orient_on_opposite Upper a b t = orient_other b a t
 
--- a corner of the other chain between a and b
+-- a vertex of the other chain between a and b is strictly inwards of the edge
 between : (side : Side) (S other : List Pair) (a b t : Pair) → IsChainOf (opposite side) S other → Contains other t
     → Contains S a → Contains S b → IsBefore a t → IsBefore t b → pos 0 <ℤ orient_on side a b t
 between side S other a b t c m ma mb at tb = elim (le_or_lt (orient_on side a b t) (pos 0)) [
@@ -31,7 +31,7 @@ between side S other a b t c m ma mb at tb = elim (le_or_lt (orient_on side a b 
   | inr h ↦ h
 ]
 
--- what stands after b, a corner of the chain
+-- a point after b, a vertex of the chain, is inwards of the edge
 after : (side : Side) (S chain : List Pair) (a b t : Pair) → IsChainOf side S chain → Contains chain b → Contains S a
     → Contains S t → IsBefore a b → IsBefore b t → pos 0 <ℤ orient_on side a b t
 after side S chain a b t c m ma mt ab bt = elim (le_or_lt (orient_on side a b t) (pos 0)) [
@@ -39,7 +39,7 @@ after side S chain a b t c m ma mt ab bt = elim (le_or_lt (orient_on side a b t)
   | inr h ↦ h
 ]
 
--- what stands before a, a corner of the chain
+-- a point before a, a vertex of the chain, is inwards of the edge
 ahead : (side : Side) (S chain : List Pair) (a b t : Pair) → IsChainOf side S chain → Contains chain a → Contains S b
     → Contains S t → IsBefore a b → IsBefore t a → pos 0 <ℤ orient_on side a b t
 ahead side S chain a b t c m mb mt ab ta = elim (le_or_lt (orient_on side a b t) (pos 0)) [
@@ -50,7 +50,7 @@ ahead side S chain a b t c m mb mt ab ta = elim (le_or_lt (orient_on side a b t)
     swapped : orient_on side t b a ≡ neg_ℤ (orient_on side a b t)
     swapped = orient_on_cycle side t b a ∙ orient_on_cycle side b a t ∙ orient_on_swap side a b t
 
--- the edge between two runs is their bridge
+-- the edge between two slices is their bridge
 pub runs_bridge : (side : Side) (l r : Pair → Type 0) → RunsHaveTheirBridge side l r
 runs_bridge side l r S chain other a b c o p = record {
   from_left = p.from_left;

@@ -1,4 +1,4 @@
--- A list in the order "before" with a point, and without one: its members, and that it stays in that order.
+-- A list in the order "before" with a point added, and with one removed: its members, and that it stays in that order.
 use Rattle.std.proofs.Common.{◌≡◌, ◌⊎◌, inl, inr, refl, sym, subst, List, arith, zero, suc, [], ◌∷◌}
 use Rattle.std.specs.Prelude.{◌↔◌}
 use Rattle.std.specs.List.{All, Contains}
@@ -9,11 +9,11 @@ use Rattle.lattice.proofs.Order.{before_trans, before_irrefl, before_total, is_b
 use Rattle.hull_geometry.proofs.PointLists.{AllPairs-cons, AllPairs-head, AllPairs-tail, later}
 use Rattle.hull_geometry.proofs.ChangedSets.{all_without, in_without}
 
--- equal points do not stand before each other
+-- equal points are not before each other
 not_before_same : (x p : Pair) → x ≡ p → ¬ IsBefore x p
 not_before_same x p e b = before_irrefl p (subst (λ (z : Pair). IsBefore z p) e b)
 
--- what holds of p and of each member of S holds of each member of S with p
+-- a property of p and of each member of S is one of each member of S with p
 all_with : (P : Pair → Type 0) (p : Pair) (S : List Pair) → P p → All P S → All P (with_point p S)
 all_with P p [] h a = All-cons P p [] h a
 all_with P p (x ∷ xs) h a =
@@ -104,7 +104,7 @@ members_with p t S = (there, back)
     back (inl e) = subst (λ (z : Pair). Contains (with_point p S) z) (sym e) (added p S)
     back (inr m) = kept p t S m
 
--- the members of S without p are those of S but for p
+-- the members of S without p are those of S that are not p
 pub members_without : (p t : Pair) (S : List Pair) → IsPointSet S
     → Contains (without_point p S) t ↔ (Contains S t × ¬ (t ≡ p))
 members_without p t S s = (there, λ m. in_without p t S m.1 m.0)
@@ -118,7 +118,7 @@ pub with_point_law : (S : List Pair) (p : Pair) → IsPointSet S
     → IsPointSet (with_point p S) × ((t : Pair) → (Contains (with_point p S) t ↔ ((t ≡ p) ⊎ Contains S t)))
 with_point_law S p s = (ordered_with p S s, λ t. members_with p t S)
 
--- S without p is in order, and its members are those of S but for p
+-- S without p is in order, and its members are those of S that are not p
 pub without_point_law : (S : List Pair) (p : Pair) → IsPointSet S
     → IsPointSet (without_point p S) × ((t : Pair) → (Contains (without_point p S) t ↔ (Contains S t × ¬ (t ≡ p))))
 without_point_law S p s = (ordered_without p S s, λ t. members_without p t S s)

@@ -1,4 +1,4 @@
--- How far a point lies in a direction, beside a line that rises or falls in it.
+-- How far a point lies in a direction, relative to a line that rises or falls in it.
 use Rattle.std.proofs.Common.{◌≡◌, ℤ, pos, ◌+ℤ◌, ◌-ℤ◌, ◌*ℤ◌, ◌≤ℤ◌, ◌<ℤ◌, neg_ℤ, inl, inr, refl, sym, ap, ◌∙◌, arith}
 use Rattle.std.proofs.lemmas.Int.{ints}
 use Rattle.lattice.specs.Plane.{Pair, product, IsBefore}
@@ -14,7 +14,7 @@ use Rattle.hull_geometry.specs.Tangents.{Faces}
 use Rattle.hull_geometry.proofs.Orientation.{ahead_of, at_least}
 use Rattle.hull_geometry.proofs.Orientations.{wedge, orient_on_by_start, orient_on_by_last}
 
--- how far two vectors go in a direction, weighed by how far they go to the right and by their sides
+-- the products of a direction with two vectors, weighted by their first components, differ by their side
 weigh_right : (d w t : Pair) → product d t *ℤ w.x +ℤ d.y *ℤ cross t w ≡ product d w *ℤ t.x
 unfolding product
 weigh_right d w t = rw (as_pair d, as_pair w, as_pair t) (simp difference_rules (difference-eq _ _ _ _ (omega arith)))
@@ -24,12 +24,12 @@ weigh_left : (d w t : Pair) → product d t *ℤ w.x ≡ product d w *ℤ t.x +�
 unfolding product
 weigh_left d w t = rw (as_pair d, as_pair w, as_pair t) (simp difference_rules (difference-eq _ _ _ _ (omega arith)))
 
--- how far a vector that goes straight up goes
+-- how far a vector goes that goes straight up
 upright : (d w : Pair) → w.x ≡ pos 0 → product d w ≡ d.y *ℤ w.y
 unfolding product
 upright d w e = ap (λ (z : ℤ). d.x *ℤ z +ℤ d.y *ℤ w.y) e ∙ omega (arith, ints)
 
--- where d goes up and w not farther, nor does a vector ahead on the right of w
+-- if d goes up and w goes no farther, a vector ahead on the right of w goes no farther
 rises : (d w t : Pair) → pos 0 <ℤ d.y → Ahead w → Ahead t → pos 0 ≤ℤ cross t w → product d w ≤ℤ pos 0
     → product d t ≤ℤ pos 0
 rises d w t up (inr h) ht side far =
@@ -47,7 +47,7 @@ rises d w t up (inl h) ht side far =
           absurd (omega (arith, ints))
     ]
 
--- where d does not go up and w not farther, nor does a vector ahead on the left of w
+-- if d does not go up and w goes no farther, a vector ahead on the left of w goes no farther
 falls : (d w t : Pair) → d.y ≤ℤ pos 0 → Ahead w → Ahead t → pos 0 ≤ℤ cross w t → product d w ≤ℤ pos 0
     → product d t ≤ℤ pos 0
 falls d w t down (inl h) ht side far =
@@ -75,28 +75,28 @@ unfolding product
 product-step d p t =
     rw (as_pair d, as_pair p, as_pair t) (simp difference_rules (difference-eq _ _ _ _ (omega arith)))
 
--- no farther
+-- if the step from p to t goes no farther, t is no farther
 no_farther : (d p t : Pair) → product d (minus t p) ≤ℤ pos 0 → product d t ≤ℤ product d p
 no_farther d p t h = let e = product-step d p t in omega (arith, ints)
 
--- the step to a point that is no farther
+-- if t is no farther than p, the step from p to t goes no farther
 step_back : (d p t : Pair) → product d t ≤ℤ product d p → product d (minus t p) ≤ℤ pos 0
 step_back d p t h = let e = product-step d p t in omega (arith, ints)
 
--- where d faces a side and w goes no farther, nor does a vector ahead on the inner side of w
+-- if d faces a side and w goes no farther, a vector ahead on the inner side of w goes no farther
 no_gain : (side : Side) (d w t : Pair) → Faces side d → Ahead w → Ahead t → pos 0 ≤ℤ wedge side w t
     → product d w ≤ℤ pos 0 → product d t ≤ℤ pos 0
 no_gain Lower d w t down = falls d w t down
 no_gain Upper d w t up = rises d w t up
 
--- inwards of the line pq and after p, where q is no farther than p: no farther than p
+-- a point inwards of the line pq and after p is no farther than p if q is no farther than p
 pub stays : (side : Side) (d p q t : Pair) → Faces side d → IsBefore p q → IsBefore p t → pos 0 ≤ℤ orient_on side p q t
     → product d q ≤ℤ product d p → product d t ≤ℤ product d p
 stays side d p q t faces pq pt o f =
     no_farther d p t (no_gain side d (minus q p) (minus t p) faces (ahead_of p q pq) (ahead_of p t pt)
     (at_least _ _ (orient_on_by_start side p q t) o) (step_back d p q f))
 
--- inwards of the line pq and before q, where p is less far than q: less far than q
+-- a point inwards of the line pq and before q is less far than q if p is less far than q
 pub goes : (side : Side) (d p q t : Pair) → Faces side d → IsBefore p q → IsBefore t q → pos 0 ≤ℤ orient_on side p q t
     → product d p <ℤ product d q → product d t <ℤ product d q
 goes side d p q t faces pq tq o f =
@@ -107,18 +107,18 @@ goes side d p q t faces pq tq o f =
           (at_least _ _ (orient_on_by_last side p q t) o) (step_back d t q k))))
     ]
 
--- how far a vector goes the other way
+-- how far the opposite vector goes is the negation
 pub product-opp : (d w : Pair) → product (opp d) w ≡ neg_ℤ (product d w)
 unfolding product
 product-opp d w = rw (as_pair d, as_pair w) (simp difference_rules (difference-eq _ _ _ _ (omega arith)))
 
--- the steps of a bend exchanged, as the other side sees them
+-- the steps of a bend, exchanged, have the same bend on the other side
 other_wedge : (side : Side) (u v : Pair) → wedge (opposite side) u v ≡ wedge side v u
 other_wedge Lower u v = refl
 other_wedge Upper u v = refl
 
--- inwards of the line pq and after p, where q is less far than p, and d faces the other side as one looks back: less
--- far than p
+-- a point inwards of the line pq and after p is less far than p if q is less far than p, and the opposite of d faces
+-- the other side
 pub drops : (side : Side) (d p q t : Pair) → Faces (opposite side) (opp d) → IsBefore p q → IsBefore p t
     → pos 0 ≤ℤ orient_on side p q t → product d q <ℤ product d p → product d t <ℤ product d p
 drops side d p q t faces pq pt o f =

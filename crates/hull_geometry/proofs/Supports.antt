@@ -1,4 +1,4 @@
--- Lines through two points of S of which no point of S is outwards on a side: those of the edges there.
+-- Lines through two points of S that have no point of S outwards on a side: the lines of edges.
 use Rattle.std.proofs.Common.{pos, ◌≤ℤ◌, List}
 use Rattle.std.specs.List.{Contains}
 use Rattle.std.proofs.lemmas.List.Elements.{All-contains}
@@ -15,7 +15,7 @@ pub record IsSupport (side : Side) (S : List Pair) (a b : Pair) : Type 0 where
   pub forward : IsBefore a b
   pub inner : (t : Pair) → Contains S t → pos 0 ≤ℤ orient_on side a b t
 
--- a lower edge is one
+-- a lower edge is such a support
 pub lower_support : {S : List Pair} {u v : Pair} → IsEdgeOn Lower S u v → IsSupport Lower S u v
 lower_support {S} {u} {v} e = record {
   from = e.from;
@@ -24,7 +24,7 @@ lower_support {S} {u} {v} e = record {
   inner = λ t m. All-contains (λ z. pos 0 ≤ℤ orient u v z) S t e.left m;
 }
 
--- and an upper one, read forward
+-- an upper edge, read forward, is such a support
 pub upper_support : {S : List Pair} {u v : Pair} → IsEdgeOn Upper S u v → IsSupport Upper S v u
 upper_support {S} {u} {v} e = record {
   from = e.to;

@@ -1,4 +1,4 @@
--- Where the tangents from a point touch a chain, by the edges beside the point that they touch.
+-- The points of a chain that the tangents from a point touch, by the edges at them.
 use Rattle.std.proofs.Common.{◌≡◌, ℤ, pos, neg_ℤ, ◌≤ℤ◌, ◌<ℤ◌, ◌⊎◌, inl, inr, sym, ap, ◌∙◌, subst, List, arith}
 use Rattle.std.proofs.lemmas.Int.{ints}
 use Rattle.std.specs.List.{Contains}
@@ -22,7 +22,7 @@ use Rattle.hull_geometry.proofs.Orientations.{orient_on_cycle, orient_on_swap, o
 use Rattle.hull_geometry.proofs.Orientations.{fans_from, fans_to}
 use Rattle.lattice.proofs.LineCrossings.{orient_other}
 
--- t is not outwards of the line from a to b, and where it lies on it, it is no farther from q than p
+-- t is not outwards of the line from a to b, and if it lies on it, it is no farther from q than p
 abbrev IsNoFarther : Side → Pair → Pair → Pair → Pair → Pair → Type 0
 IsNoFarther side a b t q p =
     (pos 0 ≤ℤ orient_on side a b t) × (orient_on side a b t ≡ pos 0 → distance_squared q t ≤ℤ distance_squared q p)
@@ -40,13 +40,13 @@ straight Upper a b t e = zero_opposite _ _ (orient_other b a t) e
 not_straight : (x y : ℤ) → y ≡ neg_ℤ x → y <ℤ pos 0 → x ≡ pos 0 → ⊥
 not_straight x y e h z = omega (arith, ints)
 
--- nothing is in the way from q
+-- no point of S is in the way of q
 module _ (side : Side) (S : List Pair) (q p : Pair) (clear : IsClear side S q) where
   -- q is not inwards of a line over it
   over : (a b : Pair) → Contains S a → Contains S b → IsBefore a q → IsBefore q b → orient_on side a b q ≤ℤ pos 0
   over a b ma mb aq qb = np_below _ (clear.outwards a b ma mb aq qb)
 
-  -- an edge that begins before q and does not end before it with q inwards has q not inwards of it
+  -- if an edge begins before q and does not end before it with q inwards, q is not inwards of it
   not_passed : (n : Pair) → IsSupport side S p n → IsBefore p q → ¬ (IsBefore n q × (pos 0 <ℤ orient_on side p n q))
       → orient_on side p n q ≤ℤ pos 0
   not_passed n e pq h = elim (le_or_lt (orient_on side p n q) (pos 0)) [
@@ -58,7 +58,7 @@ module _ (side : Side) (S : List Pair) (q p : Pair) (clear : IsClear side S q) w
     ]
   ]
 
-  -- an edge that ends after q and does not begin after it with q inwards has q not inwards of it
+  -- if an edge ends after q and does not begin after it with q inwards, q is not inwards of it
   not_to_come : (a : Pair) → IsSupport side S a p → IsBefore q p → ¬ (IsBefore q a × (pos 0 <ℤ orient_on side a p q))
       → orient_on side a p q ≤ℤ pos 0
   not_to_come a e qp h = elim (le_or_lt (orient_on side a p q) (pos 0)) [
@@ -70,7 +70,7 @@ module _ (side : Side) (S : List Pair) (q p : Pair) (clear : IsClear side S q) w
     ]
   ]
 
-  -- what stands after p, from which an edge has q not inwards of it
+  -- a point after p is no farther, if an edge from p does not have q inwards of it
   after_touch : (n t : Pair) → IsSupport side S p n → IsBefore p q → orient_on side p n q ≤ℤ pos 0 → Contains S t
       → IsBefore p t → IsNoFarther side p q t q p
   after_touch n t e pq h m pt = (
@@ -83,7 +83,7 @@ module _ (side : Side) (S : List Pair) (q p : Pair) (clear : IsClear side S q) w
     ],
   )
 
-  -- what stands before p, to which an edge has q not inwards of it
+  -- a point before p is no farther, if an edge to p does not have q inwards of it
   before_touch : (a t : Pair) → IsSupport side S a p → IsBefore q p → orient_on side a p q ≤ℤ pos 0 → Contains S t
       → IsBefore t p → IsNoFarther side q p t q p
   before_touch a t e qp h m tp = (
@@ -96,24 +96,24 @@ module _ (side : Side) (S : List Pair) (q p : Pair) (clear : IsClear side S q) w
     ],
   )
 
--- ---- in the words of tangents
+-- ---- in the terms of tangents
 
--- as seen from the other end of the line
+-- the same as seen from the other end of the line
 flipped : (q p t : Pair) → (pos 0 ≤ℤ orient p q t) × (orient p q t ≡ pos 0 → distance_squared q t ≤ℤ distance_squared q p)
     → IsNoMore Left q p t
 flipped q p t h = (np_opposite _ _ (orient_other p q t) h.0, λ e. h.1 (zero_opposite _ _ (orient_other q p t) e))
 
--- where t is no farther along the line from p to q, it is no farther on the hand of p behind q
+-- if t is no farther along the line from p to q, it is no farther on the hand of p before q
 no_more_behind : (side : Side) (q p t : Pair) → IsNoFarther side p q t q p → IsNoMore (hand_behind side) q p t
 no_more_behind Lower q p t h = flipped q p t h
 no_more_behind Upper q p t h = h
 
--- and along the line from q to p, on the hand of p ahead of q
+-- if t is no farther along the line from q to p, it is no farther on the hand of p after q
 no_more_ahead : (side : Side) (q p t : Pair) → IsNoFarther side q p t q p → IsNoMore (other_hand (hand_behind side)) q p t
 no_more_ahead Lower q p t h = h
 no_more_ahead Upper q p t h = flipped q p t h
 
--- the point behind q up to which edges end before q with q inwards of them is the tangent point there
+-- the point before q up to which edges end before q with q inwards of them is the tangent point there
 pub behind_touched : (side : Side) (S : List Pair) (q p : Pair) → IsClear side S q → Contains S p → IsBefore p q
     → IsFirst S p ⊎ ((a : Pair) × IsSupport side S a p × (pos 0 <ℤ orient_on side a p q))
     → IsLast S p ⊎ ((n : Pair) × IsSupport side S p n × ¬ (IsBefore n q × (pos 0 <ℤ orient_on side p n q)))
@@ -136,7 +136,7 @@ behind_touched side S q p clear m pq low high =
       ]
     ]
 
--- the point ahead of q from which edges begin after q with q inwards of them is the tangent point there
+-- the point after q from which edges begin after q with q inwards of them is the tangent point there
 pub ahead_touched : (side : Side) (S : List Pair) (q p : Pair) → IsClear side S q → Contains S p → IsBefore q p
     → IsFirst S p ⊎ ((a : Pair) × IsSupport side S a p × ¬ (IsBefore q a × (pos 0 <ℤ orient_on side a p q)))
     → IsLast S p ⊎ ((n : Pair) × IsSupport side S p n × (pos 0 <ℤ orient_on side p n q))
@@ -161,8 +161,8 @@ ahead_touched side S q p clear m qp low high =
 
 -- ---- along the chain
 
--- the edge to p along the chain, if there is one, has q on its left, and the one from p does not end before q with q on its
--- left: the left tangent touches in p
+-- the left tangent touches p if the edge to p along the chain, if there is one, has q on its left, and the edge from p
+-- does not end before q with q on its left
 pub left_touched : (side : Side) (S : List Pair) (q p : Pair) → IsClear side S q → Contains S p → IsAlong side p q
     → ((t : Pair) → Contains S t → ¬ (IsAlong side t p)) ⊎ ((a : Pair) × IsEdgeOn side S a p × (pos 0 <ℤ orient a p q))
     → ((t : Pair) → Contains S t → ¬ (IsAlong side p t))
@@ -176,8 +176,8 @@ left_touched Upper S q p clear m pq low high =
     (elim high [ inl l ↦ inl l | inr k ↦ inr (k.0, upper_support k.1, k.2) ])
     (elim low [ inl f ↦ inl f | inr k ↦ inr (k.0, upper_support k.1, k.2) ])
 
--- the edge to p does not begin after q with q on its left, and the one from p, if there is one, has q on its left: the right
--- one does
+-- the right tangent touches p if the edge to p does not begin after q with q on its left, and the edge from p, if there
+-- is one, has q on its left
 pub right_touched : (side : Side) (S : List Pair) (q p : Pair) → IsClear side S q → Contains S p → IsAlong side q p
     → ((t : Pair) → Contains S t → ¬ (IsAlong side t p))
     ⊎ ((a : Pair) × IsEdgeOn side S a p × ¬ (IsAlong side q a × (pos 0 <ℤ orient a p q)))

@@ -26,7 +26,7 @@ use Rattle.hull_geometry.proofs.Orientation.{orient-cycle}
 
 -- ---- few points
 
--- a set of no point but x is x alone
+-- a set that has only the point x is the list of x
 alone : (x : Pair) (xs : List Pair) → IsPointSet xs → ((t : Pair) → Contains xs t → t ≡ x) → 0 < length xs
     → xs ≡ x ∷ []
 alone x [] s h l = absurd (omega (arith, l))
@@ -36,7 +36,7 @@ alone x (y ∷ z ∷ zs) s h l =
     (subst (IsBefore y) (h z (1, omega arith, refl))
     (All-contains (IsBefore y) (z ∷ zs) z (AllPairs-head y (z ∷ zs) s) (0, omega arith, refl)))))
 
--- where the one chain is x alone, the whole set is
+-- if one chain is only x, the whole set is only x
 alone_of : (side : Side) (S : List Pair) (x : Pair) → IsPointSet S → IsChainOf side S (x ∷ []) → S ≡ x ∷ []
 alone_of side S x s c = alone x S s (λ t m. only t (c.inner t m)) (there S (c.among x (0, omega arith, refl)))
   where
@@ -47,7 +47,7 @@ alone_of side S x s c = alone x S s (λ t m. only t (c.inner t m)) (there S (c.a
     there : (xs : List Pair) → Contains xs x → 0 < length xs
     there xs m = omega (arith, m.1)
 
--- where one chain has fewer than two points, the other is the whole set
+-- if one chain has fewer than two points, the other is the whole set
 pub few_vertices : (S lower upper : List Pair) → IsPointSet S → AreChainsOf S lower upper → length upper < 2
     → IsVertexList S lower
 few_vertices S lower [] s c l =
@@ -68,7 +68,7 @@ few_vertices S lower (x ∷ []) s c l =
     (subst (IsVertexList (x ∷ [])) (sym f) (small_list (x ∷ []) (omega arith)))
 few_vertices S lower (x ∷ y ∷ zs) s c l = absurd (omega (arith, l))
 
--- where a chain has a point, so has the set
+-- if a chain has a point, so has the set
 pub some_points : (S lower upper : List Pair) → AreChainsOf S lower upper → 0 < length lower + length upper → S ≢ []
 some_points S lower upper c l e =
     elim (cases_lt 0 (length lower)) [
@@ -81,13 +81,13 @@ some_points S lower upper c l e =
 
 -- ---- the round
 
--- lower edges along the lower chain
+-- each step of the lower chain is a lower edge
 lower_along : (S : List Pair) (x : Pair) (rest : List Pair) → IsChain (IsEdge Lower S) x rest
     → IsChain (IsLowerEdge S) x rest
 lower_along S x [] c = tt
 lower_along S x (y ∷ ys) c = (lower_edge c.0, lower_along S y ys c.1)
 
--- the first points of the two chains are one
+-- the first points of the two chains are equal
 same_first : (S lower upper : List Pair) → AreChainsOf S lower upper → 0 < length lower → 0 < length upper
     → point_at upper 0 ≡ point_at lower 0
 same_first S lower upper c l u =
@@ -95,7 +95,7 @@ same_first S lower upper c l u =
     (first_of Lower S lower c.below (point_at upper 0) (chain_in Upper S upper 0 c.above u))
     (first_of Upper S upper c.above (point_at lower 0) (chain_in Lower S lower 0 c.below l))
 
--- and the last ones
+-- the last points of the two chains are equal
 same_last : (S lower upper : List Pair) → AreChainsOf S lower upper → 0 < length lower → 0 < length upper
     → point_at lower (length lower - 1) ≡ point_at upper (length upper - 1)
 same_last S lower upper c l u =
@@ -107,7 +107,7 @@ same_last S lower upper c l u =
     (last_of Upper S upper c.above (point_at lower (length lower - 1))
     (chain_in Lower S lower (length lower - 1) c.below i))
 
--- where one chain has two points, so has the other
+-- if one chain has two points, so has the other
 two_of : (side other : Side) (S xs ys : List Pair) → IsPointSet S → IsChainOf side S xs → IsChainOf other S ys
     → 1 < length ys → 1 < length xs
 two_of side other S [] ys s c o u =
@@ -144,7 +144,7 @@ round_vertices S (x ∷ l ∷ ls) upper ms s c u k =
 
 -- ---- the walk back along the upper chain
 
--- one more upper edge, to the point before
+-- one more step back along the upper chain is an upper edge
 pub back_more : (S upper passed : List Pair) (i : ℕ) (p : Pair) → IsChainOf Upper S upper → 2 < i → i ≤ length upper
     → p ≡ get_or upper (i - 1 - 1) p
     → IsChain (IsUpperEdge S) (point_at upper (length upper - 1)) passed
@@ -161,7 +161,7 @@ back_more S upper passed i p c some l e k ends =
     (subst (λ (z : Pair). IsUpperEdge S z p) (sym ends)
     (subst (IsUpperEdge S (point_at upper (i - 1))) (sym (e ∙ get_or_free upper (i - 1 - 1) p origin w')) edge))
 
--- at the second point the list is whole
+-- at the second point the list is complete
 pub back_done : (S lower upper passed : List Pair) → IsPointSet S → AreChainsOf S lower upper → 1 < length upper
     → IsChain (IsUpperEdge S) (point_at upper (length upper - 1)) passed
     → end_of (point_at upper (length upper - 1)) passed ≡ point_at upper 1 → IsVertexList S (lower ++ passed)
@@ -177,12 +177,12 @@ abbrev back : Pair → List Pair → List Pair
 back x [] = []
 back x (y ∷ ys) = back y ys ++ x ∷ []
 
--- they end with the first
+-- the chain read backwards ends with the first point
 end_back : (x : Pair) (rest : List Pair) → end_of (end_of x rest) (back x rest) ≡ x
 end_back x [] = refl
 end_back x (y ∷ ys) = end_push (end_of y ys) (back y ys) x
 
--- upper edges along them
+-- each step of the upper chain read backwards is an upper edge
 back_along : (S : List Pair) (x : Pair) (rest : List Pair) → IsChain (IsEdge Upper S) x rest
     → IsChain (IsUpperEdge S) (end_of x rest) (back x rest)
 back_along S x [] c = tt
@@ -203,18 +203,18 @@ fan_back f x (y ∷ ys) =
     let h = fan_back f y ys in
     omega (arith, ints)
 
--- the fan along a lower chain
+-- the fan along a lower chain is the fan of the chain
 fan_lower : (f x : Pair) (rest : List Pair) → fan f x rest ≡ fan_from Lower f x rest
 fan_lower f x [] = refl
 fan_lower f x (y ∷ ys) = let e = orient-cycle x y f in let h = fan_lower f y ys in omega (arith, ints)
 
--- few points have no fan
+-- fewer than two points have no fan
 few_fan : (side : Side) (xs : List Pair) → length xs < 2 → fan_of side xs ≡ pos 0
 few_fan side [] l = refl
 few_fan side (x ∷ []) l = refl
 few_fan side (x ∷ y ∷ ys) l = absurd (omega (arith, l))
 
--- nor an area
+-- fewer than two points have no area
 few_area : (xs : List Pair) → length xs < 2 → doubled_area xs ≡ pos 0
 few_area [] l = refl
 few_area (x ∷ []) l = refl

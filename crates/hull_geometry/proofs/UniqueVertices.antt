@@ -1,4 +1,4 @@
--- A list of points has one list of vertices at most, and one doubled area at most.
+-- A list of points has at most one list of vertices, and at most one doubled area.
 use Rattle.std.proofs.lemmas.Grind.{common_steps}
 use Rattle.std.proofs.Common.{◌≡◌, ℤ, refl, sym, ap, ◌∙◌, subst, List, arith, zero, suc, [], ◌∷◌, get_or}
 use Rattle.std.specs.List.{All, Contains}
@@ -22,7 +22,7 @@ head_first S v t vs h x b = go ((h.members t).1 x)
     go (zero, l, e) = before_irrefl t (subst (IsBefore t) e b)
     go (suc k, l, e) = before_not t v b (subst (IsBefore v) e (h.order.1 k t (omega (arith, l))))
 
--- two vertex lists have one head
+-- two vertex lists have the same head
 same_head : (S : List Pair) (v w : Pair) (vs ws : List Pair) → IsVertexList S (v ∷ vs) → IsVertexList S (w ∷ ws) → v ≡ w
 same_head S v w vs ws h g =
     equal_by v w (head_first S w v ws g (vertices_extreme S (v ∷ vs) h 0 v (omega arith)))
@@ -45,12 +45,12 @@ one_or_more S v y ys h g = go ((h.members y).1 (vertices_extreme S (v ∷ y ∷ 
     go (zero, l, e) = g.distinct 0 1 y (omega arith) (omega arith) e
     go (suc k, l, e) = absurd (omega (arith, l))
 
--- nor are an empty one and one that is not
+-- a vertex list that is empty and one that is not are not of the same points
 none_or_some : (S : List Pair) (v : Pair) (vs : List Pair) → IsVertexList S [] → IsVertexList S (v ∷ vs) → ⊥
 none_or_some S v vs h g = let m = (h.members v).1 (vertices_extreme S (v ∷ vs) g 0 v (omega arith)) in
     absurd (omega (arith, m.1))
 
--- two vertex lists with one head are equal
+-- two vertex lists with the same head are equal
 same_list : (S : List Pair) (v : Pair) (vs ws : List Pair) → IsVertexList S (v ∷ vs) → IsVertexList S (v ∷ ws)
     → v ∷ vs ≡ v ∷ ws
 same_list S v [] [] h g = refl

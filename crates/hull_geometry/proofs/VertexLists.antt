@@ -1,4 +1,4 @@
--- A lower chain from the first point to the last and an upper chain back make the vertex list.
+-- A lower chain from the first point to the last, and an upper chain back, are the vertex list.
 use Rattle.std.proofs.Common.{◌≡◌, ◌⊎◌, inl, inr, refl, sym, subst, List, arith, zero, suc, [], ◌∷◌, ◌++◌, ◌≢◌}
 use Rattle.std.specs.List.{All, Contains, AllPairs}
 use Rattle.std.proofs.lemmas.List.Elements.{All-contains, All-weaker, All-cons, Contains-append_left}
@@ -36,7 +36,7 @@ round_upper : (S : List Pair) (first u : Pair) (ms : List Pair) → IsChain (IsU
 round_upper S first u [] c = c.0.left
 round_upper S first u (v ∷ ms) c = (c.0.left, round_upper S first v ms c.1)
 
--- and along a lower chain before it
+-- along a lower chain before it, all points stay on the left
 round_lower : (S : List Pair) (first last u : Pair) (ls ms : List Pair) → IsChain (IsLowerEdge S) u ls
     → end_of u ls ≡ last → GoesRound S first last ms → GoesRound S first u (ls ++ ms)
 round_lower S first last u [] ms c e g = subst (λ (z : Pair). GoesRound S first z ms) (sym e) g
@@ -51,7 +51,7 @@ chain_above side S u (v ∷ vs) c =
     (All-weaker (IsAlong side v) (IsAlong side u) (λ t b. along_trans side u v t c.0.along b) vs
     (chain_above side S v vs c.1))
 
--- the points of an upper chain to the first point stand after that point
+-- the points of an upper chain to the first point are after that point
 upper_above : (S : List Pair) (first u : Pair) (ms : List Pair) → IsChain (IsUpperEdge S) u (ms ++ first ∷ [])
     → IsBefore first u × All (IsBefore first) ms
 upper_above S first u [] c = (c.0.along, λ k d l. absurd (omega arith))
@@ -59,17 +59,17 @@ upper_above S first u (v ∷ ms) c =
     let r = upper_above S first v ms c.1 in
     (before_trans first v u r.0 c.0.along, All-cons (IsBefore first) v ms r.0 r.1)
 
--- no member stands there twice
+-- no point is in the list twice
 abbrev Apart : List Pair → Type 0
 Apart xs = AllPairs (λ u v. u ≢ v) xs
 
--- one more, which is none of them
+-- a list with one more point that it does not contain has no point twice
 apart_cons : (x : Pair) (xs : List Pair) → All (λ y. x ≢ y) xs → Apart xs → Apart (x ∷ xs)
 apart_cons x xs a s zero (suc j) d lt l = a j d (omega arith)
 apart_cons x xs a s (suc i) (suc j) d lt l = s i j d (omega arith) (omega arith)
 apart_cons x xs a s i zero d lt l = absurd (omega arith)
 
--- the empty list
+-- the empty list has no point twice
 apart_none : Apart []
 apart_none i j d lt l = absurd (omega arith)
 
@@ -86,7 +86,7 @@ upper_apart S u (v ∷ ms) c =
     apart_cons v ms (All-weaker (IsAlong Upper v) (λ t. v ≢ t) (λ t b. after_apart v t b) ms (chain_above Upper S v ms c.1))
     (upper_apart S v ms c.1)
 
--- a chain without its last edge
+-- a chain without its last edge is a chain
 front_chain : (E : Pair → Pair → Type 0) (u : Pair) (vs : List Pair) (w : Pair) → IsChain E u (vs ++ w ∷ [])
     → IsChain E u vs
 front_chain E u [] w c = tt
@@ -104,7 +104,8 @@ apart_both S u last (v ∷ ls) ms lc uc =
     (upper_ends S last ms uc)))
     (apart_both S v last ls ms lc.1 uc)
 
--- the theorem: a lower chain from the first point to the last, and an upper chain from there back to the first
+-- the theorem: a lower chain from the first point to the last, and an upper chain back to the first, are the vertex
+-- list
 pub vertex_list : (S : List Pair) (first last l : Pair) (ls ms : List Pair) → IsPointSet S
     → IsChain (IsLowerEdge S) first (l ∷ ls) → end_of l ls ≡ last → IsChain (IsUpperEdge S) last (ms ++ first ∷ [])
     → IsFirst S first → IsLast S last → IsVertexList S (first ∷ ((l ∷ ls) ++ ms))

@@ -1,4 +1,4 @@
--- No three extreme points stand in one line, so the vertex after a vertex is determined.
+-- No three extreme points are in one line, so the vertex after a vertex is determined.
 use Rattle.std.proofs.Common.{◌≡◌, ℤ, pos, ◌≤ℤ◌, neg_ℤ, inl, inr, refl, sym, ap, ◌∙◌, subst, List, arith, suc, [], ◌∷◌}
 use Rattle.std.proofs.Common.{◌≢◌}
 use Rattle.std.specs.List.{All, AllPairs}
@@ -12,14 +12,14 @@ use Rattle.hull_geometry.proofs.CoveredByEdges.{on_segment}
 use Rattle.lattice.proofs.Order.{before_irrefl, before_total}
 use Rattle.hull_geometry.proofs.Orientation.{orient_swap, orient_swap_zero, orient-cycle}
 
--- no extreme point stands between two others on their line
+-- no extreme point is between two others on their line
 not_between : (S : List Pair) (a x b : Pair) → IsExtreme S a → IsExtreme S x → IsExtreme S b → orient x a b ≡ pos 0
     → IsBefore a x → IsBefore x b → ⊥
 not_between S a x b ea ex eb z h k =
     ex.1 (OnSegment a b (in_without x a S (λ e. before_irrefl x (subst (λ (y : Pair). IsBefore y x) e h)) ea.0)
     (in_without x b S (λ e. before_irrefl x (subst (IsBefore x) e k)) eb.0) (on_segment a b x h k z))
 
--- three extreme points do not stand in one line
+-- three extreme points are not in one line
 pub not_in_line : (S : List Pair) (u v w : Pair) → IsExtreme S u → IsExtreme S v → IsExtreme S w → u ≢ v → u ≢ w → v ≢ w
     → orient u v w ≡ pos 0 → ⊥
 not_in_line S u v w eu ev ew uv uw vw z =
@@ -47,7 +47,7 @@ not_in_line S u v w eu ev ew uv uw vw z =
       ]
     ]
 
--- two extreme points that may come after u in a vertex list are not apart
+-- two extreme points that may come after u in a vertex list are not different
 pub next_unique : (S : List Pair) (u v w : Pair) → IsExtreme S u → IsExtreme S v → IsExtreme S w → u ≢ v → u ≢ w
     → IsLeftOf S u v → IsLeftOf S u w → ¬ (¬ (v ≡ w))
 next_unique S u v w eu ev ew uv uw hv hw n =
@@ -58,7 +58,7 @@ next_unique S u v w eu ev ew uv uw hv hw n =
     squeeze : (x y : ℤ) → x ≡ neg_ℤ y → pos 0 ≤ℤ x → pos 0 ≤ℤ y → x ≡ pos 0
     squeeze x y e h k = omega (arith, ints)
 
--- two extreme points that may come after u in a vertex list are one
+-- two extreme points that may come after u in a vertex list are equal
 pub next_same : (S : List Pair) (u v w : Pair) → IsExtreme S u → IsExtreme S v → IsExtreme S w → u ≢ v → u ≢ w
     → IsLeftOf S u v → IsLeftOf S u w → v ≡ w
 next_same S u v w eu ev ew uv uw hv hw =
@@ -69,14 +69,14 @@ next_same S u v w eu ev ew uv uw hv hw =
       | inr (inr b) ↦ absurd (next_unique S u v w eu ev ew uv uw hv hw (λ e. before_irrefl w (subst (IsBefore w) e b)))
     ]
 
--- from u along `rest` back to `first`, extreme points that are apart
+-- from u along `rest` back to `first`, extreme points that are different
 pub record IsArc (S : List Pair) (first u : Pair) (rest : List Pair) : Type 0 where
   pub round : GoesRound S first u rest
   pub extreme : All (IsExtreme S) (u ∷ rest)
   pub distinct : AllPairs (λ a b. a ≢ b) (u ∷ rest)
   pub apart : All (λ t. first ≢ t) (u ∷ rest)
 
--- the arc from its second point
+-- an arc from its second point on is an arc
 arc_tail : (S : List Pair) (first u v : Pair) (rest : List Pair) → IsArc S first u (v ∷ rest) → IsArc S first v rest
 arc_tail S first u v rest a = record {
   round = a.round.1;
@@ -85,7 +85,7 @@ arc_tail S first u v rest a = record {
   apart = All-tail (λ t. first ≢ t) u (v ∷ rest) a.apart;
 }
 
--- the first two points of an arc are apart
+-- the first two points of an arc are different
 arc_apart : (S : List Pair) (first u v : Pair) (rest : List Pair) → IsArc S first u (v ∷ rest) → u ≢ v
 arc_apart S first u v rest a = a.distinct 0 1 u (omega arith) (omega arith)
 

@@ -1,4 +1,5 @@
--- Where a point lies outwards of all segments on a side: before all, after all, and right of an edge on that side.
+-- Points that lie outwards of all segments on a side: before all points, after all points, or right of an edge on that
+-- side.
 use Rattle.std.proofs.Common.{pos, ◌≤ℤ◌, ◌<ℤ◌, List}
 use Rattle.std.specs.List.{Contains}
 use Rattle.std.proofs.lemmas.List.Elements.{All-contains}
@@ -11,7 +12,7 @@ use Rattle.lattice.proofs.Order.{before_irrefl, before_not}
 use Rattle.hull_geometry.specs.Sights.{IsClear, IsRightOfEdge}
 use Rattle.hull_geometry.proofs.Orientations.{stays_outwards}
 
--- before all
+-- a point before all points is clear
 pub clear_before : (side : Side) (S : List Pair) (q : Pair) → ((t : Pair) → Contains S t → IsBefore q t)
     → IsClear side S q
 clear_before side S q h = record {
@@ -19,7 +20,7 @@ clear_before side S q h = record {
   outwards = λ s t ms mt sq qt. absurd (before_not q s (h s ms) sq);
 }
 
--- after all
+-- a point after all points is clear
 pub clear_after : (side : Side) (S : List Pair) (q : Pair) → ((t : Pair) → Contains S t → IsBefore t q)
     → IsClear side S q
 clear_after side S q h = record {
@@ -27,7 +28,7 @@ clear_after side S q h = record {
   outwards = λ s t ms mt sq qt. absurd (before_not t q (h t mt) qt);
 }
 
--- outwards of a line that has no point of S outwards
+-- a point outwards of a line that has no point of S outwards is clear
 pub clear_outwards : (side : Side) (S : List Pair) (q a b : Pair) → IsBefore a b
     → ((t : Pair) → Contains S t → pos 0 ≤ℤ orient_on side a b t) → orient_on side a b q <ℤ pos 0 → IsClear side S q
 clear_outwards side S q a b ab inner h = record {
@@ -35,7 +36,7 @@ clear_outwards side S q a b ab inner h = record {
   outwards = λ s t ms mt sq qt. stays_outwards side a b s q t ab sq qt h (inner s ms) (inner t mt);
 }
 
--- right of an edge
+-- a point right of an edge is clear
 pub clear_right : (side : Side) (S : List Pair) (q : Pair) → IsRightOfEdge side S q → IsClear side S q
 clear_right Lower S q (c, d, e, h) =
     clear_outwards Lower S q c d e.along (λ t m. All-contains (λ z. pos 0 ≤ℤ orient c d z) S t e.left m) h

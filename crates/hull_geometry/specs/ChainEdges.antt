@@ -5,7 +5,7 @@ use Rattle.lattice.specs.Plane.{Pair, IsBefore}
 use Rattle.lattice.specs.Orientations.{orient_on}
 use Rattle.lattice.specs.declared.side.Side.{Side}
 
--- t is not outwards of the line from a forward to b, and strictly inwards of it where it stands before a or after b
+-- t is not outwards of the line from a forward to b, and strictly inwards of it if it is before a or after b
 pub record IsBeside (side : Side) (t a b : Pair) : Type 0 where
   pub inwards : pos 0 ≤ℤ orient_on side a b t
   pub before : IsBefore t a → pos 0 <ℤ orient_on side a b t
@@ -18,7 +18,7 @@ pub record IsEdge (side : Side) (S : List Pair) (a b : Pair) : Type 0 where
   pub forward : IsBefore a b
   pub beside : (t : Pair) → Contains S t → IsBeside side t a b
 
--- q stands strictly between the ends of an edge
+-- q is strictly between the ends of an edge
 pub record IsEdgeAt (side : Side) (S : List Pair) (q a b : Pair) : Type 0 where
   pub edge : IsEdge side S a b
   pub after : IsBefore a q
@@ -28,6 +28,6 @@ pub record IsEdgeAt (side : Side) (S : List Pair) (q a b : Pair) : Type 0 where
 abbrev pub IsPassedBy : Side → Pair → Pair → Pair → Type 0
 IsPassedBy side q a b = IsBefore b q × (pos 0 <ℤ orient_on side a b q)
 
--- it begins after q, which lies inwards of it
+-- the edge from a forward to b begins after q, which lies inwards of it
 abbrev pub IsToCome : Side → Pair → Pair → Pair → Type 0
 IsToCome side q a b = IsBefore q a × (pos 0 <ℤ orient_on side a b q)

@@ -1,4 +1,4 @@
--- The edges of a convex hull and the chains that they make, of any list of points S.
+-- The edges of the convex hull of any list of points S, and the chains of these edges.
 use Rattle.std.specs.List.{All, Contains}
 use Rattle.std.specs.Prelude.{◌≡◌, pos, List, [], ◌∷◌}
 use Rattle.lattice.specs.Plane.{Pair, orient, IsBefore}
@@ -6,7 +6,7 @@ use Rattle.lattice.specs.Vertices.{IsLeftOf}
 use Rattle.lattice.specs.declared.side.Side.{Side}
 use Rattle.lattice.specs.declared.side.Side.TheVariants.{Lower, Upper}
 
--- u stands before v along the chain on this side, which goes back on the upper one
+-- u is before v along the chain on this side, which goes back on the upper one
 abbrev pub IsAlong : Side → Pair → Pair → Type 0
 IsAlong Lower u v = IsBefore u v
 IsAlong Upper u v = IsBefore v u
@@ -23,7 +23,7 @@ pub record IsEdgeOn (side : Side) (S : List Pair) (u v : Pair) : Type 0 where
 abbrev pub IsLowerEdge : List Pair → Pair → Pair → Type 0
 IsLowerEdge = IsEdgeOn Lower
 
--- and back on the upper one
+-- it goes back on the upper one
 abbrev pub IsUpperEdge : List Pair → Pair → Pair → Type 0
 IsUpperEdge = IsEdgeOn Upper
 
@@ -32,15 +32,15 @@ abbrev pub IsChain : (Pair → Pair → Type 0) → Pair → List Pair → Type 
 IsChain E u [] = Unit {0}
 IsChain E u (v ∷ rest) = E u v × IsChain E v rest
 
--- the last of u and the members of the list
+-- the end of a chain: the last of u and the members of the list
 abbrev pub end_of : Pair → List Pair → Pair
 end_of u [] = u
 end_of u (v ∷ rest) = end_of v rest
 
--- no point of S stands before `first`
+-- no point of S is before `first`
 abbrev pub IsFirst : List Pair → Pair → Type 0
 IsFirst S first = (t : Pair) → Contains S t → ¬ (IsBefore t first)
 
--- no point of S stands after `last`
+-- no point of S is after `last`
 abbrev pub IsLast : List Pair → Pair → Type 0
 IsLast S last = (t : Pair) → Contains S t → ¬ (IsBefore last t)

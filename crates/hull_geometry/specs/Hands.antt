@@ -1,4 +1,4 @@
--- What stands on which hand of one who looks from a point q.
+-- Which points lie on the left hand and on the right hand, as seen from a point q.
 use Rattle.std.specs.Prelude.{◌≡◌, ◌⊎◌, ℤ, pos, ◌<ℤ◌}
 use Rattle.lattice.specs.Plane.{Pair, orient, distance_squared, IsBefore}
 use Rattle.lattice.specs.declared.side.Side.{Side}
@@ -11,12 +11,12 @@ abbrev pub other_hand : Hand → Hand
 other_hand Left = Right
 other_hand Right = Left
 
--- the tangent that touches a chain behind q, at a point before q, is the left one on the lower side
+-- the tangent that touches a chain at a point before q is the left one on the lower side
 abbrev pub hand_behind : Side → Hand
 hand_behind Lower = Left
 hand_behind Upper = Right
 
--- above 0 where s is seen farther on this hand than t
+-- above 0 if s is seen farther on this hand than t
 abbrev pub orient_by : Hand → Pair → Pair → Pair → ℤ
 orient_by Left q s t = orient q t s
 orient_by Right q s t = orient q s t
@@ -26,7 +26,7 @@ abbrev pub IsMore : Hand → Pair → Pair → Pair → Type 0
 IsMore hand q s t =
     (pos 0 <ℤ orient_by hand q s t) ⊎ ((orient_by hand q s t ≡ pos 0) × (distance_squared q t <ℤ distance_squared q s))
 
--- s stands before t on the left hand, and after it on the right
+-- s is before t on the left hand, and after it on the right
 abbrev pub IsOnHand : Hand → Pair → Pair → Type 0
 IsOnHand Left s t = IsBefore s t
 IsOnHand Right s t = IsBefore t s

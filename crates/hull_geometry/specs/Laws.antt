@@ -5,22 +5,23 @@ use Rattle.lattice.specs.Covers.{IsPointSet, with_point, without_point}
 use Rattle.lattice.specs.Plane.{Pair}
 use Rattle.lattice.specs.Vertices.{IsVertexList, IsDoubledArea}
 
--- a list of points has one list of vertices at most
+-- a list of points has at most one list of vertices
 abbrev pub VertexListIsUnique : Type 0
 VertexListIsUnique = (S vertices others : List Pair) → IsVertexList S vertices → IsVertexList S others
     → vertices ≡ others
 
--- and so one doubled area at most
+-- a list of points has at most one doubled area
 abbrev pub DoubledAreaIsUnique : Type 0
 DoubledAreaIsUnique = (S : List Pair) (m n : ℤ) → IsDoubledArea S m → IsDoubledArea S n → m ≡ n
 
--- a list in the order "before" with a point is in that order, and its members are that point and those of the list
+-- a list in the order "before", with a point added, is in that order, and its members are that point and those of the
+-- list
 abbrev pub WithPointAddsThePoint : Type 0
 WithPointAddsThePoint =
     (S : List Pair) (p : Pair) → IsPointSet S
     → IsPointSet (with_point p S) × ((t : Pair) → (Contains (with_point p S) t ↔ ((t ≡ p) ⊎ Contains S t)))
 
--- without a point it is in that order, and its members are those of the list but for that point
+-- a list with a point removed is in that order, and its members are those of the list without that point
 abbrev pub WithoutPointTakesThePoint : Type 0
 WithoutPointTakesThePoint =
     (S : List Pair) (p : Pair) → IsPointSet S

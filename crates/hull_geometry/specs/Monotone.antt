@@ -1,4 +1,4 @@
--- The chains of a hull as one pass over points in order makes them.
+-- The chains of a hull as the results of one pass over points in order.
 use Rattle.std.specs.Prelude.{◌≡◌, ◌⊎◌, ℤ, pos, ◌+ℤ◌, ◌≤ℤ◌, ◌<ℤ◌, ◌≤◌, List, [], ◌∷◌, ◌++◌, ◌-◌, length, take}
 use Rattle.std.specs.List.{Contains}
 use Rattle.lattice.specs.Covers.{IsPointSet}
@@ -8,26 +8,26 @@ use Rattle.hull_geometry.specs.Edges.{end_of}
 use Rattle.lattice.specs.declared.side.Side.{Side}
 use Rattle.lattice.specs.declared.side.Side.TheVariants.{Lower, Upper}
 
--- u stands between a and b in the order, and not outwards of their segment
+-- u is between a and b in the order, and not outwards of their segment
 abbrev pub IsInwards : Side → Pair → Pair → Pair → Type 0
 IsInwards side a b u = IsBefore a u × IsBefore u b × (pos 0 ≤ℤ orient_on side a b u)
 
--- u is a point of the chain behind a, or stands inwards of one of its segments from a on
+-- u is a point of the chain after a, or lies inwards of one of its segments from a on
 abbrev pub IsInnerFrom : Side → Pair → List Pair → Pair → Type 0
 IsInnerFrom side a [] u = ⊥
 IsInnerFrom side a (b ∷ rest) u = (u ≡ b) ⊎ (IsInwards side a b u ⊎ IsInnerFrom side b rest u)
 
--- u is a point of the chain, or stands inwards of one of its segments
+-- u is a point of the chain, or lies inwards of one of its segments
 abbrev pub IsInner : Side → List Pair → Pair → Type 0
 IsInner side [] u = ⊥
 IsInner side (a ∷ rest) u = (u ≡ a) ⊎ IsInnerFrom side a rest u
 
--- b lies outwards of the segment from a to the next point, where there is one
+-- b lies outwards of the segment from a to the next point, if there is one
 abbrev pub IsCorner : Side → Pair → Pair → List Pair → Type 0
 IsCorner side a b [] = Unit {0}
 IsCorner side a b (c ∷ rest) = pos 0 <ℤ orient_on side a b c
 
--- each point behind a but the last lies outwards of the segment between its neighbours
+-- each point after a but the last lies outwards of the segment between its neighbours
 abbrev pub IsConvexFrom : Side → Pair → List Pair → Type 0
 IsConvexFrom side a [] = Unit {0}
 IsConvexFrom side a (b ∷ rest) = IsCorner side a b rest × IsConvexFrom side b rest
@@ -37,7 +37,7 @@ abbrev pub IsConvex : Side → List Pair → Type 0
 IsConvex side [] = Unit {0}
 IsConvex side (a ∷ rest) = IsConvexFrom side a rest
 
--- points in order, at each of which but the ends the chain bends
+-- a list of points in order that bends at each point except the ends
 pub record IsStrict (side : Side) (chain : List Pair) : Type 0 where
   pub ordered : IsPointSet chain
   pub convex : IsConvex side chain
@@ -47,8 +47,8 @@ abbrev pub EndsWith : Pair → List Pair → Type 0
 EndsWith c [] = ⊥
 EndsWith c (a ∷ rest) = end_of a rest ≡ c
 
--- what one pass over the points of a list in order leaves of them (Andrew, 1979): a strict chain of some of them, with
--- the same end, to which is inner what is inner to the list
+-- the result of one pass over the points of a list in order (Andrew, 1979): a strict chain of some of them, with the
+-- same end; each point that is inner to the list is inner to the chain
 pub record IsPassed (side : Side) (points chain : List Pair) : Type 0 where
   pub strict : IsStrict side chain
   pub among : (t : Pair) → Contains chain t → Contains points t
@@ -56,7 +56,7 @@ pub record IsPassed (side : Side) (points chain : List Pair) : Type 0 where
   pub ends : (c : Pair) → EndsWith c points → EndsWith c chain
   pub short : length chain ≤ length points
 
--- a list of points in order from which some went that are inner to those that are left: its first and its last stay
+-- a list of points in order from which some points were removed that are inner to the rest: its first and its last stay
 pub record IsThinned (side : Side) (points left : List Pair) : Type 0 where
   pub ordered : IsPointSet left
   pub among : (t : Pair) → Contains left t → Contains points t
@@ -64,7 +64,7 @@ pub record IsThinned (side : Side) (points left : List Pair) : Type 0 where
   pub ends : (c : Pair) → EndsWith c points → EndsWith c left
   pub short : length left ≤ length points
 
--- a fringe of a set S: some of its points in order, to which each point of S is inner
+-- a candidate list of a set S: some of its points in order, to which each point of S is inner
 pub record IsFringeOf (side : Side) (S fringe : List Pair) : Type 0 where
   pub ordered : IsPointSet fringe
   pub among : (t : Pair) → Contains fringe t → Contains S t
@@ -85,7 +85,7 @@ pub record EndsInwards (side : Side) (chain : List Pair) (c : Pair) : Type 0 whe
   pub kept : take (length chain - 1) chain ≡ front ++ a ∷ []
   pub inwards : orient_on side a b c ≤ℤ pos 0
 
--- a fringe of a set S on each side
+-- a candidate list of a set S on each side
 pub record AreFringesOf (S lower upper : List Pair) : Type 0 where
   pub below : IsFringeOf Lower S lower
   pub above : IsFringeOf Upper S upper
@@ -103,7 +103,7 @@ pub record AreChainsOf (S lower upper : List Pair) : Type 0 where
 abbrev pub AreChains : List Pair → List Pair → Type 0
 AreChains lower upper = (S : List Pair) × AreChainsOf S lower upper
 
--- the doubled areas of the triangles between c and the steps of a chain behind a
+-- the doubled areas of the triangles between c and the steps of a chain after a
 abbrev pub fan_from : Side → Pair → Pair → List Pair → ℤ
 fan_from side c a [] = pos 0
 fan_from side c a (b ∷ rest) = orient_on side a b c +ℤ fan_from side c b rest

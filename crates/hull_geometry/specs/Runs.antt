@@ -1,4 +1,5 @@
--- Runs of the corners of a set, of both chains together, in order: what a bucket of points is to a search of bridges.
+-- Slices of the vertices of a set, of both chains together, in order: what a bucket of points is to a search of
+-- bridges.
 use Rattle.std.specs.Prelude.{◌⊎◌, List}
 use Rattle.std.specs.List.{Contains}
 use Rattle.lattice.specs.Bridges.{IsAllBefore, IsBridge}
@@ -12,8 +13,8 @@ abbrev pub opposite : Side → Side
 opposite Lower = Upper
 opposite Upper = Lower
 
--- l and r are corners of one chain or of the other, all of l before all of r. a is the last point of l on the one
--- chain, or the first of l where it has none there; b is the first point of r on that chain, or the last of r
+-- l and r are vertices of one chain or of the other, all of l before all of r. a is the last point of l on the one
+-- chain, or the first of l if it has none there; b is the first point of r on that chain, or the last of r
 pub record ArePartedAt (chain other : List Pair) (l r : Pair → Type 0) (a b : Pair) : Type 0 where
   pub parted : IsAllBefore l r
   pub left_corners : (t : Pair) → l t → Contains chain t ⊎ Contains other t

@@ -1,4 +1,4 @@
--- From where a point looks at the hull of S, by the edges at it.
+-- The location of a point relative to the hull of S, by the edges at it.
 use Rattle.std.specs.Prelude.{◌⊎◌, ℤ, pos, ◌<ℤ◌, ◌≤ℤ◌, List, Option, MatchOption}
 use Rattle.std.specs.List.{Contains}
 use Rattle.lattice.specs.Plane.{Pair, orient, IsBefore}
@@ -14,7 +14,7 @@ use Rattle.hull_geometry.specs.declared.hand.Hand.TheVariants.{Left, Right}
 use Rattle.hull_geometry.specs.declared.sight.Sight.{Sight}
 use Rattle.hull_geometry.specs.declared.sight.Sight.TheVariants.{Before, After, Below, Above, Touching, Within}
 
--- at q there is this edge on a side: from e.0, which is q or stands before it along the chain, to e.1 behind q
+-- at q there is this edge on a side: from e.0, which is q or is before it along the chain, to e.1 after q
 pub record IsEdgeOnAt (side : Side) (S : List Pair) (q : Pair) (e : Pair × Pair) : Type 0 where
   pub edge : IsEdgeOn side S e.0 e.1
   pub starts : ¬ IsAlong side q e.0
@@ -41,15 +41,15 @@ pub record IsClear (side : Side) (S : List Pair) (q : Pair) : Type 0 where
 abbrev pub IsBelow : List Pair → Pair → Type 0
 IsBelow = IsClear Lower
 
--- and on the upper one above
+-- outwards on the upper side is above
 abbrev pub IsAbove : List Pair → Pair → Type 0
 IsAbove = IsClear Upper
 
--- q stands after the first point and before the last
+-- q is after the first point and before the last
 abbrev pub IsBetweenEnds : Pair → Pair → Pair → Type 0
 IsBetweenEnds first last q = IsBefore first q × IsBefore q last
 
--- from where q looks at the hull of S, whose first and last points these are
+-- the location of q relative to the hull of S, whose first and last points these are
 abbrev pub IsSightOf : Pair → Pair → List Pair → Pair → Sight → Type 0
 IsSightOf first last S q Before = IsBefore q first
 IsSightOf first last S q After = IsBefore last q
@@ -58,8 +58,8 @@ IsSightOf first last S q Above = IsBetweenEnds first last q × IsRightOfEdge Upp
 IsSightOf first last S q Touching = IsOnBoundary S q
 IsSightOf first last S q Within = IsInside S q
 
--- from where a point looks that stands between the ends and not below the lower edge there, by its sides of that edge
--- and of the upper one
+-- the location of a point that is between the ends and not below the lower edge there, by its sides of that edge and of
+-- the upper one
 abbrev pub IsSightBy : ℤ → ℤ → Sight → Type 0
 IsSightBy lower upper Before = ⊥
 IsSightBy lower upper After = ⊥
@@ -68,13 +68,13 @@ IsSightBy lower upper Above = upper <ℤ pos 0
 IsSightBy lower upper Touching = (pos 0 ≤ℤ lower) × (pos 0 ≤ℤ upper) × ((lower ≤ℤ pos 0) ⊎ (upper ≤ℤ pos 0))
 IsSightBy lower upper Within = (pos 0 <ℤ lower) × (pos 0 <ℤ upper)
 
--- ---- from where a tangent touches which chain
+-- ---- locations, and the chains that a tangent touches
 
 -- these are the first and the last point of S
 abbrev pub AreEnds : List Pair → Pair → Pair → Type 0
 AreEnds S first last = (Contains S first × IsFirst S first) × (Contains S last × IsLast S last)
 
--- q stands inwards of the end of the chain on this side that lies on this hand of one who looks at the chain from there
+-- q lies inwards of the end of the chain on this side that is on this hand as seen from q
 abbrev pub IsInwards : Hand → Side → Pair → Pair → Pair → Type 0
 IsInwards hand Lower first last q = IsOnHand hand (end_on hand (first, last)) q
 IsInwards hand Upper first last q = IsOnHand hand q (end_on (other_hand hand) (first, last))
@@ -88,7 +88,7 @@ abbrev pub AreTouched : Pair → Pair → List Pair → Pair → Side × Side �
 AreTouched first last S q sides =
     IsOutside S q × IsOnChain Left sides.0 first last S q × IsOnChain Right sides.1 first last S q
 
--- from this sight the tangents touch these chains, and with none S covers the point
+-- a location, and the chains that the tangents from there touch; with none, S covers the point
 abbrev pub TellsChains : Sight → Option (Side × Side) → Type 0
 TellsChains sight sides = (first last : Pair) (S : List Pair) (q : Pair) → AreEnds S first last
     → IsSightOf first last S q sight → MatchOption sides (Covers S q) (AreTouched first last S q)

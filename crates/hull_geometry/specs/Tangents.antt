@@ -1,4 +1,4 @@
--- The points that questions about a set are answered with: the farthest in a direction, and those where tangents touch.
+-- The points that answer questions about a set: the farthest in a direction, and those that tangents touch.
 use Rattle.std.specs.Prelude.{◌≡◌, ◌≢◌, pos, ◌≤ℤ◌, ◌<ℤ◌, List}
 use Rattle.std.specs.List.{All, Contains}
 use Rattle.lattice.specs.Plane.{Pair, orient, product, distance_squared, IsBefore}
@@ -8,7 +8,7 @@ use Rattle.lattice.specs.declared.side.Side.TheVariants.{Lower, Upper}
 use Rattle.hull_geometry.specs.declared.hand.Hand.{Hand}
 use Rattle.hull_geometry.specs.declared.hand.Hand.TheVariants.{Left, Right}
 
--- a direction faces the upper chain where it goes up, and else the lower one
+-- a direction faces the upper chain if it goes up, and else the lower one
 abbrev pub Faces : Side → Pair → Type 0
 Faces Lower d = d.y ≤ℤ pos 0
 Faces Upper d = pos 0 <ℤ d.y
@@ -31,6 +31,6 @@ IsTangent hand S q p = Contains S p × All (IsNoMore hand q p) S
 abbrev pub IsLeftTangent : List Pair → Pair → Pair → Type 0
 IsLeftTangent = IsTangent Left
 
--- the same with right for left
+-- no point of S lies right of the line from q to r, and none on that line is farther from q
 abbrev pub IsRightTangent : List Pair → Pair → Pair → Type 0
 IsRightTangent = IsTangent Right

@@ -1,6 +1,6 @@
 //! The two tangents from a point.
 
-/// One of the two tangents from a point, by the hand of one who looks from there.
+/// Selects one of the two tangents from a point: the left or the right one, as seen from that point.
 #[derive(Clone, Copy)]
 pub enum Hand {
     Left,

@@ -1,8 +1,10 @@
-//! Convex geometry over any list of lattice points: edges and chains of a hull, tangents, and what separates a point from it.
+//! Convex geometry over any list of lattice points: edges and chains of a hull, tangents, and lines that separate a
+//! point from it.
 //!
-//! `specs/` has the definitions that crates above share, `proofs/` the lemmas from a chain of edges to the vertex list, the
-//! doubled area, the place and the tangents of a point, and the functions are their laws. Only [`sight_by`] and
-//! [`Sight::tangent_chains`] run: from where a point looks at a hull, and which chains its tangents touch.
+//! `specs/` has the definitions that other crates share, `proofs/` the lemmas from a chain of edges to the vertex list,
+//! the doubled area, the location and the tangents of a point. Most functions are laws of these definitions. Only
+//! [`sight_by`] and [`Sight::tangent_chains`] compute something: the location of a point relative to a hull, and the
+//! chains that its tangents touch.
 #![tactic(auto)]
 
 mod hand;

@@ -1,28 +1,28 @@
-//! From where a point looks at a hull.
+//! The location of a point relative to a hull.
 ghost use Rattle.std.specs.Prelude.{pos, ◌≤ℤ◌};
 ghost use Rattle.hull_geometry.specs.Sights.{IsSightBy, TellsChains};
 
 use lattice::Side;
 
-/// From where a point looks at a hull.
+/// The location of a point relative to a hull.
 #[derive(Clone, Copy)]
 pub enum Sight {
-    /// From before all points.
+    /// Outside, before all points.
     Before,
-    /// From after all points.
+    /// Outside, after all points.
     After,
-    /// From outside, below a lower edge.
+    /// Outside, below a lower edge.
     Below,
-    /// From outside, above an upper edge.
+    /// Outside, above an upper edge.
     Above,
-    /// From the boundary.
+    /// On the boundary.
     Touching,
-    /// From inside.
+    /// Inside.
     Within,
 }
 
 impl Sight {
-    /// The chains that the left and the right tangent from there touch; `None` where the points cover it.
+    /// Returns the chains that the left and the right tangent from there touch, or `None` if the points cover it.
     pub fn tangent_chains(self) -> Option<(Side, Side)>
         ensures { TellsChains self result }
     {
@@ -37,8 +37,9 @@ impl Sight {
     }
 }
 
-/// From where a point looks that has the lower edge at it on its side `lower`, not outside of it, and the upper edge on
-/// its side `upper`; each is positive where the point lies on the inner side of the edge.
+/// Returns the location of a point by its sides of two edges: the lower edge at the point has it on its side `lower`,
+/// and the point is not outside of this edge; the upper edge has it on its side `upper`. Each side is positive if the
+/// point lies on the inner side of the edge.
 pub fn sight_by(lower: i128, upper: i128) -> Sight
     requires { pos 0 ≤ℤ lower }
     ensures { IsSightBy lower upper result }

@@ -1,4 +1,4 @@
--- what all points of a fringe are inner to, all points of its set are inner to
+-- if all points of a candidate list are inner to an edge, all points of its set are
 use Rattle.hull_geometry.proofs.Fringed.{of_fringes}
 use Rattle.hull_geometry.proofs.laws.bridge_is_of_fringes.Goals as goal
 

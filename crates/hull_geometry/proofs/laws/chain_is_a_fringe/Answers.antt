@@ -1,4 +1,4 @@
--- what is inner to a chain is one of its points or stands inwards of a segment between two
+-- a point that is inner to a chain is one of its points or lies inwards of a segment between two
 use Rattle.hull_geometry.proofs.Fringed.{chain_fringe}
 use Rattle.hull_geometry.proofs.laws.chain_is_a_fringe.Goals as goal
 

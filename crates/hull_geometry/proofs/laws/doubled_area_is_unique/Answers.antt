@@ -1,4 +1,4 @@
--- a doubled area is read from the vertex list, and there is one vertex list at most
+-- the doubled area follows from the vertex list, and there is at most one vertex list
 use Rattle.hull_geometry.proofs.UniqueVertices.{doubled_area_unique}
 use Rattle.hull_geometry.proofs.laws.doubled_area_is_unique.Goals as goal
 

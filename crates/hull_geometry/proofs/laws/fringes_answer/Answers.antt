@@ -1,4 +1,4 @@
--- what lies farthest in a fringe lies farthest in its set
+-- the farthest point of a candidate list is the farthest of its set
 use Rattle.hull_geometry.proofs.FringeHulls.{fringes_answer}
 use Rattle.hull_geometry.proofs.laws.fringes_answer.Goals as goal
 

@@ -1,4 +1,4 @@
--- what stands between the ends is on the other chain, and an end that is passed is a corner of this one
+-- a point between the ends is on the other chain, and an end that is passed is a vertex of this one
 use Rattle.hull_geometry.proofs.Runs.{runs_bridge}
 use Rattle.hull_geometry.proofs.laws.runs_have_their_bridge.Goals as goal
 

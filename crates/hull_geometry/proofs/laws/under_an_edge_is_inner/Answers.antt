@@ -1,4 +1,4 @@
--- what stands inwards of a segment lies no farther outwards of a line than the segment
+-- a point inwards of a segment lies no farther outwards of a line than the segment
 use Rattle.hull_geometry.proofs.Fringed.{under_is_inner}
 use Rattle.hull_geometry.proofs.laws.under_an_edge_is_inner.Goals as goal
 

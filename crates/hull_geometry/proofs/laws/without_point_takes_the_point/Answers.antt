@@ -1,4 +1,4 @@
--- without_point leaves out the point alone, so the order stays
+-- `without_point` removes only the point, so the order stays
 use Rattle.hull_geometry.proofs.SetLaws.{without_point_law}
 use Rattle.hull_geometry.proofs.laws.without_point_takes_the_point.Goals as goal
 

@@ -1,4 +1,4 @@
--- each sight says on which side of both chains the point lies
+-- each location determines on which side of both chains the point lies
 use Rattle.std.specs.List.{Contains}
 use Rattle.lattice.specs.Plane.{Pair, IsBefore}
 use Rattle.lattice.specs.declared.side.Side.TheVariants.{Lower, Upper}
