@@ -1,4 +1,4 @@
--- A call has one reply, but for want of memory.
+-- A call has only one possible reply, except that memory may be refused.
 use Rattle.std.proofs.Common.{◌≡◌, ◌+◌, ◌≤◌, ℕ, ℤ, pos, ◌≤ℤ◌, ◌<ℤ◌, neg_ℤ, ◌⊎◌, inl, inr, refl, sym, ap, ◌∙◌, subst}
 use Rattle.std.proofs.Common.{List, arith, ◌<◌, [], length, ◌≢◌}
 use Rattle.std.specs.List.{Contains}
@@ -29,7 +29,7 @@ use Rattle.hull_set.specs.declared.set.Place.TheVariants.{Inside, On, Outside}
 use Rattle.hull_set.specs.declared.reply.Reply.{Reply}
 use Rattle.hull_set.specs.declared.reply.Reply.TheVariants as reply
 
--- the first of the farthest points is one
+-- there is only one first farthest point
 pub first_farthest_unique : (S : List Pair) (d t u : Pair) → IsFirstFarthest S d t → IsFirstFarthest S d u → t ≡ u
 first_farthest_unique S d t u h g =
     let a : product d t ≤ℤ product d u = All-contains (λ z. product d z ≤ℤ product d u) S t g.1 h.0 in
@@ -38,7 +38,7 @@ first_farthest_unique S d t u h g =
     equal_by t u (λ k. All-contains (λ z. IsBefore z u → product d z ≢ product d u) S t g.2 h.0 k e)
     (λ k. All-contains (λ z. IsBefore z t → product d z ≢ product d t) S u h.2 g.0 k (sym e))
 
--- two points of S in line with q and equally far from it, where S does not cover q
+-- two points of S in line with q and equally far from it are equal, if S does not cover q
 same_distance : (S : List Pair) (q a b : Pair) → ¬ Covers S q → Contains S a → Contains S b → orient q a b ≡ pos 0
     → distance_squared q a ≡ distance_squared q b → a ≡ b
 same_distance S q a b n ma mb z e =
@@ -64,18 +64,18 @@ same_distance S q a b n ma mb z e =
     unequal : (m k : ℤ) → m <ℤ k → m ≡ k → ⊥
     unequal m k h f = omega (arith, ints)
 
--- of two points neither is farther on a hand: q sees them in line
+-- if of two points neither is farther on a hand, q sees them in line
 in_line : (hand : Hand) (q a b : Pair) → IsNoMore hand q a b → IsNoMore hand q b a → orient q a b ≡ pos 0
 in_line LeftHand q a b f g = let e = orient_swap q a b in omega (arith, ints, f.0, g.0)
 in_line RightHand q a b f g = let e = orient_swap q a b in omega (arith, ints, f.0, g.0)
 
--- and in line no farther off
+-- a point that is no more on a hand and in line is no farther off
 no_farther : (hand : Hand) (q a b : Pair) → IsNoMore hand q a b → orient q a b ≡ pos 0
     → distance_squared q b ≤ℤ distance_squared q a
 no_farther LeftHand q a b f = f.1
 no_farther RightHand q a b f = f.1
 
--- the tangent point on a hand is one
+-- there is only one tangent point on a hand
 tangent_unique : (hand : Hand) (S : List Pair) (q a b : Pair) → ¬ Covers S q → IsTangent hand S q a
     → IsTangent hand S q b → a ≡ b
 tangent_unique hand S q a b n h g =
@@ -88,7 +88,7 @@ tangent_unique hand S q a b n h g =
     le_both : (x y : ℤ) → x ≤ℤ y → y ≤ℤ x → x ≡ y
     le_both x y h f = omega (arith, ints)
 
--- q lies in one place
+-- q has only one place
 pub place_unique : (S : List Pair) (q : Pair) (place other : WherePlaced) → LiesAt S q place → LiesAt S q other
     → place ≡ other
 place_unique S q Inside Inside a b = refl
@@ -101,22 +101,22 @@ place_unique S q Outside Inside a b = absurd (a b.0)
 place_unique S q Outside On a b = absurd (a b.0)
 place_unique S q Outside Outside a b = refl
 
--- true of the rules of a set alone
+-- true of only the rules of a set
 IsOfSets : Rules → Type 0
 IsOfSets Set = Unit {0}
 IsOfSets Counted = ⊥
 
--- the two rules are two
+-- the two rules are different
 set_is_not_counted : Set ≡ Counted → ⊥
 unfolding IsOfSets
 set_is_not_counted e = subst IsOfSets e tt
 
--- the rules are not both
+-- the rules are not both of the two
 one_rule : (rules : Rules) → rules ≡ Set → rules ≡ Counted → ⊥
 one_rule Set a b = set_is_not_counted b
 one_rule Counted a b = set_is_not_counted (sym a)
 
--- `add p` where points are not counted and p is there
+-- the reply to `add p` is `already` if points are not counted and p is in the set
 already : (held : Held) (limit : ℕ) (rules : Rules) (p : Pair) (r : Reply) → rules ≡ Set → Contains held.points p
     → AnswersAdd rules held limit p r → AgreesWith reply.Already r
 already held limit rules p reply.Added e a b = absurd (b.0 a)
@@ -127,7 +127,7 @@ already held limit rules p reply.TooMany e a (inl b) = absurd (b.0 a)
 already held limit rules p reply.TooMany e a (inr b) = absurd (one_rule rules e b.0)
 already held limit rules p _ e a b = absurd b
 
--- `add p` where points are counted and p is held less often than a point may be
+-- the reply to `add p` is `again` if points are counted and p has less than the greatest multiplicity
 again : (held : Held) (limit : ℕ) (rules : Rules) (p : Pair) (n : ℕ) (r : Reply) → rules ≡ Counted
     → Contains held.points p → n ≡ held.times p + 1 → n ≤ MULTIPLICITY_LIMIT → AnswersAdd rules held limit p r
     → AgreesWith (reply.Again n) r
@@ -139,7 +139,7 @@ again held limit rules p n reply.TooMany e a h l (inl b) = absurd (b.0 a)
 again held limit rules p n reply.TooMany e a h l (inr b) = absurd (omega (arith, h, l, b.2))
 again held limit rules p n _ e a h l b = absurd b
 
--- `add p` of a new point at the limit
+-- the reply to `add p` of a new point at the limit is `too-many`
 full : (held : Held) (limit : ℕ) (rules : Rules) (p : Pair) (r : Reply) → ¬ Contains held.points p
     → length held.points ≡ limit → AnswersAdd rules held limit p r → AgreesWith reply.TooMany r
 full held limit rules p reply.Added n e b = absurd (omega (arith, e, b.1))
@@ -149,7 +149,7 @@ full held limit rules p (reply.Again m) n e b = absurd (n b.1)
 full held limit rules p reply.TooMany n e b = inl refl
 full held limit rules p _ n e b = absurd b
 
--- `add p` where points are counted and p is held as often as a point may be
+-- the reply to `add p` is `too-many` if points are counted and p has the greatest multiplicity
 most : (held : Held) (limit : ℕ) (rules : Rules) (p : Pair) (r : Reply) → rules ≡ Counted → Contains held.points p
     → held.times p ≡ MULTIPLICITY_LIMIT → AnswersAdd rules held limit p r → AgreesWith reply.TooMany r
 most held limit rules p reply.Added e a h b = absurd (b.0 a)
@@ -159,7 +159,7 @@ most held limit rules p (reply.Again n) e a h b = absurd (omega (arith, h, b.2, 
 most held limit rules p reply.TooMany e a h b = inl refl
 most held limit rules p _ e a h b = absurd b
 
--- `add p` of a new point below the limit
+-- the reply to `add p` of a new point below the limit is `added`, unless memory is refused
 added : (held : Held) (limit : ℕ) (rules : Rules) (p : Pair) (r : Reply) → ¬ Contains held.points p
     → length held.points < limit → AnswersAdd rules held limit p r → AgreesWith reply.Added r
 added held limit rules p reply.Added n e b = inl refl
@@ -170,7 +170,7 @@ added held limit rules p reply.TooMany n e (inl b) = absurd (omega (arith, e, b.
 added held limit rules p reply.TooMany n e (inr b) = absurd (n b.1)
 added held limit rules p _ n e b = absurd b
 
--- `add p`
+-- `add p` has only one reply
 add_unique : (held : Held) (limit : ℕ) (rules : Rules) (p : Pair) (r s : Reply) → AnswersAdd rules held limit p r
     → AnswersAdd rules held limit p s → AgreesWith r s
 add_unique held limit rules p reply.Added s a b = added held limit rules p s a.0 a.1 b
@@ -181,7 +181,7 @@ add_unique held limit rules p reply.TooMany s (inl a) b = full held limit rules 
 add_unique held limit rules p reply.TooMany s (inr a) b = most held limit rules p s a.0 a.1 a.2 b
 add_unique held limit rules p _ s a b = absurd a
 
--- `remove p` of a point that is held once, or is not counted
+-- the reply to `remove p` is `removed` if p has multiplicity 1, or is not counted
 removed : (held : Held) (rules : Rules) (p : Pair) (r : Reply) → Contains held.points p
     → (rules ≡ Counted → held.times p ≡ 1) → AnswersRemove rules held p r → AgreesWith reply.Removed r
 removed held rules p reply.Removed a h b = inl refl
@@ -189,7 +189,7 @@ removed held rules p (reply.Left n) a h b = let e : held.times p ≡ 1 = h b.0 i
 removed held rules p reply.Absent a h b = absurd (b a)
 removed held rules p _ a h b = absurd b
 
--- `remove p` where points are counted and p is held more than once
+-- the reply to `remove p` is `left` if points are counted and p has a greater multiplicity
 left : (held : Held) (rules : Rules) (p : Pair) (n : ℕ) (r : Reply) → rules ≡ Counted → Contains held.points p
     → held.times p ≡ n + 1 → 1 ≤ n → AnswersRemove rules held p r → AgreesWith (reply.Left n) r
 left held rules p n reply.Removed e a h l b = let f : held.times p ≡ 1 = b.1 e in absurd (omega (arith, f, h, l))
@@ -200,7 +200,7 @@ left held rules p n (reply.Left m) e a h l b = inl (ap reply.Left (same m b.2))
 left held rules p n reply.Absent e a h l b = absurd (b a)
 left held rules p n _ e a h l b = absurd b
 
--- `remove p` where p is not there
+-- the reply to `remove p` is `absent` if p is not in the set
 absent : (held : Held) (rules : Rules) (p : Pair) (r : Reply) → ¬ Contains held.points p → AnswersRemove rules held p r
     → AgreesWith reply.Absent r
 absent held rules p reply.Removed a b = absurd (a b.0)
@@ -208,7 +208,7 @@ absent held rules p (reply.Left n) a b = absurd (a b.1)
 absent held rules p reply.Absent a b = inl refl
 absent held rules p _ a b = absurd b
 
--- `remove p`
+-- `remove p` has only one reply
 remove_unique : (held : Held) (rules : Rules) (p : Pair) (r s : Reply) → AnswersRemove rules held p r
     → AnswersRemove rules held p s → AgreesWith r s
 remove_unique held rules p reply.Removed s a b = removed held rules p s a.0 a.1 b
@@ -220,20 +220,20 @@ remove_unique held rules p _ s a b = absurd a
 pub no_member : (S : List Pair) (t : Pair) → S ≡ [] → Contains S t → ⊥
 no_member S t e m = let n : length S ≡ 0 = ap (λ (z : List Pair). length z) e in absurd (omega (arith, m.1))
 
--- `extreme d` of a set with points
+-- the reply to `extreme d` of a set with points is the first of the farthest
 farthest_point : (S : List Pair) (d t : Pair) (r : Reply) → IsFirstFarthest S d t → AnswersExtreme S d r
     → AgreesWith (reply.Farthest t) r
 farthest_point S d t (reply.Farthest u) a b = inl (ap reply.Farthest (first_farthest_unique S d t u a b))
 farthest_point S d t reply.Empty a b = absurd (no_member S t b a.0)
 farthest_point S d t _ a b = absurd b
 
--- `extreme d` of the empty set
+-- the reply to `extreme d` of the empty set is `empty`
 no_farthest : (S : List Pair) (d : Pair) (r : Reply) → S ≡ [] → AnswersExtreme S d r → AgreesWith reply.Empty r
 no_farthest S d (reply.Farthest u) a b = absurd (no_member S u a b.0)
 no_farthest S d reply.Empty a b = inl refl
 no_farthest S d _ a b = absurd b
 
--- `extreme d`
+-- `extreme d` has only one reply
 extreme_unique : (S : List Pair) (d : Pair) (r s : Reply) → AnswersExtreme S d r → AnswersExtreme S d s → AgreesWith r s
 extreme_unique S d (reply.Farthest t) s a b = farthest_point S d t s a b
 extreme_unique S d reply.Empty s a b = no_farthest S d s a b
@@ -244,7 +244,7 @@ no_both : (S : List Pair) (q l : Pair) → ¬ Covers S q → Contains S l → ¬
 no_both S q l n m (inl e) = no_member S l e m
 no_both S q l n m (inr c) = n c
 
--- `tangents q` from outside
+-- the reply to `tangents q` from outside is the two tangent points
 tangent_points : (S : List Pair) (q l r : Pair) (other : Reply)
     → ¬ Covers S q × IsLeftTangent S q l × IsRightTangent S q r → AnswersTangents S q other
     → AgreesWith (reply.TangentPoints l r) other
@@ -254,38 +254,38 @@ tangent_points S q l r (reply.TangentPoints m s) a b =
 tangent_points S q l r reply.NoTangent a b = absurd (no_both S q l a.0 a.1.0 b)
 tangent_points S q l r _ a b = absurd b
 
--- `tangents q` of an empty set, or from a point that is covered
+-- the reply to `tangents q` of an empty set, or from a point that is covered, is that there is no tangent
 no_tangent : (S : List Pair) (q : Pair) (other : Reply) → (S ≡ []) ⊎ Covers S q → AnswersTangents S q other
     → AgreesWith reply.NoTangent other
 no_tangent S q (reply.TangentPoints l r) a b = absurd (no_both S q l b.0 b.1.0 a)
 no_tangent S q reply.NoTangent a b = inl refl
 no_tangent S q _ a b = absurd b
 
--- `tangents q`
+-- `tangents q` has only one reply
 tangents_unique : (S : List Pair) (q : Pair) (r s : Reply) → AnswersTangents S q r → AnswersTangents S q s
     → AgreesWith r s
 tangents_unique S q (reply.TangentPoints l r) s a b = tangent_points S q l r s a b
 tangents_unique S q reply.NoTangent s a b = no_tangent S q s a b
 tangents_unique S q _ s a b = absurd a
 
--- `vertices`, answered with a list
+-- the reply to `vertices` with a list is that list, unless memory is refused
 listed : (S vertices : List Pair) (r : Reply) → IsVertexList S vertices → AnswersVertices S r
     → AgreesWith (reply.VertexList vertices) r
 listed S vertices (reply.VertexList others) a b = inl (ap reply.VertexList (vertex_list_unique S vertices others a b))
 listed S vertices reply.NoMemory a b = inr (inr refl)
 listed S vertices _ a b = absurd b
 
--- `vertices`
+-- `vertices` has only one reply
 vertices_unique : (S : List Pair) (r s : Reply) → AnswersVertices S r → AnswersVertices S s → AgreesWith r s
 vertices_unique S (reply.VertexList vertices) s a b = listed S vertices s a b
 vertices_unique S reply.NoMemory s a b = inr (inl refl)
 vertices_unique S _ s a b = absurd a
 
--- naturals that are one as whole numbers are one
+-- naturals that are equal as whole numbers are equal
 same_natural : (m n : ℕ) → pos m ≡ pos n → m ≡ n
 same_natural m n e = omega (arith, ints)
 
--- a call has one reply, but for want of memory
+-- a call has only one possible reply, except that memory may be refused
 pub replies_unique : (rules : Rules) (held : Held) (limit : ℕ) (asked : Call) (r s : Reply)
     → Answers rules held limit asked r → Answers rules held limit asked s → AgreesWith r s
 replies_unique rules held limit (call.Add p) r s a b = add_unique held limit rules p r s a b

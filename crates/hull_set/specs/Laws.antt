@@ -7,11 +7,11 @@ use Rattle.hull_set.specs.declared.call.Call.{Call}
 use Rattle.hull_set.specs.declared.reply.Reply.{Reply}
 use Rattle.hull_set.specs.declared.reply.Reply.TheVariants.{NoMemory}
 
--- the two replies are one, or one of them says that memory was refused
+-- the two replies are equal, or one of them is that memory was refused
 abbrev pub AgreesWith : Reply → Reply → Type 0
 AgreesWith reply other = (reply ≡ other) ⊎ ((reply ≡ NoMemory) ⊎ (other ≡ NoMemory))
 
--- by either rules a call has one reply, but for want of memory
+-- with either rules a call has only one possible reply, except that memory may be refused
 abbrev pub RepliesAreUnique : Type 0
 RepliesAreUnique =
     (rules : Rules) (held : Held) (limit : ℕ) (call : Call) (reply other : Reply)

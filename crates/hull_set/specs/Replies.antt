@@ -1,5 +1,5 @@
--- Which replies a call may have, by the rules, for what is held before it and the limit on the live points; and what a
--- reply makes of what is held. Of a question S are the live points.
+-- The replies that a call may have, by the rules, the contents of the set before it, and the limit on the number of
+-- points; and the effect of a reply on the contents. In questions S is the list of the set's points.
 use Rattle.std.specs.Prelude.{◌≡◌, ◌≢◌, ◌⊎◌, ℕ, ◌+◌, ◌<◌, ◌≤◌, pos, List, [], length, Option, Some, None, Result, Ok}
 use Rattle.std.specs.Prelude.{Err, Vec}
 use Rattle.std.specs.List.{Contains}
@@ -23,7 +23,7 @@ use Rattle.hull_set.specs.declared.set.AddReply.TheVariants as add
 use Rattle.hull_set.specs.declared.set.RemoveReply.{RemoveReply}
 use Rattle.hull_set.specs.declared.set.RemoveReply.TheVariants as remove
 
--- the replies to `add p`: `already` where points are not counted; `again n` where they are and p is held n-1 times, n
+-- the replies to `add p`: `already` if points are not counted; `again n` if they are and p has multiplicity n-1, with n
 -- from 2 to the limit of multiplicities
 abbrev pub AnswersAdd : Rules → Held → ℕ → Pair → Reply → Type 0
 AnswersAdd rules held limit p reply.Added = ¬ Contains held.points p × (length held.points < limit)
@@ -36,8 +36,8 @@ AnswersAdd rules held limit p reply.TooMany =
     ⊎ ((rules ≡ Counted) × Contains held.points p × (held.times p ≡ MULTIPLICITY_LIMIT))
 AnswersAdd rules held limit p _ = ⊥
 
--- the replies to `remove p`: where points are counted, `removed` where p is held once, and `left n` where it is held
--- n+1 times, n at least 1
+-- the replies to `remove p`: if points are counted, `removed` if p has multiplicity 1, and `left n` if it has
+-- multiplicity n+1, with n at least 1
 abbrev pub AnswersRemove : Rules → Held → Pair → Reply → Type 0
 AnswersRemove rules held p reply.Removed = Contains held.points p × (rules ≡ Counted → held.times p ≡ 1)
 AnswersRemove rules held p (reply.Left n) = (rules ≡ Counted) × Contains held.points p × (held.times p ≡ n + 1) × (1 ≤ n)
@@ -50,7 +50,7 @@ AnswersExtreme S d (reply.Farthest t) = IsFirstFarthest S d t
 AnswersExtreme S d reply.Empty = S ≡ []
 AnswersExtreme S d _ = ⊥
 
--- where q lies
+-- the place of q
 abbrev pub LiesAt : List Pair → Pair → WherePlaced → Type 0
 LiesAt S q Inside = IsInside S q
 LiesAt S q On = IsOnBoundary S q
@@ -94,59 +94,59 @@ Answers rules held limit call.Vertices reply = AnswersVertices held.points reply
 Answers rules held limit call.Area reply = AnswersArea held.points reply
 Answers rules held limit call.Count reply = AnswersCount held.points reply
 
--- what is held after `add p` was answered
+-- the contents after the reply to `add p`
 abbrev pub after_add : Held → Pair → Reply → Held
 after_add held p reply.Added = with_new p held
 after_add held p (reply.Again n) = with_again p held
 after_add held p _ = held
 
--- what is held after `remove p` was answered
+-- the contents after the reply to `remove p`
 abbrev pub after_remove : Held → Pair → Reply → Held
 after_remove held p reply.Removed = with_none p held
 after_remove held p (reply.Left n) = with_one_less p held
 after_remove held p _ = held
 
--- the effect of a reply: p is held once more after `added` and `again`, once less after `removed` and `left`; else
--- nothing changes
+-- the effect of a reply: the multiplicity of p is raised by one after `added` and `again`, and lowered by one after
+-- `removed` and `left`; else nothing changes
 abbrev pub after : Held → Call → Reply → Held
 after held (call.Add p) reply = after_add held p reply
 after held (call.Remove p) reply = after_remove held p reply
 after held _ reply = held
 
--- the reply is one of the rules: `already` where points are not counted, `again` and `left` where they are, with a
--- number that a multiplicity may be; every other reply is one of both
+-- the reply is possible with the rules: `already` if points are not counted, `again` and `left` if they are, with a
+-- number that a multiplicity may be; every other reply is possible with both
 abbrev pub IsReplyOf : Rules → Reply → Type 0
 IsReplyOf rules reply.Already = rules ≡ Set
 IsReplyOf rules (reply.Again n) = (rules ≡ Counted) × (n ≤ MULTIPLICITY_LIMIT)
 IsReplyOf rules (reply.Left n) = (rules ≡ Counted) × (n ≤ MULTIPLICITY_LIMIT)
 IsReplyOf rules _ = Unit {0}
 
--- ---- what the calls of a set return, as replies
+-- ---- the results of a set's calls, as replies
 
--- what `add` returned
+-- the result of `add` as a reply
 abbrev pub reply_to_add : AddReply → Reply
 reply_to_add add.Added = reply.Added
 reply_to_add (add.Again n) = reply.Again n
 reply_to_add add.TooMany = reply.TooMany
 reply_to_add add.NoMemory = reply.NoMemory
 
--- what `remove` returned
+-- the result of `remove` as a reply
 abbrev pub reply_to_remove : RemoveReply → Reply
 reply_to_remove remove.Removed = reply.Removed
 reply_to_remove (remove.Left n) = reply.Left n
 reply_to_remove remove.Absent = reply.Absent
 
--- what `extreme` returned
+-- the result of `extreme` as a reply
 abbrev pub reply_to_extreme : Option Pair → Reply
 reply_to_extreme None = reply.Empty
 reply_to_extreme (Some t) = reply.Farthest t
 
--- what `tangents` returned
+-- the result of `tangents` as a reply
 abbrev pub reply_to_tangents : Option (Pair × Pair) → Reply
 reply_to_tangents None = reply.NoTangent
 reply_to_tangents (Some ends) = reply.TangentPoints ends.0 ends.1
 
--- what `vertices` returned
+-- the result of `vertices` as a reply
 abbrev pub reply_to_vertices : {A E : Type 0} → Result (Vec Pair A) E → Reply
 reply_to_vertices (Ok v) = reply.VertexList v.items
 reply_to_vertices (Err e) = reply.NoMemory

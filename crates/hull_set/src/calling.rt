@@ -1,4 +1,4 @@
-//! Calls, made on a set.
+//! Calls, applied to a set.
 ghost use Rattle.std.specs.Prelude.{◌≡◌};
 ghost use Rattle.hull_set.specs.Replies.{Answers, after, reply_to_extreme, reply_to_tangents};
 
@@ -9,7 +9,7 @@ use super::rules::Rules;
 use super::set::HullSet;
 use lattice::Point;
 
-/// The reply to the question for the farthest point.
+/// Returns the reply to the question for the farthest point.
 pub fn extreme_reply(reply: Option<Point>) -> Reply
     ensures { result ≡ reply_to_extreme reply }
 {
@@ -19,7 +19,7 @@ pub fn extreme_reply(reply: Option<Point>) -> Reply
     }
 }
 
-/// The reply to the question for the tangents.
+/// Returns the reply to the question for the tangents.
 pub fn tangents_reply(reply: Option<(Point, Point)>) -> Reply
     ensures { result ≡ reply_to_tangents reply }
 {
@@ -39,7 +39,7 @@ fn listed<S: HullSet>(set: &S) -> Reply
     }
 }
 
-/// Makes the call on the set, which has the effect of the reply then.
+/// Applies the call to the set and returns its reply. The set is changed by the effect of that reply.
 pub fn apply<S: HullSet>(set: &mut S, call: &Call) -> Reply
     ensures allowed { Answers Rules.Counted (S.held set.old) (S.bound set.old) call.now result }
     ensures effect { S.held set.new ≡ after (S.held set.old) call.now result }

@@ -4,17 +4,17 @@ ghost use Rattle.hull_set.specs.Laws.{RepliesAreUnique};
 
 use super::{MULTIPLICITY_LIMIT, POINT_LIMIT};
 
-/// A call has one reply, but for want of memory.
+/// A call has only one possible reply, except that memory may be refused.
 pub fn replies_are_unique()
     ensures { RepliesAreUnique }
 {}
 
-/// The number that [`POINT_LIMIT`] is.
+/// [`POINT_LIMIT`] is 2^20.
 pub fn point_limit_is_stated()
     ensures { POINT_LIMIT ≡ 1048576 }
 {}
 
-/// The number that [`MULTIPLICITY_LIMIT`] is.
+/// [`MULTIPLICITY_LIMIT`] is 65,535.
 pub fn multiplicity_limit_is_stated()
     ensures { MULTIPLICITY_LIMIT ≡ 65535 }
 {}

@@ -1,8 +1,9 @@
-//! What a set of lattice points is that answers questions about its convex hull: its calls, and which replies they may have.
+//! The interface of a set of lattice points that answers questions about its convex hull: its calls, and the replies
+//! that they may have.
 //!
-//! [`HullSet`] is the promise: each call answers by the allowed-reply relation of `specs/Replies.antt`, which speaks of
-//! the live points, and of how often each is held, alone. What keeps it are `PlainSet` (crate `hull_plain`), `HullTree`
-//! (`hull_tree`) and `BucketTree` (`bucket_tree`).
+//! [`HullSet`] is the contract: each call replies as the relation of allowed replies in `specs/Replies.antt` requires.
+//! That relation depends only on the set's points and their multiplicities. `PlainSet` (crate `hull_plain`), `HullTree`
+//! (`hull_tree`) and `BucketTree` (`bucket_tree`) implement it.
 #![tactic(auto)]
 
 mod call;
@@ -22,8 +23,8 @@ pub use reply::Reply;
 pub use rules::Rules;
 pub use set::{AddReply, HullSet, NoMemory, Place, RemoveReply};
 
-/// The greatest limit of a set, and so the greatest number of its live points.
+/// The greatest limit of a set, and so the greatest number of its different points.
 pub const POINT_LIMIT: u32 = 1048576;
 
-/// How often a set holds a point at most.
+/// The greatest multiplicity of a point.
 pub const MULTIPLICITY_LIMIT: u32 = 65535;

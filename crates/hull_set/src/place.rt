@@ -1,11 +1,11 @@
-//! Where a point lies, by what it sees of the hull.
+//! The place of a point, by its location relative to the hull.
 ghost use Rattle.hull_set.specs.Places.{TellsPlace};
 
 use super::set::Place;
 use hull_geometry::Sight;
 
 impl Place {
-    /// Where a point lies that looks from there.
+    /// Returns the place of a point with this location.
     pub fn of_sight(sight: Sight) -> Self
         ensures { TellsPlace sight result }
     {

@@ -10,7 +10,7 @@ use lattice::Point;
 use std::alloc::AllocError;
 use std::marker::Model;
 
-/// A list of at most [`POINT_LIMIT`](crate::POINT_LIMIT) points, as a reply has it.
+/// A list of at most [`POINT_LIMIT`](crate::POINT_LIMIT) points, as a reply contains it.
 #[derive(Debug, Drop)]
 pub struct PointList {
     points: Vec<Point, Heap>,
@@ -35,7 +35,8 @@ impl Clone for PointList {
 
     ghost is_infallible = { λ points. points ≡ [] };
 
-    /// The same points in memory of their own. Memory is asked for, and may be refused, only for a list with a point.
+    /// Returns a copy in storage of its own. Allocates only for a list with a point, and fails with `AllocError` if
+    /// memory is refused.
     fn clone(&self) -> Result<PointList, AllocError> {
         let points = self.as_slice();
         let mut copy = Vec::with_capacity(*self.points.allocator(), points.len())?;
@@ -61,7 +62,7 @@ impl Eq for PointList {
 }
 
 impl PointList {
-    /// The list of these points.
+    /// Returns the list of these points.
     pub fn new(points: Vec<Point, Heap>) -> PointList
         requires { vec_len points ≤ POINT_LIMIT }
         ensures { result ≡ points.items }
@@ -69,7 +70,7 @@ impl PointList {
         PointList { points }
     }
 
-    /// The points in their order.
+    /// Returns the points in their order.
     pub fn as_slice(&self) -> &[Point]
         ensures points { result.now ≡ self.now }
         ensures few { length self.now ≤ POINT_LIMIT }
@@ -77,7 +78,7 @@ impl PointList {
         &self.points
     }
 
-    /// The points in their order, with the memory that they lie in.
+    /// Returns the points in their order, with the storage that they are in.
     pub fn into_vec(self) -> Vec<Point, Heap>
         ensures points { result.items ≡ self }
         ensures few { length self ≤ POINT_LIMIT }

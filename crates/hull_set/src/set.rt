@@ -15,32 +15,32 @@ use std::alloc::AllocError;
 use std::error::Error;
 use std::fmt;
 
-/// What `add` did.
+/// The result of `add`.
 #[derive(Clone, Copy, PartialEq, Eq, Debug)]
 pub enum AddReply {
-    /// The point was not there, and is now.
+    /// The point was not in the set, and is now.
     Added,
-    /// The point was there, and is now held this many times, from 2 to [`MULTIPLICITY_LIMIT`].
+    /// The point was in the set, and now has this multiplicity, from 2 to [`MULTIPLICITY_LIMIT`].
     Again(u32),
-    /// The point was not there and the set has as many points as its limit, or the point is held
-    /// [`MULTIPLICITY_LIMIT`] times. The set is as it was.
+    /// The point was not in the set, which has as many points as its limit; or the point's multiplicity is
+    /// [`MULTIPLICITY_LIMIT`]. The set is unchanged.
     TooMany,
-    /// Memory was refused; the set is as it was.
+    /// Memory was refused; the set is unchanged.
     NoMemory,
 }
 
-/// What `remove` did.
+/// The result of `remove`.
 #[derive(Clone, Copy, PartialEq, Eq, Debug)]
 pub enum RemoveReply {
-    /// The point was held once, and is no more.
+    /// The point had multiplicity 1, and is no longer in the set.
     Removed,
-    /// The point was held more than once, and still is this many times, at least once.
+    /// The point had a greater multiplicity, and is still in the set with this one, which is at least 1.
     Left(u32),
-    /// The point was not there.
+    /// The point was not in the set.
     Absent,
 }
 
-/// Where a point lies, seen from a set.
+/// The place of a point relative to a set.
 #[derive(Clone, Copy, PartialEq, Eq, Debug)]
 pub enum Place {
     /// The set covers it, and in each direction some point of the set lies farther.
@@ -75,12 +75,13 @@ impl From<AllocError> for NoMemory {
     }
 }
 
-/// A finite set of points with a limit on their number, which answers questions about its convex hull. It holds each of
-/// its live points 1 to [`MULTIPLICITY_LIMIT`] times; the limit, the count and all questions are over the live points.
+/// A finite set of points with a limit on their number, which answers questions about its convex hull. Each of its
+/// points has a multiplicity from 1 to [`MULTIPLICITY_LIMIT`]. The limit, the count and all questions are about
+/// different points.
 ///
-/// Contracts see what it holds, its limit, and whether what it keeps is sound: what that asks is told by each set. Each
-/// call answers by the allowed-reply relation, changes what is held by the effect of its reply, and leaves the set
-/// sound.
+/// Contracts see the points with their multiplicities, the limit, and whether the set's data is sound: each
+/// implementation defines what that means. Each call replies as the relation of allowed replies requires, changes the
+/// points by the effect of its reply, and leaves the set sound.
 pub trait HullSet {
     ghost held: { Self → Held };
 
@@ -88,34 +89,34 @@ pub trait HullSet {
 
     ghost sound: { Self → Type 0 };
 
-    /// The greatest number of live points that the set takes.
+    /// Returns the greatest number of different points that the set accepts.
     fn limit(&self) -> u32
         ensures value { result ≡ bound self.now }
         ensures low { 1 ≤ result }
         ensures high { result ≤ POINT_LIMIT }
         ensures sound { sound self.now };
 
-    /// The number of live points.
+    /// Returns the number of different points.
     fn count(&self) -> u32
         ensures reply { Answers Rules.Counted (held self.now) (bound self.now) Call.Count (Reply.PointCount result) }
         ensures room { result ≤ bound self.now }
         ensures in_order { IsPointSet (held self.now).points };
 
-    /// How often `p` is held: 0 where it is not live.
+    /// Returns the multiplicity of `p`: 0 if it is not in the set.
     fn multiplicity(&self, p: Point) -> u32
         ensures times { result ≡ (held self.now).times p }
         ensures few { result ≤ MULTIPLICITY_LIMIT }
         ensures live { Contains (held self.now).points p ↔ (1 ≤ result) };
 
-    /// Holds `p` once more. `NoMemory` comes only for a new point below the limit, and leaves the set as it was; for a
-    /// live point no memory is asked for.
+    /// Adds 1 to the multiplicity of `p`. Returns `NoMemory` only for a new point below the limit, and then the set is
+    /// unchanged. Does not allocate for a point that is in the set.
     fn add(&mut self, p: Point) -> AddReply
         ensures reply { Answers Rules.Counted (held self.old) (bound self.old) (Call.Add p) (reply_to_add result) }
         ensures effect { held self.new ≡ after (held self.old) (Call.Add p) (reply_to_add result) }
         ensures same_limit { bound self.new ≡ bound self.old }
         ensures sound { sound self.new };
 
-    /// Holds `p` once less; a point that was held once leaves the set. Asks for no memory.
+    /// Takes 1 from the multiplicity of `p`; a point of multiplicity 1 leaves the set. Does not allocate.
     fn remove(&mut self, p: Point) -> RemoveReply
         ensures reply { Answers Rules.Counted (held self.old) (bound self.old) (Call.Remove p)
             (reply_to_remove result) }
@@ -123,25 +124,27 @@ pub trait HullSet {
         ensures same_limit { bound self.new ≡ bound self.old }
         ensures sound { sound self.new };
 
-    /// The first, by x and then y, of the points with the greatest product with `d`; `None` for the empty set.
+    /// Returns the first, by x and then y, of the points with the greatest product with `d`, or `None` if the set is
+    /// empty.
     fn extreme(&self, d: Direction) -> Option<Point>
         ensures { Answers Rules.Counted (held self.now) (bound self.now) (Call.Extreme d) (reply_to_extreme result) };
 
-    /// Where `q` lies.
+    /// Returns the place of `q`.
     fn place(&self, q: Point) -> Place
         ensures { Answers Rules.Counted (held self.now) (bound self.now) (Call.Place q) (Reply.Lies result) };
 
-    /// The left and the right tangent point seen from `q`; `None` where the set is empty or covers `q`.
+    /// Returns the left and the right tangent point seen from `q`, or `None` if the set is empty or covers `q`.
     fn tangents(&self, q: Point) -> Option<(Point, Point)>
         ensures { Answers Rules.Counted (held self.now) (bound self.now) (Call.Tangents q) (reply_to_tangents result) };
 
-    /// The vertices, counterclockwise from the first in the order "before". `NoMemory` comes only for a nonempty set.
+    /// Returns the vertices, counterclockwise from the first in the order "before". Fails with `NoMemory` only if the
+    /// set is not empty.
     fn vertices(&self) -> Result<Vec<Point, Heap>, NoMemory>
         ensures reply { Answers Rules.Counted (held self.now) (bound self.now) Call.Vertices
             (reply_to_vertices result) }
         ensures few { IfOk result (λ v. vec_len v ≤ bound self.now) };
 
-    /// The doubled area of the hull.
+    /// Returns the doubled area of the hull.
     fn area2(&self) -> u128
         ensures { Answers Rules.Counted (held self.now) (bound self.now) Call.Area (Reply.DoubledArea result) };
 }

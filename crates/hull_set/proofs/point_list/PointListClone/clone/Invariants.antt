@@ -1,4 +1,4 @@
--- the copy has the points so far, and room for all
+-- the copy has the points so far, and the capacity for all
 use Rattle.std.proofs.Common.{◌≡◌, ◌≤◌, length, take, vec_capacity}
 use Rattle.hull_set.proofs.point_list.PointListClone.clone.Given as goal
 

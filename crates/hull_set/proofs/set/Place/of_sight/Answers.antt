@@ -1,4 +1,4 @@
--- from outside by a line that separates, else as the sight says
+-- a point outside is separated by a line; else the location is the place
 use Rattle.lattice.specs.declared.side.Side.TheVariants.{Lower, Upper}
 use Rattle.hull_geometry.proofs.EdgesAt.{outside_before, outside_after, outside_right}
 use Rattle.hull_set.proofs.set.Place.of_sight.Goals as goal
