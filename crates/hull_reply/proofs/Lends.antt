@@ -1,5 +1,5 @@
--- An export in C that lends what lies at a pointer to one function, and does no more, meets its contract where that function
--- meets its own. What it is passed behind the pointer it passes on.
+-- An export in C that only calls one function, with a reference to the object at a pointer, meets its contract if that
+-- function meets its own. The export passes its other arguments on.
 use Rattle.hull_reply.proofs.Steps.{◌≡◌, ℕ, ◌++◌, List, [], ◌∷◌, sym, full_share, ftrue, flft, flent, fres, named, vptr, Val, fact, tables, WpFn}
 use Rattle.hull_reply.proofs.Steps.{‵, raw, ◌⊛◌, some, later, ◌$◌, ◌∵◌, !, qed, done, move, keep, drop, use1, use3, split, join, fsplit, fjoin}
 use Rattle.hull_reply.proofs.Steps.{fpack, pick, await, suffices, frame, lft_new, lft_end, yes, Is, mem, lends_ref, ref_back, RawPtr, block_ptr}
@@ -48,7 +48,7 @@ use denote.Signed.{SInt, sint_Tells, sint_Lawful}
 use denote.Slice.{ShrSlice, MutSlice, slice_ty, slice_val, shr_slice_Tells, shr_slice_Lawful, mut_slice_Tells, mut_slice_Lawful}
 use Rattle.heap.proofs.Laws as heap_laws
 
--- ---- what an export is passed behind the pointer: its type, and the one machine value of what it denotes
+-- ---- an argument of an export after the pointer: its type, and the one machine value of what it denotes
 pub record Argument (n : ℕ) : Type 2 where
   pub row : Lfts n → RattleType
   pub ty : Ty
@@ -56,13 +56,14 @@ pub record Argument (n : ℕ) : Type 2 where
   pub tells : (κs : Lfts n) → Tells (row κs) (Is (row κs)) (λ x. val κs x ∷ [])
   pub typed : (κs : Lfts n) (x : (row κs).Denot) → Is (row κs) x (val κs x ∷ []) → T (has_ty ty (val κs x)) × WT (val κs x)
 
--- ---- what it gives back: its type, and that its one machine value is of that type
+-- ---- a result: its type, and that its one machine value is of that type
 pub record Result : Type 1 where
   pub row : RattleType
   pub ty : Ty
   pub typed : (u : row.Denot) (v : Val) → Is row u (v ∷ []) → T (has_ty ty v) × WT v
 
--- ---- how it is passed on: copied to a local of such a type, or, of an array that is written, lent on
+-- ---- how an argument is passed on: copied to a local of such a type, or, if it is an array that is written,
+-- reborrowed
 pub data Passing (n : ℕ) : Type 2 where
   copied : (A : Argument n) (temp : Ty)
       → ((κs : Lfts n) (x : (A.row κs).Denot) → T (has_ty A.ty (A.val κs x)) → T (has_ty temp (A.val κs x))) → Passing n
@@ -88,7 +89,7 @@ module _ {n : ℕ} where
     abbrev pub stored : (As : List (Argument n)) → Denots (rows As) → Valss (rows As)
     stored As a = valss (rows As) (spelled As) a
 
-    -- F at the machine values of whatever well-typed arguments
+    -- F at the machine values of any well-typed arguments
     abbrev pub Each : List (Argument n) → (List Val → Type 1) → Type 1
     Each [] F = F []
     Each (A ∷ As) F =
@@ -99,7 +100,7 @@ module _ {n : ℕ} where
     each [] a are F f = f
     each (A ∷ As) a are F f = each As a.1 are.1 (λ vs. F (A.val κs a.0 ∷ vs)) (f a.0 (A.typed κs a.0 are.0))
 
--- ---- the arguments that the exports have
+-- ---- the arguments of the exports
 module _ {M : Type 1} {𝓤 : Ura M} (𝓛 : Logic 𝓤) {n : ℕ} where
   -- a number without a sign, and one with a sign
   abbrev pub unsigned : Width → Argument n
@@ -178,7 +179,7 @@ module _ {M : Type 1} {𝓤 : Ura M} (𝓛 : Logic 𝓤) (E : Env 𝓤 𝓛.H) (
   Suits v = T (has_ty (spot_of 𝓤 𝓛.H E i).0 v) × WT v
 
 module _ {M : Type 1} {𝓤 : Ura M} {𝓛 : Logic 𝓤} {K : Type 0} (Γ : List (Item 𝓤)) where
-  -- a part of a local is read, and a place begins at a local
+  -- a part of a local is read, and an access path begins at a local
   reads_part : K → (a : ℕ) {i : Item 𝓤} → at 𝓛 a Γ ≡ i → {s : Share} {τ : Ty} {b o : ℕ} {v : Val} {back : Val → Item 𝓤}
       → Part K 𝓛 i s τ b o v back → Reads K 𝓛 Γ τ b o v
   reads_part t a held {s} {τ} {b} {o} {v} {back} part =
@@ -196,14 +197,14 @@ module _ {M : Type 1} {𝓤 : Ura M} {𝓛 : Logic 𝓤} {K : Type 0} {Γ : List
       (runs C Λ E (seq (assign (place i []) (rv_opd (copy (place h [])))) rest) q)
   copies t {i} held room wt = assigns t (of_opd t (get t held)) (from t (stop t)) (init t (cell i Γ) room wt)
 
-  -- what a pointer leads to is lent, in an unsafe block
+  -- the target of a pointer is borrowed, in an unsafe block
   pub borrows : K → {i h : ℕ} {s : Share} {b o : ℕ} {τ : Ty} → at 𝓛 h Γ ≡ holds 𝓛 E h s (vptr b o) → at 𝓛 i Γ ≡ empty 𝓛 E i
       → Suits 𝓛 E i (vptr b o) → Step K 𝓛 (set 𝓛 i (holds 𝓛 E i full_share (vptr b o)) Γ) (runs C Λ E rest q) Γ
       (runs C Λ E (seq (block (assign (place i []) (addr_of (place h (deref τ ∷ []))))) rest) q)
   borrows t {i} held room wt = step (λ s. first t $ blocks t $
       assigns_last t (addr t (through t held (stop t))) (from t (stop t)) (init t (cell i Γ) room wt) $ exec t C Λ E rest q $ s)
 
-  -- an array is lent on: a reference to its elements, and then the array of those
+  -- an array is reborrowed: a reference to its elements, and then the array of those
   pub relends : K → {a i m : ℕ} {s : Share} {x b o count : ℕ} {ℓ : Lifetime} {ν τ : Ty}
       → spot_of 𝓤 𝓛.H E a ≡ (slice_ty (ty_ref ℓ mut ν), x, zero)
       → at 𝓛 a Γ ≡ ‵ (fat s (slice_ty (ty_ref ℓ mut ν)) x zero (slice_val (b, o) count))
@@ -234,7 +235,7 @@ module _ {M : Type 1} {𝓤 : Ura M} {𝓛 : Logic 𝓤} {K : Type 0} {Γ : List
       use1 𝓛 (later (given (φ v) (raw (P v)))) (𝓛.laws.⇛_mono (P v) (guard 𝓤 (φ v) (P v)) (typed v)) $ await t tt $
       learn t (k v))
 
--- what the call left is handed on
+-- the result of the call is passed on
 pub handed : {M : Type 1} {𝓤 : Ura M} {𝓛 : Logic 𝓤} {K : Type 0} → K → {P : SProp 𝓤}
     → Seq K 𝓛 (raw P ∷ []) (prop (𝓛.H.⇛ P))
 handed {𝓛 = 𝓛} t {P} = by t (𝓛.laws.⇛_intro P)
@@ -252,7 +253,7 @@ module _ {M : Type 1} (𝓤 : Ura M) (𝓛 : Logic 𝓤) (𝓜 : Model 𝓤 𝓛
       → Each κs As (λ vs. Sq 𝓛 (raw (𝓣.C j (vptr b o ∷ vs) (λ v. H.⇛ (P v))) ∷ [])
       (prop (WpFn 𝓤 H 𝓣.C 𝓣.Λ e (vptr b o ∷ vs) (λ v. H.⇛ (P v)))))
 
-  -- a function meets its contract where its code does so at the machine values that the arguments tell
+  -- a function meets its contract if its code does so at the machine values of the arguments
   pub exported : (S : Signature) (c : Spec 𝓤 S) {k : Callee} (e : Fn) → Closed 𝓤 H 𝓣.C 𝓣.Λ k e
       → (sp : (κs : Lfts S.lifetimes) → Spells (types_at S.params κs))
       → ((κs : Lfts S.lifetimes) → Tellss (types_at S.params κs) (Ises (types_at S.params κs)) (sp κs))
@@ -317,7 +318,7 @@ module _ {M : Type 1} (𝓤 : Ura M) (𝓛 : Logic 𝓤) (𝓜 : Model 𝓤 𝓛
         abbrev Ls : SProp 𝓤
         Ls = toks 𝓛 n κs qs
 
-        -- what there is at the return, before the update
+        -- the state at the return, before the update
         abbrev Ends : Ptr → Val → SProp 𝓤
         Ends p v = ex 𝓤 (λ (u : Out.row.Denot). sep 𝓤 (sep 𝓤 Ls (sem 𝓛 (Out.row.own_val u (v ∷ [])))) ((spec κs (p, a)).ensures t u))
 
@@ -344,7 +345,7 @@ module _ {M : Type 1} (𝓤 : Ura M) (𝓛 : Logic 𝓤) (𝓜 : Model 𝓤 𝓛
             (vptr b o ∷ [], vss),
           )
 
-          -- what the call and the lender leave is what the export leaves
+          -- the result of the call with the lender's part is the result of the export
           taken_back : (α : ℕ) (γ : GName) (v : Val)
               → ent 𝓤 (sep 𝓤 (Lent.post (choice (α ∷ []) γ) v) (sem 𝓛 (flent (α ∷ []) (Body (mem R) b o γ))))
               (H.⇛ (Ends (block_ptr b o) v))
@@ -354,13 +355,13 @@ module _ {M : Type 1} (𝓤 : Ura M) (𝓛 : Logic 𝓤) (𝓜 : Model 𝓤 𝓛
               ‵ (fsep (fsep (fres γ (R.coded.code ws.0)) (fbor κ (Body (mem R) b o γ))) (lasts_of κs (slots As) kept a ws.1)) ⊛
               raw (fact 𝓤 (law κs a t ws.0 ws.1 u))))) ∷ ‵ (flent κ (Body (mem R) b o γ)) ∷ []) ∵
               updating ! $ await ! tt $ pick ! (λ u. split ! $ split ! $ split ! $ lft_end ! tt $
-              -- [its lifetime is over; the tokens; the result; the rest; what the lender keeps]
+              -- [its lifetime is over; the tokens; the result; the rest; the lender's part]
               move ! (3 ∷ []) $ pick ! (λ ws. split ! $ move ! (1 ∷ []) $ heard ! _ (λ holds. fsplit ! $ fsplit ! $
-              -- [the loan's last value; its borrow; the other last values; its lifetime is over; the tokens; the result;
-              -- what the lender keeps]
+              -- [the loan's last value; its borrow; the other last values; its lifetime is over; the tokens; the
+              -- result; the lender's part]
               move ! (3 ∷ 6 ∷ 0 ∷ []) $ use3 𝓛 (later (‵ ((mem R).own_at ws.0 b o))) (ref_back 𝓛 R κ γ ws.0 b o) $
               await ! tt $ at_once ! $
-              -- [what lies there; the borrow; the other last values; the tokens; the result]
+              -- [the object there; the borrow; the other last values; the tokens; the result]
               show ! (λ (u : Out.row.Denot). sep 𝓤 (sep 𝓤 Ls (sem 𝓛 (Out.row.own_val u (v ∷ []))))
               ((spec κs (block_ptr b o, a)).ensures t u)) u $
               move ! (3 ∷ 4 ∷ []) $ join ! $ frame ! $
@@ -380,11 +381,11 @@ module _ {M : Type 1} (𝓤 : Ura M) (𝓛 : Logic 𝓤) (𝓜 : Model 𝓤 𝓛
               ∷ ‵ (lies_at R full_share (block_ptr b o) t) ∷ []) ∵
               suffices ! _ (enters 𝓤 H 𝓜 𝓣 j vs (λ v. H.⇛ (Ends (block_ptr b o) v))) $ updating ! $
               split ! $ move ! (1 ∷ []) $ fsplit ! $ drop ! $ move ! (2 ∷ []) $
-              -- [what lies there; what else is passed; the tokens]
+              -- [the object there; the other arguments; the tokens]
               lft_new ! tt (λ α. let κ : Lft = α ∷ [] in move ! (1 ∷ []) $
               use1 𝓛 (later (some (λ (γ : GName). ‵ (Loan κ γ) ⊛ ‵ (flent κ (Body (mem R) b o γ)))))
               (lends_ref 𝓛 R (named 0) κ t b o) $ await ! tt $ pick ! (λ γ. split ! $
-              -- [the loan; what the lender keeps; its token; what else is passed; the tokens]
+              -- [the loan; the lender's part; its token; the other arguments; the tokens]
               move ! (0 ∷ 3 ∷ []) $ fjoin ! $ move ! (2 ∷ 3 ∷ []) $ join ! $ join ! $ nothing ! $ move ! (1 ∷ 0 ∷ []) $ join ! $
               use1 𝓛 (raw (𝓣.C j vs (Lent.post (choice κ γ)))) (meets (choice κ γ)) $ at_once ! $
               by ! (framed 𝓤 H 𝓜 𝓣 j vs (Lent.post (choice κ γ)) (λ v. H.⇛ (Ends (block_ptr b o) v))
@@ -457,7 +458,7 @@ module _ {M : Type 1} (𝓤 : Ura M) (𝓛 : Logic 𝓤) (𝓜 : Model 𝓤 𝓛
           (seq (call j (copy (place (count Ps + 4) []) ∷ operands Ps (count Ps + 6)) (place 0 [])) return)))));
     }
 
-    -- the lists of arguments whose code is walked here
+    -- the lists of arguments whose code is checked here
     abbrev pub Covered : List (Passing n) → Type 0
     Covered [] = Unit {0}
     Covered (copied _ _ _ ∷ []) = Unit {0}
@@ -534,7 +535,7 @@ module _ {M : Type 1} (𝓤 : Ura M) (𝓛 : Logic 𝓤) (𝓜 : Model 𝓤 𝓛
         lands_as ! refl refl fits $ returns ! (look_at ! 0 refl) $ free_all ! refl $ handed !))
     passed _ c R Out j = absurd c
 
-  -- an export that lends what lies at a pointer to one function, and passes on what else it is passed, meets its contract
+  -- an export that lends the object at a pointer to one function, and passes its other arguments on, meets its contract
   pub lends : (n : ℕ) (Ps : List (Passing n)) → Covered Ps → (R : RattleType) (Out : Result)
       (law : (κs : Lfts n) (a : Denots (types_at (slots (arguments 𝓛 Ps)) κs)) → R.Denot → R.Denot
       → Fins κs (slots (arguments 𝓛 Ps)) (all yes (slots (arguments 𝓛 Ps))) a → Out.row.Denot → Type 0) {k j : Callee}

@@ -1,4 +1,4 @@
--- What a kind and two numbers ask for.
+-- The requests that a kind and two numbers describe.
 use Rattle.std.specs.Prelude.{◌≡◌, ◌≢◌, ◌⊎◌, ℕ, ℤ, Result, Ok, Err, MatchResult}
 use Rattle.lattice.specs.Plane.{Pair}
 use Rattle.hull_set.specs.declared.call.Call.TheVariants as call
@@ -25,20 +25,19 @@ kind_number kind.Multiplicity = 9
 
 -- end of what tools/table.py writes
 
--- the request at the point of the two numbers, or why there is none
+-- the request for the point of the two numbers, or the error if they are not a point
 abbrev pub IsPointRequest : (Pair → Request) → ℤ → ℤ → Result Request Code → Type 0
 IsPointRequest make x y r =
     MatchResult r (λ q. AreCoordinates x y × (q ≡ make (record { x = x; y = y })))
     (λ fault. ¬ AreCoordinates x y × (fault ≡ OutOfRange))
 
--- the question along the direction of the two numbers, or why there is none
+-- the question for the direction of the two numbers, or the error if they are not a direction
 abbrev pub IsDirectionRequest : (Pair → Request) → ℤ → ℤ → Result Request Code → Type 0
 IsDirectionRequest make x y r =
     MatchResult r (λ q. AreCoordinates x y × ¬ AreZero x y × (q ≡ make (record { x = x; y = y })))
     (λ fault. (¬ AreCoordinates x y × (fault ≡ OutOfRange)) ⊎ (AreZero x y × (fault ≡ ZeroDirection)))
 
--- the request of a kind, or why there is none; where the kind asks for no point and no direction, the two numbers are
--- not read
+-- the request of a kind, or the error; if the kind needs no point and no direction, the two numbers are not read
 abbrev pub IsRequestAs : Kind → ℤ → ℤ → Result Request Code → Type 0
 -- written by tools/table.py: a case for each kind
 IsRequestAs kind.Add x y r = IsPointRequest (λ p. Call (call.Add p)) x y r
@@ -53,7 +52,7 @@ IsRequestAs kind.Multiplicity x y r = IsPointRequest Multiplicity x y r
 
 -- end of what tools/table.py writes
 
--- the request of the kind with this number, or why there is none
+-- the request of the kind with this number, or the error
 abbrev pub IsRequestOf : ℕ → ℤ → ℤ → Result Request Code → Type 0
 IsRequestOf number x y r =
     ((k : Kind) × (kind_number k ≡ number) × IsRequestAs k x y r)

@@ -1,4 +1,4 @@
--- What a reply in numbers tells.
+-- The meaning of a reply in numbers.
 use Rattle.std.specs.Prelude.{◌≡◌, ℕ, pos, ◌+◌, ◌*◌, ◌^◌, length}
 use Rattle.lattice.specs.Plane.{Pair}
 use Rattle.hull_set.specs.declared.reply.Reply.{Reply}
@@ -77,7 +77,7 @@ code_number code.Old = 69
 
 -- end of what tools/table.py writes
 
--- a code, and nothing beside it
+-- a code without values
 abbrev pub IsBare : Code → HullReply → Type 0
 IsBare c r = r ≡ record
     { code = code_number c; x = pos 0; y = pos 0; other_x = pos 0; other_y = pos 0; number = 0; high = 0 }
@@ -102,7 +102,7 @@ abbrev pub ArePoints : Code → Pair → Pair → HullReply → Type 0
 ArePoints c p q r = r
     ≡ record { code = code_number c; x = p.x; y = p.y; other_x = q.x; other_y = q.y; number = 0; high = 0 }
 
--- a number of 128 bits in two words, and nothing beside it
+-- a number of 128 bits in two words, without other values
 abbrev pub IsWide : ℕ → HullReply → Type 0
 IsWide n r =
     (r ≡ record {
@@ -117,7 +117,7 @@ IsWide n r =
     })
     × (n ≡ r.high * 2 ^ 64 + r.number)
 
--- the numbers tell the reply of a set
+-- the numbers mean this reply of a set
 abbrev pub Tells : HullReply → Reply → Type 0
 -- written by tools/table.py: a case for each reply
 Tells r reply.Added = IsBare code.Added r

@@ -1,7 +1,7 @@
 ghost use Rattle.std.specs.Prelude.{◌≡◌};
 ghost use Rattle.hull_reply.specs.Told.{code_number};
 
-/// What a call of a library for C came to. The headers name each by its number, which is the discriminant here.
+/// The result of a call of a library for C. The headers name each by its number, which is the discriminant here.
 #[derive(Clone, Copy, PartialEq, Eq, Debug)]
 pub enum Code {
     // written by tools/table.py: codes
@@ -138,7 +138,7 @@ pub enum Code {
 }
 
 impl Code {
-    /// The number of the header.
+    /// Returns the code's number in the headers.
     pub fn number(self) -> u32
         ensures { result ≡ code_number self }
     {

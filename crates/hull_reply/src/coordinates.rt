@@ -1,10 +1,10 @@
-//! Points and directions by two numbers of a caller's.
+//! Points and directions from two numbers of a caller.
 ghost use Rattle.hull_reply.specs.Coordinates.{IsDirectionOf, IsPointOf};
 
 use crate::code::Code;
 use lattice::{Direction, LatticeFault, Point};
 
-/// The point (x, y); [`Code::OutOfRange`] where one of them is no coordinate.
+/// Returns the point (x, y). Fails with [`Code::OutOfRange`] if one of the numbers is not a coordinate.
 pub fn point_of(x: i64, y: i64) -> Result<Point, Code>
     ensures { IsPointOf x y result }
 {
@@ -14,8 +14,8 @@ pub fn point_of(x: i64, y: i64) -> Result<Point, Code>
     }
 }
 
-/// The direction (x, y); [`Code::OutOfRange`] where one of them is no coordinate, and [`Code::ZeroDirection`] where
-/// both are 0.
+/// Returns the direction (x, y). Fails with [`Code::OutOfRange`] if one of the numbers is not a coordinate, and with
+/// [`Code::ZeroDirection`] if both are 0.
 pub fn direction_of(x: i64, y: i64) -> Result<Direction, Code>
     ensures { IsDirectionOf x y result }
 {

@@ -1,4 +1,4 @@
-//! Corners, in an array of the caller's.
+//! Vertices in a caller's array.
 ghost use Rattle.std.specs.Prelude.{◌≡◌, ◌≤◌, ◌++◌, length, drop};
 ghost use Rattle.hull_reply.specs.Corners.{TellsCorners};
 
@@ -7,7 +7,7 @@ use crate::reply::HullReply;
 use lattice::Point;
 use std::marker::Model;
 
-/// A point, by its coordinates.
+/// A point with public coordinates.
 #[repr(C)]
 #[derive(Clone, Copy)]
 pub struct HullPoint {
@@ -28,7 +28,7 @@ impl Model for HullPoint {
 }
 
 impl HullPoint {
-    /// The point, with its coordinates open.
+    /// Returns the point with public coordinates.
     pub fn of(point: Point) -> HullPoint
         ensures { result ≡ point }
     {
@@ -49,7 +49,8 @@ fn write_points(points: &[Point], out: &mut [HullPoint])
     }
 }
 
-/// Writes corners to the front of the array, if it has room for all of them, and tells how many they are.
+/// Writes the vertices to the front of the array if it has the capacity for all of them, and returns their number
+/// either way. If it is too small, the array is unchanged.
 pub fn put_corners(corners: &[Point], out: &mut [HullPoint]) -> HullReply
     ensures { TellsCorners corners.now out.old out.new result }
 {

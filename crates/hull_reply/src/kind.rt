@@ -1,7 +1,7 @@
 ghost use Rattle.std.specs.Prelude.{◌≡◌, ◌≢◌, MatchOption};
 ghost use Rattle.hull_reply.specs.Requests.{kind_number};
 
-/// What a call of a library for C asks for. The headers name each by its number, which is the discriminant here.
+/// The kind of a request to a library for C. The headers name each by its number, which is the discriminant here.
 #[derive(Clone, Copy, PartialEq, Eq, Debug)]
 pub enum Kind {
     // written by tools/table.py: kinds
@@ -27,7 +27,7 @@ pub enum Kind {
 }
 
 impl Kind {
-    /// The kind of this number.
+    /// Returns the kind of this number, or `None` if there is no such kind.
     pub fn of(number: u32) -> Option<Kind>
         ensures { MatchOption result ((kind : Kind) → kind_number kind ≢ number) (λ kind. kind_number kind ≡ number) }
     {

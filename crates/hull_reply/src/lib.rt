@@ -1,9 +1,10 @@
-//! Requests and replies in numbers, for callers in C: a kind and two numbers, and a code and what belongs to it.
+//! Requests and replies in numbers, for callers in C: a request is a kind and two numbers, a reply a code and its
+//! values.
 //!
-//! The libraries for C ask and tell by one table of numbers, which stands in `include/hull_common.h`. [`told`] makes a
-//! [`HullReply`] of a [`Reply`](hull_set::Reply); its contract says that the numbers tell that reply and no other.
+//! The libraries for C use one table of numbers, which is in `include/hull_common.h`. [`told`] converts a
+//! [`Reply`](hull_set::Reply) to a [`HullReply`]; its contract states that the numbers mean that reply and no other.
 //! [`request_of`] makes a [`Request`] of a kind and two numbers, which [`point_of`] and [`direction_of`] read, and
-//! [`serve`] serves it to a set. [`put_corners`] writes corners to an array of the caller's.
+//! [`serve`] applies it to a set. [`put_corners`] writes vertices to a caller's array.
 #![tactic(auto)]
 
 mod code;

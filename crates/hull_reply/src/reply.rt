@@ -1,4 +1,4 @@
-//! What a call tells a caller in C: the number of a code, and numbers beside it.
+//! The reply to a caller in C: the number of a code, and the values that belong to it.
 ghost use Rattle.std.specs.Prelude.{◌≢◌, ◌≡◌};
 ghost use Rattle.lattice.specs.Plane.{Pair};
 ghost use Rattle.hull_reply.specs.Told.{AreNumbers, ArePoints, IsBare, IsNumber, IsPoint, IsWide, Tells};
@@ -7,19 +7,19 @@ use crate::code::Code;
 use hull_set::{Place, Reply};
 use lattice::Point;
 
-/// What a call was answered: the number of its code, and what belongs to that code; all else is 0.
+/// The reply to a call: the number of its code, and the values that belong to that code; all other fields are 0.
 #[repr(C)]
 #[derive(Clone, Copy)]
 pub struct HullReply {
     /// The number of the code.
     pub code: u32,
-    /// A point.
+    /// The first coordinate of a point.
     pub x: i64,
-    /// Its other coordinate.
+    /// The second coordinate of the point.
     pub y: i64,
-    /// A second point.
+    /// The first coordinate of a second point.
     pub other_x: i64,
-    /// Its other coordinate.
+    /// The second coordinate of the second point.
     pub other_y: i64,
     /// A number, or the lower 64 bits of one.
     pub number: u64,
@@ -28,7 +28,7 @@ pub struct HullReply {
 }
 
 impl HullReply {
-    /// A code alone.
+    /// Returns a code without values.
     pub fn bare(code: Code) -> HullReply
         ensures { IsBare code result }
     {
@@ -43,7 +43,7 @@ impl HullReply {
         }
     }
 
-    /// A code with a number.
+    /// Returns a code with a number.
     pub fn numbered(code: Code, number: u64) -> HullReply
         ensures { IsNumber code number result }
     {
@@ -52,7 +52,7 @@ impl HullReply {
         reply
     }
 
-    /// A code with two numbers.
+    /// Returns a code with two numbers.
     pub fn with_numbers(code: Code, number: u64, high: u64) -> HullReply
         ensures { AreNumbers code number high result }
     {
@@ -61,7 +61,7 @@ impl HullReply {
         reply
     }
 
-    /// A code with a point.
+    /// Returns a code with a point.
     pub fn with_point(code: Code, point: Point) -> HullReply
         ensures { IsPoint code point result }
     {
@@ -71,7 +71,7 @@ impl HullReply {
         reply
     }
 
-    /// A code with two points.
+    /// Returns a code with two points.
     pub fn with_points(code: Code, point: Point, other: Point) -> HullReply
         ensures { ArePoints code point other result }
     {
@@ -81,7 +81,7 @@ impl HullReply {
         reply
     }
 
-    /// A number in two words.
+    /// Returns a number in two words.
     pub fn wide(number: u128) -> HullReply
         ensures { IsWide number result }
     {
@@ -102,7 +102,7 @@ fn code_of(place: Place) -> Code
     }
 }
 
-/// The reply of a set that counts its points, in numbers.
+/// Returns the reply of a set that counts its points, in numbers.
 pub fn told(reply: Reply) -> HullReply
     requires { reply ≢ Reply.Already }
     ensures { Tells result reply }

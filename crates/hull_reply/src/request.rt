@@ -7,16 +7,16 @@ use crate::kind::Kind;
 use hull_set::Call;
 use lattice::Point;
 
-/// What a kind and two numbers ask for.
+/// The request that a kind and two numbers describe.
 #[derive(Clone, Copy, PartialEq, Eq, Debug)]
 pub enum Request {
-    /// A call of those that a journal knows.
+    /// A call that a journal can record.
     Call(Call),
-    /// How often a point is held.
+    /// The question for the multiplicity of a point.
     Multiplicity(Point),
 }
 
-/// The request of a kind.
+/// Returns the request of a kind.
 fn request_as(kind: Kind, x: i64, y: i64) -> Result<Request, Code>
     ensures { IsRequestAs kind x y result }
 {
@@ -35,8 +35,8 @@ fn request_as(kind: Kind, x: i64, y: i64) -> Result<Request, Code>
     }
 }
 
-/// What these numbers ask for, or why they ask for nothing: [`Code::UnknownKind`] where no kind has the number, and
-/// then what [`point_of`] or [`direction_of`] refuses. Kinds that ask for no point and no direction don't read x and y.
+/// Returns the request of these numbers. Fails with [`Code::UnknownKind`] if no kind has the number, else with the
+/// error of [`point_of`] or [`direction_of`]. Kinds that need no point and no direction do not read x and y.
 pub fn request_of(kind: u32, x: i64, y: i64) -> Result<Request, Code>
     ensures { IsRequestOf kind x y result }
 {

@@ -1,7 +1,7 @@
 use Rattle.std.proofs.Common.{◌≡◌, length, take, drop}
 use Rattle.hull_reply.proofs.corners.write_points.Given as goal
 
--- the first i points stand at the front, and what lies behind them is as it was
+-- the first i points are at the front, and the elements after them are unchanged
 abbrev pub invariant-loop-i : goal.invariant-loop-i
 invariant-loop-i l = record {
   front : take l.i l.out ≡ take l.i l.points;
