@@ -1,4 +1,4 @@
--- What a draft of a list is after its last point went, and after a point came.
+-- The scratch chain of a list after its last point was removed, and after a point was appended.
 use Rattle.std.proofs.lemmas.Grind.{common_steps}
 use Rattle.std.proofs.Common.{◌≡◌, ℕ, ◌≤◌, [], ◌∷◌, ◌++◌, sym, ap, ◌∙◌, List, arith, length, length-append}
 use Rattle.std.proofs.Common.{take}
@@ -7,20 +7,20 @@ use Rattle.hull_plain.specs.Drafts.{IsAsRoomy, drafted}
 use Rattle.hull_plain.specs.declared.draft.Draft.{Draft}
 use Rattle.hull_geometry.proofs.PointLists.{append_twice, append_none}
 
--- its fresh points are no more than all of it
+-- its new points are no more than all its points
 pub fresh_few : (L : List Pair) (d : Draft) → length d.fresh.items ≤ length (drafted L d)
 fresh_few L d = let n = length-append (take d.kept L) d.fresh.items in omega (arith, n)
 
--- with a point pushed it is one point longer
+-- after a point was appended it is one point longer
 pub pushed : (L : List Pair) (old new : Draft) (c : Pair) → new.kept ≡ old.kept
     → new.fresh.items ≡ old.fresh.items ++ c ∷ [] → drafted L new ≡ drafted L old ++ c ∷ []
 pushed L old new c k f = grind (arith, common_steps, append_twice)
 
--- when it begins it is the first points of the list
+-- at the start it is the first points of the list
 pub started : (L : List Pair) (d : Draft) (n : ℕ) → d.kept ≡ n → d.fresh.items ≡ [] → drafted L d ≡ take n L
 started L d n k f =
     ap (λ (m : ℕ). take m L ++ d.fresh.items) k ∙ ap (λ (z : List Pair). take n L ++ z) f ∙ sym (append_none (take n L))
 
--- two changes of one that has the same room leave it so
+-- two changes that keep the storage keep it together
 pub as_roomy : (a b c : Draft) → IsAsRoomy a b → IsAsRoomy b c → IsAsRoomy a c
 as_roomy a b c r s = record { fresh = s.fresh ∙ r.fresh; rest = s.rest ∙ r.rest }

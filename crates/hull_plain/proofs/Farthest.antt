@@ -9,7 +9,7 @@ use Rattle.hull_geometry.specs.Monotone.{IsChainOf}
 use Rattle.hull_geometry.proofs.ChainEdges.{edge_support}
 use Rattle.hull_geometry.proofs.ChainPlaces.{chain_in, edge_to, edge_from}
 
--- it is the point up to which the chain rises
+-- the point up to which the chain rises is the first of the farthest
 pub farthest_found : (side : Side) (S chain : List Pair) (at : ℕ) (d p : Pair) → p ≡ point_at chain at → Faces side d
     → IsChainOf side S chain → at < length chain
     → (0 < at → product d (point_at chain (at - 1)) <ℤ product d (point_at chain (at - 1 + 1)))

@@ -23,14 +23,14 @@ use Rattle.hull_geometry.proofs.PointLists.{AllPairs-cons, AllPairs-head, AllPai
 
 -- ---- filters of a set
 
--- the keys that pass a test
+-- filtering the entries by their keys filters the keys
 keys_filter : (P : Pair → Bool) (es : List (Pair × ℕ)) → keys_of (filter (λ e. P e.0) es) ≡ filter P (keys_of es)
 keys_filter P [] = refl
 keys_filter P (e ∷ es) = elim (P e.0) as (λ b. keys_of (cond b (e ∷ filter (λ e. P e.0) es) (filter (λ e. P e.0) es))
     ≡ cond b (e.0 ∷ filter P (keys_of es)) (filter P (keys_of es)))
     [ true ↦ ap (λ (z : List Pair). e.0 ∷ z) (keys_filter P es) | false ↦ keys_filter P es ]
 
--- what is left of a set is a set
+-- a set without some of its points is a set
 filter_set : (P : Pair → Bool) (S : List Pair) → IsPointSet S → IsPointSet (filter P S)
 filter_set P [] s = s
 filter_set P (x ∷ xs) s = elim (P x) as (λ b. IsPointSet (cond b (x ∷ filter P xs) (filter P xs))) [
@@ -39,13 +39,13 @@ filter_set P (x ∷ xs) s = elim (P x) as (λ b. IsPointSet (cond b (x ∷ filte
   | false ↦ filter_set P xs (AllPairs-tail x xs s)
 ]
 
--- its members are members
+-- the members of a filtered list are members of the list
 filter_among : (P : Pair → Bool) (S : List Pair) (t : Pair) → Contains (filter P S) t → Contains S t
 filter_among P S t m =
     All-contains (Contains S) (filter P S) t
     (All-filter P (Contains S) S (λ k d l. (k, l, get_or_free S k _ d l))) m
 
--- a member that passes it is left
+-- a member that passes the test stays in the filtered list
 filter_kept : (P : Pair → Bool) (S : List Pair) (t : Pair) → Contains S t → P t ≡ true → Contains (filter P S) t
 filter_kept P [] t m p = m
 filter_kept P (x ∷ xs) t (zero, l, e) p =
@@ -63,15 +63,15 @@ filter_kept P (x ∷ xs) t (suc k, l, e) p =
 true_false : {A : Type 0} → false ≡ true → A
 true_false e = absurd (false≢true e)
 
--- a point that compares as less stands before
+-- a point that compares as less is before
 less_told : (a q : Pair) → is_lt (point_cmp a q) ≡ true → IsBefore a q
 less_told a q h = grind (arith, common_steps, before_total, true_false, is_lt, point_cmp, equal, greater)
 
--- a point that does not compare as at most another stands after it
+-- a point that does not compare as at most another is after it
 not_le_told : (b q : Pair) → is_le (point_cmp b q) ≡ false → IsBefore q b
 not_le_told b q h = grind (arith, common_steps, before_total, true_false, is_le, less, point_cmp, equal)
 
--- what a bound behind a chain lets through stands after the chain
+-- a point within a bound after a chain is after the chain
 after_start : (left : List Pair) (start : Bound Pair) (t q : Pair) → IsPointSet left → IsBehind left start
     → is_from_start point_cmp start q ≡ true → Contains left t → IsBefore t q
 after_start left (Included a) t q s b h m = absurd b
@@ -81,7 +81,7 @@ after_start left Unbounded t q s b h m = absurd (no_member t (subst (λ (z : Lis
     no_member : (t : Pair) → Contains [] t → ⊥
     no_member t m = omega (arith, m.1)
 
--- and it lets through what does
+-- a point after the chain is within the bound
 from_start : (left : List Pair) (start : Bound Pair) (q : Pair) → IsBehind left start
     → All (λ u. IsBefore u q) left → is_from_start point_cmp start q ≡ true
 from_start left (Included a) q b h = absurd b
@@ -89,7 +89,7 @@ from_start left (Excluded a) q b h =
     ap is_lt (less a q (All-contains (λ u. IsBefore u q) left a h (end_in a left b)))
 from_start left Unbounded q b h = refl
 
--- what a bound ahead of a chain lets through stands before the chain
+-- a point within a bound before a chain is before the chain
 before_end : (right : List Pair) (end : Bound Pair) (t q : Pair) → IsPointSet right → IsAhead right end
     → is_past_end point_cmp end q ≡ false → Contains right t → IsBefore q t
 before_end right (Included a) t q s b h m = absurd b
@@ -105,7 +105,7 @@ before_end right Unbounded t q s b h m = absurd (no_member t (subst (λ (z : Lis
     no_member : (t : Pair) → Contains [] t → ⊥
     no_member t m = omega (arith, m.1)
 
--- and it lets through what does
+-- a point before the chain is within the bound
 to_end : (right : List Pair) (end : Bound Pair) (q : Pair) → IsAhead right end → All (IsBefore q) right
     → is_past_end point_cmp end q ≡ false
 to_end right (Included a) q b h = absurd b
@@ -113,7 +113,7 @@ to_end right (Excluded a) q b h =
     ap is_le (greater a q (All-contains (IsBefore q) right a h (first_in a right b.0 b.1)))
 to_end right Unbounded q b h = refl
 
--- the bounds on the two sides of a set run forward
+-- the bounds on the two sides of a set are in order
 pub runs_forward : (left right : List Pair) (start end : Bound Pair) → IsPointSet (left ++ right) → IsBehind left start
     → IsAhead right end → IsForward (IsLeBy point_cmp) (IsLtBy point_cmp) start end
 runs_forward left right (Included a) end s b e = absurd b
@@ -123,18 +123,18 @@ runs_forward left right (Excluded a) (Excluded c) s b e =
     less a c (set_apart left right a c s (end_in a left b) (first_in c right e.0 e.1))
 runs_forward left right (Excluded a) Unbounded s b e = tt
 
--- ---- what stands between
+-- ---- a point that is between
 
--- both tests hold
+-- if both tests are true together, each is true
 both : (a b : Bool) → (a && b) ≡ true → (a ≡ true) × (b ≡ true)
 both true b h = (refl, h)
 both false b h = true_false h
 
--- and back
+-- if each of two tests is true, both together are
 and_true : (a b : Bool) → a ≡ true → b ≡ true → (a && b) ≡ true
 and_true a b h k = ap (λ z. z && b) h ∙ k
 
--- a negation that holds
+-- if the negation of a test is true, the test is false
 negated : (b : Bool) → not b ≡ true → b ≡ false
 negated true h = true_false h
 negated false h = refl
@@ -143,12 +143,12 @@ negated false h = refl
 abbrev between : Bound Pair → Bound Pair → List Pair → List Pair
 between start end S = filter (range_contains point_cmp start end) S
 
--- each passes both tests
+-- a point between the bounds passes both tests
 passes_both : (start end : Bound Pair) (S : List Pair) (t : Pair) → Contains (between start end S) t
     → (is_from_start point_cmp start t ≡ true) × (is_past_end point_cmp end t ≡ false)
 passes_both start end S t m = grind (arith, common_steps, both, range_contains, point_cmp, true, filter_passes, negated)
 
--- the points of a set between the bounds on the two sides of a chain are all that stand between
+-- the points of a set between the bounds on the two sides of a chain are all that are between
 all_between : (S left right : List Pair) (start end : Bound Pair) → IsPointSet S → IsPointSet (left ++ right)
     → IsBehind left start → IsAhead right end → IsBetween S left right (between start end S)
 all_between S left right start end s sides b e = record {

@@ -1,4 +1,4 @@
--- Where a point lies, by what one chain of a hull tells of it.
+-- The place of a point, by its location relative to each chain of a hull.
 use Rattle.std.proofs.Common.{◌≡◌, ℕ, ℤ, pos, neg_ℤ, inl, inr, refl, sym, ◌∙◌, subst, List, arith}
 use Rattle.std.proofs.Common.{◌-◌, length, Ok}
 use Rattle.std.proofs.lemmas.Int.{ints}
@@ -32,7 +32,7 @@ on_edge_line : (side : Side) (S : List Pair) (q a b : Pair) → IsEdge side S a 
 on_edge_line Lower S q a b e z = on_line_outer S a b q (inl e.forward) (lower_edge e).left z
 on_edge_line Upper S q a b e z = on_line_outer S b a q (inr e.forward) (upper_edge e).left z
 
--- a bend that is 0 is a side that is 0
+-- a bend of 0 on a side is a side of 0
 level : (side : Side) (a b q : Pair) → orient_on side a b q ≡ pos 0 → orient q a b ≡ pos 0
 level Lower a b q z = sym (orient-cycle a b q) ∙ z
 level Upper a b q z = swapped _ _ (orient_swap q a b) (sym (orient-cycle b a q) ∙ z)
@@ -63,7 +63,7 @@ on_chain side S chain q i at c = subst (IsOnBoundary S) (at.1 origin) (elim (edg
     there : Contains S (point_at chain i)
     there = chain_in side S chain i c at.0
 
--- ---- where it lies
+-- ---- the place that follows
 
 -- a point on the inner side of both chains lies inside
 pub sights_inside : (S : List Pair) (q : Pair) → IsSeen Lower S q Inwards → IsSeen Upper S q Inwards → IsInside S q
@@ -79,7 +79,7 @@ sight_touching S q Outwards h k n m = absurd (n refl)
 sight_touching S q Touching h k n m = k
 sight_touching S q Inwards h k n m = absurd (m refl)
 
--- q between the ends of an edge stands between the ends of each chain
+-- q between the ends of an edge is between the ends of each chain
 pub edge_within : (side other : Side) (S chain : List Pair) (q a b : Pair) → IsEdgeAt side S q a b
     → IsChainOf other S chain → IsBetweenEnds (point_at chain 0) (point_at chain (length chain - 1)) q
 edge_within side other S chain q a b e c = (
@@ -87,7 +87,7 @@ edge_within side other S chain q a b e c = (
   on_from q b (point_at chain (length chain - 1)) e.before (last_of other S chain c b e.edge.to),
 )
 
--- outwards of an edge is right of it
+-- a point outwards of an edge is right of it
 pub outwards_right : (side : Side) (S : List Pair) (q : Pair) → IsSeen side S q Outwards → IsRightOfEdge side S q
 outwards_right Lower S q (a, b, e, h) = (a, b, lower_edge e.edge, h)
 outwards_right Upper S q (a, b, e, h) = (b, a, upper_edge e.edge, h)

@@ -1,4 +1,4 @@
--- How often the points of an ordered map are held, in the words of what is held.
+-- The multiplicities of the points of an ordered map, as those of the contents of a set.
 use Rattle.std.proofs.Common.{◌≡◌, ℕ, inl, inr, refl, sym, ap, ◌∙◌, subst, List, arith, ◌+◌, ◌-◌, ◌≤◌, [], ◌∷◌, false}
 use Rattle.std.proofs.Common.{cond, Option, Some, None, add-zero}
 use Rattle.std.specs.Option.{unwrap_or, IfSome, IsSome}
@@ -17,7 +17,7 @@ use Rattle.hull_set.proofs.Times.{fails, same_true, same_false, same_or_other, o
 not_at : (p q : Pair) → ¬ (p ≡ q) → is_at (point_cmp p) q ≡ false
 not_at p q n = fails (is_at (point_cmp p) q) (λ t. n (tells_apart exact p q t))
 
--- a point is held as often as its look-up says, and 0 times where that finds nothing
+-- the multiplicity of a point is the result of its look-up, and 0 if that finds nothing
 pub times_is : (es : List (Pair × ℕ)) (q : Pair) → times_in es q ≡ unwrap_or (lookup (is_at (point_cmp q)) es) 0
 times_is [] q = refl
 times_is ((p, n) ∷ es) q =
@@ -26,21 +26,21 @@ times_is ((p, n) ∷ es) q =
       | inr other ↦ rw (same_false p q other, not_at q p (λ e. other (sym e))) (times_is es q)
     ]
 
--- a change that puts w at p, and elsewhere nothing, as a look-up tells it
+-- a change of the map that puts w at p, and changes no other entry, by its look-ups
 abbrev pub PutsAt : Pair → Option ℕ → List (Pair × ℕ) → List (Pair × ℕ) → Type 0
 PutsAt p w es fs = (q : Pair)
     → lookup (is_at (point_cmp q)) fs ≡ cond (is_at (point_cmp p) q) w (lookup (is_at (point_cmp q)) es)
 
--- after it p is held as often as w says
+-- after the change the multiplicity of p is w
 at_point : (p : Pair) (w : Option ℕ) (es fs : List (Pair × ℕ)) → PutsAt p w es fs → times_in fs p ≡ unwrap_or w 0
 at_point p w es fs h = times_is fs p ∙ ap (λ (o : Option ℕ). unwrap_or o 0) (rw (equal p) at (h p))
 
--- and a point at which p is not found as often as before
+-- after the change the multiplicity of any other point is unchanged
 elsewhere : (p q : Pair) (w : Option ℕ) (es fs : List (Pair × ℕ)) → is_at (point_cmp p) q ≡ false → PutsAt p w es fs
     → times_in fs q ≡ times_in es q
 elsewhere p q w es fs b h = times_is fs q ∙ ap (λ (o : Option ℕ). unwrap_or o 0) (rw b at (h q)) ∙ sym (times_is es q)
 
--- where w is one more than p was held, the times are raised at p
+-- if w is one more than the multiplicity of p, that multiplicity is raised by one
 pub raised_is : (p : Pair) (w : Option ℕ) (es fs : List (Pair × ℕ)) → PutsAt p w es fs
     → unwrap_or w 0 ≡ times_in es p + 1 → (q : Pair) → times_in fs q ≡ raised p (times_in es) q
 raised_is p w es fs h n q =
@@ -50,7 +50,7 @@ raised_is p w es fs h n q =
       | inr other ↦ rw (once_other p q other) (elsewhere p q w es fs (not_at p q other) h ∙ sym (add-zero _))
     ]
 
--- where w is one less than p was held, the times are lowered at p
+-- if w is one less than the multiplicity of p, that multiplicity is lowered by one
 pub lowered_is : (p : Pair) (w : Option ℕ) (es fs : List (Pair × ℕ)) → PutsAt p w es fs
     → times_in es p ≡ unwrap_or w 0 + 1 → (q : Pair) → times_in fs q ≡ lowered p (times_in es) q
 lowered_is p w es fs h n q =
@@ -63,12 +63,12 @@ lowered_is p w es fs h n q =
     minus_zero : (m : ℕ) → m - 0 ≡ m
     minus_zero m = omega arith
 
--- a point that a look-up finds is held as often as it says
+-- the multiplicity of a point that a look-up finds is the result
 pub times_found : (es : List (Pair × ℕ)) (p : Pair) (n : ℕ) → Some n ≡ lookup (is_at (point_cmp p)) es
     → times_in es p ≡ n
 times_found es p n e = times_is es p ∙ ap (λ (o : Option ℕ). unwrap_or o 0) (sym e)
 
--- a point that none finds is held 0 times
+-- the multiplicity of a point that no look-up finds is 0
 pub times_none : (es : List (Pair × ℕ)) (p : Pair) → None ≡ lookup (is_at (point_cmp p)) es → times_in es p ≡ 0
 times_none es p e = times_is es p ∙ ap (λ (o : Option ℕ). unwrap_or o 0) (sym e)
 
@@ -77,11 +77,11 @@ pub live : (es : List (Pair × ℕ)) (p : Pair) (n : ℕ) → Some n ≡ lookup 
     → Contains (keys_of es) p
 live es p n e = (found_iff es p).0 (subst IsSome e refl)
 
--- a point that none finds is none of them
+-- a point that no look-up finds is not one of the points
 pub not_live : (es : List (Pair × ℕ)) (p : Pair) → None ≡ lookup (is_at (point_cmp p)) es → ¬ Contains (keys_of es) p
 not_live es p e m = false≢true (subst IsSome (sym e) ((found_iff es p).1 m))
 
--- where each point is held, the number that a look-up finds is at least 1
+-- if each multiplicity is at least 1, a look-up that finds something returns at least 1
 pub held_found : (es : List (Pair × ℕ)) (p : Pair) (n : ℕ) → All (λ m. 1 ≤ m) (values_of es)
     → Some n ≡ lookup (is_at (point_cmp p)) es → 1 ≤ n
 held_found es p n a e = subst (λ (o : Option ℕ). IfSome o (λ m. 1 ≤ m)) (sym e)

@@ -1,4 +1,4 @@
--- What a plain set keeps after a change.
+-- The invariant of a plain set after a change.
 use Rattle.std.proofs.Common.{◌≡◌, ℕ, sym, ap, ◌∙◌, subst, List, arith, ◌+◌, ◌≤◌, ◌<◌, [], ◌∷◌, inl, inr, length}
 use Rattle.std.proofs.Common.{BTreeMap, Some}
 use Rattle.std.specs.BTreeMap.{is_at, insert_entry}
@@ -19,11 +19,11 @@ use Rattle.hull_geometry.proofs.Between.{set_few}
 use Rattle.hull_set.proofs.OrderedMaps.{point_cmp, insert_is, remove_is}
 use Rattle.hull_geometry.proofs.SetLaws.{ordered_with, ordered_without}
 
--- room for the fringes of more points is room for those of fewer
+-- the capacity for the candidate lists of more points is enough for those of fewer
 pub fringes_have_less : {f : Fringes} {m n : ℕ} → FringesHaveRoom f n → m ≤ n → FringesHaveRoom f m
 fringes_have_less {f} {m} {n} h l = record { below = omega (arith, h.below); above = omega (arith, h.above) }
 
--- room for more points is room for fewer
+-- the storage for more points is enough for fewer
 pub has_less : {o : Rim} {m n : ℕ} → HasRoom o n → m ≤ n → HasRoom o m
 has_less {o} {m} {n} h l = record {
   lower = omega (arith, h.lower);
@@ -36,11 +36,11 @@ has_less {o} {m} {n} h l = record {
 pub chain_few : (side : Side) (S chain : List Pair) → IsChainOf side S chain → length chain ≤ length S
 chain_few side S chain c = set_few chain S c.strict.ordered c.among
 
--- nor has a fringe of it
+-- a candidate list of a set has no more points than the set
 pub fringe_few : (side : Side) (S fringe : List Pair) → IsFringeOf side S fringe → length fringe ≤ length S
 fringe_few side S fringe f = set_few fringe S f.ordered f.among
 
--- one point more at most
+-- adding a point adds at most one point
 pub length_with : (p : Pair) (S : List Pair) → length (with_point p S) ≤ length S + 1
 length_with p [] = omega arith
 length_with p (x ∷ xs) =
@@ -50,7 +50,7 @@ length_with p (x ∷ xs) =
       | inr (inr b) ↦ rw (is_before-false x p (before_not p x b), is_before-true p x b) (omega arith)
     ]
 
--- no point more
+-- removing a point adds no point
 length_without : (p : Pair) (S : List Pair) → length (without_point p S) ≤ length S
 length_without p [] = omega arith
 length_without p (x ∷ xs) =
@@ -60,7 +60,7 @@ length_without p (x ∷ xs) =
       | inr (inr b) ↦ rw (is_before-false x p (before_not p x b), is_before-true p x b) (omega arith)
     ]
 
--- a plain set stays one where a number of at least 1 is written beside a point
+-- a plain set stays one if the multiplicity of a point is set to a number of at least 1
 pub written : {limit : ℕ} {es : List (Pair × ℕ)} {o : Rim} → IsPlainSet limit es o
     → (p : Pair) (n : ℕ) (fs : List (Pair × ℕ)) → fs ≡ set_value (is_at (point_cmp p)) es n → 1 ≤ n
     → IsPlainSet limit fs o
@@ -77,7 +77,7 @@ written {limit} {es} {o} k p n fs e above = subst (λ (z : List (Pair × ℕ)). 
     same : keys_of es ≡ keys_of (set_value (is_at (point_cmp p)) es n)
     same = sym (keys-set_value (is_at (point_cmp p)) es n)
 
--- a rim stays that of a set where its chains and fringes stay
+-- hull chains stay those of a set if the chains and candidate lists stay
 pub same_rim : (S : List Pair) (o new : Rim) → AreAlike o new → IsRimOf S o → IsRimOf S new
 same_rim S o new e k = record {
   chains = subst (λ (z : List Pair). AreChainsOf S z new.upper.items) (sym e.lower)
@@ -86,7 +86,7 @@ same_rim S o new e k = record {
       (subst (AreFringesOf S o.fringes.below.items) (sym e.above) k.fringes);
 }
 
--- and where its rim has the same points, and room for as many at least
+-- a plain set stays one if its hull chains keep their points, and have at least the same storage
 pub reserved : {limit : ℕ} {es : List (Pair × ℕ)} {o : Rim} → IsPlainSet limit es o → (new : Rim)
     → AreAlike o new → ((n : ℕ) → HasRoom o n → HasRoom new n) → IsPlainSet limit es new
 reserved {limit} {es} {o} k new e kept = record {
@@ -99,7 +99,7 @@ reserved {limit} {es} {o} k new e kept = record {
   room = kept _ k.room;
 }
 
--- and where a point that was not there is put in, once
+-- a plain set stays one if a new point is added, once
 pub put_in : {limit : ℕ} {es : List (Pair × ℕ)} {o : Rim} → IsPlainSet limit es o → (p : Pair) (new : Rim)
     → length (keys_of es) < limit → IsRimOf (with_point p (keys_of es)) new
     → HasRoom new (length (keys_of es) + 1) → IsPlainSet limit (insert_entry point_cmp es p 1) new
@@ -119,7 +119,7 @@ put_in {limit} {es} {o} k p new l rim room = record {
     few : length (keys_of (insert_entry point_cmp es p 1)) ≤ length (keys_of es) + 1
     few = rw same (length_with p (keys_of es))
 
--- and where a point is taken out
+-- a plain set stays one if a point is removed
 pub taken_out : {limit : ℕ} {es : List (Pair × ℕ)} {o : Rim} → IsPlainSet limit es o
     → (p : Pair) (fs : List (Pair × ℕ)) (new : Rim) → fs ≡ remove_entry (is_at (point_cmp p)) es
     → IsRimOf (keys_of fs) new → ((n : ℕ) → HasRoom o n → HasRoom new n) → IsPlainSet limit fs new
@@ -139,7 +139,7 @@ taken_out {limit} {es} {o} k p fs new e rim kept = record {
     few : length (keys_of fs) ≤ length (keys_of es)
     few = rw same (length_without p (keys_of es))
 
--- the room of a set is room for what is left of it
+-- the storage of a set is enough for the set without a point
 pub left_room : {limit : ℕ} {es : List (Pair × ℕ)} {o : Rim} → IsPlainSet limit es o → (p : Pair)
     (fs : List (Pair × ℕ)) → fs ≡ remove_entry (is_at (point_cmp p)) es → HasRoom o (length (keys_of fs))
 left_room {limit} {es} {o} k p fs e =
@@ -152,7 +152,7 @@ pub count_is : {m n : BTreeMap Pair ℕ} {count : ℕ} → n ≡ m → count ≡
     → count ≡ length (keys_of m.entries)
 count_is {m} e h = h ∙ ap (λ (z : BTreeMap Pair ℕ). length z.entries) e ∙ sym (length-keys_of m.entries)
 
--- what is left of a map from which p was taken, once what a look-up found there was written back
+-- the entries after p was removed, if the number that a look-up found had been written back
 pub left_entries : (es written fs : List (Pair × ℕ)) (p : Pair) (n : ℕ) → Some n ≡ lookup (is_at (point_cmp p)) es
     → written ≡ set_value (is_at (point_cmp p)) es n → fs ≡ remove_entry (is_at (point_cmp p)) written
     → fs ≡ remove_entry (is_at (point_cmp p)) es

@@ -1,4 +1,4 @@
--- Where a line from a point outside touches a chain of a hull, by the edges beside the point that a bisection found.
+-- The points of a chain of a hull that tangents touch, by the edges at the point that a bisection found.
 use Rattle.std.proofs.Common.{◌≡◌, ℕ, inl, inr, sym, subst, List, arith, ◌<◌, ◌-◌, ◌+◌, length}
 use Rattle.std.proofs.lemmas.Bool.{cases_lt}
 use Rattle.lattice.specs.Plane.{Pair, IsBefore}
@@ -13,7 +13,7 @@ use Rattle.hull_geometry.specs.Monotone.{IsChainOf}
 use Rattle.hull_geometry.proofs.ChainEdges.{edge_support}
 use Rattle.hull_geometry.proofs.ChainPlaces.{chain_in, edge_to, edge_from}
 
--- behind q it is the point up to which the edges are passed
+-- the tangent point before q is the point up to which the edges are passed
 pub behind_found : (side : Side) (S chain : List Pair) (at : ℕ) (q p : Pair) → p ≡ point_at chain at
     → IsChainOf side S chain → IsClear side S q → at < length chain → IsBefore (first_of chain) q
     → (0 < at → IsPassedBy side q (point_at chain (at - 1)) (point_at chain (at - 1 + 1)))
@@ -32,7 +32,7 @@ behind_found side S chain at q p e c clear l from held fails = subst (IsTangent 
     passed : 0 < at → IsPassedBy side q (point_at chain (at - 1)) (point_at chain at)
     passed k = subst (λ (i : ℕ). IsPassedBy side q (point_at chain (at - 1)) (point_at chain i)) (omega (arith, k)) (held k)
 
--- ahead of q it is the point from which they are to come
+-- the tangent point after q is the point from which the edges are to come
 pub ahead_found : (side : Side) (S chain : List Pair) (at : ℕ) (q p : Pair) → p ≡ point_at chain at
     → IsChainOf side S chain → IsClear side S q → at < length chain → IsBefore q (last_of chain)
     → (0 < at → ¬ (IsToCome side q (point_at chain (at - 1)) (point_at chain (at - 1 + 1))))

@@ -1,4 +1,4 @@
--- What is seen of a hull from one of its sides.
+-- The location of a point relative to one chain of a hull.
 use Rattle.std.specs.Prelude.{pos, ◌<ℤ◌, List}
 use Rattle.std.specs.List.{Contains}
 use Rattle.lattice.specs.Places.{IsOnBoundary}
@@ -9,7 +9,7 @@ use Rattle.hull_geometry.specs.ChainEdges.{IsEdgeAt}
 use Rattle.hull_plain.specs.declared.sights.ChainSight.{ChainSight}
 use Rattle.hull_plain.specs.declared.sights.ChainSight.TheVariants.{Before, After, Outwards, Touching, Inwards}
 
--- from where q looks at the hull of S, seen from one side
+-- the location of q relative to the chain of the hull of S on one side
 abbrev pub IsSeen : Side → List Pair → Pair → ChainSight → Type 0
 IsSeen side S q Before = (t : Pair) → Contains S t → IsBefore q t
 IsSeen side S q After = (t : Pair) → Contains S t → IsBefore t q

@@ -5,8 +5,9 @@ ghost use Rattle.hull_geometry.specs.Positions.{point_at};
 use lattice::Point;
 use tiered_list::TieredList;
 
-/// A place such that `holds` is true of the edge before it and false of the edge from it: of the points there and the
-/// next ones. The ends of the chain count as such.
+/// Returns an index such that `holds` is true of the edge that ends there and false of the edge that begins there: of
+/// the points at that index and the adjacent ones. At the ends of the chain, where an edge is missing, its condition
+/// counts as met.
 pub(crate) fn first_failing<F: Fn(Point, Point) -> bool>(chain: &TieredList, holds: &F) -> usize
     requires some { 0 < length chain.now.items }
     requires callable { F.IsAlwaysCallable holds.now }

@@ -1,4 +1,4 @@
-//! The corners of a hull in their order, and its doubled area, once along its two chains.
+//! The vertices of a hull in their order, and its doubled area, in one pass along its two chains.
 ghost use Rattle.std.specs.Prelude.{◌≡◌, ◌+◌, ◌*◌, ◌<◌, ◌≤◌, ◌≤ℤ◌, List, length, pos, IfOk, OnErr};
 ghost use Rattle.lattice.specs.Plane.{Pair, widest_side};
 ghost use Rattle.lattice.specs.Covers.{IsPointSet};
@@ -12,7 +12,7 @@ use lattice::{Point, Side, orient_on};
 use std::alloc::AllocError;
 use tiered_list::TieredList;
 
-/// The vertices: the lower chain, and then the upper one back, without its ends.
+/// Returns the vertices: the lower chain, and then the upper one back, without its ends.
 pub(crate) fn vertices_of(
     alloc: Heap,
     lower: &TieredList,
@@ -32,7 +32,7 @@ pub(crate) fn vertices_of(
     Ok(out)
 }
 
-/// The doubled area of a triangle that does not bend outwards.
+/// Returns the doubled area of a triangle that does not bend outwards.
 fn doubled_triangle(side: Side, a: Point, b: Point, c: Point) -> u128
     requires { pos 0 ≤ℤ orientations.orient_on side a b c }
     ensures value { pos result ≡ orientations.orient_on side a b c }
@@ -41,7 +41,7 @@ fn doubled_triangle(side: Side, a: Point, b: Point, c: Point) -> u128
     orient_on(side, a, b, c) as u128
 }
 
-/// The doubled area between a chain and the segment from its first point to its last.
+/// Returns the doubled area between a chain and the segment from its first point to its last.
 fn doubled_fan(side: Side, chain: &TieredList) -> u128
     requires chain { IsSomeChain side chain.now.items }
     requires few { length chain.now.items ≤ POINT_LIMIT }
@@ -55,7 +55,7 @@ fn doubled_fan(side: Side, chain: &TieredList) -> u128
     doubled
 }
 
-/// The doubled area of the hull of these two chains.
+/// Returns the doubled area of the hull of these two chains.
 pub(crate) fn doubled_area_of(lower: &TieredList, upper: &TieredList) -> u128
     requires chains { AreChains lower.now.items upper.now.items }
     requires few_lower { length lower.now.items ≤ POINT_LIMIT }

@@ -1,4 +1,4 @@
-//! The front of a list that is made anew, before it is written.
+//! The scratch chain: the new front of a list, before it is written.
 ghost use Rattle.std.specs.Prelude.{◌≡◌, ◌+◌, ◌-◌, ◌<◌, ◌≤◌, ◌++◌, ◌∷◌, [], ℕ, List, OnOk, Option, None, length, take, drop, true};
 ghost use Rattle.std.specs.Prelude.{vec_len, vec_capacity};
 ghost use Rattle.lattice.specs.Plane.{Pair};
@@ -9,8 +9,8 @@ use lattice::Point;
 use std::alloc::AllocError;
 use tiered_list::TieredList;
 
-/// The first points of a list, as many as are kept, and fresh ones behind them. Beside it room for the list's rest, while
-/// that is written again.
+/// The first points of a list, as many as are kept, and new points after them. It also has storage for the list's rest
+/// while that is written again.
 #[derive(Drop)]
 pub(crate) struct Draft {
     kept: usize,
@@ -19,7 +19,7 @@ pub(crate) struct Draft {
 }
 
 impl Draft {
-    /// A draft of nothing, with no room. Asks for no memory.
+    /// Returns an empty scratch chain without storage. Does not allocate.
     pub(crate) fn new(alloc: Heap) -> Draft {
         Draft {
             kept: 0,
@@ -28,12 +28,12 @@ impl Draft {
         }
     }
 
-    /// Where it takes its memory from.
+    /// Returns its allocator.
     pub(crate) fn allocator(&self) -> Heap {
         *self.fresh.allocator()
     }
 
-    /// Makes room for lists of `count` points.
+    /// Reserves storage for lists of `count` points.
     pub(crate) fn reserve(&mut self, count: usize) -> Result<(), AllocError>
         ensures room { OnOk result (DraftHasRoom self.new count) }
         ensures kept { (n : ℕ) → DraftHasRoom self.old n → DraftHasRoom self.new n }
@@ -54,14 +54,15 @@ impl Draft {
         self.fresh.clear();
     }
 
-    /// How many fresh points it has.
+    /// Returns the number of its new points.
     pub(crate) fn fresh_len(&self) -> usize
         ensures { result ≡ length self.now.fresh.items }
     {
         self.fresh.len()
     }
 
-    /// Whether its last point may go, where those of the list and the first `fixed` fresh ones stay, if that is told.
+    /// Whether its last point may be removed. If `fixed` is given, the points of the list and the first `fixed` new
+    /// ones have to stay.
     pub(crate) fn may_lose(&self, fixed: Option<usize>) -> bool
         ensures { fixed ≡ None → result ≡ true }
     {
@@ -71,7 +72,7 @@ impl Draft {
         }
     }
 
-    /// The last two points of it, as the front of that list.
+    /// Returns its last two points, as the front of that list.
     pub(crate) fn last_two(&self, list: &TieredList) -> Option<(Point, Point)>
         requires { self.now.kept ≤ length list.now.items }
         ensures { AreLastTwo (drafted list.now.items self.now) result }
@@ -84,7 +85,7 @@ impl Draft {
         }
     }
 
-    /// Takes off its last point.
+    /// Removes its last point.
     pub(crate) fn pop(&mut self)
         ensures less { (L : List Pair) → self.old.kept ≤ length L
             → drafted L self.new ≡ take (length (drafted L self.old) - 1) (drafted L self.old) }
@@ -96,7 +97,7 @@ impl Draft {
         }
     }
 
-    /// Puts a point behind it.
+    /// Appends a point.
     pub(crate) fn push(&mut self, c: Point)
         requires { vec_len self.old.fresh < vec_capacity self.old.fresh }
         ensures kept { self.new.kept ≡ self.old.kept }
@@ -106,7 +107,7 @@ impl Draft {
         self.fresh.push_reserved(c);
     }
 
-    /// Makes a list what was drafted as its front, and behind it its own points from `to` on.
+    /// Replaces the front of a list, up to index `to`, by this scratch chain; the list's points from `to` on follow it.
     pub(crate) fn write(&mut self, list: &mut TieredList, to: usize)
         requires order { self.old.kept ≤ to }
         requires within { to ≤ length list.old.items }

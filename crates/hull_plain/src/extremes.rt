@@ -17,7 +17,8 @@ fn is_nearer(d: Direction, p: Point, q: Point) -> bool
     product(d, p) < product(d, q)
 }
 
-/// The first of the farthest points in a direction that faces this chain: the corner up to which it rises.
+/// Returns the first of the farthest points in a direction that faces this chain: the vertex up to which the chain
+/// rises.
 fn farthest(chain: &TieredList, d: Direction) -> Point
     requires { 0 < length chain.now.items }
     ensures { (side : Side) (S : List Pair) → Faces side d → IsChainOf side S chain.now.items → IsFirstFarthest S d result }
@@ -25,7 +26,7 @@ fn farthest(chain: &TieredList, d: Direction) -> Point
     chain.get(first_failing(chain, &|p, q| is_nearer(d, p, q)))
 }
 
-/// The same, or `None` where there is no point.
+/// Returns the same point, or `None` if there is no point.
 pub(crate) fn extreme_of(chain: &TieredList, d: Direction) -> Option<Point>
     ensures { (side : Side) (S : List Pair) → Faces side d → IsChainOf side S chain.now.items
         → AnswersExtreme S d (reply_to_extreme result) }

@@ -1,6 +1,6 @@
-//! The fringe of a set on a side: some of its points, in order, such that each other one stands inwards of the segment
-//! between two that follow each other. The chain is the fringe of the fewest points. Others have more, so that fewer
-//! points of the set stand between two of them, and have to be looked at where one leaves.
+//! The candidate list of a set on a side: some of its points, in order, such that each other point of the set lies
+//! inwards of the segment between two consecutive ones. The chain is the candidate list with the fewest points. Longer
+//! ones have fewer points of the set between two of their points, and these have to be visited if one is removed.
 ghost use Rattle.std.specs.Prelude.{◌≡◌, ◌+◌, ◌<◌, ◌≤◌, ◌⊎◌, ◌++◌, List, length, take, drop};
 ghost use Rattle.std.specs.List.{Contains};
 ghost use Rattle.std.specs.Map.{keys_of};
@@ -19,9 +19,9 @@ use lattice::{Point, Side};
 use std::collections::BTreeMap;
 use tiered_list::TieredList;
 
-/// Drafts the first points of a fringe up to a place and behind them the points of a map that stand between these and
-/// those of the fringe from another place on, but those that lie inwards of others of them. After each `run` of them the
-/// last one stays, whatever comes: a run has a chain of its own.
+/// Fills the scratch chain with the first points of a candidate list, up to index `at`, and then the points of a map
+/// that are between these and the list's points from index `to` on, without those that lie inwards of others of them.
+/// After each `run` of them the points so far stay, whatever follows: each such slice has a chain of its own.
 fn fill(
     side: Side,
     points: &BTreeMap<Point, u16, Heap>,
@@ -58,7 +58,7 @@ fn fill(
     }
 }
 
-/// The fringe after a new point `p` came to its set, and whether it changed.
+/// Updates the candidate list after a new point `p` was added to its set. Returns whether the list changed.
 pub(crate) fn put_on(side: Side, fringe: &mut TieredList, draft: &mut Draft, p: Point) -> bool
     requires ordered { IsPointSet fringe.old.items }
     requires absent { ¬ Contains fringe.old.items p }
@@ -81,8 +81,8 @@ pub(crate) fn put_on(side: Side, fringe: &mut TieredList, draft: &mut Draft, p: 
     true
 }
 
-/// The fringe after `p` left its set, of which `points` are left, and whether it changed: where `p` was on it, the
-/// points between its neighbours are looked at.
+/// Updates the candidate list after `p` was removed from its set, whose remaining points are `points`. If `p` was on
+/// the list, the points between its neighbours are visited. Returns whether the list changed.
 pub(crate) fn take_off(
     side: Side,
     fringe: &mut TieredList,
@@ -110,7 +110,7 @@ pub(crate) fn take_off(
     true
 }
 
-/// A fringe of a set made anew, in one pass over all of its points.
+/// Rebuilds a candidate list of a set, in one pass over all of its points.
 pub(crate) fn renew(
     side: Side,
     fringe: &mut TieredList,

@@ -1,4 +1,4 @@
-//! The two fringes of a set, and when they are made anew.
+//! The two candidate lists of a set, and when they are rebuilt.
 ghost use Rattle.std.specs.Prelude.{◌≡◌, ◌+◌, ◌≤◌, [], ℕ, length, List, OnOk};
 ghost use Rattle.std.specs.List.{Contains};
 ghost use Rattle.std.specs.Map.{keys_of};
@@ -16,11 +16,11 @@ use std::alloc::AllocError;
 use std::collections::BTreeMap;
 use tiered_list::TieredList;
 
-/// The fringes of a set, and how often they changed since they were made.
+/// The candidate lists of a set, and the number of changes since they were rebuilt.
 ///
-/// They are made in runs of so many points as twice the root of the set's number tells, of each of which they have the
-/// chain. A change puts one point more on them, or those that the one that left had hidden; after some changes for each
-/// run they are made anew.
+/// They are built from slices of 2 * sqrt(n) points, of a set of n, and contain the chain of each slice. Adding a point
+/// adds at most that point to them, and removing one may add the points that it had hidden. After some changes for each
+/// slice they are rebuilt.
 #[derive(Drop)]
 pub(crate) struct Fringes {
     pub(crate) below: TieredList,
@@ -29,7 +29,7 @@ pub(crate) struct Fringes {
 }
 
 impl Fringes {
-    /// The fringes of the empty set. Asks for no memory.
+    /// Returns the candidate lists of the empty set. Does not allocate.
     pub(crate) fn new(alloc: Heap) -> Fringes
         ensures { AreFringesOf [] result.below.items result.above.items }
     {
@@ -40,7 +40,7 @@ impl Fringes {
         }
     }
 
-    /// Makes room for the fringes of a set of `count` points.
+    /// Reserves capacity for the candidate lists of a set of `count` points.
     pub(crate) fn reserve(&mut self, count: usize) -> Result<(), AllocError>
         ensures same_below { self.new.below.items ≡ self.old.below.items }
         ensures same_above { self.new.above.items ≡ self.old.above.items }
@@ -51,7 +51,7 @@ impl Fringes {
         self.above.reserve(count)
     }
 
-    /// The fringes after a new point `p` came to the set, which is `points` then.
+    /// Updates the candidate lists after a new point `p` was added to the set, which is now `points`.
     pub(crate) fn add(&mut self, p: Point, points: &BTreeMap<Point, u16, Heap>, draft: &mut Draft)
         requires in_order { IsPointSet (keys_of points.now.entries) }
         requires fringes { (S : List Pair) × AreFringesOf S self.old.below.items self.old.above.items
@@ -68,7 +68,7 @@ impl Fringes {
         self.note(below || above, points, draft);
     }
 
-    /// The fringes after `p` left the set, of which `points` are left.
+    /// Updates the candidate lists after `p` was removed from the set, which is now `points`.
     pub(crate) fn remove(
         &mut self,
         p: Point,
@@ -91,7 +91,7 @@ impl Fringes {
         self.note(below || above, points, draft);
     }
 
-    /// Counts a change, and makes the fringes anew where there were many.
+    /// Counts a change, and rebuilds the candidate lists if there were many.
     fn note(&mut self, changed: bool, points: &BTreeMap<Point, u16, Heap>, draft: &mut Draft)
         requires in_order { IsPointSet (keys_of points.now.entries) }
         requires fringes { AreFringesOf (keys_of points.now.entries) self.old.below.items self.old.above.items }
@@ -114,7 +114,7 @@ impl Fringes {
     }
 }
 
-/// After how many points of a set a run of its fringe ends.
+/// Returns the number of points of a slice, for the candidate lists of this set.
 fn run_of(points: &BTreeMap<Point, u16, Heap>) -> usize {
     2 * points.len().isqrt()
 }

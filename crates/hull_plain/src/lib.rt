@@ -1,8 +1,8 @@
 //! A plain set of lattice points that answers questions about its convex hull.
 //!
-//! [`PlainSet`] keeps the promise [`HullSet`] (crate `hull_set`) with an ordered map of std, the two chains of the hull and a
-//! fringe behind each, lists in blocks: it is what faster sets are compared with, and what a checker replays on. What a set is
-//! and its laws are handed on from `hull_set` and `hull_geometry`.
+//! [`PlainSet`] implements [`HullSet`] (crate `hull_set`) with an ordered map of std, the two chains of the hull and a
+//! candidate list for each of them, as lists in blocks. Faster sets are compared with it, and the checker of journals
+//! replays on it. The definition of a set and its laws are re-exported from `hull_set` and `hull_geometry`.
 //!
 //! # A worked example
 //!
@@ -15,7 +15,7 @@
 //! assert!(set.place(Point::new(2, 1)?) == Place::Inside);
 //! assert!(set.area2() == 12); // the doubled area
 //! assert!(set.vertices()?.len() == 3); // counterclockwise from the first: (0, 0), (4, 0), (2, 3)
-//! assert!(set.add(Point::new(2, 3)?) == AddReply::Again(2)); // held twice: the hull is as it was
+//! assert!(set.add(Point::new(2, 3)?) == AddReply::Again(2)); // multiplicity 2: the hull is unchanged
 //! assert!(set.remove(Point::new(2, 3)?) == RemoveReply::Left(1));
 //! assert!(set.remove(Point::new(2, 3)?) == RemoveReply::Removed);
 //! ```

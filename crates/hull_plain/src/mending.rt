@@ -1,4 +1,4 @@
-//! The chain of a set that changed: made anew from where it changed up to where it is as it was.
+//! Repair of the chain of a set that changed: it is rebuilt from where it changed up to where it is as it was.
 ghost use Rattle.std.specs.Prelude.{◌≡◌, ◌+◌, ◌-◌, ◌<◌, ◌≤◌, ◌⊎◌, ◌++◌, List, IsTrue, ◌↔◌, length, take, drop, slice_range};
 ghost use Rattle.std.specs.List.{All, Contains};
 ghost use Rattle.lattice.specs.Plane.{Pair, IsBefore};
@@ -15,7 +15,7 @@ use lattice::{Point, Side, orient_on};
 use std::ops::Bound;
 use tiered_list::TieredList;
 
-/// What stands behind the first points of a chain.
+/// Returns the bound for points that are after the first points of a chain.
 pub(crate) fn behind(chain: &TieredList, i: usize) -> Bound<Point>
     requires { i ≤ length chain.now.items }
     ensures { IsBehind (take i chain.now.items) result }
@@ -27,7 +27,7 @@ pub(crate) fn behind(chain: &TieredList, i: usize) -> Bound<Point>
     }
 }
 
-/// What stands ahead of the points of a chain from a place on.
+/// Returns the bound for points that are before the points of a chain from an index on.
 pub(crate) fn ahead(chain: &TieredList, i: usize) -> Bound<Point>
     requires { i ≤ length chain.now.items }
     ensures { IsAhead (drop i chain.now.items) result }
@@ -39,7 +39,7 @@ pub(crate) fn ahead(chain: &TieredList, i: usize) -> Bound<Point>
     }
 }
 
-/// Whether a point with this position stands between two points of a chain, and not outwards of their segment.
+/// Whether a point with this position is between two points of a chain, and not outwards of their segment.
 pub(crate) fn is_inwards(side: Side, chain: &TieredList, i: usize, p: Point) -> bool
     requires { i ≤ length chain.now.items }
     ensures { IsTrue result ↔ IsOverEdge side chain.now.items i p }
@@ -50,7 +50,7 @@ pub(crate) fn is_inwards(side: Side, chain: &TieredList, i: usize, p: Point) -> 
     orient_on(side, chain.get(i - 1), p, chain.get(i)) <= 0
 }
 
-/// The number of points up to the last of the first ones of a chain.
+/// Returns the number of points up to the last of the first points of a chain.
 fn passed_by(points: &TieredList, chain: &TieredList, i: usize) -> usize
     requires ordered { IsPointSet points.now.items }
     requires chain_ordered { IsPointSet (take i chain.now.items) }
@@ -68,7 +68,7 @@ fn passed_by(points: &TieredList, chain: &TieredList, i: usize) -> usize
     }
 }
 
-/// Of the places from one on, the first whose point does not stand before the points of a chain from a place on.
+/// Returns the first index, from one on, whose point is not before the points of a chain from an index on.
 fn short_of(points: &TieredList, from: usize, chain: &TieredList, i: usize) -> usize
     requires ordered { IsPointSet points.now.items }
     requires chain_ordered { IsPointSet (drop i chain.now.items) }
@@ -88,7 +88,7 @@ fn short_of(points: &TieredList, from: usize, chain: &TieredList, i: usize) -> u
     }
 }
 
-/// From where to where the points stand that are between the neighbours of a place of a chain.
+/// Returns the range of indices of the points that are between the neighbours of an index of a chain.
 fn between(points: &TieredList, chain: &TieredList, i: usize) -> (usize, usize)
     requires ordered { IsPointSet points.now.items }
     requires inside { i < length chain.now.items }
@@ -104,7 +104,7 @@ fn between(points: &TieredList, chain: &TieredList, i: usize) -> (usize, usize)
     (from, to)
 }
 
-/// The chain after a new point `p` came to its set: those points go that do not lie outwards any more.
+/// Updates the chain after a new point `p` was added to its set: the points that no longer lie outwards are removed.
 pub(crate) fn put_in(side: Side, chain: &mut TieredList, draft: &mut Draft, p: Point)
     requires strict { IsStrict side chain.old.items }
     requires absent { ¬ Contains chain.old.items p }
@@ -127,8 +127,8 @@ pub(crate) fn put_in(side: Side, chain: &mut TieredList, draft: &mut Draft, p: P
     draft.write(chain, to);
 }
 
-/// The chain after `p` left its set `S`, which has this fringe then: where `p` was on the chain, the points of the
-/// fringe between its neighbours are passed over, and no others.
+/// Updates the chain after `p` was removed from its set `S`, which now has this candidate list. If `p` was on the
+/// chain, the pass goes over only the points of the candidate list between its neighbours.
 pub(crate) fn take_out(
     side: Side,
     chain: &mut TieredList,

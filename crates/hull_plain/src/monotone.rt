@@ -17,7 +17,7 @@ pub(crate) fn is_inner(side: Side, a: Point, b: Point, c: Point) -> bool
     orient_on(side, a, b, c) > 0
 }
 
-/// Whether the last point of a draft does not lie outwards of the segment from the one before it to `c`.
+/// Whether the last point of a scratch chain does not lie outwards of the segment from the one before it to `c`.
 fn ends_inwards(side: Side, list: &TieredList, draft: &Draft, c: Point) -> bool
     requires { draft.now.kept ≤ length list.now.items }
     ensures inwards { IsTrue result → EndsInwards side (drafted list.now.items draft.now) c }
@@ -30,8 +30,8 @@ fn ends_inwards(side: Side, list: &TieredList, draft: &Draft, c: Point) -> bool
     }
 }
 
-/// Puts a point at the end of a draft of a list, in the place of those last points that do not lie outwards of it then,
-/// and tells whether none went. Where `fixed` is told, the points of the list and so many fresh ones stay.
+/// Appends a point to the scratch chain of a list, after removing those last points that then do not lie outwards.
+/// Returns whether none was removed. If `fixed` is given, the points of the list and so many new ones stay.
 pub(crate) fn extend_behind(
     side: Side,
     list: &TieredList,
@@ -59,7 +59,7 @@ pub(crate) fn extend_behind(
     stays
 }
 
-/// The same of a draft that bends: none of its points has to stay.
+/// Appends a point in the same way to a scratch chain that bends: none of its points has to stay.
 pub(crate) fn extend(side: Side, list: &TieredList, draft: &mut Draft, c: Point) -> bool
     requires within { draft.old.kept ≤ length list.now.items }
     requires set { IsPointSet (drafted list.now.items draft.old ++ c ∷ []) }
@@ -74,7 +74,7 @@ pub(crate) fn extend(side: Side, list: &TieredList, draft: &mut Draft, c: Point)
     extend_behind(side, list, draft, None, c)
 }
 
-/// Takes the pass on over the points of another list, in order, from one place to another.
+/// Continues the pass over the points of another list, in order, from one index to another.
 pub(crate) fn pass_over(
     side: Side,
     list: &TieredList,
@@ -99,8 +99,8 @@ pub(crate) fn pass_over(
     }
 }
 
-/// Takes the pass on over the list's own points from a place on, which bend. It ends as soon as it stands on two of them in
-/// a row: from there on, the place that it tells, all bends are as they were.
+/// Continues the pass over the list's own points from an index on, which bend. It stops after two of them in a row
+/// stayed, and returns the index after them: from there on all bends are as they were.
 pub(crate) fn take_up(side: Side, list: &TieredList, draft: &mut Draft, from: usize) -> usize
     requires within { draft.old.kept ≤ length list.now.items }
     requires inside { from ≤ length list.now.items }

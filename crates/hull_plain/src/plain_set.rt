@@ -10,17 +10,17 @@ use std::marker::Model;
 
 /// A set of points in order, with the two chains of its hull.
 ///
-/// `add` and `remove` go by an ordered map of std, from each live point to how often it is held: of a point that was
-/// live and stays so they change that number in place, and nothing else. A new point that a chain does not hide goes to
-/// its place there, and those beside it go that it hides. Where a corner leaves, its chain is made anew in one pass
-/// (Andrew, 1979) over the points of a fringe between its neighbours: the points that are corners of their own run of
-/// so many neighbouring points as twice the root of their number tells, and those that came since the runs were made.
-/// Where a point of a fringe leaves, those between its neighbours there are looked at, found by a range of the map. So
-/// a change costs a logarithm of the points, some runs, the corners of the runs between two corners of the hull, and
-/// one point of each block of a list behind its place.
+/// `add` and `remove` use an ordered map of std, from each point of the set to its multiplicity: if the point stays in
+/// the set, they change only that number, in place. A new point that a chain does not hide is inserted at its position
+/// there, and the neighbours that it hides are removed. When a vertex is removed, its chain is rebuilt in one pass
+/// (Andrew, 1979) over the points of a candidate list between its neighbours: the points that are vertices of their own
+/// slice of 2 * sqrt(n) consecutive points, and those that were added since the slices were made. When a point of a
+/// candidate list is removed, the points between its neighbours there are visited, by a range of the map. So a change
+/// costs a logarithm of the number of points, some slices, the vertices of the slices between two vertices of the hull,
+/// and one point of each later block of a list.
 ///
-/// `extreme`, `place` and `tangents` are bisections of the chains; `vertices` and `area2` go along them once. Only
-/// `add` of a new point and `vertices` ask for memory.
+/// `extreme`, `place` and `tangents` are bisections of the chains; `vertices` and `area2` walk along them once. Only
+/// `add` of a new point and `vertices` allocate.
 #[derive(Drop)]
 pub struct PlainSet {
     limit: u32,
@@ -40,7 +40,8 @@ impl Model for PlainSet {
 }
 
 impl PlainSet {
-    /// The empty set, which takes `limit` points at most. Asks for no memory; `add` and `vertices` ask `alloc`.
+    /// Returns the empty set, which accepts at most `limit` points. Does not allocate; `add` and `vertices` allocate
+    /// from `alloc`.
     pub fn new(alloc: Heap, limit: u32) -> PlainSet
         requires low { 1 ≤ limit }
         requires high { limit ≤ POINT_LIMIT }
@@ -63,7 +64,7 @@ impl HullSet for PlainSet {
 
     ghost bound = { λ s. s.limit };
 
-    // the points stand in order
+    // the points are in order
     ghost sound = { λ s. IsPointSet (keys_of s.entries) };
 
     fn limit(&self) -> u32 {

@@ -1,4 +1,4 @@
-//! Where a point stands in a sorted list of points.
+//! The position of a point in a sorted list of points.
 ghost use Rattle.std.specs.Prelude.{◌+◌, ◌-◌, ◌<◌, ◌≤◌, IfOk, length, take, drop};
 ghost use Rattle.std.specs.List.{All};
 ghost use Rattle.lattice.specs.Plane.{IsBefore};
@@ -8,7 +8,7 @@ ghost use Rattle.hull_geometry.specs.Positions.{IsPositionOf};
 use lattice::{Point, before};
 use tiered_list::TieredList;
 
-/// Of the places from one on, the first whose point does not stand before `p`: a binary search, with one comparison a step.
+/// Returns the first index, from one on, whose point is not before `p`: a binary search, with one comparison a step.
 pub(crate) fn first_not_before(points: &TieredList, from: usize, p: Point) -> usize
     requires ordered { IsPointSet points.now.items }
     requires inside { from ≤ length points.now.items }
@@ -30,7 +30,7 @@ pub(crate) fn first_not_before(points: &TieredList, from: usize, p: Point) -> us
     low
 }
 
-/// Where `p` stands in `points`, or else where it would stand.
+/// Returns the index of `p` in `points`, or else, as an error, the index at which it belongs.
 pub(crate) fn position_of(points: &TieredList, p: Point) -> Result<usize, usize>
     requires { IsPointSet points.now.items }
     ensures position { IsPositionOf points.now.items p result }
@@ -46,7 +46,7 @@ pub(crate) fn position_of(points: &TieredList, p: Point) -> Result<usize, usize>
     Ok(i)
 }
 
-/// The number of points that stand before `p` or are `p`.
+/// Returns the number of points that are before `p` or are `p`.
 pub(crate) fn count_up_to(points: &TieredList, p: Point) -> usize
     requires { IsPointSet points.now.items }
     ensures within { result ≤ length points.now.items }

@@ -22,7 +22,7 @@ use std::alloc::AllocError;
 use std::collections::BTreeMap;
 use tiered_list::TieredList;
 
-/// The two chains of the hull of a set, and the fringes and the room to mend them.
+/// The two chains of the hull of a set, and the candidate lists and the storage to repair them.
 #[derive(Drop)]
 pub(crate) struct Rim {
     lower: TieredList,
@@ -32,7 +32,7 @@ pub(crate) struct Rim {
 }
 
 impl Rim {
-    /// The rim of the empty set. Asks for no memory.
+    /// Returns the hull chains of the empty set. Does not allocate.
     pub(crate) fn new(alloc: Heap) -> Rim
         ensures { IsRimOf [] result }
     {
@@ -44,7 +44,7 @@ impl Rim {
         }
     }
 
-    /// Makes room for the rim of a set of `count` points.
+    /// Reserves storage for the hull chains of a set of `count` points.
     pub(crate) fn reserve(&mut self, count: usize) -> Result<(), AllocError>
         ensures alike { AreAlike self.old self.new }
         ensures room { OnOk result (HasRoom self.new count) }
@@ -56,7 +56,7 @@ impl Rim {
         self.draft.reserve(count)
     }
 
-    /// The rim after a new point `p` came to the set, which is `points` then.
+    /// Updates the hull chains after a new point `p` was added to the set, which is now `points`.
     pub(crate) fn add(&mut self, p: Point, points: &BTreeMap<Point, u16, Heap>)
         requires in_order { IsPointSet (keys_of points.now.entries) }
         requires rim { AwaitsPoint p (keys_of points.now.entries) self.old }
@@ -68,7 +68,7 @@ impl Rim {
         self.fringes.add(p, points, &mut self.draft);
     }
 
-    /// The rim after `p` left the set, of which `points` are left.
+    /// Updates the hull chains after `p` was removed from the set, which is now `points`.
     pub(crate) fn remove(&mut self, p: Point, points: &BTreeMap<Point, u16, Heap>)
         requires left { IsPointSet (keys_of points.now.entries) }
         requires rim { WasRimOf p (keys_of points.now.entries) self.old }
@@ -83,7 +83,7 @@ impl Rim {
         take_out(Side::Upper, &mut self.upper, &mut self.draft, p, above);
     }
 
-    /// The first of the farthest points in a direction.
+    /// Returns the first of the farthest points in a direction.
     pub(crate) fn extreme(&self, d: Direction) -> Option<Point>
         ensures { (S : List Pair) → IsRimOf S self.now → AnswersExtreme S d (reply_to_extreme result) }
     {
@@ -94,7 +94,7 @@ impl Rim {
         }
     }
 
-    /// Where `q` lies.
+    /// Returns the place of `q`.
     pub(crate) fn place(&self, q: Point) -> Place
         requires { IsRim self.now }
         ensures { (S : List Pair) → IsRimOf S self.now → LiesAt S q result }
@@ -102,7 +102,7 @@ impl Rim {
         place_of(&self.lower, &self.upper, q)
     }
 
-    /// The left and the right tangent point of `q`, where the hull does not cover it.
+    /// Returns the left and the right tangent point of `q`, or `None` if the hull covers it.
     pub(crate) fn tangents(&self, q: Point) -> Option<(Point, Point)>
         requires { IsRim self.now }
         ensures { (S : List Pair) → IsRimOf S self.now → AnswersTangents S q (reply_to_tangents result) }
@@ -110,7 +110,7 @@ impl Rim {
         tangents_from(&self.lower, &self.upper, q)
     }
 
-    /// The vertices, in memory of its own.
+    /// Returns the vertices, in storage of their own.
     pub(crate) fn vertices(&self) -> Result<Vec<Point, Heap>, AllocError>
         ensures vertices { IfOk result (λ v. (S : List Pair) → IsPointSet S → IsRimOf S self.now
             → IsVertexList S v.items) }
@@ -119,7 +119,7 @@ impl Rim {
         vertices_of(self.draft.allocator(), &self.lower, &self.upper)
     }
 
-    /// The doubled area.
+    /// Returns the doubled area.
     pub(crate) fn area2(&self) -> u128
         requires rim { IsRim self.now }
         requires few_below { length self.now.lower.items ≤ POINT_LIMIT }

@@ -1,4 +1,4 @@
-//! From where a point looks at a hull, by the edges of its chains between whose ends it stands.
+//! The location of a point relative to a hull, by the edges of its chains between whose ends it is.
 ghost use Rattle.std.specs.Prelude.{◌<◌, List, Err, length};
 ghost use Rattle.lattice.specs.Plane.{Pair};
 ghost use Rattle.hull_plain.specs.ChainSights.{IsSeen};
@@ -13,22 +13,22 @@ use hull_set::Place;
 use lattice::{Point, Side, orient_on};
 use tiered_list::TieredList;
 
-/// From where a point looks at the chain on one side.
+/// The location of a point relative to the chain on one side.
 #[derive(Clone, Copy)]
 enum ChainSight {
-    /// From before all points.
+    /// Before all points.
     Before,
-    /// From after all points.
+    /// After all points.
     After,
-    /// From outside, outwards of an edge of this side between whose ends it stands.
+    /// Outside: outwards of an edge of this side, between whose ends it is.
     Outwards,
-    /// From the boundary.
+    /// On the boundary.
     Touching,
-    /// From the inner side of such an edge.
+    /// On the inner side of such an edge.
     Inwards,
 }
 
-/// From where a point looks that is no corner and has the position `i` in the chain.
+/// Returns the location of a point that is not a vertex and has the position `i` in the chain.
 fn look_from(side: Side, chain: &TieredList, i: usize, q: Point) -> ChainSight
     requires { IsPositionOf chain.now.items q (Err i) }
     ensures { (S : List Pair) → IsChainOf side S chain.now.items → IsSeen side S q result }
@@ -49,7 +49,7 @@ fn look_from(side: Side, chain: &TieredList, i: usize, q: Point) -> ChainSight
     }
 }
 
-/// From where `q` looks at this chain of a hull.
+/// Returns the location of `q` relative to this chain of a hull.
 fn look_on(side: Side, chain: &TieredList, q: Point) -> ChainSight
     requires { IsStrict side chain.now.items }
     ensures { (S : List Pair) → IsChainOf side S chain.now.items → IsSeen side S q result }
@@ -60,7 +60,7 @@ fn look_on(side: Side, chain: &TieredList, q: Point) -> ChainSight
     }
 }
 
-/// From where `q` looks at the hull of these two chains, which have a point.
+/// Returns the location of `q` relative to the hull of these two chains, which are not empty.
 pub(crate) fn look(lower: &TieredList, upper: &TieredList, q: Point) -> Sight
     requires some { 0 < length lower.now.items }
     requires chains { AreChains lower.now.items upper.now.items }
@@ -80,7 +80,7 @@ pub(crate) fn look(lower: &TieredList, upper: &TieredList, q: Point) -> Sight
     }
 }
 
-/// Where `q` lies, seen from the hull of these two chains.
+/// Returns the place of `q` relative to the hull of these two chains.
 pub(crate) fn place_of(lower: &TieredList, upper: &TieredList, q: Point) -> Place
     requires { AreChains lower.now.items upper.now.items }
     ensures { (S : List Pair) → AreChainsOf S lower.now.items upper.now.items → LiesAt S q result }

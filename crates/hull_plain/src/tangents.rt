@@ -1,4 +1,4 @@
-//! Where the tangents from a point touch, each by a bisection of one chain (Preparata and Shamos, 1985).
+//! The points that the tangents from a point touch, each by a bisection of one chain (Preparata and Shamos, 1985).
 ghost use Rattle.std.specs.Prelude.{◌↔◌, ◌<◌, List, IsTrue, length};
 ghost use Rattle.lattice.specs.Plane.{Pair, IsBefore};
 ghost use Rattle.hull_geometry.specs.ChainEdges.{IsPassedBy, IsToCome};
@@ -23,14 +23,14 @@ fn is_passed(side: Side, a: Point, b: Point, q: Point) -> bool
     before(b, q) && is_inner(side, a, b, q)
 }
 
-/// Whether it begins after `q`, which lies inwards of it.
+/// Whether the edge begins after `q`, which lies inwards of it.
 fn is_to_come(side: Side, a: Point, b: Point, q: Point) -> bool
     ensures { IsTrue result ↔ IsToCome side q a b }
 {
     before(q, a) && is_inner(side, a, b, q)
 }
 
-/// The tangent point behind `q`, from which nothing is in the way on this side.
+/// Returns the tangent point before `q`, if nothing is in the way of `q` on this side.
 fn tangent_behind(side: Side, chain: &TieredList, q: Point) -> Point
     requires some { 0 < length chain.now.items }
     requires after { IsBefore (first_of chain.now.items) q }
@@ -40,7 +40,7 @@ fn tangent_behind(side: Side, chain: &TieredList, q: Point) -> Point
     chain.get(first_failing(chain, &|a, b| is_passed(side, a, b, q)))
 }
 
-/// The tangent point ahead of it.
+/// Returns the tangent point after `q`, if nothing is in the way of `q` on this side.
 fn tangent_ahead(side: Side, chain: &TieredList, q: Point) -> Point
     requires some { 0 < length chain.now.items }
     requires before { IsBefore q (last_of chain.now.items) }
@@ -50,7 +50,7 @@ fn tangent_ahead(side: Side, chain: &TieredList, q: Point) -> Point
     chain.get(first_failing(chain, &|a, b| !is_to_come(side, a, b, q)))
 }
 
-/// The tangent point on this hand seen from `q`, where the tangent touches the chain on this side.
+/// Returns the tangent point on this hand seen from `q`, if the tangent touches the chain on this side.
 fn tangent_on(hand: Hand, side: Side, lower: &TieredList, upper: &TieredList, q: Point) -> Point
     requires some { 0 < length lower.now.items }
     requires chains { AreChains lower.now.items upper.now.items }
@@ -66,7 +66,7 @@ fn tangent_on(hand: Hand, side: Side, lower: &TieredList, upper: &TieredList, q:
     }
 }
 
-/// The left and the right tangent point of `q`, where the hull of these two chains does not cover it.
+/// Returns the left and the right tangent point of `q`, or `None` if the hull of these two chains covers it.
 pub(crate) fn tangents_from(
     lower: &TieredList,
     upper: &TieredList,

@@ -1,4 +1,4 @@
--- the test was true of the edge before `low`, and is false of the edge from `high`
+-- the test is true of the edge before `low`, and false of the edge from `high`
 use Rattle.std.proofs.Common.{◌<◌, ◌≤◌, ◌+◌, ◌-◌, length, true, false}
 use Rattle.hull_geometry.specs.Positions.{point_at}
 use Rattle.hull_plain.proofs.bisection.first_failing.Given as goal

@@ -1,4 +1,4 @@
--- behind the lower chain stand the points of the upper one from its end back to the place before `i`, but for the end
+-- after the lower chain are the points of the upper one, from its end back to the index `i - 1`, without the end
 use Rattle.std.proofs.Common.{◌≡◌, ◌<◌, ◌≤◌, ◌-◌, ◌++◌, [], List, length}
 use Rattle.lattice.specs.Plane.{Pair}
 use Rattle.hull_geometry.specs.Edges.{IsUpperEdge, IsChain, end_of}

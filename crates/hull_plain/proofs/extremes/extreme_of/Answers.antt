@@ -1,4 +1,4 @@
--- no chain, no points
+-- an empty chain has no points
 use Rattle.std.proofs.Common.{rules, ◌≡◌, length}
 use Rattle.hull_geometry.proofs.ChainPlaces.{none_of}
 use Rattle.hull_plain.proofs.extremes.extreme_of.Goals as goal

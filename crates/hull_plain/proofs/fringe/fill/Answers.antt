@@ -1,4 +1,4 @@
--- one point after another is seen of those that the range of the map has
+-- the points of the range of the map are visited one after another
 use Rattle.std.proofs.Common.{◌≡◌, ◌≤◌, ◌+◌, ◌++◌, [], sym, ap, ◌∙◌, subst, List, arith, rules, refl, ℕ, length, take, drop}
 use Rattle.std.specs.Map.{keys_of}
 use Rattle.lattice.specs.Plane.{Pair}

@@ -1,4 +1,4 @@
--- the points of the range are all that stand between; those seen and those that are left are these, in their order
+-- the points of the range are all points between; those visited and those left are these points, in their order
 use Rattle.std.proofs.Common.{◌≡◌, ◌≤◌, ◌++◌, List, take, drop}
 use Rattle.std.specs.Map.{keys_of}
 use Rattle.lattice.specs.Plane.{Pair}

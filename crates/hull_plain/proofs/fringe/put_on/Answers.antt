@@ -1,4 +1,4 @@
--- p stands inwards of a segment of the fringe, or is put in between its neighbours
+-- p lies inwards of a segment of the candidate list, or is inserted between its neighbours
 use Rattle.std.proofs.Common.{◌≡◌, ◌++◌, ◌∷◌, [], ℕ, sym, ap, ◌∙◌, subst, List, take, drop, length, arith}
 use Rattle.std.proofs.Common.{length-append, length-drop}
 use Rattle.std.proofs.lemmas.Bool.{false≢true}
@@ -23,7 +23,7 @@ push-requires c =
     let n = ap length c.start.ensures.none in
     omega (arith, n, c.start.new.self.fresh.ok, c.start.ensures.room.fresh, c.requires.draft_room.fresh)
 
--- the fringe with p in its place
+-- the candidate list with p at its position
 with_p : (L : List Pair) (i : ℕ) (p : Pair) (a b : Draft) → a.kept ≡ i → a.fresh.items ≡ [] → b.kept ≡ a.kept
     → b.fresh.items ≡ a.fresh.items ++ p ∷ [] → drafted L b ≡ take i L ++ p ∷ []
 with_p L i p a b k n l m = pushed L a b p l m ∙ ap (λ (z : List Pair). z ++ p ∷ []) (started L a i k n)

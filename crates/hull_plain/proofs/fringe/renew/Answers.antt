@@ -1,4 +1,4 @@
--- between nothing and nothing stand all points
+-- between an empty front and an empty rest are all points
 use Rattle.std.proofs.Common.{ℕ, ◌≤◌, ◌++◌, [], sym, ap, ◌∙◌, subst, List, drop, length, arith}
 use Rattle.std.specs.List.{Contains}
 use Rattle.std.specs.Map.{keys_of}
@@ -27,7 +27,7 @@ fill-requires-clause-among c = λ t m.
     (none_from c.len-len.result c.args.fringe.now.items (omega (arith, c.len-len.ensures))) m in
     absurd (omega (arith, none.1))
 
--- all points of the set, thinned, are a fringe of it
+-- all points of the set without some inner ones are a candidate list of it
 whole : (side : Side) (keys F new : List Pair) (n : ℕ) → length F ≤ n → ThinsBetween side keys [] (drop n F) new
     → IsFringeOf side keys new
 whole side keys F new n l thinned =

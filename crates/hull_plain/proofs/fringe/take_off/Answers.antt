@@ -1,4 +1,4 @@
--- what stands between the neighbours of p and is not hidden takes its place
+-- the points between the neighbours of p that are not hidden replace it
 use Rattle.std.proofs.Common.{◌+◌, ◌++◌, sym, subst, List, take, drop, arith}
 use Rattle.std.specs.Map.{keys_of}
 use Rattle.lattice.specs.Plane.{Pair}

@@ -1,4 +1,4 @@
--- the point in the place is the first from there on
+-- the point at the index is the first from there on
 use Rattle.std.proofs.Common.{◌+◌, drop, arith}
 use Rattle.hull_geometry.proofs.PointLists.{none_from}
 use Rattle.hull_geometry.proofs.Passes.{rest_at}

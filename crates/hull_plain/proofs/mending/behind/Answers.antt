@@ -1,4 +1,4 @@
--- the point in the last place is the end
+-- the point before the index is the end
 use Rattle.std.proofs.Common.{ℕ, take, ap, arith}
 use Rattle.hull_geometry.proofs.Between.{end_of_first}
 use Rattle.hull_plain.proofs.mending.behind.Goals as goal

@@ -1,4 +1,4 @@
--- what is cut off at the end of the one list and at the first of the other stands between them
+-- the points after the end of the one list and before the first of the other are between them
 use Rattle.std.proofs.Common.{◌≡◌, ◌+◌, ◌-◌, ℕ, ap, subst, ◌∙◌, arith, List, take, drop}
 use Rattle.std.specs.List.{Contains}
 use Rattle.lattice.specs.Plane.{Pair}

@@ -1,4 +1,4 @@
--- the bend at the place tells it
+-- the bend at the index decides it
 use Rattle.std.proofs.Common.{arith}
 use Rattle.hull_geometry.proofs.Mended.{over_edge}
 use Rattle.hull_plain.proofs.mending.is_inwards.Goals as goal

@@ -1,4 +1,4 @@
--- what stands after the end of a chain stands after all of it
+-- a point that is after the end of a chain is after all of it
 use Rattle.std.proofs.Common.{ℕ, take, sym, subst, arith}
 use Rattle.std.specs.List.{All}
 use Rattle.std.proofs.lemmas.List.Elements.{All-contains}

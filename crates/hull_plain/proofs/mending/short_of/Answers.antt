@@ -1,4 +1,4 @@
--- what stands before the first of a chain stands before all of it
+-- a point that is before the first of a chain is before all of it
 use Rattle.std.proofs.Common.{◌≡◌, ◌+◌, ◌<◌, ℕ, [], List, length, get_or, drop, sym, subst, arith}
 use Rattle.std.specs.List.{All, Contains}
 use Rattle.std.proofs.lemmas.List.Elements.{All-contains}
@@ -7,7 +7,7 @@ use Rattle.hull_geometry.proofs.Middles.{before_all}
 use Rattle.hull_geometry.proofs.PointLists.{in_rest, none_from}
 use Rattle.hull_plain.proofs.mending.short_of.Goals as goal
 
--- nothing is in a list of no points
+-- an empty list has no member
 none_in : (xs : List Pair) (t : Pair) → xs ≡ [] → Contains xs t → ⊥
 none_in xs t e m =
     let n : Contains [] t = subst (λ (z : List Pair). Contains z t) e m in absurd (omega (arith, n.1))

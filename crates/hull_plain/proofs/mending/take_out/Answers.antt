@@ -1,4 +1,4 @@
--- the pass goes over the points before p, those of the fringe between its neighbours, and the points after it
+-- the pass goes over the points before p, those of the candidate list between its neighbours, and the points after it
 use Rattle.std.proofs.Common.{◌+◌, ◌++◌, sym, ap, subst, List, take, drop, length, arith, refl}
 use Rattle.std.proofs.Common.{length-append}
 use Rattle.std.specs.Prelude.{slice_range}

@@ -1,4 +1,4 @@
--- where the chain bends and none of its points has to stay, what is left is what a pass leaves
+-- if the chain bends and none of its points has to stay, the result is that of a pass
 use Rattle.std.proofs.Common.{refl}
 use Rattle.hull_geometry.proofs.Passes.{passed_of}
 use Rattle.hull_plain.proofs.monotone.extend.Goals as goal

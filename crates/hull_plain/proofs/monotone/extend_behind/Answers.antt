@@ -1,4 +1,4 @@
--- a last point that ends inwards is covered by its neighbours, so without it the same points are inward
+-- a last point that ends inwards is covered by its neighbours, so without it the same points are inner
 use Rattle.std.proofs.Common.{◌≡◌, ◌<◌, ◌+◌, ◌-◌, take, length, sym, ap, ◌∙◌, subst, List, arith, ◌∷◌, ◌++◌, [], length-append}
 use Rattle.std.proofs.lemmas.Bool.{false≢true}
 use Rattle.std.specs.List.{Contains}

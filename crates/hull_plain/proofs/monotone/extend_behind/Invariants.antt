@@ -1,4 +1,4 @@
--- of the draft at the start the points taken off are inward of what is left of it and the new point
+-- the points removed from the scratch chain of the start are inner to its rest with the new point
 use Rattle.std.proofs.Common.{◌≡◌, ◌≤◌, [], ◌∷◌, ◌++◌, length, true}
 use Rattle.std.specs.List.{Contains}
 use Rattle.lattice.specs.Covers.{IsPointSet}

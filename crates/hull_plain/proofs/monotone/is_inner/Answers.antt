@@ -1,4 +1,4 @@
--- a bend fits 128 bits, so its test is that of its number
+-- a bend fits in 128 bits, so its test is that of its number
 use Rattle.hull_geometry.proofs.Comparisons.{fits_side, above_test}
 use Rattle.hull_plain.proofs.monotone.is_inner.Goals as goal
 

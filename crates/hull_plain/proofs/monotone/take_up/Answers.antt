@@ -1,4 +1,4 @@
--- each point is passed in turn, until one stays behind the one before it
+-- each point is passed in turn, until one stays after the one before it
 use Rattle.std.proofs.Common.{◌≡◌, ◌+◌, ◌++◌, ◌∙◌, ℕ, sym, ap, subst, List, refl, arith, take, drop, length-append}
 use Rattle.std.proofs.Common.{length-drop}
 use Rattle.lattice.specs.Plane.{Pair}

@@ -1,4 +1,4 @@
--- the pass has come over the draft at the start and the points so far
+-- the pass went over the scratch chain of the start and the points so far
 use Rattle.std.proofs.Common.{◌≤◌, ◌++◌, take, drop}
 use Rattle.hull_plain.specs.Drafts.{IsAsRoomy, drafted}
 use Rattle.hull_geometry.specs.Monotone.{IsPassed}

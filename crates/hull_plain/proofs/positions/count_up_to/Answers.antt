@@ -1,4 +1,4 @@
--- where p is there it is the last of those counted
+-- if p is in the list, it is the last of those counted
 use Rattle.hull_geometry.proofs.FoundPositions.{found_after}
 use Rattle.hull_geometry.proofs.Middles.{up_to_found}
 use Rattle.hull_plain.proofs.positions.count_up_to.Goals as goal

@@ -1,4 +1,4 @@
--- a point before p has all earlier ones before p, and one that is not has no later one before p
+-- if a point is before p, all earlier ones are; if one is not, no later one is
 use Rattle.std.proofs.Common.{◌≡◌, ◌+◌, ◌-◌, ◌/◌, ◌<◌, ℕ, List, length, get_or, take, drop, refl, sym, subst, arith}
 use Rattle.std.proofs.lemmas.Bool.{false≢true}
 use Rattle.std.specs.List.{All}

@@ -1,4 +1,4 @@
--- what each chain tells of the point is from where it looks
+-- the locations relative to the two chains determine that relative to the hull
 use Rattle.lattice.specs.declared.side.Side.TheVariants.{Lower, Upper}
 use Rattle.hull_geometry.proofs.ChainPlaces.{are_ends}
 use Rattle.hull_plain.proofs.Looks.{edge_within, outwards_right, sights_inside, sight_touching}

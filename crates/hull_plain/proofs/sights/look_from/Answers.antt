@@ -1,5 +1,5 @@
--- before the first position and behind the last the point stands before all or after all; else its side of the edge
--- there tells
+-- with the first position the point is before all points, with the last after all; else its side of the edge there
+-- decides
 use Rattle.std.proofs.Common.{◌∙◌, subst, arith, ℕ, Err}
 use Rattle.std.proofs.lemmas.Int.{ints}
 use Rattle.lattice.proofs.Casts.{cast_side}

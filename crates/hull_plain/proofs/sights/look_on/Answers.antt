@@ -1,4 +1,4 @@
--- a point of the chain is touched
+-- a point of the chain is on the boundary
 use Rattle.hull_plain.proofs.Looks.{on_chain}
 use Rattle.hull_plain.proofs.sights.look_on.Goals as goal
 

@@ -1,4 +1,4 @@
--- the sight tells the place; nothing is covered by no chains
+-- the location determines the place; empty chains cover nothing
 use Rattle.std.proofs.Common.{rules, ap, ◌≡◌, ◌<◌, List, length}
 use Rattle.lattice.specs.Plane.{Pair}
 use Rattle.lattice.specs.declared.side.Side.TheVariants.{Lower}

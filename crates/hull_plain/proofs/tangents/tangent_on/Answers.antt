@@ -1,4 +1,4 @@
--- each tangent touches its chain behind the point or ahead of it
+-- each tangent touches its chain at a point before q or after it
 use Rattle.lattice.specs.declared.side.Side.TheVariants.{Lower, Upper}
 use Rattle.hull_geometry.proofs.EdgesAt.{up_to, on_from}
 use Rattle.hull_geometry.proofs.ChainPlaces.{are_ends, other_chain}

@@ -1,4 +1,4 @@
--- the tangents touch the chains that the sight tells; nothing is covered by no chains
+-- the tangents touch the chains that the location determines; empty chains cover nothing
 use Rattle.std.proofs.Common.{inl, inr, rules, ◌≡◌, ◌<◌, length}
 use Rattle.lattice.specs.declared.side.Side.TheVariants.{Lower}
 use Rattle.hull_geometry.proofs.ChainPlaces.{none_of, are_ends}

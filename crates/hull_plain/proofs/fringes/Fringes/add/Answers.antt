@@ -1,4 +1,4 @@
--- each fringe becomes one of the set with the point, and has no more points than it
+-- each candidate list becomes one of the set with the point, and has no more points than it
 use Rattle.std.proofs.Common.{◌≤◌, ◌+◌, sym, subst, List, length, arith}
 use Rattle.std.specs.Map.{keys_of}
 use Rattle.lattice.specs.Plane.{Pair}

@@ -1,4 +1,4 @@
--- the points of the fringes were points of the set, so they are left or are the one that left
+-- the points of the candidate lists were points of the set, so each is in the rest or is the one that was removed
 use Rattle.hull_geometry.proofs.Mended.{left_or_gone}
 use Rattle.hull_plain.proofs.fringes.Fringes.remove.Goals as goal
 

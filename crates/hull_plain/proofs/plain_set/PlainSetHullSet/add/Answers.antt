@@ -1,5 +1,5 @@
--- a live point is held once more, in its place in the map, or refused at the most times; a new one is a key more, and
--- the rim is theirs with it
+-- the multiplicity of a point of the set is raised in the map, or the point is refused at the greatest one; a new point
+-- is a new key, and the hull chains are those of the points with it
 use Rattle.std.proofs.Common.{◌≡◌, ℕ, sym, ap, ◌∙◌, subst, refl, List, arith, rules, ◌+◌, ◌≤◌, ◌<◌, ◌⊎◌, inl, inr}
 use Rattle.std.proofs.Common.{length, Some, BTreeMap}
 use Rattle.std.specs.Prelude.{IsSome}
@@ -172,7 +172,7 @@ returns-clause-effect c =
     (raised_is c.args.p (Some 1) _ _ puts_here (omega (arith, none)))
     ∙ ap (λ (z : LimitedSet). with_new c.args.p (held_in z.entries)) c.self.view_is
 
--- the point went where it belongs
+-- the point was inserted at its position
 pub returns-clause-sound : goal.returns-clause-sound
 returns-clause-sound c =
     let made : c.insert.new.self.entries ≡ insert_entry point_cmp c.get_mut.follows.lender-at-none.entries c.args.p 1 =

@@ -1,4 +1,4 @@
--- the first of the farthest points is that of the rim
+-- the first of the farthest points is that of the hull chains
 use Rattle.std.proofs.Common.{◌≡◌, ap, subst, List}
 use Rattle.std.specs.Map.{keys_of}
 use Rattle.lattice.specs.Plane.{Pair}

@@ -1,4 +1,5 @@
--- a point is held as often as the map tells, at least once, and is live just where the map has it
+-- the multiplicity of a point is the number in the map, at least 1, and the point is in the set if and only if the map
+-- has it
 use Rattle.std.proofs.Common.{◌≡◌, sym, ap, ◌∙◌, subst, arith, ◌≤◌}
 use Rattle.std.specs.List.{Contains}
 use Rattle.std.specs.Map.{keys_of}

@@ -1,4 +1,4 @@
--- a point lies as the rim tells
+-- the place of a point is that of the hull chains
 use Rattle.std.proofs.Common.{◌≡◌, ap, subst, List}
 use Rattle.std.specs.Map.{keys_of}
 use Rattle.lattice.specs.Plane.{Pair}

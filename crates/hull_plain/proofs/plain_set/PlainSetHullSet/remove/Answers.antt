@@ -1,5 +1,4 @@
--- a point that is held more than once is held once less, in its place in the map; else its key goes, and the rim
--- is mended
+-- a multiplicity of more than 1 is lowered in the map; else the key is removed, and the hull chains are repaired
 use Rattle.std.proofs.Common.{◌≡◌, ℕ, sym, ap, ◌∙◌, subst, refl, List, arith, ◌-◌, ◌+◌, ◌≤◌, Some, None}
 use Rattle.std.specs.Prelude.{IsSome}
 use Rattle.std.specs.List.{Contains}
@@ -111,7 +110,7 @@ returns-clause-effect c =
     (lowered_is c.args.p None _ _ puts once)
     ∙ ap (λ (z : LimitedSet). with_none c.args.p (held_in z.entries)) c.self.view_is
 
--- the other points stay where they were
+-- the other points stay as they were
 pub returns-clause-sound : goal.returns-clause-sound
 returns-clause-sound c =
     let entries : c.remove.new.self.entries ≡ remove_entry (is_at (point_cmp c.args.p)) c.self.inside.points.entries =

@@ -1,4 +1,4 @@
--- the tangents are those of the rim
+-- the tangents are those of the hull chains
 use Rattle.std.proofs.Common.{◌≡◌, ap, subst, List}
 use Rattle.std.specs.Map.{keys_of}
 use Rattle.lattice.specs.Plane.{Pair}

@@ -1,4 +1,4 @@
--- the vertices are those of the rim; memory is refused only where there are points
+-- the vertices are those of the hull chains; memory is refused only if there are points
 use Rattle.std.proofs.Common.{◌≡◌, ◌≢◌, ap, subst, List, arith, rules, ◌≤◌, length, []}
 use Rattle.std.specs.Map.{keys_of}
 use Rattle.lattice.specs.Plane.{Pair}

@@ -1,4 +1,4 @@
--- the direction faces the upper chain where it goes up, and else the lower one
+-- the direction faces the upper chain if it goes up, and else the lower one
 use Rattle.std.proofs.Common.{rules, pos, ◌<ℤ◌, ◌≤ℤ◌}
 use Rattle.lattice.specs.declared.side.Side.TheVariants.{Lower, Upper}
 use Rattle.hull_plain.proofs.rim.Rim.extreme.Goals as goal

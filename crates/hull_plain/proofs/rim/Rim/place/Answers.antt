@@ -1,4 +1,4 @@
--- the two chains tell it
+-- the two chains determine the place
 use Rattle.hull_plain.proofs.rim.Rim.place.Goals as goal
 
 pub returns : goal.returns

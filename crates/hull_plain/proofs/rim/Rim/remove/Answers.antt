@@ -1,4 +1,4 @@
--- the corners that are left are on the fringes, by which the chains are mended
+-- the vertices of the rest are on the candidate lists, from which the chains are repaired
 use Rattle.std.proofs.Common.{sym, subst, List, arith}
 use Rattle.std.specs.Map.{keys_of}
 use Rattle.lattice.specs.Plane.{Pair}

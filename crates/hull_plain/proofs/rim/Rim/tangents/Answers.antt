@@ -1,4 +1,4 @@
--- the two chains tell them
+-- the two chains determine the tangents
 use Rattle.hull_plain.proofs.rim.Rim.tangents.Goals as goal
 
 pub returns : goal.returns

@@ -1,10 +1,10 @@
--- memory is refused only where a chain has a point, and so the set
+-- memory is refused only if a chain has a point, and then the set has one
 use Rattle.std.proofs.Common.{◌<◌, ◌+◌, Result, Ok, Err, length}
 use Rattle.std.specs.Prelude.{OnErr}
 use Rattle.hull_geometry.proofs.TwoChains.{some_points}
 use Rattle.hull_plain.proofs.rim.Rim.vertices.Goals as goal
 
--- what an error tells tells what that does
+-- a property of an error may be replaced by one that follows from it
 told : {A B : Type 0} (r : Result A B) (P Q : Type 0) → (P → Q) → OnErr r P → OnErr r Q
 told (Ok a) P Q f h = h
 told (Err b) P Q f h = f h
