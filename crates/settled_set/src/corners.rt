@@ -1,4 +1,4 @@
-//! The corners of a set, while they are known.
+//! The vertices of a set, as long as they are known.
 ghost use Rattle.std.specs.Prelude.{◌≡◌, ◌⊎◌, ◌+◌, ℕ, List, IfSome, MatchOption};
 ghost use Rattle.lattice.specs.Plane.{Pair};
 ghost use Rattle.lattice.specs.Covers.{Covers, IsExtreme, with_point, without_point};
@@ -12,19 +12,19 @@ use heap::Heap;
 use hull_set::HullSet;
 use lattice::Point;
 
-/// How many corners are gathered for each question that was asked.
+/// How many vertices are gathered for each question that was asked.
 const CORNERS_A_QUESTION: usize = 2;
 
-/// What is known of the corners of a set.
+/// What is known of the vertices of a set.
 #[derive(Drop)]
 pub(crate) enum Corners {
-    /// They are these.
+    /// The vertices.
     Known(Kept),
-    /// Nothing; and since something was, so many questions came.
+    /// Nothing; this is the number of questions since something was known.
     Unknown(u32),
 }
 
-/// What a list of the corners makes known, or that so many questions came.
+/// Returns the vertices as known, if they were found, or else the number of questions.
 fn known_by(found: Option<Vec<Point, Heap>>, asked: u32) -> Corners
     requires { IfSome found (λ v. IsShortOutline v.items) }
     ensures { MatchOption found (result ≡ Unknown asked) (λ v. result ≡ Known v.items) }
@@ -35,8 +35,8 @@ fn known_by(found: Option<Vec<Point, Heap>>, asked: u32) -> Corners
     }
 }
 
-/// What is known of the corners of a set after they are gathered, where they are no more than that; else that so many
-/// questions came. Where memory is refused it is the same.
+/// Returns the vertices of a set as known, if there are at most `most` of them; else, or if memory is refused, the
+/// number of questions.
 fn gathered<S: ListsCorners>(set: &S, most: usize, asked: u32) -> Corners
     ensures corners { AreCornersOf (S.held set.now).points result }
     ensures unknown { (n : ℕ) → result ≡ Unknown n → n ≡ asked }
@@ -50,7 +50,8 @@ fn gathered<S: ListsCorners>(set: &S, most: usize, asked: u32) -> Corners
 }
 
 impl Corners {
-    /// A point comes to the set, or is there: what is known stays where the corners stay, and else is let go.
+    /// Records that a point is added to the set, or is in it: known vertices are kept if they stay the vertices, and
+    /// else dropped.
     pub(crate) fn point_comes(&mut self, p: Point)
         ensures with_it { (S : List Pair) → AreCornersOf S self.old → AreCornersOf (with_point p S) self.new }
         ensures stay { (S : List Pair) → AreCornersOf S self.old → Covers S p → self.new ≡ self.old }
@@ -62,7 +63,8 @@ impl Corners {
         }
     }
 
-    /// A point leaves the set, or is not there: the same.
+    /// Records that a point is removed from the set, or is not in it: known vertices are kept if they stay the
+    /// vertices, and else dropped.
     pub(crate) fn point_goes(&mut self, p: Point)
         ensures without { (S : List Pair) → AreCornersOf S self.old → AreCornersOf (without_point p S) self.new }
         ensures stay { (S : List Pair) → AreCornersOf S self.old → ¬ IsExtreme S p → self.new ≡ self.old }
@@ -74,9 +76,10 @@ impl Corners {
         }
     }
 
-    /// One more question is asked: where nothing is known, and this is the first, second, fourth, eighth question and so
-    /// on since something was, the corners are gathered, if there are at most so many for each question that was asked.
-    /// So all gathering takes a constant for each question, and h corners are known after h questions at most.
+    /// Records one more question. If nothing is known, and this is the first, second, fourth, eighth question and so on
+    /// since something was, the vertices are gathered if there are at most [`CORNERS_A_QUESTION`] for each question
+    /// that was asked. So all gathering takes a constant time for each question, and h vertices are known after at most
+    /// h questions.
     pub(crate) fn count_question<S: ListsCorners>(&mut self, set: &S)
         requires { AreCornersOf (S.held set.now).points self.old }
         ensures corners { AreCornersOf (S.held set.now).points self.new }

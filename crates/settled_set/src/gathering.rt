@@ -1,4 +1,4 @@
-//! Sets that list their corners where these are few.
+//! Sets that can list their vertices if these are few.
 ghost use Rattle.std.specs.Prelude.{◌≤◌, vec_len, IfOk, IfSome, IfNone};
 ghost use Rattle.lattice.specs.Vertices.{IsVertexList};
 ghost use Rattle.hull_questions.specs.Walks.{IsLongerThan};
@@ -8,10 +8,10 @@ use heap::Heap;
 use hull_set::{HullSet, NoMemory};
 use lattice::Point;
 
-/// A set that lists its corners up to a number of them, in time of that number.
+/// A set that can list its vertices up to a given number, in time proportional to that number.
 pub trait ListsCorners: HullSet {
-    /// The vertices, as [`vertices`](HullSet::vertices), where there are no more than `most`, and nothing where there are
-    /// more.
+    /// Returns the vertices, as [`vertices`](HullSet::vertices) does, if there are at most `most`, and `None` if there
+    /// are more.
     fn vertices_up_to(&self, most: usize) -> Result<Option<Vec<Point, Heap>>, NoMemory>
         ensures vertices { IfOk result (λ found.
             IfSome found (λ v. IsVertexList (Self.held self.now).points v.items)) }

@@ -1,4 +1,4 @@
-//! The corners of a set in an array.
+//! The vertices of a set in an array.
 ghost use Rattle.std.specs.Prelude.{◌≡◌, ◌≤◌, length, IfOk, IfSome, MatchOption};
 ghost use Rattle.hull_outline.specs.Lent.{corners_of};
 ghost use Rattle.hull_outline.specs.Outlines.{IsOwnOutline, IsShortOutline};
@@ -10,7 +10,7 @@ use lattice::Point;
 use std::alloc::AllocError;
 use std::marker::Model;
 
-/// The corners of a set in an array of its own, with the place of the last of them. Contracts see the corners.
+/// The vertices of a set in an array of its own, with the index of the last of them. Contracts see the vertices.
 #[derive(Drop)]
 pub(crate) struct Kept {
     corners: Vec<Point, Heap>,
@@ -31,7 +31,7 @@ impl Model for Kept {
 }
 
 impl Kept {
-    /// These corners. A bisection finds the last.
+    /// Returns these vertices, with the index of the last, which a bisection finds.
     pub(crate) fn new(corners: Vec<Point, Heap>) -> Kept
         requires { IsShortOutline corners.items }
         ensures { result ≡ corners.items }
@@ -40,14 +40,14 @@ impl Kept {
         Kept { corners, last }
     }
 
-    /// The outline of them.
+    /// Returns the convex polygon of the vertices.
     pub(crate) fn outline(&self) -> Outline<'_>
         ensures { corners_of result ≡ self.now }
     {
         Outline::of_parted(&self.corners, self.last)
     }
 
-    /// A copy of them.
+    /// Returns a copy of the vertices.
     pub(crate) fn copy(&self) -> Result<Vec<Point, Heap>, AllocError>
         ensures { IfOk result (λ copy. copy.items ≡ self.now) }
     {

@@ -1,12 +1,12 @@
-//! A set of points that is asked again and again answers from its corners in an array.
+//! A set of points that caches its vertices in an array once many questions are asked.
 //!
-//! A [`Settled`] set keeps, beside the set that it is made of, its corners in an array, once enough questions were asked
-//! since the last change of them ([`Settled::settle`]). A change that leaves the corners as they are, as most changes do,
-//! leaves the array too; any other lets it go. The questions answer from it while it is there, and else by the set: each
+//! A [`Settled`] set contains another set and, after enough questions since the vertices last changed
+//! ([`Settled::settle`]), an array of its vertices. Most changes leave the vertices as they are, and keep the array;
+//! any other change drops it. Questions are answered from the array if it is there, and else by the set. With the
+//! array, each takes one or two bisections of adjacent points instead of one or a few paths down a tree.
 //! is one or two bisections of neighbouring points then, in the place of a way or a few down a tree.
-//!
-//! Questions take `&self` and write nothing, so any number of threads may ask one set at once, settled or not; only
-//! [`settle`](Settled::settle) and changes want it alone.
+//! Questions take `&self` and write nothing, so any number of threads may ask one set at once, prepared or not. Only
+//! [`settle`](Settled::settle) and changes need exclusive access.
 #![tactic(auto)]
 
 mod corners;

@@ -9,8 +9,8 @@ use hull_set::{AddReply, HullSet, NoMemory, Place, RemoveReply};
 use lattice::{Direction, Point};
 use std::marker::Model;
 
-/// A set of points, and its corners in an array while they are known. Contracts see the set alone: whatever is known
-/// changes no answer.
+/// A set of points, and its vertices in an array as long as they are known. Contracts see only the set: the cached
+/// vertices never change an answer.
 #[derive(Drop)]
 pub struct Settled<S: HullSet + Drop> {
     set: S,
@@ -28,7 +28,7 @@ impl<S: HullSet + Drop> Model for Settled<S> {
 }
 
 impl<S: HullSet + Drop> Settled<S> {
-    /// The set, of whose corners nothing is known yet. Asks for no memory.
+    /// Returns the set with no vertices known. Does not allocate.
     pub fn new(set: S) -> Settled<S>
         ensures { result ≡ set }
     {
@@ -38,14 +38,14 @@ impl<S: HullSet + Drop> Settled<S> {
         }
     }
 
-    /// The set, to be asked what no [`HullSet`] is.
+    /// Returns the underlying set, for calls that [`HullSet`] does not have.
     pub fn set(&self) -> &S
         ensures { result.now ≡ self.now }
     {
         &self.set
     }
 
-    /// Its corners, counterclockwise from the first by x and then y, where they are known.
+    /// Returns the vertices, counterclockwise from the first by x and then y, or `None` if they are not known.
     pub fn corners(&self) -> Option<&[Point]>
         ensures { IfSome result (λ corners. IsOutlineOf (S.held self.now).points corners.now) }
     {
@@ -57,8 +57,9 @@ impl<S: HullSet + Drop> Settled<S> {
 }
 
 impl<S: ListsCorners + Drop> Settled<S> {
-    /// To be called before each question by whoever asks often: counts it, and gathers the corners where that is due and
-    /// they are few beside the questions. Where memory is refused nothing is known, as before.
+    /// Hints that a question follows: counts it, and gathers the vertices if that is due and they are few compared with
+    /// the questions. Call it before each question if you ask often. If memory is refused, the vertices stay unknown.
+    /// Never changes an answer.
     pub fn settle(&mut self)
         ensures { self.new ≡ self.old }
     {

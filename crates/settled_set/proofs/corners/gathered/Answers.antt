@@ -1,4 +1,4 @@
--- the vertices are the corners of the points, and no more than these
+-- the vertices are those of the set's points, and no more than these
 use Rattle.std.proofs.Common.{arith}
 use Rattle.settled_set.proofs.Knowing.{some_weaker}
 use Rattle.hull_geometry.proofs.FewVertices.{vertices_few}

@@ -1,4 +1,4 @@
--- where the hull covers the point the corners stay, and they stay only there
+-- if the hull covers the point the vertices stay, and only then
 use Rattle.std.proofs.Common.{List, sym, subst}
 use Rattle.lattice.specs.Covers.{with_point}
 use Rattle.lattice.specs.Plane.{Pair}

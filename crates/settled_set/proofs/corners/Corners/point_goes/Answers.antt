@@ -1,4 +1,4 @@
--- where the point is no corner the corners stay, and they stay only there
+-- if the point is not a vertex the vertices stay, and only then
 use Rattle.std.proofs.Common.{List, sym, subst}
 use Rattle.lattice.specs.Covers.{without_point}
 use Rattle.lattice.specs.Plane.{Pair}

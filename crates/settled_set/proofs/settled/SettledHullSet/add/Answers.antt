@@ -1,4 +1,4 @@
--- the new point came to the points of which the corners were
+-- the new point was added to the points whose vertices are known
 use Rattle.std.proofs.Common.{List, ap, ◌∙◌, sym, subst}
 use Rattle.lattice.specs.Plane.{Pair}
 use Rattle.hull_set.specs.Replies.{after, reply_to_add}

@@ -1,4 +1,4 @@
--- the corners are those of the set
+-- the vertices are those of the set
 use Rattle.std.proofs.Common.{subst}
 use Rattle.hull_set.specs.Replies.{LiesAt}
 use Rattle.settled_set.proofs.Knowing.{by_corners}

@@ -1,4 +1,4 @@
--- the point left the points of which the corners were
+-- the point was removed from the points whose vertices are known
 use Rattle.std.proofs.Common.{List, ap, ◌∙◌, sym, subst}
 use Rattle.lattice.specs.Plane.{Pair}
 use Rattle.hull_set.specs.Replies.{after, reply_to_remove}

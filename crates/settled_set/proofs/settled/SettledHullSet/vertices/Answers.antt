@@ -1,4 +1,4 @@
--- there are no more corners than points, and no more of these than the limit
+-- there are no more vertices than points, and no more points than the limit
 use Rattle.std.proofs.Common.{◌≤◌, ap, arith, length, subst}
 use Rattle.std.specs.Vec.{vec_len}
 use Rattle.settled_set.proofs.Knowing.{few_corners}
