@@ -1,4 +1,4 @@
--- A lower edge of one half is one of both, where it stands clear of the lower bridge.
+-- A lower edge of one half is one of both, if the lower bridge is clear of it.
 use Rattle.std.proofs.Common.{◌≡◌, ℤ, pos, ◌≤ℤ◌, ◌<ℤ◌, inl, inr, ◌∙◌, List, arith, ◌++◌, Some}
 use Rattle.std.proofs.lemmas.Int.{ints}
 use Rattle.std.proofs.lemmas.List.Elements.{All-contains, All-append, Contains-append_left, Contains-append_right}
@@ -21,7 +21,7 @@ use Rattle.hull_questions.proofs.StoredEdges.{same_ends}
 use Rattle.hull_geometry.specs.Sights.{IsLowerEdgeAt}
 use Rattle.hull_geometry.proofs.EdgesAt.{up_to}
 
--- an edge cd that begins before a, where the edge ab is steeper: what lies over ab, after a, lies over cd
+-- if an edge cd begins before a and the edge ab is steeper, a point that lies over ab, after a, lies over cd
 over_from_left : (a b c d t : Pair) → IsBefore a b → IsBefore c d → IsBefore c a → IsBefore a t → pos 0 ≤ℤ orient c d a
     → pos 0 <ℤ orient a b c → pos 0 ≤ℤ orient a b t → pos 0 <ℤ orient c d t
 over_from_left a b c d t ab cd ca at da bc bt =
@@ -32,7 +32,7 @@ over_from_left a b c d t ab cd ca at da bc bt =
     (cross_trans_strict_right (minus d c) (minus a c) (minus t a) (ahead_of c d cd) (ahead_of c a ca) (ahead_of a t at)
     low mid)
 
--- an edge cd that ends after b, where the edge ab is less steep: what lies over ab, before b, lies over cd
+-- if an edge cd ends after b and the edge ab is less steep, a point that lies over ab, before b, lies over cd
 over_from_right : (a b c d t : Pair) → IsBefore a b → IsBefore c d → IsBefore b d → IsBefore t b → pos 0 ≤ℤ orient c d b
     → pos 0 <ℤ orient a b d → pos 0 ≤ℤ orient a b t → pos 0 <ℤ orient c d t
 over_from_right a b c d t ab cd bd tb db bd_turn bt =
@@ -42,7 +42,7 @@ over_from_right a b c d t ab cd bd tb db bd_turn bt =
     sum_above _ _ _ (side_by_end c d b t) low
     (cross_trans_strict (minus b t) (minus d b) (minus d c) (ahead_of t b tb) (ahead_of b d bd) (ahead_of c d cd) mid low)
 
--- a number at least 0 that is not 0
+-- a number at least 0 that is not 0 is above 0
 pub not_zero : (z : ℤ) → pos 0 ≤ℤ z → ¬ (z ≡ pos 0) → pos 0 <ℤ z
 not_zero z h n = elim (le_or_lt z (pos 0)) [ inl k ↦ absurd (n (omega (arith, ints))) | inr k ↦ k ]
 
@@ -83,7 +83,7 @@ bridge_edge u w a b ab h = record {
       (λ t m e. (h.tie_right t (on_of_contains w t m) e).1));
 }
 
--- a lower edge of the left half at a point before the bridge
+-- a lower edge of the left half at a point before the bridge is one of both halves
 pub left_lifts : (u w : Tree) (v a b : Pair) (e : Pair × Pair) → IsAllBefore (On u) (On w)
     → IsLowerBridge (On u) (On w) a b
     → IsBefore v a → IsLowerEdgeAt (points_of u) v e → IsLowerEdgeAt (points_of u ++ points_of w) v e
@@ -101,7 +101,7 @@ left_lifts u w v a b e o h va k =
       onward = k.onward;
     }
 
--- a lower edge of the right half at a point not before the end of the bridge
+-- a lower edge of the right half at a point not before the end of the bridge is one of both halves
 pub right_lifts : (u w : Tree) (v a b : Pair) (e : Pair × Pair) → IsAllBefore (On u) (On w)
     → IsLowerBridge (On u) (On w) a b → ¬ (IsBefore v b) → IsLowerEdgeAt (points_of w) v e
     → IsLowerEdgeAt (points_of u ++ points_of w) v e
@@ -119,7 +119,7 @@ right_lifts u w v a b e o h n k =
       onward = k.onward;
     }
 
--- from the start of the bridge on, and before its end: the bridge
+-- the lower edge at a point not before the start of the bridge, and before its end, is the bridge
 pub edge_here : (t : Tree) (v a b : Pair) → IsBridged t → Some (a, b) ≡ lower_of t → ¬ (IsBefore v a) → IsBefore v b
     → IsLowerEdgeAt (points_of t) v (a, b)
 edge_here (Leaf x) v a b h g n m = absurd (cc)

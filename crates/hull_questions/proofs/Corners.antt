@@ -1,4 +1,4 @@
--- The corners of a half's lower chain, and those of its two halves.
+-- The vertices of a half's lower chain, and those of its two halves.
 use Rattle.std.proofs.Common.{pos, ◌<ℤ◌, inl, inr, List, ◌++◌}
 use Rattle.std.specs.List.{Contains}
 use Rattle.std.proofs.lemmas.List.Elements.{Contains-append_left, Contains-append_right, Contains-append_cases}
@@ -16,21 +16,21 @@ use Rattle.lattice.specs.declared.side.Side.TheVariants.{Lower}
 use Rattle.hull_geometry.proofs.Orientations.{strict_on, strict_back}
 use Rattle.lattice.proofs.Numbers.{below_opposite, less_not_le}
 
--- the first point is a corner: nothing stands before it
+-- the first point is a vertex: nothing is before it
 pub first_corner : (t : Tree) → IsBridged t → IsLowerCorner (points_of t) (first_of t)
 first_corner t h = record {
   there = contains_of_on t (first_of t) (on_first t);
   under = λ s r m n b k. absurd (first_by t h s (on_of_contains t s m) b);
 }
 
--- the last point is a corner: nothing stands after it
+-- the last point is a vertex: nothing is after it
 pub last_corner : (t : Tree) → IsBridged t → IsLowerCorner (points_of t) (last_of t)
 last_corner t h = record {
   there = contains_of_on t (last_of t) (on_last t);
   under = λ s r m n b k. absurd (last_by t h r (on_of_contains t r n) k);
 }
 
--- the start of the bridge is a corner of the left half, each point of which before it lies over the bridge's line
+-- the start of the bridge is a vertex of the left half, each point of which before it lies over the bridge's line
 pub bridge_start : (u w : Tree) (a b : Pair) → IsAllBefore (On u) (On w) → IsLowerBridge (On u) (On w) a b
     → IsLowerCorner (points_of u) a
 bridge_start u w a b o h = record {
@@ -43,7 +43,7 @@ bridge_start u w a b o h = record {
       (h.inner_left t (on_of_contains u t n)));
 }
 
--- the end of the bridge is a corner of the right half, each point of which after it lies over the bridge's line
+-- the end of the bridge is a vertex of the right half, each point of which after it lies over the bridge's line
 pub bridge_end : (u w : Tree) (a b : Pair) → IsAllBefore (On u) (On w) → IsLowerBridge (On u) (On w) a b
     → IsLowerCorner (points_of w) b
 bridge_end u w a b o h = record {
@@ -55,21 +55,21 @@ bridge_end u w a b o h = record {
       (strict_back Lower a b t s (o a b h.from_left h.to_right) bt sb (h.inner_right s (on_of_contains w s m)) orient_on));
 }
 
--- a corner of both halves that is a point of the left one is a corner of that
+-- a vertex of both halves that is a point of the left one is a vertex of it
 pub corner_left : (xs ys : List Pair) (v : Pair) → IsLowerCorner (xs ++ ys) v → Contains xs v → IsLowerCorner xs v
 corner_left xs ys v c m = record {
   there = m;
   under = λ s t i j. c.under s t (Contains-append_left xs ys s i) (Contains-append_left xs ys t j);
 }
 
--- and one that is a point of the right half a corner of that
+-- a vertex of both halves that is a point of the right one is a vertex of it
 pub corner_right : (xs ys : List Pair) (v : Pair) → IsLowerCorner (xs ++ ys) v → Contains ys v → IsLowerCorner ys v
 corner_right xs ys v c m = record {
   there = m;
   under = λ s t i j. c.under s t (Contains-append_right xs ys s i) (Contains-append_right xs ys t j);
 }
 
--- no corner of both halves stands between the ends of the bridge, over whose line all points lie
+-- no vertex of both halves is between the ends of the bridge, over whose line all points lie
 pub none_between : (u w : Tree) (a b v : Pair) → IsLowerBridge (On u) (On w) a b
     → IsLowerCorner (points_of u ++ points_of w) v → IsBefore a v → IsBefore v b → ⊥
 none_between u w a b v h c k l =

@@ -1,4 +1,4 @@
--- Which half has the first of the farthest points.
+-- The half that has the first of the farthest points.
 use Rattle.std.proofs.Common.{◌≡◌, ℕ, subst, pos, ◌≤ℤ◌, ◌<ℤ◌, inl, inr, refl}
 use Rattle.std.proofs.Common.{arith, ◌++◌, [], ◌∷◌, Some, None}
 use Rattle.std.specs.List.{All, Contains}
@@ -24,8 +24,8 @@ use Rattle.hull_questions.proofs.StoredEdges.{same_ends}
 use Rattle.hull_questions.specs.Parts.{IsFacing, IsFartherPart, IsOneDown}
 use Rattle.lattice.proofs.LineCrossings.{orient_other}
 
--- the first of the farthest is in the left half where no point of the right one lies farther than some point of the
--- left one
+-- the first of the farthest is in the left half if no point of the right one lies farther than some point of the left
+-- one
 in_left : (u w : Tree) (d r : Pair) → IsAllBefore (On u) (On w) → IsFirstFarthest (points_of u) d r
     → ((s : Pair) → On w s → (p : Pair) × On u p × (product d s ≤ℤ product d p))
     → IsFirstFarthest (points_of u ++ points_of w) d r
@@ -42,7 +42,8 @@ in_left u w d r o f g = (
       (λ s m b e. before_not s r b (o r s (on_of_contains u r f.0) (on_of_contains w s m)))),
 )
 
--- and in the right half where each point of the left one is less far than some point of the right one
+-- the first of the farthest is in the right half if each point of the left one is less far than some point of the right
+-- one
 in_right : (u w : Tree) (d r : Pair) → IsFirstFarthest (points_of w) d r
     → ((s : Pair) → On u s → (q : Pair) × On w q × (product d s <ℤ product d q))
     → IsFirstFarthest (points_of u ++ points_of w) d r
@@ -60,12 +61,12 @@ in_right u w d r f g =
           (λ s m b e. let h = less s m in omega (arith, ints))) f.2,
     )
 
--- not less far, told of the stored ends
+-- if a point is not less far, the stored end is not
 at_most : (d p q a b : Pair) → (p ≡ a) × (q ≡ b) → ¬ (product d p <ℤ product d q) → product d b ≤ℤ product d a
 at_most d p q a b e n =
     elim (le_or_lt (product d q) (product d p)) [ inl k ↦ rw (e.0, e.1) at k | inr k ↦ absurd (n k) ]
 
--- less far, told of the stored ends
+-- if a point is less far, the stored end is
 less_far : (d p q a b : Pair) → (p ≡ a) × (q ≡ b) → product d p <ℤ product d q → product d a <ℤ product d b
 less_far d p q a b e k = rw (e.0, e.1) at k
 
@@ -75,25 +76,26 @@ facing_fork d (Leaf x) e (inl h) = absurd (cc)
 facing_fork d (Leaf x) e (inr h) = absurd (cc)
 facing_fork d (Fork e f u w) g h = tt
 
--- the left end of a bridge that d faces is not less far than the right one: the first of the farthest is in the left half
+-- if the left end of a bridge that d faces is not less far than the right one, the first of the farthest is in the left
+-- half
 stays_left : (side : Side) (u w : Tree) (d a b r : Pair) → Faces side d → IsAllBefore (On u) (On w) → On u a → On w b
     → ((s : Pair) → On w s → pos 0 ≤ℤ orient_on side a b s) → product d b ≤ℤ product d a → IsFirstFarthest (points_of u) d r
     → IsFirstFarthest (points_of u ++ points_of w) d r
 stays_left side u w d a b r faces o ia ib inner f h =
     in_left u w d r o h (λ s i. (a, ia, stays side d a b s faces (o a b ia ib) (o a s ia i) (inner s i) f))
 
--- the left end is less far than the right one: it is in the right half
+-- if the left end is less far than the right one, the first of the farthest is in the right half
 goes_right : (side : Side) (u w : Tree) (d a b r : Pair) → Faces side d → IsAllBefore (On u) (On w) → On u a → On w b
     → ((s : Pair) → On u s → pos 0 ≤ℤ orient_on side a b s) → product d a <ℤ product d b → IsFirstFarthest (points_of w) d r
     → IsFirstFarthest (points_of u ++ points_of w) d r
 goes_right side u w d a b r faces o ia ib inner f h =
     in_right u w d r h (λ s i. (b, ib, goes side d a b s faces (o a b ia ib) (o s b i ib) (inner s i) f))
 
--- inwards of an upper bridge
+-- a point not left of an upper bridge is inwards of it
 under : (e : Pair × Pair) (s : Pair) → orient e.0 e.1 s ≤ℤ pos 0 → pos 0 ≤ℤ orient_on Upper e.0 e.1 s
 under e s h = nn_opposite _ _ (orient_other e.0 e.1 s) h
 
--- the left end of the edge that d faces is not less far than the right one: to the left half
+-- if the left end of the edge that d faces is not less far than the right one, the left half is the farther part
 pub farther_left : (d : Pair) (t : Tree) (p q : Pair) → IsBridged t → IsFacing d t (Some (p, q))
     → ¬ (product d p <ℤ product d q) → IsFartherPart d t (left_of t)
 farther_left d (Leaf x) p q h (inl g) k = absurd (cc)
@@ -109,7 +111,7 @@ farther_left d (Fork e f u w) p q h (inr g) k = record {
   lower = omega arith;
 }
 
--- it is less far: to the right half
+-- if the left end is less far, the right half is the farther part
 pub farther_right : (d : Pair) (t : Tree) (p q : Pair) → IsBridged t → IsFacing d t (Some (p, q))
     → product d p <ℤ product d q → IsFartherPart d t (right_of t)
 farther_right d (Leaf x) p q h (inl g) k = absurd (cc)
@@ -125,7 +127,7 @@ farther_right d (Fork e f u w) p q h (inr g) k = record {
   lower = omega arith;
 }
 
--- one point is the first of the farthest
+-- the only point is the first of the farthest
 pub farthest_alone : (t : Tree) (d p : Pair) → edge_of t ≡ None → p ≡ first_of t → IsFirstFarthest (points_of t) d p
 farthest_alone (Fork e f u w) d p n k = absurd (cc)
 farthest_alone (Leaf x) d p n k =
@@ -136,21 +138,21 @@ farthest_alone (Leaf x) d p n k =
       one (λ s. IsBefore s p → product d s ≢ product d p) (λ b e. before_irrefl p b),
     )
 
--- one point lies no fork deep
+-- the depth of the only point is 0
 pub depth_alone : (t : Tree) (p : Pair) → edge_of t ≡ None → p ≡ first_of t → IsAtDepth t p 0
 depth_alone (Leaf x) p h e = (e, refl)
 depth_alone (Fork e f u w) p h k = absurd (cc)
 
--- the left half is one fork down
+-- the left half of a fork is one fork down
 pub down_left : (t : Tree) → IsFork t → IsOneDown t (left_of t)
 down_left (Leaf x) h p n i = absurd h
 down_left (Fork e f u w) h p n i = (n, refl, inl i)
 
--- so is the right half
+-- the right half of a fork is one fork down
 pub down_right : (t : Tree) → IsFork t → IsOneDown t (right_of t)
 down_right (Leaf x) h p n i = absurd h
 down_right (Fork e f u w) h p n i = (n, refl, inr i)
 
--- a depth under another name
+-- a depth holds under another name of the number
 pub deeper_on : (t : Tree) (p : Pair) (m n : ℕ) → m ≡ n → IsAtDepth t p m → IsAtDepth t p n
 deeper_on t p m n e h = subst (λ (k : ℕ). IsAtDepth t p k) e h

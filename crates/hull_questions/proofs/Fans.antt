@@ -1,5 +1,5 @@
--- The triangles between the first point of a half and the edges of its chains: their doubled areas add up to that of
--- the hull.
+-- The triangles between the first point of a half and the edges of its chains: the sum of their doubled areas is the
+-- doubled area of the hull.
 use Rattle.std.proofs.Common.{◌≡◌, ℤ, pos, ◌+ℤ◌, ◌≤ℤ◌, refl, sym, ap, ◌∙◌, subst, arith, inl, inr}
 use Rattle.std.proofs.Common.{List, [], ◌∷◌, ◌++◌, map}
 use Rattle.std.specs.List.{Contains}
@@ -23,7 +23,7 @@ use Rattle.hull_questions.proofs.Stretched.{not_back}
 use Rattle.hull_questions.proofs.Walked.{walk_turned, upper_front, round, vertices_alone}
 use Rattle.std.proofs.lemmas.Grind.{common_steps}
 
--- a stretch of the left half, the bridge, and a stretch of the right half
+-- the fan over two ranges and the bridge is the fan of the ranges plus the triangle of the bridge
 pub fan_over : (t u w : Tree) (apex from a b to : Pair) (m n k : ℤ)
     → ((xs ys : List Pair) → IsWalk u from xs a → IsWalk w b ys to → IsWalk t from (xs ++ b ∷ ys) to)
     → IsFan u apex from a m → n ≡ orient apex a b → IsFan w apex b to k → IsFan t apex from to (m +ℤ n +ℤ k)
@@ -34,7 +34,7 @@ fan_over t u w apex from a b to m n k walks (xs, p, e) z (ys, q, g) =
 
 -- ---- signs
 
--- seen from a point, a chain of lower edges does not bend right
+-- seen from a point of the set, a chain of lower edges does not bend right
 fan_above : (S : List Pair) (f v : Pair) (vs : List Pair) → IsChain (IsLowerEdge S) v vs → Contains S f
     → pos 0 ≤ℤ fan f v vs
 fan_above S f v [] c m = omega (arith, ints)
@@ -43,12 +43,12 @@ fan_above S f v (x ∷ xs) c m =
     let b = fan_above S f x xs c.1 m in
     omega (arith, ints)
 
--- nor does a walk along the lower chain, seen from the first point
+-- a walk along the lower chain does not bend right, seen from the first point
 pub lower_above : (t : Tree) (z : ℤ) → IsFan t (first_of t) (first_of t) (last_of t) z → pos 0 ≤ℤ z
 lower_above t z (passed, k, e) =
     grind (arith, common_steps, pos, fan_above, points_of, first_of, contains_of_on, on_first)
 
--- nor one along the upper chain
+-- a walk along the upper chain does not bend right either
 pub upper_above : (t : Tree) (z : ℤ)
     → IsFan (turned_tree t) (turned_point (first_of t)) (first_of (turned_tree t)) (last_of (turned_tree t)) z
     → pos 0 ≤ℤ z
@@ -60,13 +60,13 @@ upper_above t z (passed, k, e) =
 
 -- ---- the doubled area
 
--- a triangle turned by 180 degrees
+-- a rotation of two points of a triangle has the area of a rotation of the third
 triangle_turned : (f u v : Pair) → orient f (turned_point u) (turned_point v) ≡ orient (turned_point f) u v
 unfolding orient
 triangle_turned f u v =
     rw (as_pair f, as_pair u, as_pair v) (simp difference_rules (difference-eq _ _ _ _ (omega arith)))
 
--- a fan turned by 180 degrees
+-- the same of a fan
 fan_turned : (f v : Pair) (vs : List Pair)
     → fan f (turned_point v) (map turned_point vs) ≡ fan (turned_point f) v vs
 fan_turned f v [] = refl
@@ -80,7 +80,7 @@ no_steps : (t : Tree) (v w : Pair) (passed : List Pair) → v ≡ w → IsWalk t
 no_steps t v w [] e k = refl
 no_steps t v w (x ∷ xs) e k = grind (arith, common_steps, not_back, points_of)
 
--- so that its fan is 0
+-- the fan of a walk from a point to itself is 0
 fan_still : (t : Tree) (apex v w : Pair) (z : ℤ) → v ≡ w → IsFan t apex v w z → z ≡ pos 0
 fan_still t apex v w z e (passed, k, g) = g ∙ ap (fan apex v) (no_steps t v w passed e k)
 

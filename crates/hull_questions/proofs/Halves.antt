@@ -15,11 +15,11 @@ pub record AreHalves (S : List Pair) (near far : Tree) : Type 0 where
   pub in_far : (t : Pair) → On far t → Contains S t
   pub which : (t : Pair) → Contains S t → On near t ⊎ On far t
 
--- and the other way round
+-- the two halves exchanged have the points of S
 pub swapped : (S : List Pair) (near far : Tree) → AreHalves S near far → AreHalves S far near
 swapped S near far k = grind (arith, common_steps)
 
--- the points of two halves in a row
+-- the points of two halves, one after the other, are in two halves
 pub halves_of : (u w : Tree) → AreHalves (points_of u ++ points_of w) u w
 halves_of u w = record {
   in_near = λ t i. Contains-append_left (points_of u) (points_of w) t (contains_of_on u t i);

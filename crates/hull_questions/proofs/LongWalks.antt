@@ -1,4 +1,5 @@
--- Each stretch of a chain has a walk, however long; and what is so of a list that has room for only some of its points.
+-- Each range of a chain has a walk, however long; and the facts about a list with the capacity for only some of its
+-- points.
 use Rattle.std.proofs.Common.{◌≡◌, ℕ, ◌<◌, ◌≤◌, ◌⊎◌, List, [], ◌∷◌, ◌++◌, length, map, Bool, true, false, inl, inr, refl, sym, ap, ◌∙◌, subst}
 use Rattle.std.proofs.Common.{arith, append_assoc, length-append}
 use Rattle.std.proofs.lemmas.List.{map-append}
@@ -17,7 +18,7 @@ use Rattle.hull_questions.specs.Walks.{IsWalk, IsListed, IsListedUpTo, upright}
 use Rattle.hull_questions.proofs.Stretched.{stretch_left, stretch_right, stretch_across, whole_stretch}
 use Rattle.hull_questions.proofs.Walked.{both_listed, listed_over}
 
--- whether one point stands before another can be told
+-- whether one point is before another can be decided
 before_told : (p q : Pair) → IsBefore p q ⊎ ¬ (IsBefore p q)
 before_told p q = elim (before_total p q) [
   | inl b ↦ inl b
@@ -25,7 +26,7 @@ before_told p q = elim (before_total p q) [
   | inr (inr b) ↦ inr (before_not q p b)
 ]
 
--- each stretch has a walk
+-- each range has a walk
 walk_there : (t : Tree) (from to : Pair) → IsBridged t → IsStretch t from to → (passed : List Pair) × IsWalk t from passed to
 walk_there (Leaf x) from to h s =
     ([], record { chain = tt; ends = only_member x from s.starts.there ∙ sym (only_member x to s.ends.there) })
@@ -44,7 +45,7 @@ walk_there (Fork e f u w) from to h s = elim (before_told f.0 to) [
   ]
 ]
 
--- so there is a list to which it comes
+-- each range has the list that a walk would append to
 pub record IsLonger (t : Tree) (from to : Pair) (side : Side) (before : List Pair) : Type 0 where
   pub all : List Pair
   pub listed : IsListed t from to side before all
@@ -72,7 +73,7 @@ right_bridged : (t : Tree) → IsFork t → IsBridged t → IsBridged (right_of 
 right_bridged (Leaf x) f h = absurd f
 right_bridged (Fork e f u w) k h = h.4
 
--- where the left half's stretch fills the list, all are too many for it
+-- if the left half's range fills the list, all are too many for it
 pub too_many_left : (t : Tree) (from a b to : Pair) (side : Side) (most : ℕ) (before one : List Pair) → IsBridged t → IsFork t
     → IsStretchAcross t from a b to → IsListed (left_of t) from a side before one → most ≤ length one
     → (all : List Pair) × IsListed t from to side before all × (most < length all)
@@ -84,7 +85,7 @@ too_many_left t from a b to side most before one h f k l n =
       omega (arith, n, r.long, length-append one (upright side a ∷ [])),
     )
 
--- behind the left half's stretch and the start of the bridge, the right half's makes the whole one
+-- the left half's range, the start of the bridge, and the right half's range are the whole range
 pub listed_up_to : (t u w : Tree) (from a b to : Pair) (side : Side) (most : ℕ) (before one two after : List Pair) (whole : Bool)
     → ((xs ys : List Pair) → IsWalk u from xs a → IsWalk w b ys to → IsWalk t from (xs ++ b ∷ ys) to)
     → IsListed u from a side before one → two ≡ one ++ upright side a ∷ [] → IsListedUpTo w b to side most two after whole
@@ -94,7 +95,7 @@ listed_up_to t u w from a b to side most before one two after true walks l e r =
 listed_up_to t u w from a b to side most before one two after false walks l e r =
     (r.0, listed_over t u w from a b to side before one two r.0 walks l e r.1, r.2)
 
--- where the lower chain is too long, so is the vertex list
+-- if the lower chain is too long, so is the vertex list
 pub long_lower : (t : Tree) (most : ℕ) (one : List Pair) → IsBridged t → IsBefore (first_of t) (last_of t)
     → IsListed t (first_of t) (last_of t) Lower [] one → most < length one → IsLongerThan most (points_of t)
 long_lower t most one h b l n =

@@ -1,4 +1,4 @@
--- From where a point looks at the hull of a half, by the ends of the half.
+-- The location of a point relative to the hull of a half, by the ends of the half.
 use Rattle.std.proofs.Common.{◌≡◌}
 use Rattle.lattice.specs.Places.{IsOnBoundary}
 use Rattle.lattice.specs.Plane.{Pair, IsBefore}
@@ -11,11 +11,11 @@ use Rattle.hull_geometry.specs.Edges.{IsFirst, IsLast}
 use Rattle.hull_geometry.specs.Sights.{IsLowerEdgeAt, IsBetweenEnds, AreEnds}
 use Rattle.hull_geometry.proofs.EdgesAt.{up_to, on_from, touching_last}
 
--- no point stands before the first
+-- no point is before the first
 pub is_first : (t : Tree) → IsBridged t → IsFirst (points_of t) (first_of t)
 is_first t h s m = first_by t h s (on_of_contains t s m)
 
--- no point stands after the last
+-- no point is after the last
 pub is_last : (t : Tree) → IsBridged t → IsLast (points_of t) (last_of t)
 is_last t h s m = last_by t h s (on_of_contains t s m)
 
@@ -31,7 +31,7 @@ pub last_touched : (t : Tree) (q : Pair) → IsBridged t → q ≡ last_of t →
 last_touched t q h e =
     rw e (touching_last (points_of t) (last_of t) (contains_of_on t (last_of t) (on_last t)) (is_last t h))
 
--- a point that has an edge at it stands between the ends, if it stands after the edge's left end
+-- a point that has an edge at it is between the ends, if it is after the edge's left end
 pub between_ends : (t : Tree) (q : Pair) (e : Pair × Pair) → IsBridged t → IsLowerEdgeAt (points_of t) q e
     → IsBefore e.0 q → IsBetweenEnds (first_of t) (last_of t) q
 between_ends t q e h k b = (

@@ -1,4 +1,4 @@
--- In which slab of a half a point stands, by the part of the half that it stands beside.
+-- The slab of a half that a point is in, by the subtree that has it.
 use Rattle.std.proofs.lemmas.Grind.{common_steps}
 use Rattle.std.proofs.Common.{◌≡◌, ◌<◌, subst, arith, Some}
 use Rattle.lattice.specs.Plane.{Pair, IsBefore}
@@ -14,12 +14,12 @@ use Rattle.hull_geometry.proofs.EdgesAt.{on_from}
 use Rattle.hull_questions.proofs.ChainEdges.{left_lifts, right_lifts}
 use Rattle.hull_questions.proofs.StoredEdges.{same_ends}
 
--- the slab of q in the part is its slab in the whole, and the part is lower
+-- the slab of q in the subtree is its slab in the whole, and the height of the subtree is less
 pub record IsSlabPart (q : Pair) (whole part : Tree) : Type 0 where
   pub lifts : (s : Slab) → IsSlab part q s → IsSlab whole q s
   pub lower : height_of part < height_of whole
 
--- a point before the bridge stands in the same slab of both halves as of the left one, which is not its last
+-- a point before the bridge is in the same slab of both halves as of the left one, which is not its last
 left_slabs : (e f : Pair × Pair) (u w : Tree) (q : Pair) → IsBridged (Fork e f u w) → IsBefore q f.0
     → (s : Slab) → IsSlab u q s → IsSlab (Fork e f u w) q s
 left_slabs e f u w q h k Before m = m
@@ -27,7 +27,7 @@ left_slabs e f u w q h k After m = absurd (last_by u h.3 f.0 h.2.from_left (befo
 left_slabs e f u w q h k Last m = absurd (last_by u h.3 f.0 h.2.from_left (subst (λ (z : Pair). IsBefore z f.0) m k))
 left_slabs e f u w q h k (Edge z) m = left_lifts u w q f.0 f.1 z h.0 h.2 k m
 
--- a point not before the end of the bridge stands in the same slab of both as of the right half, which is not its first
+-- a point not before the end of the bridge is in the same slab of both as of the right half, which is not its first
 right_slabs : (e f : Pair × Pair) (u w : Tree) (q : Pair) → IsBridged (Fork e f u w) → ¬ (IsBefore q f.1)
     → (s : Slab) → IsSlab w q s → IsSlab (Fork e f u w) q s
 right_slabs e f u w q h k Before m = absurd (k (on_from q (first_of w) f.1 m (first_by w h.4 f.1 h.2.to_right)))
@@ -35,13 +35,13 @@ right_slabs e f u w q h k After m = m
 right_slabs e f u w q h k Last m = m
 right_slabs e f u w q h k (Edge z) m = right_lifts u w q f.0 f.1 z h.0 h.2 k m
 
--- before the bridge: to the left half
+-- if q is before the bridge, its slab is that of the left half
 pub slab_left : (t : Tree) (q a b : Pair) → IsBridged t → Some (a, b) ≡ lower_of t → IsBefore q a
     → IsSlabPart q t (left_of t)
 slab_left (Leaf x) q a b h g k = absurd (cc)
 slab_left (Fork e f u w) q a b h g k = grind (arith, common_steps, left_slabs, same_ends)
 
--- not before the end of the bridge: to the right half
+-- if q is not before the end of the bridge, its slab is that of the right half
 pub slab_right : (t : Tree) (q a b : Pair) → IsBridged t → Some (a, b) ≡ lower_of t → ¬ (IsBefore q b)
     → IsSlabPart q t (right_of t)
 slab_right (Leaf x) q a b h g k = absurd (cc)

@@ -1,4 +1,4 @@
--- A stretch of a lower chain lies in the left half, in the right half, or goes over the bridge.
+-- A range of a lower chain is in the left half, in the right half, or goes over the bridge.
 use Rattle.std.proofs.Common.{◌≡◌, refl, sym, ◌∙◌, subst, List, [], ◌∷◌, ◌++◌, Some}
 use Rattle.lattice.specs.Plane.{Pair, IsBefore}
 use Rattle.lattice.specs.Bridges.{IsAllBefore, IsLowerBridge}
@@ -17,7 +17,7 @@ use Rattle.hull_questions.proofs.Corners.{corner_right, none_between, in_left, i
 use Rattle.hull_questions.proofs.StoredEdges.{same_ends}
 use Rattle.hull_geometry.proofs.Passes.{end_from}
 
--- the whole lower chain is a stretch
+-- the whole lower chain is a range
 pub whole_stretch : (t : Tree) → IsBridged t → IsStretch t (first_of t) (last_of t)
 whole_stretch t h = record {
   starts = first_corner t h;
@@ -56,15 +56,15 @@ chain_right u w a b v (x ∷ xs) o h c n = (
   chain_right u w a b x xs o h c.1 (λ k. n (before_trans v x b c.0.along k)),
 )
 
--- one chain, an edge, and another chain
+-- one chain, an edge, and another chain are a chain
 chain_over : (E : Pair → Pair → Type 0) (v : Pair) (xs : List Pair) (b : Pair) (ys : List Pair) → IsChain E v xs
     → E (end_of v xs) b → IsChain E b ys → IsChain E v (xs ++ b ∷ ys)
 chain_over E v [] b ys c e d = (e, d)
 chain_over E v (x ∷ xs) b ys c e d = (c.0, chain_over E x xs b ys c.1 e d)
 
--- ---- the three ways
+-- ---- the three cases
 
--- not after the start of the bridge: in the left half
+-- a range that does not end after the start of the bridge is in the left half
 pub stretch_left : (t : Tree) (a b from to : Pair) → IsBridged t → Some (a, b) ≡ lower_of t → IsStretch t from to
     → ¬ (IsBefore a to) → IsFork t × IsStretchOf (left_of t) t from to
 stretch_left (Leaf x) a b from to h g s n = absurd (cc)
@@ -87,7 +87,7 @@ stretch_left (Fork e f u w) a b from to h g s n =
       },
     )
 
--- not before the end of the bridge: in the right half
+-- a range that does not begin before the end of the bridge is in the right half
 pub stretch_right : (t : Tree) (a b from to : Pair) → IsBridged t → Some (a, b) ≡ lower_of t → IsStretch t from to
     → ¬ (IsBefore from b) → IsFork t × IsStretchOf (right_of t) t from to
 stretch_right (Leaf x) a b from to h g s n = absurd (cc)
@@ -106,7 +106,7 @@ stretch_right (Fork e f u w) a b from to h g s n =
       },
     )
 
--- from before the end of the bridge to after its start: over the bridge
+-- a range from before the end of the bridge to after its start goes over the bridge
 pub stretch_across : (t : Tree) (a b from to : Pair) → IsBridged t → Some (a, b) ≡ lower_of t → IsStretch t from to
     → IsBefore a to → IsBefore from b → IsFork t × IsStretchAcross t from a b to
 stretch_across (Leaf x) a b from to h g s at fb = absurd (cc)

@@ -1,4 +1,4 @@
--- Which half has the tangent point on one hand, seen from a point below both.
+-- The half that has the tangent point on one hand, seen from a point below both.
 use Rattle.std.proofs.Common.{◌≡◌, ◌<◌, ℤ, pos, ◌≤ℤ◌, ◌<ℤ◌, neg_ℤ, ◌⊎◌, inl, inr, sym, ap, ◌∙◌, subst, List, arith, ◌++◌, []}
 use Rattle.std.proofs.Common.{◌∷◌, Some, None}
 use Rattle.std.specs.List.{Contains}
@@ -31,7 +31,7 @@ use Rattle.hull_geometry.proofs.Orientations.{strict_on, strict_back, fans_from,
 
 -- ---- the order in which q sees the points that lie above it
 
--- a point of S stands on this hand of q, or q on this hand of it
+-- a point of S is on this hand of q, or q is on this hand of it
 side_of : (hand : Hand) (S : List Pair) (q t : Pair) → IsBelow S q → Contains S t → IsOnHand hand t q ⊎ IsOnHand hand q t
 side_of hand S q t h m = sort hand (before_total t q)
   where
@@ -55,12 +55,12 @@ clash : (hand : Hand) (q s t : Pair) → pos 0 <ℤ orient_by hand q s t → IsM
 clash hand q s t a (inl g) = let e = orient_by_back hand q s t in omega (arith, ints)
 clash hand q s t a (inr g) = let e = orient_by_back hand q s t in omega (arith, ints, g.0)
 
--- three points on this hand of q stand on one side of it
+-- three points on this hand of q are on one side of it
 all_on : (hand : Hand) (q u v w : Pair) → IsOnHand hand u q → IsOnHand hand v q → IsOnHand hand w q → OneSide q u v w
 all_on Left q u v w a b c = inr (a, b, c)
 all_on Right q u v w a b c = inl (a, b, c)
 
--- so do three on the other
+-- three points on the other hand of q are on one side of it
 all_off : (hand : Hand) (q u v w : Pair) → IsOnHand hand q u → IsOnHand hand q v → IsOnHand hand q w → OneSide q u v w
 all_off Left q u v w a b c = inl (a, b, c)
 all_off Right q u v w a b c = inr (a, b, c)
@@ -86,16 +86,17 @@ more_trans hand S q u v w h mu mv mw a b =
       ]
     ]
 
--- ---- the tangent point of a part
+-- ---- the tangent point of a half
 
--- what is seen from below is seen so in a half
+-- a point below a set is below each half of it
 below_half : (S : List Pair) (near far : Tree) (q : Pair) → AreHalves S near far → IsBelow S q → IsBelow (points_of near) q
 below_half S near far q k h = record {
   absent = λ m. h.absent (k.in_near q (on_of_contains near q m));
   outwards = λ s t m n. h.outwards s t (k.in_near s (on_of_contains near s m)) (k.in_near t (on_of_contains near t n));
 }
 
--- where each point of one half is less far on this hand than one of the other, that has the tangent point of both
+-- if each point of one half is less far on this hand than some point of the other, the tangent point of the other is
+-- that of both
 kept : (hand : Hand) (S : List Pair) (near far : Tree) (q p : Pair) → AreHalves S near far → IsBelow S q
     → ((t : Pair) → On far t → (s : Pair) × On near s × IsMore hand q s t) → IsTangent hand (points_of near) q p
     → IsTangent hand S q p
@@ -119,8 +120,8 @@ kept hand S near far q p k h more n = tangent_of hand S q p here (all_of (λ t. 
 above_or_zero : (x : ℤ) → pos 0 ≤ℤ x → (pos 0 <ℤ x) ⊎ (x ≡ pos 0)
 above_or_zero x h = elim (le_or_lt x (pos 0)) [ inl k ↦ inr (omega (arith, ints)) | inr k ↦ inl k ]
 
--- q not over the line of the bridge, and beyond its end on this hand: that end is seen farther there than each point t
--- over the line on the other hand of it
+-- if q is beyond the end of the bridge on this hand, and not over its line, that end is seen farther there than each
+-- point t over the line on the other hand of it
 near_more : (hand : Hand) (S : List Pair) (q t : Pair) (e : Pair × Pair) → IsBelow S q → Contains S (end_on hand e)
     → Contains S t → IsBefore e.0 e.1 → IsOnHand hand (end_on hand e) t → IsOnHand hand (end_on hand e) q
     → pos 0 ≤ℤ orient e.0 e.1 t → orient e.0 e.1 q ≤ℤ pos 0 → IsMore hand q (end_on hand e) t
@@ -140,8 +141,8 @@ near_more Right S q t (a, b) h mb mt ab tb qb over under =
           [ inl g ↦ inl g | inr e ↦ inr (e, past_farther q t b k tb (orient_swap q t b ∙ ap neg_ℤ e)) ]
     ]
 
--- q beyond the end of the bridge on the other hand, and over its line: that end is seen farther on this hand than each
--- point t over the line on this hand of it
+-- if q is beyond the end of the bridge on the other hand, and over its line, that end is seen farther on this hand than
+-- each point t over the line on this hand of it
 far_more : (hand : Hand) (q t : Pair) (e : Pair × Pair) → IsBefore e.0 e.1 → IsOnHand hand t (end_on (other_hand hand) e)
     → IsBeyond hand e q → pos 0 ≤ℤ orient e.0 e.1 t → IsMore hand q (end_on (other_hand hand) e) t
 far_more Left q t (a, b) ab tb (bq, left) over =
@@ -160,7 +161,7 @@ record IsSplit (hand : Hand) (S : List Pair) (near far : Tree) (e : Pair × Pair
   pub forward : IsBefore e.0 e.1
   pub over : (t : Pair) → Contains S t → pos 0 ≤ℤ orient e.0 e.1 t
 
--- the two halves of a fork
+-- the two halves of a fork are such a split
 split_at : (hand : Hand) (e f : Pair × Pair) (u w : Tree) → IsBridged (Fork e f u w)
     → IsSplit hand (points_of u ++ points_of w) (half_on hand (Fork e f u w)) (half_on (other_hand hand) (Fork e f u w)) f
 split_at hand e f u w h = turned hand
@@ -190,7 +191,7 @@ split_at hand e f u w h = turned hand
       over = over;
     }
 
--- on this hand of a point that is on this hand of another
+-- the order on this hand is transitive
 hand_trans : (hand : Hand) (p q r : Pair) → IsOnHand hand p q → IsOnHand hand q r → IsOnHand hand p r
 hand_trans Left p q r a b = before_trans p q r a b
 hand_trans Right p q r a b = before_trans r q p b a
@@ -207,8 +208,8 @@ under_bridge : (hand : Hand) (S : List Pair) (q : Pair) (e : Pair × Pair) → I
 under_bridge Left S q e h m n a b = let k = h.outwards e.0 e.1 m n a b in omega (arith, ints)
 under_bridge Right S q e h m n a b = let k = h.outwards e.0 e.1 n m b a in omega (arith, ints)
 
--- q not both beyond the bridge and over it: some point of the near half is seen farther on this hand than each point
--- of the far one
+-- if q is not both beyond the bridge and over it, some point of the near half is seen farther on this hand than each
+-- point of the far one
 near_keeps : (hand : Hand) (S : List Pair) (near far : Tree) (e : Pair × Pair) (q : Pair) → IsSplit hand S near far e
     → IsBelow S q → IsOnHand hand (outermost hand near) q → ¬ (IsBeyond hand e q) → (t : Pair) → On far t
     → (s : Pair) × On near s × IsMore hand q s t
@@ -234,26 +235,26 @@ near_keeps hand S near far e q k h first n t i =
       | inl bq ↦ elim (le_or_lt (orient e.0 e.1 q) (pos 0)) [ inl m ↦ m | inr m ↦ absurd (n (bq, m)) ]
     ]
 
--- a half of a fork is lower
+-- a half of a fork has less height
 half_lower : (hand : Hand) (e f : Pair × Pair) (u w : Tree)
     → height_of (half_on hand (Fork e f u w)) < height_of (Fork e f u w)
 half_lower Left e f u w = omega arith
 half_lower Right e f u w = omega arith
 
--- inwards of the outermost point of a fork is inwards of that of its half there
+-- a point inwards of the outermost point of a fork is inwards of that of its half there
 inwards_near : (hand : Hand) (e f : Pair × Pair) (u w : Tree) (q : Pair)
     → IsOnHand hand (outermost hand (Fork e f u w)) q → IsOnHand hand (outermost hand (half_on hand (Fork e f u w))) q
 inwards_near Left e f u w q h = h
 inwards_near Right e f u w q h = h
 
--- beyond the bridge is inwards of the outermost point of the other half
+-- a point beyond the bridge is inwards of the outermost point of the other half
 inwards_far : (hand : Hand) (e f : Pair × Pair) (u w : Tree) (q : Pair) → IsBridged (Fork e f u w)
     → IsOnHand hand (end_on (other_hand hand) f) q
     → IsOnHand hand (outermost hand (half_on (other_hand hand) (Fork e f u w))) q
 inwards_far Left e f u w q h k = up_to (first_of w) f.1 q (first_by w h.4 f.1 h.2.to_right) k
 inwards_far Right e f u w q h k = on_from q f.0 (last_of u) k (last_by u h.3 f.0 h.2.from_left)
 
--- to the half on this hand
+-- if q is not both beyond the bridge and over it, the tangent point is in the half on this hand
 pub near_part : (hand : Hand) (t part : Tree) (q : Pair) (g : Pair × Pair) → IsBridged t → Some g ≡ lower_of t
     → IsBelow (points_of t) q → IsOnHand hand (outermost hand t) q → ¬ (IsBeyond hand g q) → part ≡ half_on hand t
     → IsTangentPart hand q t part
@@ -275,7 +276,7 @@ near_part hand (Fork e f u w) part q g h s below first n m =
       inwards = o;
     }
 
--- to the half on the other hand
+-- if q is beyond the bridge and over it, the tangent point is in the half on the other hand
 pub far_part : (hand : Hand) (t part : Tree) (q : Pair) (g : Pair × Pair) → IsBridged t → Some g ≡ lower_of t
     → IsBelow (points_of t) q → IsBeyond hand g q → part ≡ half_on (other_hand hand) t → IsTangentPart hand q t part
 far_part hand (Leaf x) part q g h s below b m = absurd (cc)

@@ -1,4 +1,4 @@
--- After a turn by 180 degrees the lower chain is the upper one.
+-- After a rotation by 180 degrees the lower chain is the upper one.
 use Rattle.std.proofs.Common.{arith}
 use Rattle.std.proofs.lemmas.Grind.{common_steps}
 use Rattle.std.proofs.Common.{◌≡◌, pos, ◌≤ℤ◌, sym, ◌∙◌}
@@ -17,19 +17,19 @@ use Rattle.hull_geometry.specs.Edges.{IsLowerEdge, IsUpperEdge}
 use Rattle.hull_geometry.specs.Sights.{IsLowerEdgeAt, IsUpperEdgeAt}
 use Rattle.hull_questions.specs.Chains.{IsBeforeEnd, IsAfterStart}
 
--- what holds of all points of the turned half holds of each point of the half, turned
+-- a property of all points of the rotated half is one of each rotated point of the half
 pub turned_all : (t : Tree) (P : Pair → Type 0) → All P (points_of (turned_tree t))
     → All (λ s. P (turned_point s)) (points_of t)
 turned_all t P h = all_of (λ s. P (turned_point s)) (points_of t)
     (λ s m. All-contains P (points_of (turned_tree t)) (turned_point s) h
     (contains_of_on (turned_tree t) (turned_point s) (turned_on t s (on_of_contains t s m))))
 
--- a point of the turned half is, turned, a point of the half
+-- a point of the rotated half is, rotated, a point of the half
 pub turned_member : (t : Tree) (p : Pair) → Contains (points_of (turned_tree t)) p
     → Contains (points_of t) (turned_point p)
 turned_member t p m = contains_of_on t (turned_point p) (on_turned t p (on_of_contains (turned_tree t) p m))
 
--- a lower edge of the turned half is, turned, an upper edge
+-- a lower edge of the rotated half is, rotated, an upper edge
 pub upper_edge_of_turned : (t : Tree) (c d : Pair) → IsLowerEdge (points_of (turned_tree t)) c d
     → IsUpperEdge (points_of t) (turned_point c) (turned_point d)
 upper_edge_of_turned t c d k = record {
@@ -46,7 +46,7 @@ upper_edge_of_turned t c d k = record {
       (turned_all t (λ s. orient c d s ≡ pos 0 → ¬ (IsBefore d s)) k.last);
 }
 
--- the lower edge of the turned half at a turned point is, turned, the upper edge at the point
+-- the lower edge of the rotated half at a rotated point is, rotated, the upper edge at the point
 pub upper_of_turned : (t : Tree) (v : Pair) (e : Pair × Pair)
     → IsLowerEdgeAt (points_of (turned_tree t)) (turned_point v) e
     → IsUpperEdgeAt (points_of t) v (turned_point e.0, turned_point e.1)
@@ -56,6 +56,6 @@ upper_of_turned t v e k = record {
   onward = before_turned e.1 v k.onward;
 }
 
--- before the end of the turned half is after the start of the half
+-- a point after the start of the half is, rotated, before the end of the rotated half
 pub inside_turned : (t : Tree) (v : Pair) → IsAfterStart t v → IsBeforeEnd (turned_tree t) (turned_point v)
 inside_turned t v i = grind (arith, common_steps, unturned, last_of, turned_point, first_turned, last_turned, turned_order, first_of)

@@ -1,4 +1,4 @@
--- After a turn by 180 degrees what is seen from above is seen from below.
+-- After a rotation by 180 degrees a view from above is one from below.
 use Rattle.std.proofs.Common.{ℤ, pos, ◌<ℤ◌, sym, subst}
 use Rattle.std.specs.List.{Contains}
 use Rattle.std.proofs.lemmas.List.Elements.{All-weaker}
@@ -16,7 +16,7 @@ use Rattle.hull_geometry.specs.declared.hand.Hand.{Hand}
 use Rattle.hull_geometry.specs.declared.hand.Hand.TheVariants.{Left, Right}
 use Rattle.hull_questions.proofs.TurnedEdges.{turned_all, turned_member}
 
--- above the half is, turned, below the turned half
+-- a point above the half is, rotated, below the rotated half
 pub below_turned : (t : Tree) (q : Pair) → IsAbove (points_of t) q
     → IsBelow (points_of (turned_tree t)) (turned_point q)
 below_turned t q h = record {
@@ -27,13 +27,13 @@ below_turned t q h = record {
       (before_turned_back s q b));
 }
 
--- no farther on one hand after a turn is no farther there
+-- a point no farther on one hand after a rotation is no farther there before it
 no_more_turned : (hand : Hand) (q p s : Pair) → IsNoMore hand (turned_point q) p (turned_point s)
     → IsNoMore hand q (turned_point p) s
 no_more_turned Left q p s k = rw (side_turned_back q p s, far_turned q s, far_turned_back q p) at k
 no_more_turned Right q p s k = rw (side_turned_back q p s, far_turned q s, far_turned_back q p) at k
 
--- the tangent point of the turned half is, turned, the tangent point on the same hand
+-- the tangent point of the rotated half is, rotated, the tangent point on the same hand
 pub tangent_of_turned : (hand : Hand) (t : Tree) (q p : Pair)
     → IsTangent hand (points_of (turned_tree t)) (turned_point q) p → IsTangent hand (points_of t) q (turned_point p)
 tangent_of_turned hand t q p h = (
@@ -42,7 +42,7 @@ tangent_of_turned hand t q p h = (
       (no_more_turned hand q p) (points_of t) (turned_all t (IsNoMore hand (turned_point q) p) h.1),
 )
 
--- inwards of the outermost point on the other hand is, turned, inwards of that of the turned half on this one
+-- a point inwards of the outermost point on the other hand is, rotated, inwards of that of the rotated half on this one
 pub inwards_turned : (hand : Hand) (t : Tree) (q : Pair) → IsOnHand hand q (outermost (other_hand hand) t)
     → IsOnHand hand (outermost hand (turned_tree t)) (turned_point q)
 inwards_turned Left t q b =

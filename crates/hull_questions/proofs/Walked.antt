@@ -1,4 +1,4 @@
--- Walks along the chains of a half's hull, the lists that they leave, and the vertex list that those make.
+-- Walks along the chains of a half's hull, the lists of their points, and the vertex list of these lists.
 use Rattle.std.proofs.Common.{◌≡◌, refl, sym, ap, ◌∙◌, subst, List, [], ◌∷◌, ◌++◌, map, arith, append_assoc}
 use Rattle.std.proofs.lemmas.List.{map-append, same_from_push}
 use Rattle.lattice.specs.Plane.{Pair, IsBefore, turned_point}
@@ -21,7 +21,7 @@ use Rattle.hull_questions.proofs.TurnedEdges.{upper_edge_of_turned}
 
 -- ---- lists
 
--- a stretch of the left half, the start of the bridge, and a stretch of the right half
+-- a range of the left half, the start of the bridge, and a range of the right half are the whole range
 pub listed_over : (t u w : Tree) (from a b to : Pair) (side : Side) (before one two after : List Pair)
     → ((xs ys : List Pair) → IsWalk u from xs a → IsWalk w b ys to → IsWalk t from (xs ++ b ∷ ys) to)
     → IsListed u from a side before one → two ≡ one ++ upright side a ∷ [] → IsListed w b to side two after
@@ -38,19 +38,19 @@ listed_over t u w from a b to side before one two after walks (xs, k, e) p (ys, 
 
 -- ---- the upper chain
 
--- a chain of lower edges of the turned half is, turned, a chain of upper edges
+-- a chain of lower edges of the rotated half is, rotated, a chain of upper edges
 pub chain_turned : (t : Tree) (v : Pair) (vs : List Pair) → IsChain (IsLowerEdge (points_of (turned_tree t))) v vs
     → IsChain (IsUpperEdge (points_of t)) (turned_point v) (map turned_point vs)
 chain_turned t v [] c = tt
 chain_turned t v (x ∷ xs) c = (upper_edge_of_turned t v x c.0, chain_turned t x xs c.1)
 
--- which ends at the turned end
+-- this chain ends at the rotated end
 pub end_turned : (v : Pair) (vs : List Pair)
     → end_of (turned_point v) (map turned_point vs) ≡ turned_point (end_of v vs)
 end_turned v [] = refl
 end_turned v (x ∷ xs) = end_turned x xs
 
--- a walk along the lower chain of the turned half is, turned, a walk along the upper chain
+-- a walk along the lower chain of the rotated half is, rotated, a walk along the upper chain
 pub record IsUpperWalk (t : Tree) (passed : List Pair) : Type 0 where
   pub chain : IsChain (IsUpperEdge (points_of t)) (last_of t) passed
   pub ends : end_of (last_of t) passed ≡ first_of t
@@ -70,7 +70,7 @@ walk_turned t passed k =
           ∙ end_turned (first_of (turned_tree t)) passed ∙ ap turned_point k.ends ∙ end;
     }
 
--- the points of an upper walk but the last
+-- the points of an upper walk are its points but the last, and the last
 pub upper_front : (t : Tree) (passed : List Pair) → IsBefore (first_of t) (last_of t) → IsUpperWalk t passed
     → (upper : List Pair) × (passed ≡ upper ++ first_of t ∷ [])
 upper_front t [] b k = absurd (before_irrefl (last_of t) (subst (λ (z : Pair). IsBefore z (last_of t)) (sym k.ends) b))
@@ -78,7 +78,7 @@ upper_front t (v ∷ vs) b k = front_of v (first_of t) vs k.ends
 
 -- ---- the vertex list
 
--- a whole lower walk and a whole upper walk make the vertex list
+-- a whole lower walk and a whole upper walk are the vertex list
 pub round : (t : Tree) (lower upper : List Pair) → IsBridged t → IsBefore (first_of t) (last_of t)
     → IsWalk t (first_of t) lower (last_of t)
     → IsChain (IsUpperEdge (points_of t)) (last_of t) (upper ++ first_of t ∷ [])
@@ -88,12 +88,12 @@ round t (v ∷ vs) upper h b w c =
     vertex_list (points_of t) (first_of t) (last_of t) v vs upper (points_in_order t h) w.chain w.ends c
     (λ s m k. first_by t h s (on_of_contains t s m) k) (λ s m k. last_by t h s (on_of_contains t s m) k)
 
--- seen as it is, a list stays as it is
+-- a list seen as it is stays as it is
 map_lower : (xs : List Pair) → map (upright Lower) xs ≡ xs
 map_lower [] = refl
 map_lower (x ∷ xs) = ap (λ (z : List Pair). x ∷ z) (map_lower xs)
 
--- both chains listed, each without its last point, are the vertex list
+-- the lists of both chains, each without its last point, are the vertex list
 pub both_listed : (t : Tree) (one two : List Pair) → IsBridged t → IsBefore (first_of t) (last_of t)
     → IsListed t (first_of t) (last_of t) Lower [] one
     → IsListed (turned_tree t) (first_of (turned_tree t)) (last_of (turned_tree t)) Upper one two
@@ -120,7 +120,7 @@ alone : (t : Tree) → IsBridged t → ¬ (IsBefore (first_of t) (last_of t)) �
 alone (Leaf x) h n = refl
 alone (Fork e f u w) h n = absurd (n (h.0 (first_of u) (last_of w) (on_first u) (on_last w)))
 
--- whose vertex list is that point
+-- the vertex list of one point is that point
 pub vertices_alone : (t : Tree) → IsBridged t → ¬ (IsBefore (first_of t) (last_of t))
     → IsVertexList (points_of t) (first_of t ∷ [])
 vertices_alone t h n =

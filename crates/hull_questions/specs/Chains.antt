@@ -1,14 +1,14 @@
--- Where a point stands to the ends of a half, and the corners of the lower chain.
+-- The order of a point and the ends of a half, and the vertices of the lower chain.
 use Rattle.std.specs.Prelude.{pos, ◌<ℤ◌, List}
 use Rattle.std.specs.List.{Contains}
 use Rattle.lattice.specs.Plane.{Pair, orient, IsBefore}
 use Rattle.bridge_search.specs.Trees.{Tree, first_of, last_of}
 
--- v stands before the last point of the half, and not before the first
+-- v is before the last point of the half, and not before the first
 abbrev pub IsBeforeEnd : Tree → Pair → Type 0
 IsBeforeEnd t v = ¬ IsBefore v (first_of t) × IsBefore v (last_of t)
 
--- v stands after the first point of the half, and not after the last
+-- v is after the first point of the half, and not after the last
 abbrev pub IsAfterStart : Tree → Pair → Type 0
 IsAfterStart t v = IsBefore (first_of t) v × ¬ IsBefore (last_of t) v
 

@@ -7,7 +7,7 @@ use Rattle.hull_geometry.specs.Sights.{IsLowerEdgeAt}
 use Rattle.hull_questions.specs.declared.slabs.Slab.{Slab}
 use Rattle.hull_questions.specs.declared.slabs.Slab.TheVariants.{Before, After, Last, Edge}
 
--- q stands in this slab: before or after all points, at the last one, or before the right end of a lower edge and not
+-- q is in this slab: before or after all points, at the last one, or before the right end of a lower edge and not
 -- before its left end
 abbrev pub IsSlab : Tree → Pair → Slab → Type 0
 IsSlab t q Before = IsBefore q (first_of t)

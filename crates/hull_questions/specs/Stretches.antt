@@ -1,4 +1,4 @@
--- The stretches of a half's lower chain between two of its corners.
+-- The ranges of a half's lower chain between two of its vertices.
 use Rattle.std.specs.Prelude.{◌≡◌, List, ◌∷◌, ◌++◌}
 use Rattle.lattice.specs.Plane.{Pair, IsBefore}
 use Rattle.bridge_search.specs.Trees.{Tree, IsFork, left_of, right_of}
@@ -8,25 +8,25 @@ use Rattle.hull_questions.specs.Walks.{IsWalk}
 use Rattle.hull_questions.specs.declared.stretches.Course.{Course}
 use Rattle.hull_questions.specs.declared.stretches.Course.TheVariants.{Nowhere, Left, Right, Across}
 
--- both are corners of the lower chain, the second one not before the first
+-- both are vertices of the lower chain, the second one not before the first
 pub record IsStretch (t : Tree) (from to : Pair) : Type 0 where
   pub starts : IsLowerCorner (points_of t) from
   pub ends : IsLowerCorner (points_of t) to
   pub onward : ¬ IsBefore to from
 
--- the stretch is one of the part, along which a walk is a walk along the whole
+-- the range is one of the subtree, and a walk along it there is a walk along the whole
 pub record IsStretchOf (part whole : Tree) (from to : Pair) : Type 0 where
   pub stretch : IsStretch part from to
   pub walks : (passed : List Pair) → IsWalk part from passed to → IsWalk whole from passed to
 
--- the stretch is one of the left half, an edge to the right half, and a stretch of that
+-- the range is one of the left half, an edge to the right half, and a range of that
 pub record IsStretchAcross (t : Tree) (from start end to : Pair) : Type 0 where
   pub left : IsStretch (left_of t) from start
   pub right : IsStretch (right_of t) end to
   pub walks : (xs ys : List Pair) → IsWalk (left_of t) from xs start → IsWalk (right_of t) end ys to
       → IsWalk t from (xs ++ end ∷ ys) to
 
--- where the edges of the stretch lie
+-- the halves that the edges of the range are in
 abbrev pub IsCourse : Tree → Pair → Pair → Course → Type 0
 IsCourse t from to Nowhere = from ≡ to
 IsCourse t from to Left = IsFork t × IsStretchOf (left_of t) t from to

@@ -1,4 +1,4 @@
--- A walk along the lower chain of a half, and what it leaves.
+-- A walk along the lower chain of a half, and its results.
 use Rattle.std.specs.Prelude.{◌≡◌, ℕ, ◌<◌, ◌≤◌, ℤ, Bool, true, false, List, [], ◌∷◌, ◌++◌, length, map}
 use Rattle.lattice.specs.Plane.{Pair, turned_point}
 use Rattle.lattice.specs.Vertices.{fan, IsVertexList}
@@ -13,12 +13,13 @@ pub record IsWalk (t : Tree) (from : Pair) (passed : List Pair) (to : Pair) : Ty
   pub chain : IsChain (IsLowerEdge (points_of t)) from passed
   pub ends : end_of from passed ≡ to
 
--- a corner of the half as a corner of the hull, whose upper chain is the lower one of the half turned by 180 degrees
+-- the vertex of the hull for a vertex of the half; the hull's upper chain is the lower one of the half rotated by 180
+-- degrees
 abbrev pub upright : Side → Pair → Pair
 upright Lower v = v
 upright Upper v = turned_point v
 
--- to the list came the points of a walk from one point to another, but for the last of them
+-- the points of a walk from one point to another, without the last of them, were appended to the list
 abbrev pub IsListed : Tree → Pair → Pair → Side → List Pair → List Pair → Type 0
 IsListed t from to side before after = (passed : List Pair) × IsWalk t from passed to
     × (after ++ upright side to ∷ [] ≡ before ++ map (upright side) (from ∷ passed))
@@ -27,12 +28,12 @@ IsListed t from to side before after = (passed : List Pair) × IsWalk t from pas
 abbrev pub IsFan : Tree → Pair → Pair → Pair → ℤ → Type 0
 IsFan t apex from to z = (passed : List Pair) × IsWalk t from passed to × (z ≡ fan apex from passed)
 
--- to the list, which has `most` points at most, came a corner; or it has as many
+-- a vertex was appended to the list, which has at most `most` points; or the list is full
 abbrev pub IsPushedUpTo : Pair → ℕ → List Pair → List Pair → Bool → Type 0
 IsPushedUpTo corner most before after true = (after ≡ before ++ corner ∷ []) × (length after ≤ most)
 IsPushedUpTo corner most before after false = most ≤ length before
 
--- to it came the points of a walk but for the last; or they are too many for it
+-- the points of a walk without the last were appended to the list; or they are too many for it
 abbrev pub IsListedUpTo : Tree → Pair → Pair → Side → ℕ → List Pair → List Pair → Bool → Type 0
 IsListedUpTo t from to side most before after true = IsListed t from to side before after × (length after ≤ most)
 IsListedUpTo t from to side most before after false =

@@ -1,9 +1,9 @@
 //! Questions about a convex hull, answered by going down its stored bridges (Overmars and van Leeuwen, 1981).
 //!
-//! Each question is over any [`Half`](bridge_search::Half), and its answer is one that the definitions allow for the
-//! points of that half. [`extreme`], [`place`] and [`tangents`] go down once or a few times, with one or two
-//! comparisons at each fork, and ask for no memory; [`vertices`] and [`area2`] go down once, and only where
-//! corners are.
+//! Each question is about any [`Half`](bridge_search::Half), and its answer is one that the definitions allow for the
+//! points of that half. [`extreme`], [`place`] and [`tangents`] follow one or a few paths down, with one or two
+//! comparisons at each fork, and do not allocate; [`vertices`] and [`area2`] visit the bridges once, and only those
+//! parts of the half that have vertices.
 #![tactic(auto)]
 
 mod edges;

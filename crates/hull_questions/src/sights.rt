@@ -1,4 +1,4 @@
-//! From where a point looks at a hull.
+//! The location of a point relative to a hull.
 ghost use Rattle.bridge_search.specs.Leaves.{points_of};
 ghost use Rattle.hull_geometry.specs.Sights.{IsLowerEdgeAt};
 ghost use Rattle.hull_questions.specs.Sights.{IsSeen};
@@ -9,7 +9,7 @@ use bridge_search::Half;
 use hull_geometry::{Sight, sight_by};
 use lattice::{Point, before, orient};
 
-/// From where `q` looks, whose lower edge is `edge`.
+/// Returns the location of `q`, whose lower edge is `edge`.
 fn look_at<H: Half>(half: H, q: Point, edge: (Point, Point)) -> Sight
     requires { IsLowerEdgeAt (points_of (H.tree half)) q edge }
     ensures { IsSeen (H.tree half) q result }
@@ -25,7 +25,7 @@ fn look_at<H: Half>(half: H, q: Point, edge: (Point, Point)) -> Sight
     sight_by(lower, orient(upper.0, upper.1, q))
 }
 
-/// From where `q` looks at the hull of a half.
+/// Returns the location of `q` relative to the hull of a half.
 pub(crate) fn look<H: Half>(half: H, q: Point) -> Sight
     ensures { IsSeen (H.tree half) q result }
 {

@@ -6,7 +6,7 @@ ghost use Rattle.hull_questions.specs.Slabs.{IsSlab};
 use bridge_search::Half;
 use lattice::{Point, before};
 
-/// In which slab of a half a point stands.
+/// The slab of a half that a point is in.
 #[derive(Clone, Copy)]
 pub(crate) enum Slab {
     /// Before all of them.
@@ -19,7 +19,7 @@ pub(crate) enum Slab {
     Edge((Point, Point)),
 }
 
-/// In which slab of one point `q` stands.
+/// Returns the slab of one point that `q` is in.
 fn slab_beside(only: Point, q: Point) -> Slab
     ensures { IsSlab (Leaf only) q result }
 {
@@ -32,8 +32,8 @@ fn slab_beside(only: Point, q: Point) -> Slab
     }
 }
 
-/// In which slab of a half `q` stands: one way down the stored lower bridges, which asks for neither end of the half
-/// and stops at the first bridge between whose ends `q` stands.
+/// Returns the slab of a half that `q` is in: one path down the stored lower bridges, which needs neither end of the
+/// half and stops at the first bridge between whose ends `q` is.
 pub(crate) fn slab_of<H: Half>(half: H, q: Point) -> Slab
     ensures { IsSlab (H.tree half) q result }
 {

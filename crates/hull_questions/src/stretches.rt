@@ -1,13 +1,13 @@
-//! The stretches of a lower chain between two of its corners.
+//! The ranges of a lower chain between two of its vertices.
 ghost use Rattle.hull_questions.specs.Stretches.{IsStretch, IsCourse};
 
 use bridge_search::Half;
 use lattice::{Point, before};
 
-/// Where the edges of a stretch lie.
+/// The halves that the edges of a range are in.
 #[derive(Clone, Copy)]
 pub(crate) enum Course {
-    /// Nowhere: its two ends are one corner.
+    /// None: the two ends of the range are the same vertex.
     Nowhere,
     /// In the left half.
     Left,
@@ -17,7 +17,7 @@ pub(crate) enum Course {
     Across((Point, Point)),
 }
 
-/// Where the edges of the lower chain of a half lie that lead from one of its corners to another.
+/// Returns the halves that the edges of the lower chain of a half from one of its vertices to another are in.
 pub(crate) fn course_of<H: Half>(half: H, from: Point, to: Point) -> Course
     requires { IsStretch (H.tree half) from to }
     ensures { IsCourse (H.tree half) from to result }

@@ -12,8 +12,8 @@ use crate::stretches::{Course, course_of};
 use bridge_search::{Half, Turned};
 use lattice::{Point, orient};
 
-/// The doubled areas of the triangles between an apex and the edges of the lower chain of a half from one corner to
-/// another.
+/// Returns the doubled areas of the triangles between an apex and the edges of the lower chain of a half from one
+/// vertex to another.
 fn fan_of_stretch<H: Half>(half: H, apex: Point, from: Point, to: Point) -> i128
     requires stretch { IsStretch (H.tree half) from to }
     requires few { size_of (H.tree half) ≤ POINT_LIMIT }
@@ -32,7 +32,7 @@ fn fan_of_stretch<H: Half>(half: H, apex: Point, from: Point, to: Point) -> i128
     }
 }
 
-/// The doubled areas of the triangles between an apex and the edges of the lower chain of a half.
+/// Returns the doubled areas of the triangles between an apex and the edges of the lower chain of a half.
 fn fan_of_chain<H: Half>(half: H, apex: Point) -> i128
     requires { size_of (H.tree half) ≤ POINT_LIMIT }
     ensures fan { IsFan (H.tree half) apex (first_of (H.tree half)) (last_of (H.tree half)) result }
@@ -41,9 +41,9 @@ fn fan_of_chain<H: Half>(half: H, apex: Point) -> i128
     fan_of_stretch(half, apex, half.first(), half.last())
 }
 
-/// The doubled area of the hull of a half with at most [`POINT_LIMIT`](hull_set::POINT_LIMIT) points: the triangles
-/// between the first point and each edge. It goes through the forks that [`vertices`](crate::vertices) goes through,
-/// and asks for no memory.
+/// Returns the doubled area of the hull of a half with at most [`POINT_LIMIT`](hull_set::POINT_LIMIT) points: the
+/// triangles between the first point and each edge. It visits the forks that [`vertices`](crate::vertices) visits, and
+/// does not allocate.
 pub fn area2<H: Half>(half: H) -> u128
     requires { size_of (H.tree half) ≤ POINT_LIMIT }
     ensures { IsDoubledArea (points_of (H.tree half)) (pos result) }

@@ -23,7 +23,7 @@ fn is_nearer(d: Direction, p: Point, q: Point) -> bool
     product(d, p) < product(d, q)
 }
 
-/// The stored edge on the side that `d` faces: the upper one where `d` goes up, else the lower one.
+/// Returns the stored edge on the side that `d` faces: the upper one if `d` goes up, else the lower one.
 fn facing<H: Half>(half: H, d: Direction) -> Option<(Point, Point)>
     ensures { IsFacing d (H.tree half) result }
 {
@@ -34,7 +34,7 @@ fn facing<H: Half>(half: H, d: Direction) -> Option<(Point, Point)>
     }
 }
 
-/// The half of `half` that has the first of its farthest points, or nothing where it is one point.
+/// Returns the half of `half` that has the first of its farthest points, or `None` if it is one point.
 fn farther_part<H: Half>(half: H, d: Direction) -> Option<H>
     ensures part { MatchOption result (edge_of (H.tree half) ≡ None)
         (λ part. IsFartherPart d (H.tree half) (H.tree part)) }
@@ -48,12 +48,12 @@ fn farther_part<H: Half>(half: H, d: Direction) -> Option<H>
     }
 }
 
-/// The first, by x and then y, of the points of a half that lie farthest in the direction `d`.
+/// Returns the first, by x and then y, of the points of a half that lie farthest in the direction `d`.
 ///
-/// Of the two halves at a fork, the left one has it where the left end of the bridge on the side that `d` faces lies as
+/// Of the two halves at a fork, the left one has it if the left end of the bridge on the side that `d` faces lies as
 /// far as the right end (Overmars and van Leeuwen, 1981).
 ///
-/// Beside it how many forks it went through: as many as the point lies deep in the half.
+/// Also returns the number of forks that it passed: the depth of the point in the half.
 pub fn extreme_counted<H: Half>(half: H, d: Direction) -> (Point, u32)
     ensures farthest { IsFirstFarthest (points_of (H.tree half)) d result.0 }
     ensures depth { IsAtDepth (H.tree half) result.0 result.1 }
@@ -67,8 +67,8 @@ pub fn extreme_counted<H: Half>(half: H, d: Direction) -> (Point, u32)
     (part.first(), depth)
 }
 
-/// The first, by x and then y, of the points of a half that lie farthest in the direction `d`, as [`extreme_counted`]
-/// finds it, without the number of forks.
+/// Returns the first, by x and then y, of the points of a half that lie farthest in the direction `d`, as
+/// [`extreme_counted`] finds it, without the number of forks.
 pub fn extreme<H: Half>(half: H, d: Direction) -> Point
     ensures { IsFirstFarthest (points_of (H.tree half)) d result }
 {

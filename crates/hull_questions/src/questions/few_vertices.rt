@@ -1,4 +1,4 @@
-//! The vertices of a hull, where they are few.
+//! The vertices of a hull, if they are few.
 ghost use Rattle.std.specs.Prelude.{◌≤◌, IfOk, IfSome, IfNone, vec_len};
 ghost use Rattle.lattice.specs.Vertices.{IsVertexList};
 ghost use Rattle.bridge_search.specs.Trees.{first_of, last_of};
@@ -13,7 +13,7 @@ use heap::Heap;
 use lattice::{Point, Side, before};
 use std::alloc::AllocError;
 
-/// Appends a corner where the list has fewer points than `most`, and tells whether it has.
+/// Appends a vertex if the list has fewer points than `most`. Returns whether it did.
 fn push_up_to(corner: Point, most: usize, out: &mut Vec<Point, Heap>) -> Result<bool, AllocError>
     requires { vec_len out.old ≤ most }
     ensures { IfOk result (λ pushed. IsPushedUpTo corner most out.old.items out.new.items pushed) }
@@ -25,8 +25,8 @@ fn push_up_to(corner: Point, most: usize, out: &mut Vec<Point, Heap>) -> Result<
     Ok(true)
 }
 
-/// Appends the corners of the lower chain of a half from one corner to another, which is left out, up to `most` points in all;
-/// and tells whether these are all.
+/// Appends the vertices of the lower chain of a half from one vertex to another, which is left out, up to `most` points
+/// in all. Returns whether these are all.
 fn push_stretch_up_to<H: Half>(
     half: H,
     from: Point,
@@ -55,7 +55,8 @@ fn push_stretch_up_to<H: Half>(
     }
 }
 
-/// Appends the corners of the lower chain of a half but the last, up to `most` points in all; and tells whether these are all.
+/// Appends the vertices of the lower chain of a half but the last, up to `most` points in all. Returns whether these
+/// are all.
 fn push_chain_up_to<H: Half>(
     half: H,
     side: Side,
@@ -69,9 +70,9 @@ fn push_chain_up_to<H: Half>(
     push_stretch_up_to(half, half.first(), half.last(), side, most, out)
 }
 
-/// The vertices of the hull of a half, as [`vertices`](crate::vertices), where they are no more than `most`, and nothing where
-/// they are more: no more forks are passed then than those above `most` edges. An `Err` comes only where `alloc` refuses
-/// memory.
+/// Returns the vertices of the hull of a half, as [`vertices`](crate::vertices) does, if there are at most `most`, and
+/// `None` if there are more. It visits only forks that are above at most `most` edges. Fails with `AllocError` only if
+/// `alloc` refuses memory.
 pub fn vertices_up_to<H: Half>(
     alloc: Heap,
     half: H,

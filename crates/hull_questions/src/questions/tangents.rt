@@ -1,4 +1,4 @@
-//! Where the tangents from a point touch a hull.
+//! The points of a hull that the tangents from a point touch.
 ghost use Rattle.std.specs.Prelude.{◌≡◌, ◌↔◌, IsTrue, MatchOption, None, pos, ◌<ℤ◌};
 ghost use Rattle.lattice.specs.Plane as plane;
 ghost use Rattle.bridge_search.specs.Trees.{lower_of, first_of, last_of};
@@ -22,7 +22,7 @@ fn is_left(a: Point, b: Point, q: Point) -> bool
     orient(a, b, q) > 0
 }
 
-/// Whether `q` stands beyond the end of a lower bridge on the other hand, and over the bridge's line.
+/// Whether `q` is beyond the end of a lower bridge on the other hand, and over the bridge's line.
 fn is_beyond(hand: Hand, bridge: (Point, Point), q: Point) -> bool
     ensures { IsTrue result ↔ IsBeyond hand bridge q }
 {
@@ -33,9 +33,9 @@ fn is_beyond(hand: Hand, bridge: (Point, Point), q: Point) -> bool
     }
 }
 
-/// The half of `half` that has its tangent point on this hand, seen from `q` below it, or nothing where it is one point:
-/// the one on the other hand where `q` stands beyond the bridge's end there and over its line, so that this end is seen
-/// farther on this hand than all points of the half here.
+/// Returns the half of `half` that has its tangent point on this hand, seen from `q` below it, or `None` if it is one
+/// point: the half on the other hand if `q` is beyond the bridge's end there and over its line, so that this end is
+/// seen farther on this hand than all points of the half here.
 fn tangent_part<H: Half>(hand: Hand, half: H, q: Point) -> Option<H>
     requires below { IsBelow (points_of (H.tree half)) q }
     requires inwards { IsOnHand hand (outermost hand (H.tree half)) q }
@@ -50,7 +50,8 @@ fn tangent_part<H: Half>(hand: Hand, half: H, q: Point) -> Option<H>
     }
 }
 
-/// The tangent point on this hand seen from `q`, which lies below the half and inwards of its outermost point there.
+/// Returns the tangent point on this hand seen from `q`, which lies below the half and inwards of its outermost point
+/// there.
 fn tangent_from_below<H: Half>(hand: Hand, half: H, q: Point) -> Point
     requires below { IsBelow (points_of (H.tree half)) q }
     requires inwards { IsOnHand hand (outermost hand (H.tree half)) q }
@@ -63,8 +64,8 @@ fn tangent_from_below<H: Half>(hand: Hand, half: H, q: Point) -> Point
     part.first()
 }
 
-/// The tangent point on this hand seen from `q`, where the tangent touches this chain; on the upper chain it is that
-/// on the lower one after a turn by 180 degrees.
+/// Returns the tangent point on this hand seen from `q`, if the tangent touches this chain; on the upper chain it is
+/// that on the lower one after a rotation by 180 degrees.
 fn tangent_on<H: Half>(hand: Hand, side: Side, half: H, q: Point) -> Point
     requires { IsOnChain hand side (first_of (H.tree half)) (last_of (H.tree half)) (points_of (H.tree half)) q }
     ensures { IsTangent hand (points_of (H.tree half)) q result }
@@ -75,8 +76,8 @@ fn tangent_on<H: Half>(hand: Hand, side: Side, half: H, q: Point) -> Point
     }
 }
 
-/// The left and the right tangent point seen from `q`, of points in line with `q` the farther one; `None` where the
-/// points cover `q`. Each is found by one way down the bridges (Overmars and van Leeuwen, 1981).
+/// Returns the left and the right tangent point seen from `q`, of points in line with `q` the farther one, or `None` if
+/// the points cover `q`. Each is found on one path down the bridges (Overmars and van Leeuwen, 1981).
 pub fn tangents<H: Half>(half: H, q: Point) -> Option<(Point, Point)>
     ensures { AnswersTangents (points_of (H.tree half)) q (reply_to_tangents result) }
 {

@@ -12,8 +12,8 @@ use heap::Heap;
 use lattice::{Point, Side, before};
 use std::alloc::AllocError;
 
-/// A corner of a half's lower chain as the corner of the hull that it is, whose upper chain is the lower one of the half
-/// turned by 180 degrees.
+/// Returns the vertex of the hull for a vertex of a half's lower chain; the hull's upper chain is the lower one of the
+/// half rotated by 180 degrees.
 pub(super) fn seen_from(side: Side, corner: Point) -> Point
     ensures { result ≡ upright side corner }
 {
@@ -23,7 +23,7 @@ pub(super) fn seen_from(side: Side, corner: Point) -> Point
     }
 }
 
-/// Appends the corners of the lower chain of a half from one corner to another, which is left out.
+/// Appends the vertices of the lower chain of a half from one vertex to another, which is left out.
 fn push_stretch<H: Half>(
     half: H,
     from: Point,
@@ -46,7 +46,7 @@ fn push_stretch<H: Half>(
     }
 }
 
-/// Appends the corners of the lower chain of a half but the last.
+/// Appends the vertices of the lower chain of a half but the last.
 fn push_chain<H: Half>(half: H, side: Side, out: &mut Vec<Point, Heap>) -> Result<(), AllocError>
     ensures { IfOk result (λ _. IsListed (H.tree half) (first_of (H.tree half))
         (last_of (H.tree half)) side out.old.items out.new.items) }
@@ -54,11 +54,11 @@ fn push_chain<H: Half>(half: H, side: Side, out: &mut Vec<Point, Heap>) -> Resul
     push_stretch(half, half.first(), half.last(), side, out)
 }
 
-/// The vertices of the hull of a half, counterclockwise from the first point; no more than there are points.
+/// Returns the vertices of the hull of a half, counterclockwise from the first point; no more than there are points.
 ///
-/// Each chain is one way through the stored bridges that goes only where its corners are: through the forks above those
-/// whose bridges are its edges, each once. In a balanced half of n points with h vertices these are O(h log(n / h +
-/// 1)). An `Err` comes only where `alloc` refuses memory.
+/// Each chain is one walk through the stored bridges, only through parts that have vertices of the chain: through the
+/// forks above those whose bridges are its edges, each once. In a balanced half of n points with h vertices these are
+/// O(h log(n / h + 1)). Fails with `AllocError` only if `alloc` refuses memory.
 pub fn vertices<H: Half>(alloc: Heap, half: H) -> Result<Vec<Point, Heap>, AllocError>
     ensures vertices { IfOk result (λ v. IsVertexList (points_of (H.tree half)) v.items) }
     ensures few { IfOk result (λ v. vec_len v ≤ size_of (H.tree half)) }

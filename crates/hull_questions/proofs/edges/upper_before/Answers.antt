@@ -1,4 +1,4 @@
--- the lower edge of the half turned by 180 degrees is the upper edge, turned
+-- the lower edge of the half rotated by 180 degrees is the upper edge, rotated
 use Rattle.hull_questions.proofs.TurnedEdges.{inside_turned, upper_of_turned}
 use Rattle.hull_questions.proofs.edges.upper_before.Goals as goal
 

@@ -1,4 +1,4 @@
--- a point that stands at the last one lies on the boundary; every other slab tells its sight
+-- a point that is the last one lies on the boundary; every other slab determines the location
 use Rattle.hull_questions.proofs.Sighted.{last_touched}
 use Rattle.hull_questions.proofs.sights.look.Goals as goal
 

@@ -1,4 +1,4 @@
--- each step of the loop goes into the half whose slab is that of both; one point tells it itself
+-- each step of the loop goes into the half whose slab is that of both; of one point the slab follows at once
 use Rattle.bridge_search.specs.Trees.{Tree}
 use Rattle.hull_questions.proofs.ChainEdges.{edge_here}
 use Rattle.hull_questions.proofs.SlabParts.{IsSlabPart, slab_left, slab_right}

@@ -1,4 +1,4 @@
--- the slab of the point in the part is its slab in the half
+-- the slab of the point in the subtree is its slab in the half
 use Rattle.bridge_search.specs.Trees.{height_of}
 use Rattle.hull_questions.specs.Slabs.{IsSlab}
 use Rattle.hull_questions.specs.declared.slabs.Slab.{Slab}

@@ -1,4 +1,4 @@
--- the bridge tells in which half the stretch lies, or that it goes over it
+-- the bridge decides in which half the range is, or whether it goes over the bridge
 use Rattle.hull_questions.proofs.Stretched.{stretch_left, stretch_right, stretch_across}
 use Rattle.lattice.proofs.Tests.{passed, failed}
 use Rattle.hull_questions.proofs.stretches.course_of.Goals as goal

@@ -1,4 +1,4 @@
--- each half is lower and has fewer points; the fans of both and the triangle between them are the fan of the whole
+-- each half has less height and fewer points; the fans of both and the triangle between them are the fan of the whole
 use Rattle.std.proofs.Common.{ap, arith}
 use Rattle.std.proofs.lemmas.Int.{ints}
 use Rattle.bridge_search.specs.Trees.{Tree, left_of, right_of, size_of, height_of}

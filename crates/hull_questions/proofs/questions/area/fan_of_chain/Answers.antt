@@ -1,4 +1,4 @@
--- the whole chain is a stretch
+-- the whole chain is a range
 use Rattle.hull_questions.proofs.Stretched.{whole_stretch}
 use Rattle.hull_questions.proofs.questions.area.fan_of_chain.Goals as goal
 

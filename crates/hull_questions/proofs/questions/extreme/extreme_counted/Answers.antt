@@ -1,4 +1,4 @@
--- each step of the loop goes into a half that has the answer; a half that is one point is the answer
+-- each step of the loop goes into a half that has the answer; if a half is one point, that is the answer
 use Rattle.std.proofs.Common.{◌≤◌, ◌+◌, arith}
 use Rattle.bridge_search.specs.Trees.{height_of, highest}
 use Rattle.hull_questions.proofs.Extremes.{farthest_alone, depth_alone, deeper_on}

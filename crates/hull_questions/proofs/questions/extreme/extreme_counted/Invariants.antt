@@ -1,4 +1,5 @@
--- the answer about the part is that about the whole, and a point of the part lies so many forks deeper in the whole
+-- the answer for the subtree is that for the whole, and the depth of a point of the subtree is so much more in the
+-- whole
 use Rattle.std.proofs.Common.{ℕ, ◌+◌, ◌≤◌}
 use Rattle.lattice.specs.Plane.{Pair}
 use Rattle.bridge_search.specs.Trees.{height_of, IsAtDepth}

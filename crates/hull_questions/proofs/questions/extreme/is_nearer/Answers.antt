@@ -1,4 +1,4 @@
--- products of directions and points fit 128 bits, so comparing them compares the distances
+-- products of directions and points fit in 128 bits, so comparing them compares the distances
 use Rattle.hull_geometry.proofs.Comparisons.{fits_side, less_test}
 use Rattle.hull_questions.proofs.questions.extreme.is_nearer.Goals as goal
 

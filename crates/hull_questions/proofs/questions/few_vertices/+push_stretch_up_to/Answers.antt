@@ -1,4 +1,4 @@
--- the left half's stretch fills the list, or the start of the bridge does, or the right half's stretch comes behind them
+-- the left half's range fills the list, or the start of the bridge does, or the right half's range follows them
 use Rattle.std.proofs.Common.{Bool, [], ◌∷◌, ◌++◌, ◌∙◌, ap, subst, arith}
 use Rattle.std.proofs.lemmas.Result.{IfOk-weaker}
 use Rattle.lattice.specs.Plane.{Pair}

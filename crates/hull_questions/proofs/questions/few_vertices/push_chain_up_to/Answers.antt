@@ -1,4 +1,4 @@
--- the whole chain is a stretch
+-- the whole chain is a range
 use Rattle.hull_questions.proofs.Stretched.{whole_stretch}
 use Rattle.hull_questions.proofs.questions.few_vertices.push_chain_up_to.Goals as goal
 

@@ -1,4 +1,4 @@
--- the two chains, each without its last corner, are the vertex list; and where one does not fit, that is too long
+-- the two chains, each without its last vertex, are the vertex list; and if one does not fit, that is too long
 use Rattle.std.proofs.Common.{◌≡◌, ◌≤◌, ◌∙◌, ap, Bool, List, [], ◌∷◌, ◌++◌, length, arith, subst, sym}
 use Rattle.bridge_search.specs.Trees.{Tree, first_of, last_of}
 use Rattle.bridge_search.specs.Leaves.{points_of}

@@ -1,4 +1,4 @@
--- the sight tells the place
+-- the location determines the place
 use Rattle.bridge_search.specs.Trees.{Tree, first_of, last_of}
 use Rattle.bridge_search.specs.Leaves.{points_of}
 use Rattle.hull_questions.proofs.Sighted.{are_ends}

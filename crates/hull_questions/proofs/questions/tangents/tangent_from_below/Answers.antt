@@ -1,4 +1,4 @@
--- each step goes into the half that has the tangent point, and one point is the tangent point
+-- each step goes into the half that has the tangent point; if a half is one point, that is the tangent point
 use Rattle.hull_questions.proofs.TangentParts.{alone}
 use Rattle.hull_questions.proofs.questions.tangents.tangent_from_below.Goals as goal
 

@@ -1,4 +1,4 @@
--- the tangent point of the part is that of the half
+-- the tangent point of the subtree is that of the half
 use Rattle.lattice.specs.Plane.{Pair}
 use Rattle.bridge_search.specs.Trees.{height_of}
 use Rattle.bridge_search.specs.Leaves.{points_of}

@@ -1,4 +1,4 @@
--- what is above is below after a turn by 180 degrees, and a tangent point stays one on the same hand
+-- a point above is below after a rotation by 180 degrees, and a tangent point stays one on the same hand
 use Rattle.hull_questions.proofs.TurnedTangents.{below_turned, tangent_of_turned, inwards_turned}
 use Rattle.hull_questions.proofs.questions.tangents.tangent_on.Goals as goal
 

@@ -1,4 +1,4 @@
--- the side of the point as seen along the lower bridge tells which half has the tangent point
+-- the side of the point as seen along the lower bridge decides which half has the tangent point
 use Rattle.hull_questions.proofs.TangentParts.{near_part, far_part}
 use Rattle.hull_questions.proofs.questions.tangents.tangent_part.Goals.{then-beyond, else-beyond, then-beyond-2}
 use Rattle.hull_questions.proofs.questions.tangents.tangent_part.Goals.{else-beyond-2}

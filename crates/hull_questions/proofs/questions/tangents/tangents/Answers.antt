@@ -1,4 +1,4 @@
--- the tangents touch the chains that the sight tells; from where it tells none, the points cover q
+-- the tangents touch the chains that the location determines; if it determines none, the points cover q
 use Rattle.std.proofs.Common.{inr}
 use Rattle.bridge_search.specs.Trees.{Tree, first_of, last_of}
 use Rattle.bridge_search.specs.Leaves.{points_of}

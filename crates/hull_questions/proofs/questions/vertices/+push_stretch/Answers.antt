@@ -1,4 +1,4 @@
--- the corners of the left half's stretch, the start of the bridge, and those of the right half's
+-- the vertices of the left half's range, the start of the bridge, and those of the right half's range
 use Rattle.std.proofs.Common.{ap, ◌∙◌, [], ◌∷◌, ◌++◌}
 use Rattle.std.proofs.lemmas.Result.{IfOk-weaker}
 use Rattle.lattice.specs.Plane.{Pair}

@@ -1,4 +1,4 @@
--- each half is lower
+-- each half has less height
 use Rattle.bridge_search.specs.Trees.{height_of}
 use Rattle.hull_questions.proofs.questions.vertices.+push_stretch.Given as goal
 

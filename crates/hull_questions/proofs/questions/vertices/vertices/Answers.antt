@@ -1,4 +1,4 @@
--- the lower chain and then the upper chain, each without its last corner, are the vertex list
+-- the lower chain and then the upper chain, each without its last vertex, are the vertex list
 use Rattle.std.proofs.Common.{arith}
 use Rattle.bridge_search.specs.Trees.{Tree}
 use Rattle.bridge_search.specs.Leaves.{points_of}
