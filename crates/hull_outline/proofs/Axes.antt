@@ -10,19 +10,19 @@ use Rattle.lattice.proofs.Lines.{zero_times}
 
 -- ---- numbers
 
--- of three numbers that sum to nothing, none below 0, the first is nothing
+-- of three numbers not below 0 that sum to 0, the first is 0
 pub first_of_three : (x y z : ℤ) → x +ℤ (y +ℤ z) ≡ pos 0 → pos 0 ≤ℤ x → pos 0 ≤ℤ y → pos 0 ≤ℤ z → x ≡ pos 0
 first_of_three x y z e hx hy hz = omega (arith, ints)
 
--- and so is the second
+-- of three numbers not below 0 that sum to 0, the second is 0
 pub second_of_three : (x y z : ℤ) → x +ℤ (y +ℤ z) ≡ pos 0 → pos 0 ≤ℤ x → pos 0 ≤ℤ y → pos 0 ≤ℤ z → y ≡ pos 0
 second_of_three x y z e hx hy hz = omega (arith, ints)
 
--- and so is the third
+-- of three numbers not below 0 that sum to 0, the third is 0
 pub third_of_three : (x y z : ℤ) → x +ℤ (y +ℤ z) ≡ pos 0 → pos 0 ≤ℤ x → pos 0 ≤ℤ y → pos 0 ≤ℤ z → z ≡ pos 0
 third_of_three x y z e hx hy hz = omega (arith, ints)
 
--- three sums of products that are nothing, where only x can be below 0 or above it: it is not above
+-- if three sums of products are 0, and only x can be below 0 or above it, x is not above 0
 no_more : (p q r s t cf ce x y z a b : ℤ) → q *ℤ y +ℤ (p *ℤ x +ℤ r *ℤ cf) ≡ pos 0
     → r *ℤ z +ℤ (q *ℤ ce +ℤ s *ℤ x) ≡ pos 0 → t *ℤ cf +ℤ (q *ℤ b +ℤ p *ℤ a) ≡ pos 0
     → pos 0 ≤ℤ p → pos 0 ≤ℤ q → pos 0 ≤ℤ r → pos 0 ≤ℤ s → pos 0 <ℤ t → pos 0 <ℤ cf → pos 0 <ℤ ce → pos 0 ≤ℤ y
@@ -61,7 +61,7 @@ pub record IsWedge (d left right : Pair) : Type 0 where
   pub right_up : pos 0 ≤ℤ product d right
   pub bends : pos 0 <ℤ cross right left
 
--- a vector of a wedge that is not right of the left one of another: nor is it right of the right one
+-- a vector of a wedge that is not right of the left one of another is not right of its right one either
 left_of_both : (d w l r m s : Pair) → IsWedge d l r → IsWedge d m s → pos 0 <ℤ product d w → pos 0 ≤ℤ cross m l
     → cross l s ≤ℤ pos 0
 left_of_both d w l r m s e f up h =
@@ -85,7 +85,7 @@ between_clash d w l r hl hr t up left right =
 
 -- ---- the outermost of both wedges
 
--- where the left one of the first wedge and the right one of the second are the outermost and in line, the first is
+-- if the left one of the first wedge and the right one of the second are the outermost and in line, the first wedge is
 -- level
 level_of : (d l r m s : Pair) → IsWedge d l r → IsWedge d m s → pos 0 ≤ℤ cross m l → cross l s ≡ pos 0
     → product d l ≡ pos 0
@@ -178,7 +178,7 @@ span_of d w l r m s e f up = elim (le_or_lt (cross l m) (pos 0)) [
 
 -- ---- a vector that goes up
 
--- it is right of the left one of a wedge that is level
+-- a vector that goes up is right of the left one of a wedge that is level
 level_clash : (d w l r : Pair) → IsWedge d l r → product d l ≡ pos 0 → pos 0 <ℤ product d w → pos 0 ≤ℤ cross l w → ⊥
 level_clash d w l r e level up left =
     clash _ _ _ (three d w r l) (product_pp _ _ up e.bends) (product_nn _ _ e.right_up left)
@@ -187,7 +187,7 @@ level_clash d w l r e level up left =
     clash : (x y z : ℤ) → x +ℤ (y +ℤ z) ≡ pos 0 → pos 0 <ℤ x → pos 0 ≤ℤ y → z ≡ pos 0 → ⊥
     clash x y z e h k l = omega (arith, ints)
 
--- so it is right of the outermost on the left, or left of the outermost on the right
+-- a vector that goes up is right of the outermost on the left, or left of the outermost on the right
 outside_of : (d w l r m s g h : Pair) → IsWedge d l r → IsWedge d m s → pos 0 <ℤ product d w
     → IsSpan d l r m s g h → (cross g w <ℤ pos 0) ⊎ (pos 0 <ℤ cross h w)
 outside_of d w l r m s g h e f up n = elim (le_or_lt (pos 0) (cross g w)) [
@@ -212,7 +212,7 @@ pub record IsLeftAxis (e left right w : Pair) : Type 0 where
   pub left_beside : cross e left ≤ℤ pos 0
   pub right_beside : cross e right ≤ℤ pos 0
 
--- they lie left of e, or on it, and w left of it
+-- the two of a wedge lie left of e, or on it, and w lies left of it
 pub record IsRightAxis (e left right w : Pair) : Type 0 where
   pub beside : pos 0 <ℤ cross e w
   pub left_beside : pos 0 ≤ℤ cross e left

@@ -1,4 +1,4 @@
--- The box of a set, by its first and its last corner, the lowest and the highest.
+-- The box of a set, by its first and its last vertex, the lowest and the highest.
 use Rattle.std.proofs.Common.{◌≡◌, ℕ, ◌<◌, ℤ, pos, neg_ℤ, ◌≤ℤ◌, List, length, refl, inl, inr, arith}
 use Rattle.std.proofs.lemmas.Int.{ints}
 use Rattle.std.proofs.lemmas.List.Elements.{All-contains}
@@ -21,21 +21,21 @@ up_way = record { x = pos 0; y = pos 1 }
 abbrev down_way : Pair
 down_way = record { x = pos 0; y = neg_ℤ (pos 1) }
 
--- how far a point lies up
+-- how far a point lies up is its second coordinate
 up_is : (t : Pair) → product up_way t ≡ t.y
 unfolding product
 up_is t = omega (arith, ints)
 
--- and down
+-- how far a point lies down is the opposite
 down_is : (t : Pair) → product down_way t ≡ neg_ℤ t.y
 unfolding product
 down_is t = omega (arith, ints)
 
--- what does not stand before a point is not left of it
+-- a point that is not before another is not left of it
 not_left : (p q : Pair) → ¬ (IsBefore q p) → p.x ≤ℤ q.x
 not_left p q n = elim (le_or_lt p.x q.x) [ inl h ↦ h | inr h ↦ absurd (n (inl h)) ]
 
--- those ends make the box
+-- the box between those ends contains the set, and has a point on each side
 pub boxed : (S V : List Pair) (last : ℕ) (low high : Pair) → IsOutlineOf S V → IsParted V last → 0 < length V
     → IsFirstFarthest S down_way low
     → IsFirstFarthest S up_way high

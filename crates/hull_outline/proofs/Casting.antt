@@ -1,4 +1,4 @@
--- Where a way comes into a set: by an edge that goes over its line, or by a corner on it.
+-- The entry of a path into a set: by an edge that crosses its line, or by a vertex on it.
 use Rattle.std.proofs.lemmas.Grind.{common_steps}
 use Rattle.std.proofs.Common.{◌≡◌, ℕ, ℤ, pos, ◌+ℤ◌, ◌-ℤ◌, ◌*ℤ◌, ◌≤ℤ◌, ◌<ℤ◌, neg_ℤ, inl, inr, refl, sym, ap, ◌∙◌, subst}
 use Rattle.std.proofs.Common.{List, [], ◌∷◌, arith}
@@ -32,8 +32,8 @@ use Rattle.hull_geometry.proofs.EdgeSteps.{product_same}
 
 -- ---- misses
 
--- where the sides of p and q go over from left to right, and both lie less far than a in a direction, in which b lies no farther
--- than a, then a lies right of the line from p to q
+-- if the edge from p to q crosses from left to right, and both lie less far than a in a direction in which b lies no
+-- farther than a, then a lies right of the line from p to q
 crossed_right : (d a b p q : Pair) → pos 0 ≤ℤ orient a b p → orient a b q ≤ℤ pos 0
     → pos 0 <ℤ (orient a b p -ℤ orient a b q) → product d p <ℤ product d a → product d q <ℤ product d a
     → product d b <ℤ product d a → orient p q a <ℤ pos 0
@@ -67,7 +67,7 @@ crossed_right d a b p q hp hq hpq lp lq lb = elim (le_or_lt (pos 0) (orient p q 
         let k : u *ℤ w ≡ pos 0 = ap (λ (t : ℤ). u *ℤ t) hw ∙ times_none u in
         let l : (o *ℤ x) ≤ℤ pos 0 = negative o x ho hx in omega (arith, ints, e, k, l, h)
 
--- so where a is not covered, and lies not right of that line, the ray misses S
+-- if a is not covered, and does not lie right of that line, the ray misses S
 pub missed_edge : (S : List Pair) (a b p q : Pair) → IsPointSet S → ¬ Covers S a → Contains S p → Contains S q
     → pos 0 ≤ℤ orient a b p → orient a b q ≤ℤ pos 0 → pos 0 <ℤ (orient a b p -ℤ orient a b q)
     → pos 0 ≤ℤ orient p q a → MissesRay S a b
@@ -85,7 +85,7 @@ missed_edge S a b p q o n mp mq hp hq hpq h = elim (covers_or_separated S a o) [
     not_both : (x : ℤ) → x <ℤ pos 0 → pos 0 ≤ℤ x → ⊥
     not_both x h k = omega (arith, ints)
 
--- a set that lies left of the line is missed
+-- the ray misses a set that lies left of its line
 pub missed_left : (S : List Pair) (a b : Pair) → ((s : Pair) → Contains S s → pos 0 <ℤ orient a b s) → MissesRay S a b
 missed_left S a b h = (
   left_of b a,
@@ -99,7 +99,7 @@ missed_left S a b h = (
     level : (x y u : ℤ) → x -ℤ y ≡ u → u ≡ pos 0 → x ≤ℤ y
     level x y u e f = omega (arith, ints)
 
--- so is one that lies right of it
+-- the ray misses a set that lies right of its line
 pub missed_right : (S : List Pair) (a b : Pair) → ((s : Pair) → Contains S s → orient a b s <ℤ pos 0) → MissesRay S a b
 missed_right S a b h = (
   left_of a b,
@@ -119,12 +119,12 @@ pub steps_along : (a b c : Pair)
 unfolding product
 steps_along a b c = rw (as_pair a, as_pair b, as_pair c) (simp difference_rules (difference-eq _ _ _ _ (omega arith)))
 
--- and along any vector
+-- how far a point lies along any vector
 goes_along : (d a c : Pair) → product d c -ℤ product d a ≡ d.x *ℤ (c.x -ℤ a.x) +ℤ d.y *ℤ (c.y -ℤ a.y)
 unfolding product
 goes_along d a c = rw (as_pair d, as_pair a, as_pair c) (simp difference_rules (difference-eq _ _ _ _ (omega arith)))
 
--- two vectors by a third
+-- the components of one vector by those of two others
 by_third : (w z u v x y : ℤ)
     → (w *ℤ w +ℤ z *ℤ z) *ℤ (x *ℤ u +ℤ y *ℤ v) -ℤ (w *ℤ u +ℤ z *ℤ v) *ℤ (x *ℤ w +ℤ y *ℤ z)
     ≡ (w *ℤ v -ℤ z *ℤ u) *ℤ (w *ℤ y -ℤ z *ℤ x)
@@ -132,7 +132,7 @@ by_third w z u v x y =
     rw (as_difference w, as_difference z, as_difference u, as_difference v, as_difference x, as_difference y)
     (simp difference_rules (difference-eq _ _ _ _ (omega arith)))
 
--- a step's length, how far another goes along it, and across
+-- a step's squared length, how far another goes along it, and its cross product
 along_step : (d a b c : Pair)
     → (product (step a b) b -ℤ product (step a b) a) *ℤ (product d c -ℤ product d a)
     -ℤ (product (step a b) c -ℤ product (step a b) a) *ℤ (product d b -ℤ product d a)
@@ -140,12 +140,12 @@ along_step : (d a b c : Pair)
 unfolding orient
 along_step d a b c = grind (arith, common_steps, steps_along, c, goes_along, d, by_third)
 
--- a step's length is not below 0, and above it where it goes anywhere along a direction
+-- a step's squared length is not below 0, and is above it if it goes anywhere along a direction
 step_length : (d a b : Pair) → ¬ (product d b ≡ product d a)
     → pos 0 <ℤ (product (step a b) b -ℤ product (step a b) a)
 step_length d a b n = gap_above _ _ (way_on a b (λ e. n (ap (product d) (sym e))))
 
--- a point of S on the line that lies no farther ahead than a, which is not covered: the ray misses S
+-- if a point of S on the line lies no farther ahead than a, which is not covered, the ray misses S
 pub missed_behind : (S : List Pair) (a b c : Pair) → IsPointSet S → ¬ Covers S a → Contains S c → orient a b c ≡ pos 0
     → product (step a b) c ≤ℤ product (step a b) a → MissesRay S a b
 missed_behind S a b c o n m z h = elim (covers_or_separated S a o) [
@@ -167,7 +167,7 @@ missed_behind S a b c o n m z h = elim (covers_or_separated S a o) [
     none : (k : ℤ) → pos 0 *ℤ k ≡ pos 0
     none k = omega (arith, ints)
 
-    -- w * x - u * v = o * k with o = 0, w above 0, x below, u not above 0, v below
+    -- no such products are equal: w * x - u * v = o * k with o = 0, w above 0, x below 0, u not above 0, v below 0
     clash : (w x u v o k : ℤ) → w *ℤ x -ℤ u *ℤ v ≡ o *ℤ k → o ≡ pos 0 → pos 0 <ℤ w → x <ℤ pos 0 → u ≤ℤ pos 0
         → v <ℤ pos 0 → ⊥
     clash w x u v o k e z hw hx hu hv =
@@ -178,11 +178,11 @@ missed_behind S a b c o n m z h = elim (covers_or_separated S a o) [
 
 -- ---- segments
 
--- what the ray misses is apart from the segment
+-- a set that the ray misses is disjoint from the segment
 pub apart_missed : (S : List Pair) (a b : Pair) → MissesRay S a b → IsApart S (segment a b)
 apart_missed S a b (d, near, far) = (d, parts_both S d a b near far)
 
--- the segment ends before it comes to the edge
+-- a set is disjoint from a segment that ends before it comes to the edge
 pub apart_before_edge : (S : List Pair) (a b p q : Pair) → IsLeftOf S p q → orient p q a <ℤ pos 0
     → (orient a b p -ℤ orient a b q) <ℤ neg_ℤ (orient p q a) → IsApart S (segment a b)
 apart_before_edge S a b p q left before short = (
@@ -205,7 +205,7 @@ apart_before_edge S a b p q left before short = (
     behind : (oa ob sq sp : ℤ) → oa -ℤ ob ≡ sq -ℤ sp → (sp -ℤ sq) <ℤ neg_ℤ oa → ob <ℤ pos 0
     behind oa ob sq sp e h = omega (arith, ints)
 
--- or to the corner
+-- a set is disjoint from a segment that ends before it comes to the vertex
 pub apart_before_corner : (S : List Pair) (a b c : Pair) → IsFarthest S (step b a) c
     → product (step a b) a <ℤ product (step a b) c
     → (product (step a b) b -ℤ product (step a b) a) <ℤ (product (step a b) c -ℤ product (step a b) a)
@@ -229,9 +229,9 @@ apart_before_corner S a b c first ahead short = (
     behind : (x y z : ℤ) → (y -ℤ x) <ℤ (z -ℤ x) → y <ℤ z
     behind x y z h = omega (arith, ints)
 
--- ---- none before
+-- ---- no point before
 
--- how far a point of the way lies in a direction
+-- how far a point of the path lies in a direction
 way_along : (d a b : Pair) (k n : ℕ)
     → product d (on_way k n a b) ≡ pos k *ℤ product d a +ℤ pos n *ℤ (product d b -ℤ product d a)
 unfolding product
@@ -252,7 +252,7 @@ way_along d a b k n = parts d.x d.y a.x a.y b.x b.y (pos k) (pos n)
           as_difference n,
         ) (simp difference_rules (difference-eq _ _ _ _ (omega arith)))
 
--- a point of the way that is no farther in a direction than k times c
+-- if a point of the path is no farther in a direction than k times c, it does not come before
 none_beyond : (k n : ℕ) (da db dc part whole : ℤ) → (pos k *ℤ da +ℤ pos n *ℤ (db -ℤ da)) ≤ℤ (pos k *ℤ dc)
     → part ≡ da -ℤ dc → whole ≡ da -ℤ db → (pos k *ℤ part) ≤ℤ (pos n *ℤ whole)
 none_beyond k n da db dc part whole h e f =
@@ -275,7 +275,7 @@ right_of_edge S p q left =
     at_most : (x y u o : ℤ) → x -ℤ y ≡ u → u ≡ neg_ℤ o → pos 0 ≤ℤ o → x ≤ℤ y
     at_most x y u o e f h = omega (arith, ints)
 
--- no point of the way before the edge or the corner is covered
+-- no point of the path before the edge or the vertex is covered
 pub none_before : NoneBefore
 none_before S a b Start k n h c = nothing (pos k) n
   where
@@ -311,9 +311,9 @@ none_before S a b (Corner c) k n h m =
     turned : (x y u v : ℤ) → x ≡ neg_ℤ u → y ≡ neg_ℤ v → v -ℤ u ≡ x -ℤ y
     turned x y u v e f = omega (arith, ints)
 
--- ---- and that point is covered
+-- ---- the entry is covered
 
--- a member of a set is one of the magnified set, k times as far out
+-- k times a member of a set is a member of the magnified set
 magnified_there : (S : List Pair) (p : Pair) (k : ℕ) → Contains S p
     → Contains (magnified k S) record { x = pos k *ℤ p.x; y = pos k *ℤ p.y }
 magnified_there S p k (i, l, e) = (
@@ -334,7 +334,7 @@ at_crossing k n oa ob sp sq x z p q ek en es e =
     drawn oa ob x z = rw (as_difference oa, as_difference ob, as_difference x, as_difference z)
         (simp difference_rules (difference-eq _ _ _ _ (omega arith)))
 
--- it lies between those of the ends
+-- that coordinate lies between those of the ends
 between_magnified : (k sp sq x p q : ℤ) → k ≡ sp -ℤ sq → pos 0 <ℤ k → pos 0 ≤ℤ sp → sq ≤ℤ pos 0
     → x ≡ sp *ℤ q -ℤ sq *ℤ p → IsBetween (k *ℤ p) (k *ℤ q) x
 between_magnified k sp sq x p q ek hk hp hq e =
@@ -345,7 +345,7 @@ between_magnified k sp sq x p q ek hk hp hq e =
         rw (as_difference k, as_difference sp, as_difference sq, as_difference p, as_difference q)
         (simp difference_rules (difference-eq _ _ _ _ (omega arith)))
 
--- and on their line
+-- the crossing is on the line of the ends
 on_line : (k sp sq px py qx qy x y : ℤ) → k ≡ sp -ℤ sq → x ≡ sp *ℤ qx -ℤ sq *ℤ px → y ≡ sp *ℤ qy -ℤ sq *ℤ py
     → (k *ℤ qx -ℤ k *ℤ px) *ℤ (y -ℤ k *ℤ py) -ℤ (k *ℤ qy -ℤ k *ℤ py) *ℤ (x -ℤ k *ℤ px) ≡ pos 0
 on_line k sp sq px py qx qy x y ek ex ey =
@@ -363,21 +363,21 @@ on_line k sp sq px py qx qy x y ek ex ey =
     flat k s u v = rw (as_difference k, as_difference s, as_difference u, as_difference v)
         (simp difference_rules (difference-pos _ _ 0 (omega arith)))
 
--- told by sides
+-- the crossing is on that line, by sides
 line_there : (k sp sq : ℤ) (p q : Pair) (x y : ℤ) → k ≡ sp -ℤ sq → x ≡ sp *ℤ q.x -ℤ sq *ℤ p.x
     → y ≡ sp *ℤ q.y -ℤ sq *ℤ p.y
     → orient record { x = k *ℤ p.x; y = k *ℤ p.y } record { x = k *ℤ q.x; y = k *ℤ q.y } record { x = x; y = y } ≡ pos 0
 unfolding orient
 line_there k sp sq p q x y ek ex ey = on_line k sp sq p.x p.y q.x q.y x y ek ex ey
 
--- the point at n / k of a step, k times as far out
+-- the point at n / k of a step, magnified by k
 abbrev pub at_part : ℕ → ℤ → Pair → Pair → Pair
 at_part k n a b = record {
   x = pos k *ℤ a.x +ℤ n *ℤ (b.x -ℤ a.x);
   y = pos k *ℤ a.y +ℤ n *ℤ (b.y -ℤ a.y);
 }
 
--- where the way crosses an edge
+-- the point at which the path crosses an edge is covered
 pub crosses_there : (S : List Pair) (a b p q : Pair) (k : ℕ) (n : ℤ) → Contains S p → Contains S q → pos 0 ≤ℤ orient a b p
     → orient a b q ≤ℤ pos 0 → pos 0 <ℤ (orient a b p -ℤ orient a b q) → n ≡ neg_ℤ (orient p q a)
     → pos k ≡ orient a b p -ℤ orient a b q → Covers (magnified k S) (at_part k n a b)
@@ -398,7 +398,7 @@ crosses_there S a b p q k n mp mq hp hq h en ek =
     at x z u v e = at_crossing (pos k) n (orient p q a) (orient p q b) (orient a b p) (orient a b q) x z u v ek en
         (weights_sum a b p q) e
 
--- how a point of the line lies ahead, by the step's length
+-- how a point of the line lies ahead, by the step's squared length
 ahead_x : (a b c : Pair)
     → (product (step a b) b -ℤ product (step a b) a) *ℤ (c.x -ℤ a.x)
     -ℤ (product (step a b) c -ℤ product (step a b) a) *ℤ (b.x -ℤ a.x)
@@ -413,7 +413,7 @@ ahead_y : (a b c : Pair)
 unfolding orient product
 ahead_y a b c = rw (as_pair a, as_pair b, as_pair c) (simp difference_rules (difference-eq _ _ _ _ (omega arith)))
 
--- where it comes to a corner on its line
+-- the point at which the path comes to a vertex on its line is that vertex
 pub comes_there : (S : List Pair) (a b c : Pair) (k : ℕ) (n : ℤ) → Contains S c → orient a b c ≡ pos 0
     → n ≡ product (step a b) c -ℤ product (step a b) a → pos k ≡ product (step a b) b -ℤ product (step a b) a
     → Covers (magnified k S) (at_part k n a b)
@@ -436,7 +436,7 @@ comes_there S a b c k n m z en ek =
     same = same_pair _ _ (at a.x b.x c.x (a.y -ℤ b.y) (orient a b c) (rw (ek, en) (ahead_x a b c)) z)
         (at a.y b.y c.y (b.x -ℤ a.x) (orient a b c) (rw (ek, en) (ahead_y a b c)) z)
 
--- a set once as large is the set
+-- a set magnified by 1 is the set
 once : (S : List Pair) → magnified 1 S ≡ S
 once [] = refl
 once (p ∷ S) = ap (λ (T : List Pair). record { x = pos 1 *ℤ p.x; y = pos 1 *ℤ p.y } ∷ T) (once S)
@@ -445,7 +445,7 @@ once (p ∷ S) = ap (λ (T : List Pair). record { x = pos 1 *ℤ p.x; y = pos 1 
     one : (x : ℤ) → pos 1 *ℤ x ≡ x
     one x = omega (arith, ints)
 
--- the way begins at its start
+-- a path whose start is covered enters at its start
 starts_there : (S : List Pair) (a b : Pair) → Covers S a → Covers (magnified 1 S) (on_way 1 0 a b)
 starts_there S a b c =
     subst (λ (T : List Pair). Covers T (on_way 1 0 a b)) (sym (once S))
@@ -454,7 +454,7 @@ starts_there S a b c =
     start : (x y : ℤ) → x ≡ pos 1 *ℤ x +ℤ pos 0 *ℤ (y -ℤ x)
     start x y = omega (arith, ints)
 
--- the point where the way comes in is covered
+-- the entry of the path is covered
 pub enters_there : EntersThere
 enters_there S a b Start k n h en ek =
     let i : n ≡ 0 = omega (arith, ints, en) in
@@ -464,9 +464,9 @@ enters_there S a b Start k n h en ek =
 enters_there S a b (Edge p q) k n h en ek = crosses_there S a b p q k (pos n) h.0.start.0 h.0.end.0 h.0.from h.0.to h.0.across en ek
 enters_there S a b (Corner c) k n h en ek = comes_there S a b c k (pos n) h.corner.0 h.line en ek
 
--- ---- what is told
+-- ---- results
 
--- where the line is not crossed, and a point of S lies beside it or not ahead, the ray misses S
+-- if the line is not crossed, and a point of S lies beside it or not ahead, the ray misses S
 pub missed_uncrossed : (S : List Pair) (a b c : Pair) → IsPointSet S → ¬ Covers S a → IsUncrossed S a b → Contains S c
     → ((orient a b c ≡ pos 0) → product (step a b) c ≤ℤ product (step a b) a) → MissesRay S a b
 missed_uncrossed S a b c o n (inl h) m k = missed_left S a b h

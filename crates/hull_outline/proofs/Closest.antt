@@ -1,5 +1,5 @@
--- Of the points of two sets that are apart, a corner of one of them is closest to the other: where what is nearest to
--- some corner is nearest of all, no point of its set lies farther on the way there.
+-- Of the points of two disjoint sets, a vertex of one of them is closest to the other: if the distance of some vertex
+-- to the other set is the least of all, no point of its own set lies farther in that direction.
 use Rattle.std.proofs.Common.{◌≡◌, ℕ, zero, suc, ◌≤◌, ◌<◌, ℤ, pos, ◌*ℤ◌, ◌≤ℤ◌, ◌<ℤ◌, neg_ℤ, inl, inr}
 use Rattle.std.proofs.Common.{refl, sym, subst, List, [], ◌∷◌, length, arith}
 use Rattle.std.specs.List.{Contains}
@@ -32,27 +32,27 @@ use Rattle.hull_outline.proofs.Rivals.{depth, reach, Rival, farther_than, reach_
 use Rattle.hull_outline.proofs.Rivals.{edge_closest}
 use Rattle.lattice.proofs.Numbers.{le_itself, le_less, le_less_trans, le_trans, nn_above}
 
--- ---- what is nearest of all
+-- ---- the nearest feature of all
 
--- what parts a set from c, by what is nearest to c there
+-- the separation of a set from c, by the nearest feature to c
 abbrev told : Pair → Nearest → Separation
 told c Covered = apart_by (step c c) c
 told c (Corner d) = apart_by (step d c) d
 told c (Edge a b) = apart_by (left_of b a) b
 
--- it does
+-- it is a separation
 told_parts : (T : List Pair) (c : Pair) (place : Nearest) → ¬ Covers T c → IsNearest T c place
     → IsSeparation T (c ∷ []) (told c place)
 told_parts T c Covered out h = absurd (out h)
 told_parts T c (Corner d) out h = from_corner T c d _ h refl
 told_parts T c (Edge a b) out h = from_edge T c a b _ h refl
 
--- no set covers a point of another from which it is apart
+-- no set covers a point of a set that is disjoint from it
 pub not_covering : (S T : List Pair) (c : Pair) → IsApart S T → Contains S c → ¬ Covers T c
 not_covering S T c a m k = never_both S T (IsReached c m k) a
 
--- each corner of S has a rival in T that is no nearer, and each corner of T in S: no point of S lies farther than c on
--- the way to what is nearest to it
+-- if each vertex of S has a rival in T that is no nearer, and each vertex of T one in S, no point of S lies farther
+-- than c in the direction to the nearest feature
 least_closest : (S T : List Pair) (c : Pair) (place : Nearest) → IsApart S T → Contains S c → IsNearest T c place
     → ((d : Pair) → (s : Pair) × IsExtreme S s × IsFarthest S d s)
     → ((q : Pair) → IsExtreme S q → Rival T q (depth (told c place) c) (reach (told c place)))
@@ -77,7 +77,7 @@ least_closest S T c (Edge u v) a m h far mine others =
 
 -- ---- the least of some fractions
 
--- of so many fractions and one more, with numbers above 0 below, one is no greater than the others
+-- of n + 1 fractions with denominators above 0, one is no greater than the others
 least_of : (A B : ℕ → ℤ) → ((i : ℕ) → pos 0 <ℤ B i) → (n : ℕ)
     → (k : ℕ) × ((i : ℕ) → i ≤ n → (A k *ℤ B i) ≤ℤ (A i *ℤ B k))
 least_of A B above zero = (0, λ i l. subst (λ (j : ℕ). (A 0 *ℤ B j) ≤ℤ (A j *ℤ B 0)) (omega (arith, l)) (same _))
@@ -104,27 +104,27 @@ least_of A B above (suc n) =
       )
     ]
 
--- ---- a corner that is closest
+-- ---- a vertex that is closest
 
--- what passes a corner by passes by each
+-- if all vertices are passed by, each is
 each_passed : (S V T : List Pair) → 0 < length V → HasNoClosest V S T → (i : ℕ) → IsPassedBy S T (corner V i)
 each_passed S V T n none i = let k = placed V i n in subst (IsPassedBy S T) (sym k.2) (none k.0 k.1)
 
--- how wide the strip at each corner of V is: its square is this
+-- the square of the width of the strip at each vertex of V, times a squared length
 abbrev square_of : (S V T : List Pair) → ((i : ℕ) → IsPassedBy S T (corner V i)) → ℕ → ℤ
 square_of S V T f i = depth (told (corner V i) (f i).0) (corner V i) *ℤ depth (told (corner V i) (f i).0) (corner V i)
 
--- by this
+-- the squared length of its direction
 abbrev length_of : (S V T : List Pair) → ((i : ℕ) → IsPassedBy S T (corner V i)) → ℕ → ℤ
 length_of S V T f i = reach (told (corner V i) (f i).0)
 
--- what parts T from a corner of S
+-- the separation of T from a vertex of S
 strip_parts : (S V T : List Pair) (f : (i : ℕ) → IsPassedBy S T (corner V i)) → IsOutlineOf S V → 0 < length V
     → IsApart S T → (i : ℕ) → IsSeparation T (corner V i ∷ []) (told (corner V i) (f i).0)
 strip_parts S V T f o n a i =
     told_parts T (corner V i) (f i).0 (not_covering S T (corner V i) a (corner_extreme S V i o.1 n).0) (f i).1
 
--- corners as rivals
+-- each vertex is a rival
 rival_of : (S V T : List Pair) (f : (i : ℕ) → IsPassedBy S T (corner V i)) → IsOutlineOf S V → 0 < length V
     → IsApart S T → (H L : ℤ)
     → ((i : ℕ) → i < length V → ((H *ℤ H) *ℤ length_of S V T f i) ≤ℤ (square_of S V T f i *ℤ L))
@@ -134,7 +134,7 @@ rival_of S V T f o n a H L h q x =
     subst (λ (z : Pair). Rival T z H L) (sym k.2)
     (told (corner V k.0) (f k.0).0, strip_parts S V T f o n a k.0, h k.0 k.1)
 
--- the corner of S whose strip is least wide is not passed by
+-- the vertex of S whose strip is least wide is not passed by
 least_not_passed : (S V T W : List Pair) (last k : ℕ) (f : (i : ℕ) → IsPassedBy S T (corner V i))
     → (g : (i : ℕ) → IsPassedBy T S (corner W i)) → IsOutlineOf S V → IsParted V last → IsOutlineOf T W
     → 0 < length V → 0 < length W → IsApart S T
@@ -145,7 +145,7 @@ least_not_passed S V T W last k f g o p t n m a mine others =
     (λ d. let r = farthest_corner S V last d o p n in (corner V r.0, corner_extreme S V r.0 o.1 n, r.1.1))
     (rival_of S V T f o n a _ _ mine) (rival_of T W S g t m (apart_turned S T a) _ _ others))
 
--- of two sets that are apart not all corners of both are passed by
+-- of two disjoint sets not all vertices of both are passed by
 pub never_all_passed : (S V T W : List Pair) (last end : ℕ) → IsOutlineOf S V → IsParted V last → IsOutlineOf T W
     → IsParted W end → 0 < length V → 0 < length W → IsApart S T → HasNoClosest V S T → HasNoClosest W T S → ⊥
 never_all_passed S V T W last end o p t q n m a none nor =
@@ -174,9 +174,9 @@ never_all_passed S V T W last end o p t q n m a none nor =
     down : (i : ℕ) → pos 0 <ℤ length_of T W S g i
     down i = reach_above S (corner W i) (told (corner W i) (g i).0) (strip_parts T W S g t m (apart_turned S T a) i)
 
--- ---- where two hulls are nearest
+-- ---- the nearest points of two hulls
 
--- what is farthest in S on the way to d is nearest to d
+-- the vertex farthest in S in the direction to d is nearest to d
 corner_back : (S T : List Pair) (c d : Pair) → IsExtreme S c → IsNearestCorner T c d → IsFarthest S (step c d) c
     → IsNearestCorner S d c
 corner_back S T c d x h f = record {
@@ -190,7 +190,7 @@ corner_back S T c d x h f = record {
   nearest = f;
 }
 
--- where a farthest point is no farther than c, none is
+-- if a farthest point is no farther than c, none is
 pub none_farther : (S : List Pair) (d p c : Pair) → IsFarthest S d p → ¬ (product d c <ℤ product d p) → IsFarthest S d c
 none_farther S d p c f n =
     all_of (λ t. product d t ≤ℤ product d c) S
@@ -199,15 +199,15 @@ none_farther S d p c f n =
     not_less : (x y : ℤ) → ¬ (x <ℤ y) → y ≤ℤ x
     not_less x y n = elim (le_or_lt y x) [ inl h ↦ h | inr h ↦ absurd (n h) ]
 
--- and only there
+-- and only if it is no farther
 pub some_farther : (S : List Pair) (d p c : Pair) → Contains S p → IsFarthest S d c → ¬ (product d c <ℤ product d p)
 some_farther S d p c m f h = omega (arith, ints, All-contains (λ z. product d z ≤ℤ product d c) S p f m)
 
--- a corner of each
+-- two vertices
 pub by_corners : (S T : List Pair) (c d : Pair) → IsClosest S T c (Corner d)
     → IsNearestCorner S d c × IsNearestCorner T c d
 by_corners S T c d h = (corner_back S T c d h.corner h.nearest h.closest, h.nearest)
 
--- a corner of the one and an edge of the other
+-- a vertex of the one and an edge of the other
 pub by_edge : (S T : List Pair) (c a b : Pair) → IsClosest S T c (Edge a b) → IsClosestToEdge S T c a b
 by_edge S T c a b h = record { corner = h.corner; edge = h.nearest; closest = h.closest }

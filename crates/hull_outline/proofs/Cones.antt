@@ -1,4 +1,4 @@
--- Three corners in a row: what lies left of both edges lies no farther than the middle one in each direction in which
+-- Three vertices in a row: a point left of both edges lies no farther than the middle one in each direction in which
 -- the others lie no farther.
 use Rattle.std.proofs.lemmas.Grind.{common_steps}
 use Rattle.std.proofs.Common.{◌≡◌, ℤ, pos, negsuc, ◌+ℤ◌, ◌-ℤ◌, ◌*ℤ◌, ◌≤ℤ◌, ◌<ℤ◌, ◌⊎◌, inl, inr, arith}
@@ -20,7 +20,7 @@ unfolding orient
 cone_x p c n x =
     rw (as_pair p, as_pair c, as_pair n, as_pair x) (simp difference_rules (difference-eq _ _ _ _ (omega arith)))
 
--- and by y
+-- the same by y
 cone_y : (p c n x : Pair) → orient p c n *ℤ (x.y -ℤ c.y) ≡ orient p c x *ℤ (n.y -ℤ c.y) +ℤ orient c n x *ℤ (p.y -ℤ c.y)
 unfolding orient
 cone_y p c n x =
@@ -31,13 +31,13 @@ step_along : (f c x : Pair) → product f x -ℤ product f c ≡ f.x *ℤ (x.x -
 unfolding product
 step_along f c x = rw (as_pair f, as_pair c, as_pair x) (simp difference_rules (difference-eq _ _ _ _ (omega arith)))
 
--- a weight of both coordinates
+-- a weighted sum of both coordinates
 weigh : (k u v x y : ℤ) → k *ℤ (u *ℤ x +ℤ v *ℤ y) ≡ u *ℤ (k *ℤ x) +ℤ v *ℤ (k *ℤ y)
 weigh k u v x y =
     rw (as_difference k, as_difference u, as_difference v, as_difference x, as_difference y)
     (simp (difference-add, difference-mul) (difference-eq _ _ _ _ (omega arith)))
 
--- two weights of both coordinates
+-- a sum of both coordinates with two weights
 weigh_two : (b a u v w z x y : ℤ)
     → u *ℤ (b *ℤ w +ℤ a *ℤ x) +ℤ v *ℤ (b *ℤ z +ℤ a *ℤ y) ≡ b *ℤ (u *ℤ w +ℤ v *ℤ z) +ℤ a *ℤ (u *ℤ x +ℤ v *ℤ y)
 weigh_two b a u v w z x y =
@@ -60,7 +60,7 @@ cone f p c n x = grind (arith, common_steps, orient, c, n, step_along, f, weigh,
 
 -- ---- signs
 
--- weights that are not negative of what is not positive
+-- a weighted sum, with weights that are not negative, of numbers that are not positive is not positive
 within_cone : (d b a x n p : ℤ) → pos 0 <ℤ d → pos 0 ≤ℤ b → pos 0 ≤ℤ a → n ≤ℤ pos 0 → p ≤ℤ pos 0
     → d *ℤ x ≡ b *ℤ n +ℤ a *ℤ p → x ≤ℤ pos 0
 within_cone d b a x n p hd hb ha hn hp e = elim (le_or_lt x (pos 0)) [
@@ -70,7 +70,7 @@ within_cone d b a x n p hd hb ha hn hp e = elim (le_or_lt x (pos 0)) [
       absurd (omega (arith, ints))
 ]
 
--- a negative weight of what completes a sum: that is not positive
+-- if a weighted sum with a negative weight is not negative, the number with that weight is not positive
 away : (d b a x n p : ℤ) → pos 0 <ℤ d → pos 0 ≤ℤ b → a <ℤ pos 0 → n ≤ℤ pos 0 → pos 0 ≤ℤ x
     → d *ℤ x ≡ b *ℤ n +ℤ a *ℤ p → p ≤ℤ pos 0
 away d b a x n p hd hb ha hn hx e = elim (le_or_lt p (pos 0)) [
@@ -80,71 +80,71 @@ away d b a x n p hd hb ha hn hx e = elim (le_or_lt p (pos 0)) [
       absurd (omega (arith, ints))
 ]
 
--- a square
+-- a square is not negative
 pub square_nn : (x : ℤ) → pos 0 ≤ℤ (x *ℤ x)
 square_nn (pos n) = product_nn (pos n) (pos n) (omega (arith, ints)) (omega (arith, ints))
 square_nn (negsuc n) = omega (arith, ints)
 
--- a square of what is not nothing
+-- the square of a number that is not 0 is positive
 pub square_above : (x : ℤ) → (pos 0 <ℤ x) ⊎ (x <ℤ pos 0) → pos 0 <ℤ (x *ℤ x)
 square_above x (inl h) = product_pp x x h h
 square_above x (inr h) = product_mm x x h h
 
--- ---- the way from c to q
+-- ---- the vector from c to q
 
--- how far q lies on the way to n is how far n lies on the way to q
+-- how far q lies in the direction of n is how far n lies in the direction of q
 on_the_way : (c n q : Pair)
     → product (step c n) q -ℤ product (step c n) c ≡ product (step c q) n -ℤ product (step c q) c
 unfolding product
 on_the_way c n q = rw (as_pair c, as_pair n, as_pair q) (simp difference_rules (difference-eq _ _ _ _ (omega arith)))
 
--- q lies onward to n where n lies onward to q
+-- q lies onward to n if n lies onward to q
 pub seen_onward : (c n q : Pair) → product (step c q) c <ℤ product (step c q) n → IsOnward c n q
 seen_onward c n q h = omega (arith, ints, on_the_way c n q)
 
--- and only there
+-- q lies onward to n only if n lies onward to q
 pub not_onward : (c n q : Pair) → ¬ IsOnward c n q → (product (step c q) n -ℤ product (step c q) c) ≤ℤ pos 0
 not_onward c n q h = elim (le_or_lt (product (step c q) n -ℤ product (step c q) c) (pos 0))
     [ inl k ↦ k | inr k ↦ absurd (h (seen_onward c n q (omega (arith, ints)))) ]
 
--- the same told of q
+-- the same for q
 pub onward_not : (c n q : Pair) → (product (step c q) n -ℤ product (step c q) c) ≤ℤ pos 0 → ¬ IsOnward c n q
 onward_not c n q h k = omega (arith, ints, on_the_way c n q)
 
--- how far the way goes
+-- how far the vector to q goes is its squared length
 pub way_square : (c q : Pair) → product (step c q) q -ℤ product (step c q) c
     ≡ (q.x -ℤ c.x) *ℤ (q.x -ℤ c.x) +ℤ (q.y -ℤ c.y) *ℤ (q.y -ℤ c.y)
 unfolding product
 way_square c q = rw (as_pair c, as_pair q) (simp difference_rules (difference-eq _ _ _ _ (omega arith)))
 
--- not back
+-- the vector to q does not go back
 pub way_forward : (c q : Pair) → pos 0 ≤ℤ (product (step c q) q -ℤ product (step c q) c)
 way_forward c q = rw (way_square c q) (sum_nn _ _ (square_nn (q.x -ℤ c.x)) (square_nn (q.y -ℤ c.y)))
 
 -- ---- a left bend from p by c to n
 
--- what lies left of both edges is no farther than c where p and n are not
+-- a point left of both edges is no farther than c if p and n are not
 pub no_farther_in_cone : (f p c n x : Pair) → pos 0 <ℤ orient p c n → pos 0 ≤ℤ orient p c x → pos 0 ≤ℤ orient c n x
     → (product f n -ℤ product f c) ≤ℤ pos 0 → (product f p -ℤ product f c) ≤ℤ pos 0
     → (product f x -ℤ product f c) ≤ℤ pos 0
 no_farther_in_cone f p c n x t hp hn fn fp = within_cone _ _ _ _ _ _ t hp hn fn fp (cone f p c n x)
 
--- q lies right of the second edge, not of the first, and not onward on the second: not back on the first
+-- if q lies right of the second edge, not of the first, and not onward on the second, it is not back on the first
 pub turned_to_second : (p c n q : Pair) → pos 0 <ℤ orient p c n → pos 0 ≤ℤ orient p c q → orient c n q <ℤ pos 0
     → ¬ IsOnward c n q → ¬ IsOnward c p q
 turned_to_second p c n q t hp hn o =
     onward_not c p q (away _ _ _ _ _ _ t hp hn (not_onward c n q o) (way_forward c q) (cone (step c q) p c n q))
 
--- q lies right of the first edge, not of the second, and not back on the first: not onward on the second
+-- if q lies right of the first edge, not of the second, and not back on the first, it is not onward on the second
 pub turned_to_first : (p c n q : Pair) → pos 0 <ℤ orient p c n → orient p c q <ℤ pos 0 → pos 0 ≤ℤ orient c n q
     → ¬ IsOnward c p q → ¬ IsOnward c n q
 turned_to_first p c n q t hp hn o =
     onward_not c n q (away _ _ _ _ _ _ t hn hp (not_onward c p q o) (way_forward c q)
     (omega (arith, ints, cone (step c q) p c n q)))
 
--- ---- which of two corners is nearer
+-- ---- the nearer of two vertices
 
--- q lies onward from c to n, and not from n to c: it is nearer to n
+-- if q lies onward from c to n, and not from n to c, it is nearer to n
 square_between : (c n q : Pair)
     → (product (step c q) q -ℤ product (step c q) c) -ℤ (product (step n q) q -ℤ product (step n q) n)
     ≡ (product (step c n) q -ℤ product (step c n) c) -ℤ (product (step n c) q -ℤ product (step n c) n)
@@ -156,7 +156,7 @@ square_between c n q =
 abbrev pub far : Pair → Pair → ℤ
 far c q = product (step c q) q -ℤ product (step c q) c
 
--- q lies onward from c to n, and not back from n to c: it is nearer to n
+-- if q lies onward from c to n, and not back from n to c, it is nearer to n
 pub nearer_to_next : (c n q : Pair) → IsOnward c n q → ¬ IsOnward n c q → far n q <ℤ far c q
 nearer_to_next c n q h k = omega (arith, ints, square_between c n q, le_of k)
   where

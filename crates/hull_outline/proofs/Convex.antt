@@ -18,14 +18,14 @@ pub record IsConvex (g : ℕ → Pair) (m : ℕ) : Type 0 where
   pub ascends : (i j : ℕ) → j ≡ i + 1 → j ≤ m → IsBefore (g i) (g j)
   pub bends : (i j k : ℕ) → j ≡ i + 1 → k ≡ j + 1 → k ≤ m → pos 0 <ℤ orient (g i) (g j) (g k)
 
--- a later point stands after an earlier one
+-- a later point is after an earlier one
 ascended : (g : ℕ → Pair) (m d i j : ℕ) → IsConvex g m → j ≡ i + suc d → j ≤ m → IsBefore (g i) (g j)
 ascended g m zero i j c e l = c.ascends i j (omega (arith, e)) l
 ascended g m (suc d) i j c e l =
     before_trans (g i) (g (j - 1)) (g j) (ascended g m d i (j - 1) c (omega (arith, e)) (omega (arith, l)))
     (c.ascends (j - 1) j (omega (arith, e)) l)
 
--- a later point stands after an earlier one
+-- a later point is after an earlier one
 pub later_after : (g : ℕ → Pair) (m i j : ℕ) → IsConvex g m → i < j → j ≤ m → IsBefore (g i) (g j)
 later_after g m i j c h l = ascended g m (j - i - 1) i j c (omega (arith, h)) l
 
@@ -34,7 +34,7 @@ next_bends : (g : ℕ → Pair) (m i j k : ℕ) → IsConvex g m → j ≡ i + 1
     → pos 0 <ℤ cross (minus (g j) (g i)) (minus (g k) (g j))
 next_bends g m i j k c e f l = above _ _ (side_after (g i) (g j) (g k)) (c.bends i j k e f l)
 
--- each later step does
+-- each later step bends left
 turned_by : (g : ℕ → Pair) (m d i j u v : ℕ) → IsConvex g m → j ≡ i + 1 → u ≡ j + d → v ≡ u + 1 → v ≤ m
     → pos 0 <ℤ cross (minus (g j) (g i)) (minus (g v) (g u))
 turned_by g m zero i j u v c e f k l =
@@ -48,11 +48,11 @@ turned_by g m (suc d) i j u v c e f k l =
     (turned_by g m d i j (u - 1) u c e (omega (arith, f)) (omega (arith, f)) (omega (arith, k, l)))
     (nn_above _ (next_bends g m (u - 1) u v c (omega (arith, f)) k l))
 
--- a difference above 0, and what it is taken from
+-- if s exceeds q by a positive difference, and q is not below 0, s is above 0
 sum_above : (s q d : ℤ) → s -ℤ q ≡ d → pos 0 ≤ℤ q → pos 0 <ℤ d → pos 0 <ℤ s
 sum_above s q d e h k = omega (arith, ints)
 
--- a point behind the next one lies left of the line
+-- a point after the next one lies left of the line
 left_of_later : (g : ℕ → Pair) (m d i j k : ℕ) → IsConvex g m → j ≡ i + 1 → k ≡ j + suc d → k ≤ m
     → pos 0 <ℤ orient (g i) (g j) (g k)
 left_of_later g m zero i j k c e f l = c.bends i j k e (omega (arith, f)) l
@@ -61,7 +61,7 @@ left_of_later g m (suc d) i j k c e f l =
     (nn_above _ (left_of_later g m d i j (k - 1) c e (omega (arith, f)) (omega (arith, l))))
     (turned_by g m (suc d) i j (k - 1) k c e (omega (arith, f)) (omega (arith, f)) l)
 
--- so does one before it
+-- a point before it lies left of the line
 left_of_earlier : (g : ℕ → Pair) (m d i j k : ℕ) → IsConvex g m → j ≡ i + 1 → i ≡ k + suc d → j ≤ m
     → pos 0 <ℤ orient (g i) (g j) (g k)
 left_of_earlier g m zero i j k c e f l =
@@ -72,7 +72,7 @@ left_of_earlier g m (suc d) i j k c e f l =
     (nn_above _ (left_of_earlier g m d i j (k + 1) c e (omega (arith, f)) l))
     (turned_by g m (suc d) k (k + 1) i j c (omega arith) (omega (arith, f)) e l)
 
--- u and v are in a row, and t is one of them or lies left of their line
+-- u and v are consecutive, and t is one of them or lies left of their line
 abbrev pub IsLeftOrEnd : Pair → Pair → Pair → Type 0
 IsLeftOrEnd u v t = (pos 0 <ℤ orient u v t) ⊎ ((t ≡ u) ⊎ (t ≡ v))
 
@@ -91,7 +91,7 @@ left_or_end g m i j k c e l n =
       ]
     ]
 
--- which is not right of it
+-- such a point is not right of the line
 pub not_right : (u v t : Pair) → IsLeftOrEnd u v t → pos 0 ≤ℤ orient u v t
 not_right u v t (inl h) = nn_above _ h
 not_right u v t (inr (inl e)) = nn_zero _ (ap (orient u v) e ∙ orient_start u v)

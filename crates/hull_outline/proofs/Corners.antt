@@ -1,4 +1,4 @@
--- The corners of a list by their places, the first one again behind the last place.
+-- The vertices of a list by their indices, with the first one again after the last index.
 use Rattle.std.proofs.Common.{◌≡◌, ℕ, zero, suc, ◌+◌, ◌≤◌, ◌<◌, List, [], ◌∷◌, length, get_or, refl, sym, ◌∙◌, subst}
 use Rattle.std.proofs.Common.{arith, inl, inr}
 use Rattle.std.specs.List.{Contains}
@@ -11,17 +11,17 @@ use Rattle.hull_geometry.specs.Positions.{origin, point_at}
 use Rattle.hull_geometry.proofs.PointLists.{get_or_free}
 use Rattle.hull_outline.specs.Rounds.{corner}
 
--- behind the end stands what is to stand for a missing member
+-- after the end of a list is the default for a missing member
 missing : (V : List Pair) (i : ℕ) (d : Pair) → length V ≤ i → get_or V i d ≡ d
 missing [] i d l = refl
 missing (x ∷ xs) zero d l = absurd (omega (arith, l))
 missing (x ∷ xs) (suc i) d l = missing xs i d (omega (arith, l))
 
--- behind the last place is the first corner
+-- after the last index is the first vertex
 pub corner_back : (V : List Pair) (i : ℕ) → length V ≤ i → 0 < length V → corner V i ≡ corner V 0
 corner_back V i l n = missing V i (point_at V 0) l ∙ get_or_free V 0 origin (point_at V 0) n
 
--- a corner is a member
+-- a vertex is a member
 pub corner_there : (V : List Pair) (i : ℕ) → 0 < length V → Contains V (corner V i)
 corner_there V i n = elim (cases_lt i (length V)) [
   | inl l ↦ Contains-get_or V i (point_at V 0) l
@@ -29,15 +29,15 @@ corner_there V i n = elim (cases_lt i (length V)) [
       subst (Contains V) (sym (corner_back V i l n)) (Contains-get_or V 0 (point_at V 0) n)
 ]
 
--- each member is a corner
+-- each member is a vertex
 pub corner_of : (V : List Pair) (t : Pair) → Contains V t → (i : ℕ) × (i < length V) × (t ≡ corner V i)
 corner_of V t (i, l, e) = (i, l, sym e ∙ get_or_free V i t (point_at V 0) l)
 
--- the corners of a vertex list are extreme
+-- the vertices of a vertex list are extreme
 pub corner_extreme : (S V : List Pair) (i : ℕ) → IsVertexList S V → 0 < length V → IsExtreme S (corner V i)
 corner_extreme S V i h n = (h.members (corner V i)).0 (corner_there V i n)
 
--- from u round, no point of S lies right of the line from a member to the next
+-- for a list that goes round S, no point of S lies right of the line from a member to the next, by recursion
 round_at : (S : List Pair) (first u : Pair) (rest : List Pair) (i j : ℕ) → GoesRound S first u rest → j ≡ i + 1
     → i < length (u ∷ rest) → IsLeftOf S (get_or (u ∷ rest) i first) (get_or (u ∷ rest) j first)
 round_at S first u rest i zero g e l = absurd (omega (arith, e))
@@ -49,20 +49,20 @@ round_at S first u (v ∷ rest) zero (suc (suc j)) g e l = absurd (omega (arith,
 round_at S first u (v ∷ rest) (suc i) (suc j) g e l =
     round_at S first v rest i j g.1 (omega (arith, e)) (omega (arith, l))
 
--- no point of S lies right of the line from a corner to the next
+-- no point of S lies right of the line from a vertex to the next
 pub next_left : (S V : List Pair) (i j : ℕ) → IsVertexList S V → j ≡ i + 1 → i < length V
     → IsLeftOf S (corner V i) (corner V j)
 next_left S [] i j h e l = absurd (omega (arith, l))
 next_left S (v ∷ rest) i j h e l = round_at S v v rest i j h.order.0 e l
 
--- the first corner stands before the others
+-- the first vertex is before the others
 pub first_before : (S V : List Pair) (i : ℕ) → IsVertexList S V → 0 < i → i < length V
     → IsBefore (corner V 0) (corner V i)
 first_before S [] i h k l = absurd (omega (arith, l))
 first_before S (v ∷ rest) zero h k l = absurd (omega (arith, k))
 first_before S (v ∷ rest) (suc i) h k l = h.order.1 i v (omega (arith, l))
 
--- a corner and the next one are apart
+-- a vertex and the next one are different
 pub next_apart : (S V : List Pair) (i j : ℕ) → IsVertexList S V → j ≡ i + 1 → i < length V → 1 < length V
     → ¬ (corner V i ≡ corner V j)
 next_apart S V i j h e l n = elim (cases_lt j (length V)) [
@@ -71,6 +71,6 @@ next_apart S V i j h e l n = elim (cases_lt j (length V)) [
       (sym (q ∙ corner_back V j k (omega (arith, n))))
 ]
 
--- a member that was read at a place is the corner there
+-- a member that was read at an index is the vertex there
 pub read_corner : (V : List Pair) (i : ℕ) (x : Pair) → i < length V → x ≡ get_or V i x → x ≡ corner V i
 read_corner V i x l e = e ∙ get_or_free V i x (point_at V 0) l

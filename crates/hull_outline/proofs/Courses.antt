@@ -1,4 +1,4 @@
--- On which sides of a way's line a set lies, by its farthest points beside it.
+-- The sides of a path's line on which a set lies, by its farthest points on both sides.
 use Rattle.std.proofs.lemmas.Grind.{common_steps}
 use Rattle.std.proofs.Common.{◌≡◌, ℤ, pos, ◌+ℤ◌, ◌-ℤ◌, ◌*ℤ◌, ◌≤ℤ◌, ◌<ℤ◌, neg_ℤ, Bool, true, false, inl, inr, refl}
 use Rattle.std.proofs.Common.{List, arith}
@@ -25,14 +25,14 @@ moved_step a b = same_pair _ b (back a.x b.x) (back a.y b.y)
     back : (x y : ℤ) → x +ℤ (y -ℤ x) ≡ y
     back x y = omega (arith, ints)
 
--- the step to where a vector leads is that
+-- the step to the point to which a vector leads is that vector
 pub step_moved : (a w : Pair) → step a (moved a w) ≡ w
 step_moved a w = same_pair _ w (back a.x w.x) (back a.y w.y)
   where
     back : (x y : ℤ) → (x +ℤ y) -ℤ x ≡ y
     back x y = omega (arith, ints)
 
--- how far a vector goes along itself
+-- how far a vector goes along itself is its squared length
 pub length_of_step : (a w : Pair) → product w (moved a w) -ℤ product w a ≡ w.x *ℤ w.x +ℤ w.y *ℤ w.y
 unfolding product
 length_of_step a w = rw (as_pair a, as_pair w) (simp difference_rules (difference-eq _ _ _ _ (omega arith)))
@@ -44,13 +44,13 @@ pub side_of : (a w t : Pair) → product (turned_left w) t -ℤ product (turned_
 unfolding orient product
 side_of a w t = rw (as_pair a, as_pair w, as_pair t) (simp difference_rules (difference-eq _ _ _ _ (omega arith)))
 
--- and how far it lies the other way is the opposite
+-- how far it lies the other way is the opposite
 other_side : (a w t : Pair)
     → product (backward (turned_left w)) t -ℤ product (backward (turned_left w)) a ≡ neg_ℤ (orient a (moved a w) t)
 unfolding orient product
 other_side a w t = rw (as_pair a, as_pair w, as_pair t) (simp difference_rules (difference-eq _ _ _ _ (omega arith)))
 
--- no point lies more to the left than the one farthest there
+-- no point lies more to the left than the farthest one there
 pub most_left : (S : List Pair) (a w c s : Pair) → IsFarthest S (turned_left w) c → Contains S s
     → orient a (moved a w) s ≤ℤ orient a (moved a w) c
 most_left S a w c s f m = at_most _ _ _ _ _ (side_of a w s) (side_of a w c)
@@ -59,7 +59,7 @@ most_left S a w c s f m = at_most _ _ _ _ _ (side_of a w s) (side_of a w c)
     at_most : (x y z u v : ℤ) → x -ℤ z ≡ u → y -ℤ z ≡ v → x ≤ℤ y → u ≤ℤ v
     at_most x y z u v e f h = omega (arith, ints)
 
--- nor to the right than the one farthest there
+-- no point lies more to the right than the farthest one there
 pub most_right : (S : List Pair) (a w c s : Pair) → IsFarthest S (backward (turned_left w)) c → Contains S s
     → orient a (moved a w) c ≤ℤ orient a (moved a w) s
 most_right S a w c s f m = at_most _ _ _ _ _ (other_side a w s) (other_side a w c)
@@ -74,7 +74,7 @@ pub kept_over : (touching : Bool) (a b p q : Pair) → IsKept touching a b p →
 kept_over true a b p q h n = grind (arith, common_steps, le_or_lt, pos, orient, n, h, ints)
 kept_over false a b p q h n = grind (arith, common_steps, le_or_lt, orient, pos, ints, n)
 
--- where the leftmost point is not kept, the line is not crossed
+-- if the leftmost point is not kept, the line is not crossed
 pub none_left : (S : List Pair) (a b l : Pair) → ((s : Pair) → Contains S s → orient a b s ≤ℤ orient a b l)
     → (x y : Bool) → (IsTrue x ↔ IsKept false a b l) → (IsTrue y ↔ IsKept (not x) a b l) → y ≡ false → IsUncrossed S a b
 none_left S a b l m true y hx hy e = absurd (failed y _ e hy (passed true _ refl hx))
@@ -83,7 +83,7 @@ none_left S a b l m false y hx hy e = inr (inl (λ s n. less _ _ (failed y _ e h
     less : (x y : ℤ) → ¬ (pos 0 ≤ℤ x) → y ≤ℤ x → y <ℤ pos 0
     less x y n k = elim (le_or_lt (pos 0) x) [ inl h ↦ absurd (n h) | inr h ↦ omega (arith, ints) ]
 
--- nor where the rightmost is kept
+-- if the rightmost point is kept, the line is not crossed
 pub none_right : (S : List Pair) (a b l r : Pair) → ((s : Pair) → Contains S s → orient a b s ≤ℤ orient a b l)
     → ((s : Pair) → Contains S s → orient a b r ≤ℤ orient a b s) → (x z : Bool) → (IsTrue x ↔ IsKept false a b l)
     → (IsTrue z ↔ IsKept (not x) a b r) → z ≡ true → IsUncrossed S a b

@@ -1,5 +1,5 @@
--- The two points of a set that are farthest from one another: each is a corner, and one of them the first of the points
--- farthest from an edge that begins at the other.
+-- The two points of a set that are farthest from each other: each is a vertex, and one of them is the first of the
+-- points farthest from an edge that begins at the other.
 use Rattle.std.proofs.lemmas.Grind.{common_steps}
 use Rattle.std.proofs.Common.{◌≡◌, ℕ, zero, suc, ◌+◌, ◌<◌, ℤ, pos, ◌+ℤ◌, ◌-ℤ◌, ◌*ℤ◌, ◌≤ℤ◌, ◌<ℤ◌, neg_ℤ, ◌⊎◌, inl, inr}
 use Rattle.std.proofs.Common.{refl, sym, ap, ◌∙◌, subst, List, [], ◌∷◌, length, arith}
@@ -33,15 +33,15 @@ use lib.IntN.{*ℤ_comm}
 use Rattle.hull_outline.proofs.Distances.{distance_nn}
 use Rattle.hull_geometry.proofs.EdgeSteps.{product_same}
 
--- ---- the greatest of a number of each point
+-- ---- the greatest value of a function of points
 
--- what is at most m at the first member and at the others is so at all
+-- if a function is at most m at the first member and at the others, it is at most m at all
 bound : (g : Pair → ℤ) (x : Pair) (xs : List Pair) (m : ℤ) → g x ≤ℤ m → ((t : Pair) → Contains xs t → g t ≤ℤ m)
     → (t : Pair) → Contains (x ∷ xs) t → g t ≤ℤ m
 bound g x xs m h k t (zero, l, e) = subst (λ (z : Pair). g z ≤ℤ m) e h
 bound g x xs m h k t (suc i, l, e) = k t (i, omega (arith, l), e)
 
--- of points that are some, one where it is greatest
+-- of a set with points, one has the greatest value
 greatest : (g : Pair → ℤ) (S : List Pair) → 0 < length S
     → (p : Pair) × Contains S p × ((t : Pair) → Contains S t → g t ≤ℤ g p)
 greatest g [] n = absurd (omega (arith, n))
@@ -60,7 +60,7 @@ greatest g (x ∷ xs) n = elim (cases_lt 0 (length xs)) [
     later : {p : Pair} → Contains xs p → Contains (x ∷ xs) p
     later (i, l, e) = (suc i, omega (arith, l), e)
 
--- some two points are farthest from one another
+-- some two points are farthest from each other
 farthest_pair : (S : List Pair) → 0 < length S → (p : Pair) × (q : Pair) × IsDiameter S p q
 farthest_pair S n =
     let best = λ (s : Pair). greatest (distance_squared s) S n in
@@ -72,12 +72,12 @@ farthest_pair S n =
 
 -- ---- distances
 
--- a distance is as long from its other end
+-- a distance is the same from its other end
 pub distance_turned : (p q : Pair) → distance_squared p q ≡ distance_squared q p
 unfolding distance_squared
 distance_turned p q = rw (as_pair p, as_pair q) (simp difference_rules (difference-eq _ _ _ _ (omega arith)))
 
--- a distance, by how far the way goes on
+-- a distance, by how far the step goes
 distance_way : (q t : Pair) → distance_squared q t ≡ product (step q t) t -ℤ product (step q t) q
 unfolding distance_squared product
 distance_way q t = rw (as_pair q, as_pair t) (simp difference_rules (difference-eq _ _ _ _ (omega arith)))
@@ -90,18 +90,18 @@ distance_more : (p q t : Pair)
 unfolding distance_squared product
 distance_more p q t = rw (as_pair p, as_pair q, as_pair t) (simp difference_rules (difference-eq _ _ _ _ (omega arith)))
 
--- two points are apart
+-- the distance of two different points is above 0
 pub distance_above : (q t : Pair) → ¬ (t ≡ q) → pos 0 <ℤ distance_squared q t
 distance_above q t n = above_by_less _ _ _ (distance_way q t) (way_on q t (λ e. n (sym e)))
 
 -- ---- the ends of a diameter
 
--- on the way from one end to the other, all other points lie less far than that
+-- in the direction from one end to the other, all other points lie less far than that end
 short_of_end : (S : List Pair) (p q : Pair) → IsDiameter S p q → (t : Pair) → Contains S t → ¬ (t ≡ q)
     → product (step p q) t <ℤ product (step p q) q
 short_of_end S p q h t m n = omega (arith, ints, distance_more p q t, h.farthest p t h.start m, distance_above q t n)
 
--- a diameter from its other end
+-- a diameter exchanged is a diameter
 turned : (S : List Pair) (p q : Pair) → IsDiameter S p q → IsDiameter S q p
 turned S p q h = record {
   start = h.end;
@@ -109,13 +109,13 @@ turned S p q h = record {
   farthest = λ s t ms mt. subst (λ (z : ℤ). distance_squared s t ≤ℤ z) (distance_turned p q) (h.farthest s t ms mt);
 }
 
--- and farther than its start
+-- all other points lie farther than its start
 beyond_start : (S : List Pair) (p q : Pair) → IsDiameter S p q → (t : Pair) → Contains S t → ¬ (t ≡ p)
     → product (step p q) p <ℤ product (step p q) t
 beyond_start S p q h t m n =
     less_opposites _ _ _ _ (step_back p q t) (step_back p q p) (short_of_end S q p (turned S p q h) t m n)
 
--- the only point that is farthest in a direction is a corner
+-- the only point that is farthest in a direction is a vertex
 only_farthest : (S V : List Pair) (last : ℕ) (d q : Pair) → IsOutlineOf S V → IsParted V last → 0 < length V
     → Contains S q → ((t : Pair) → Contains S t → ¬ (t ≡ q) → product d t <ℤ product d q) → (i : ℕ) × (i < length V) × (corner V i ≡ q)
 only_farthest S V last d q o p n m h =
@@ -138,7 +138,7 @@ line_x : (d e y : Pair) → product d e *ℤ y.x -ℤ product d y *ℤ e.x ≡ c
 unfolding product
 line_x d e y = rw (as_pair d, as_pair e, as_pair y) (simp difference_rules (difference-eq _ _ _ _ (omega arith)))
 
--- and by y
+-- the same by y
 line_y : (d e y : Pair) → product d y *ℤ e.y -ℤ product d e *ℤ y.y ≡ cross y e *ℤ d.x
 unfolding product
 line_y d e y = rw (as_pair d, as_pair e, as_pair y) (simp difference_rules (difference-eq _ _ _ _ (omega arith)))
@@ -172,18 +172,19 @@ not_up_and_down d e y ae (inr h) up down z = elim ae [
     other : (x y z : ℤ) → x -ℤ y ≡ z → z ≡ pos 0 → x <ℤ pos 0 → pos 0 <ℤ y → ⊥
     other x y z e f g h = omega (arith, ints)
 
--- a product with a number below 0 that is nothing
+-- if a product with a number below 0 is 0, the other factor is 0
 cancel_down : (a c : ℤ) → a <ℤ pos 0 → a *ℤ c ≡ pos 0 → c ≡ pos 0
 cancel_down a c h e = grind (arith, common_steps, le_or_lt, c, pos, product_mp, h, ints, product_mm)
 
--- a step backwards
+-- a step back negates the cross product
 back_first : (p f v : Pair) → cross (minus p f) v ≡ neg_ℤ (cross (minus f p) v)
 back_first p f v = rw (as_pair p, as_pair f, as_pair v) (simp difference_rules (difference-eq _ _ _ _ (omega arith)))
 
 -- ---- opposite an edge
 
--- p and q are the only points nearest and farthest in a direction, a the next corner from p and b that from q; where
--- the edge from q is turned no farther than the one from p is back, p is the first of the points farthest from it
+-- if p and q are the only points nearest and farthest in a direction, a is the next vertex after p and b that after q,
+-- and the edge from q is rotated no farther than the one from p back, then p is the first of the points farthest from
+-- the edge from q
 opposite_is : (S : List Pair) (d p a q b f : Pair) → Contains S p → IsLeftOf S p a → pos 0 <ℤ product d (minus a p)
     → product d (minus b q) <ℤ pos 0 → ((t : Pair) → Contains S t → ¬ (t ≡ p) → product d p <ℤ product d t)
     → pos 0 ≤ℤ cross (minus a p) (minus b q) → (cross (minus a p) (minus b q) ≡ pos 0 → IsBefore p a)
@@ -215,7 +216,7 @@ opposite_is S d p a q b f mp left up down low orient_on tie far = elim (before_t
     under : (x y z : ℤ) → x ≡ neg_ℤ y → z ≡ y → pos 0 ≤ℤ z → x ≤ℤ pos 0
     under x y z e f h = omega (arith, ints)
 
-    -- and not right of the edge from p
+    -- f does not lie right of the edge from p
     inside : cross (minus f p) (minus a p) ≤ℤ pos 0
     inside = under _ _ _ (cross_swap (minus f p) (minus a p)) (orient-cross p a f)
         (All-contains (λ t. pos 0 ≤ℤ orient p a t) S f left far.0)
@@ -250,8 +251,8 @@ opposite_is S d p a q b f mp left up down low orient_on tie far = elim (before_t
     in_line n = zero_opposite _ _ (back_first p f (minus a p))
         (cancel_down _ _ down (second_of_three _ _ _ whole first second (third n)))
 
--- where two corners are a diameter, the first is opposite the edge from the second, if that is turned no farther than
--- the one from the first is back
+-- if two vertices are a diameter, the first is opposite the edge from the second, if that is rotated no farther than
+-- the one from the first back
 edge_opposite : (S V : List Pair) (i j : ℕ) → IsVertexList S V → 1 < length V → i < length V → j < length V
     → IsDiameter S (corner V j) (corner V i)
     → pos 0 ≤ℤ cross (minus (corner V (j + 1)) (corner V j)) (minus (corner V (i + 1)) (corner V i))
@@ -272,11 +273,11 @@ edge_opposite S V i j o n li lj h orient_on tie f far =
     there : (k : ℕ) → Contains S (corner V k)
     there k = (corner_extreme S V k o (omega (arith, n))).0
 
--- each first of the points farthest to the left of the edge from one corner is another
+-- the first of the points farthest to the left of the edge from one vertex is the other
 abbrev IsOpposite : List Pair → List Pair → ℕ → ℕ → Type 0
 IsOpposite S V i j = (f : Pair) → IsFirstFarthest S (left_of (corner V i) (corner V (i + 1))) f → f ≡ corner V j
 
--- two edges in line, back from the first corner and from the second, are not both back
+-- two edges in line, back from the first vertex and from the second, are not both back
 forward_there : (S V : List Pair) (i j : ℕ) → IsVertexList S V → 1 < length V → i < length V → j < length V
     → IsDiameter S (corner V j) (corner V i)
     → cross (minus (corner V (j + 1)) (corner V j)) (minus (corner V (i + 1)) (corner V i)) ≡ pos 0
@@ -302,7 +303,7 @@ forward_there S V i j o n li lj h z back = elim (before_total (corner V i) (corn
     there : (k : ℕ) → Contains S (corner V k)
     there k = (corner_extreme S V k o (omega (arith, n))).0
 
--- of two corners that are a diameter, one is opposite the edge from the other
+-- of two vertices that are a diameter, one is opposite the edge from the other
 one_opposite : (S V : List Pair) (i j : ℕ) → IsVertexList S V → 1 < length V → i < length V → j < length V
     → IsDiameter S (corner V j) (corner V i) → IsOpposite S V i j ⊎ IsOpposite S V j i
 one_opposite S V i j o n li lj h = elim (le_or_lt (pos 0) (cross e f)) [
@@ -328,7 +329,7 @@ one_opposite S V i j o n li lj h = elim (le_or_lt (pos 0) (cross e f)) [
     back : IsDiameter S (corner V i) (corner V j)
     back = turned S (corner V j) (corner V i) h
 
--- the best two after all corners are a diameter
+-- the best pair after all vertices is a diameter
 pub diameter_of : (S V : List Pair) (last : ℕ) (u w : Pair) → IsOutlineOf S V → IsParted V last → 0 < length V
     → IsDiameterOf S V (length V) u w → IsDiameter S u w
 diameter_of S V last u w o p n best = record {
@@ -340,7 +341,7 @@ diameter_of S V last u w o p n best = record {
     pair : (p : Pair) × (q : Pair) × IsDiameter S p q
     pair = farthest_pair S (let k = (corner_extreme S V 0 o.1 n).0 in omega (arith, k.1))
 
-    -- from a corner to the one opposite of its edge
+    -- a vertex and the one opposite its edge
     across : (i j : ℕ) → i < length V → IsOpposite S V i j
         → distance_squared (corner V i) (corner V j) ≤ℤ distance_squared u w
     across i j l h =

@@ -1,4 +1,5 @@
--- Two sets are parted, or they have a point in common: a sum of points of the one with the same weights of the other.
+-- Two sets are separated, or they share a point: a weighted sum of points of the one that is one of the other with the
+-- same weights.
 use Rattle.std.proofs.Common.{◌≡◌, zero, suc, ℤ, pos, ◌+ℤ◌, ◌-ℤ◌, ◌*ℤ◌, ◌≤ℤ◌, ◌<ℤ◌, ◌⊎◌, inl, inr, refl, sym, ap}
 use Rattle.std.proofs.Common.{◌∙◌, subst, List, [], ◌∷◌, arith}
 use Rattle.std.specs.List.{Contains}
@@ -27,29 +28,29 @@ use Rattle.hull_outline.proofs.Shields.{between_back}
 
 -- ---- the differences of the points of two sets
 
--- those of s and each point of T, with others
+-- the differences of s and each point of T, added to others
 from_one : Pair → List Pair → List Pair → List Pair
 from_one s [] D = D
 from_one s (t ∷ ts) D = with_point (minus s t) (from_one s ts D)
 
--- those of each point of S and each point of T
+-- the differences of each point of S and each point of T
 differences : List Pair → List Pair → List Pair
 differences [] T = []
 differences (s ∷ ss) T = from_one s T (differences ss T)
 
--- they stand in order
+-- the differences are in order
 from_one_ordered : (s : Pair) (T D : List Pair) → IsPointSet D → IsPointSet (from_one s T D)
 unfolding from_one
 from_one_ordered s [] D o = o
 from_one_ordered s (t ∷ ts) D o = ordered_with (minus s t) (from_one s ts D) (from_one_ordered s ts D o)
 
--- all of them
+-- all differences are in order
 differences_ordered : (S T : List Pair) → IsPointSet (differences S T)
 unfolding differences
 differences_ordered [] T = AllPairs-none
 differences_ordered (s ∷ ss) T = from_one_ordered s T (differences ss T) (differences_ordered ss T)
 
--- what is there stays
+-- a difference that was there stays
 from_one_keeps : (s : Pair) (T D : List Pair) (x : Pair) → Contains D x → Contains (from_one s T D) x
 unfolding from_one
 from_one_keeps s [] D x m = m
@@ -64,7 +65,7 @@ from_one_has s (u ∷ us) D t (zero, l, e) =
 from_one_has s (u ∷ us) D t (suc i, l, e) =
     (members_with (minus s u) (minus s t) (from_one s us D)).1 (inr (from_one_has s us D t (i, omega (arith, l), e)))
 
--- and each of all
+-- each difference of all is there
 differences_have : (S T : List Pair) (s t : Pair) → Contains S s → Contains T t → Contains (differences S T) (minus s t)
 unfolding differences
 differences_have [] T s t (i, l, e) mt = absurd (omega (arith, l))
@@ -78,7 +79,7 @@ differences_have (u ∷ us) T s t (suc i, l, e) mt =
 abbrev IsDifference : List Pair → List Pair → Pair → Type 0
 IsDifference S T x = (s : Pair) × (t : Pair) × Contains S s × Contains T t × (x ≡ minus s t)
 
--- what is there is a difference from s, or was there
+-- each member is a difference from s, or was there
 from_one_only : (s : Pair) (T D : List Pair) (x : Pair) → Contains (from_one s T D) x
     → ((t : Pair) × Contains T t × (x ≡ minus s t)) ⊎ Contains D x
 unfolding from_one
@@ -91,7 +92,7 @@ from_one_only s (t ∷ ts) D x m = elim ((members_with (minus s t) x (from_one s
   ]
 ]
 
--- each is one
+-- each member is a difference
 differences_only : (S T : List Pair) (x : Pair) → Contains (differences S T) x → IsDifference S T x
 unfolding differences
 differences_only [] T x (i, l, e) = absurd (omega (arith, l))
@@ -100,7 +101,7 @@ differences_only (u ∷ us) T x m = elim (from_one_only u T (differences us T) x
   | inr d ↦ let r = differences_only us T x d in (r.0, r.1, later u r.0 us r.2, r.3, r.4)
 ]
 
--- ---- a point in common, by weights
+-- ---- a common point, by weights
 
 -- three points of S and three of T with the same weighted sum, whose weights are not below 0, and not all 0
 pub record Shared (S T : List Pair) : Type 0 where
@@ -126,7 +127,7 @@ pub record Shared (S T : List Pair) : Type 0 where
   pub same_x : u *ℤ a.x +ℤ v *ℤ b.x +ℤ w *ℤ c.x ≡ u *ℤ d.x +ℤ v *ℤ e.x +ℤ w *ℤ f.x
   pub same_y : u *ℤ a.y +ℤ v *ℤ b.y +ℤ w *ℤ c.y ≡ u *ℤ d.y +ℤ v *ℤ e.y +ℤ w *ℤ f.y
 
--- weighted differences that sum to nothing
+-- if weighted differences sum to 0, the weighted sums are equal
 same_sums : (u v w a b c d e f : ℤ) → u *ℤ (a -ℤ d) +ℤ v *ℤ (b -ℤ e) +ℤ w *ℤ (c -ℤ f) ≡ pos 0
     → u *ℤ a +ℤ v *ℤ b +ℤ w *ℤ c ≡ u *ℤ d +ℤ v *ℤ e +ℤ w *ℤ f
 same_sums u v w a b c d e f z = let h = spread u v w a b c d e f in omega (arith, ints)
@@ -147,7 +148,7 @@ same_sums u v w a b c d e f z = let h = spread u v w a b c d e f in omega (arith
           as_difference f,
         ) (simp difference_rules (difference-eq _ _ _ _ (omega arith)))
 
--- three differences with weights that sum to nothing
+-- three differences with weights that sum to 0 are a common point
 shared_of : (S T : List Pair) (x y z : Pair) (u v w : ℤ) → IsDifference S T x → IsDifference S T y → IsDifference S T z
     → pos 0 ≤ℤ u → pos 0 ≤ℤ v → pos 0 ≤ℤ w → pos 0 <ℤ (u +ℤ v +ℤ w)
     → u *ℤ x.x +ℤ v *ℤ y.x +ℤ w *ℤ z.x ≡ pos 0 → u *ℤ x.y +ℤ v *ℤ y.y +ℤ w *ℤ z.y ≡ pos 0 → Shared S T
@@ -175,21 +176,21 @@ shared_of S T x y z u v w (a, d, ma, md, ex) (b, e, mb, me, ey) (c, f, mc, mf, e
   same_y = same_sums u v w a.y b.y c.y d.y e.y f.y (rw (ex, ey, ez) at zy);
 }
 
--- the origin in a triangle, by x
+-- the weights of the origin in a triangle, by x
 balance_x : (a b c : Pair)
     → orient origin b c *ℤ a.x +ℤ orient origin c a *ℤ b.x +ℤ orient origin a b *ℤ c.x ≡ pos 0
 unfolding orient
 balance_x a b c = rw (as_pair a, as_pair b, as_pair c, as_difference (pos 0))
     (simp difference_rules (difference-eq _ _ _ _ (omega arith)))
 
--- and by y
+-- the same by y
 balance_y : (a b c : Pair)
     → orient origin b c *ℤ a.y +ℤ orient origin c a *ℤ b.y +ℤ orient origin a b *ℤ c.y ≡ pos 0
 unfolding orient
 balance_y a b c = rw (as_pair a, as_pair b, as_pair c, as_difference (pos 0))
     (simp difference_rules (difference-eq _ _ _ _ (omega arith)))
 
--- three differences round the origin
+-- three differences round the origin are a common point
 shared_in_triangle : (S T : List Pair) (a b c : Pair) → IsDifference S T a → IsDifference S T b → IsDifference S T c
     → IsInTriangle a b c origin → Shared S T
 shared_in_triangle S T a b c da db dc (t, ab, bc, ca) =
@@ -198,12 +199,12 @@ shared_in_triangle S T a b c da db dc (t, ab, bc, ca) =
     (at_least _ _ (orient-cycle a b origin) ab)
     (above _ _ (orient-sum a b c origin) t) (balance_x a b c) (balance_y a b c)
 
--- the origin between two numbers: the way from one to the other goes on at the other
+-- if 0 is between two numbers, the step from one to the other goes on at the other
 onward : (x y : ℤ) → IsBetween x y (pos 0) → pos 0 ≤ℤ ((y -ℤ x) *ℤ y)
 onward x y (inl h) = product_nn (y -ℤ x) y (let k = h.0 in let l = h.1 in omega (arith, ints)) h.1
 onward x y (inr h) = product_same (y -ℤ x) y (let k = h.0 in let l = h.1 in omega (arith, ints)) h.0
 
--- the origin between two points: the way from one to the other goes on at the other
+-- if the origin is between two points, the step from one to the other goes on at the other
 onward_both : (a b : Pair) → IsBetween a.x b.x (pos 0) → IsBetween a.y b.y (pos 0) → pos 0 ≤ℤ product (step a b) b
 unfolding product
 onward_both a b hx hy = sum_nn _ _ (onward a.x b.x hx) (onward a.y b.y hy)
@@ -215,20 +216,20 @@ unfolding orient product
 flat_x a b =
     rw (as_pair a, as_pair b, as_difference (pos 0)) (simp difference_rules (difference-eq _ _ _ _ (omega arith)))
 
--- and by y
+-- the same by y
 flat_y : (a b : Pair)
     → product (step a b) b *ℤ a.y +ℤ product (step b a) a *ℤ b.y +ℤ pos 0 *ℤ a.y ≡ (a.x -ℤ b.x) *ℤ orient origin a b
 unfolding orient product
 flat_y a b =
     rw (as_pair a, as_pair b, as_difference (pos 0)) (simp difference_rules (difference-eq _ _ _ _ (omega arith)))
 
--- a difference that is nothing
+-- a difference that is 0 is a common point
 shared_at : (S T : List Pair) (a : Pair) → IsDifference S T a → a.x ≡ pos 0 → a.y ≡ pos 0 → Shared S T
 shared_at S T a d zx zy =
     shared_of S T a a a (pos 1) (pos 0) (pos 0) d d d (omega (arith, ints)) (omega (arith, ints)) (omega (arith, ints))
     (omega (arith, ints)) (omega (arith, ints, zx)) (omega (arith, ints, zy))
 
--- two differences with the origin between them
+-- two differences with the origin between them are a common point
 shared_on_segment : (S T : List Pair) (a b : Pair) → IsDifference S T a → IsDifference S T b → IsOnSegment a b origin
     → Shared S T
 shared_on_segment S T a b da db (z, bx, by) = elim (before_total a b) [
@@ -258,7 +259,7 @@ unfolding product
 difference_along d s t = rw (as_pair d, as_pair s, as_pair t, as_difference (pos 0))
     (simp difference_rules (difference-eq _ _ _ _ (omega arith)))
 
--- two sets are parted, or have a point in common
+-- two sets are separated, or share a point
 pub parted_or_shared : (S T : List Pair) → IsApart S T ⊎ Shared S T
 parted_or_shared S T = elim (covers_or_separated (differences S T) origin (differences_ordered S T)) [
   | inr a ↦ inl (

@@ -1,4 +1,4 @@
--- Differences of products in 128 bits.
+-- Differences of products in 128 bits, as the program computes them.
 use Rattle.std.proofs.lemmas.Grind.{common_steps}
 use Rattle.std.proofs.Common.{◌≡◌, ◌∙◌, ◌*◌, ◌^◌, ◌≤ℤ◌, pos, neg_ℤ, lit≤, sym, subst, arith}
 use borrow.Author.Differences.{ints}
@@ -10,44 +10,44 @@ use Rattle.lattice.specs.Plane.{IsWithin, widest_side}
 use Rattle.lattice.specs.Integers.{within_more}
 use Rattle.lattice.proofs.Casts.{cast_sub}
 
--- two products lose nothing when one is taken from the other
+-- subtracting one product from another loses nothing
 pub difference_told : (m n x y : ℤ) → IsWithin widest_side m → IsWithin widest_side n → m ≡ x → n ≡ y
     → to_z w128 (of_z w128 (to_z w128 (of_z w128 m) -ℤ to_z w128 (of_z w128 n))) ≡ x -ℤ y
 difference_told m n x y h k e f =
     cast_sub m n (within_more widest_side (2 ^ 125) m (lit≤ tt) h) (within_more widest_side (2 ^ 125) n (lit≤ tt) k)
     ∙ ap (λ (z : ℤ). z -ℤ n) e ∙ ap (λ (z : ℤ). x -ℤ z) f
 
--- a number that fits is what it is cast to
+-- a cast keeps a number that fits
 pub told : (z : ℤ) → IsWithin (2 * widest_side) z → to_z w128 (of_z w128 z) ≡ z
 told z h = omega (arith, ints)
 
--- a larger bound
+-- a number within a bound is within twice that bound
 pub twice : (z : ℤ) → IsWithin widest_side z → IsWithin (2 * widest_side) z
 twice z h = within_more widest_side (2 * widest_side) z (lit≤ tt) h
 
--- a number that is told is no less than another where its value is
+-- a comparison of two casts compares their values
 pub le_told : (m n x y : ℤ) → IsWithin (2 * widest_side) m → IsWithin (2 * widest_side) n → m ≡ x → n ≡ y → x ≤ℤ y
     → to_z w128 (of_z w128 m) ≤ℤ to_z w128 (of_z w128 n)
 le_told m n x y h k e f l = grind (arith, common_steps, n, told, h, e, f)
 
--- what one number is more than another, by their values
+-- the difference of two casts is that of their values
 pub excess_told : (r : ℤ) (m n x y : ℤ) → IsWithin (2 * widest_side) m → IsWithin (2 * widest_side) n → m ≡ x → n ≡ y
     → r ≡ to_z w128 (of_z w128 m) -ℤ to_z w128 (of_z w128 n) → r ≡ x -ℤ y
 excess_told r m n x y h k e f g =
     g ∙ ap (λ (z : ℤ). z -ℤ to_z w128 (of_z w128 n)) (told m h ∙ e) ∙ ap (λ (z : ℤ). x -ℤ z) (told n k ∙ f)
 
--- where nothing is taken off
+-- subtracting nothing keeps the value
 pub whole_told : (r m x : ℤ) → IsWithin (2 * widest_side) m → m ≡ x → r ≡ to_z w128 (of_z w128 m) -ℤ pos 0 → r ≡ x
 whole_told r m x h e g = omega (arith, ints, g, told m h, e)
 
--- where a number is taken off nothing
+-- subtracting from nothing negates the value
 pub less_told : (r n y : ℤ) → IsWithin (2 * widest_side) n → n ≡ y → r ≡ pos 0 -ℤ to_z w128 (of_z w128 n) → r ≡ neg_ℤ y
 less_told r n y k f g = omega (arith, ints, g, told n k, f)
 
--- a number within the bound is told within it
+-- a number within the bound is within it after the cast
 pub told_within : (z : ℤ) → IsWithin widest_side z → IsWithin (2 * widest_side) (to_z w128 (of_z w128 z))
 told_within z h = subst (IsWithin (2 * widest_side)) (sym (told z (twice z h))) (twice z h)
 
--- what is not below 0 is told so
+-- a number that is not below 0 is not below it after the cast
 pub none_told : (m x : ℤ) → IsWithin (2 * widest_side) m → m ≡ x → pos 0 ≤ℤ x → pos 0 ≤ℤ to_z w128 (of_z w128 m)
 none_told m x h e l = subst (λ (z : ℤ). pos 0 ≤ℤ z) (sym (told m h ∙ e)) l

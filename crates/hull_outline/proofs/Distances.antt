@@ -1,4 +1,4 @@
--- No point that is covered is nearer than the nearest corner or edge.
+-- No point that is covered is nearer than the nearest vertex or edge.
 use Rattle.std.proofs.lemmas.Grind.{common_steps}
 use Rattle.std.proofs.Common.{◌≡◌, ℤ, pos, ◌+ℤ◌, ◌-ℤ◌, ◌*ℤ◌, ◌≤ℤ◌, ◌<ℤ◌, neg_ℤ, inl, inr, ap, List, arith}
 use Rattle.std.specs.List.{Contains}
@@ -18,7 +18,7 @@ use Rattle.hull_outline.proofs.Shields.{product_left}
 use Rattle.lattice.proofs.Numbers.{le_by_opposite, le_less_trans, sum_nn}
 use Rattle.lattice.proofs.LineCrossings.{orient_other}
 
--- a covered point is no farther in a direction than what no point of S is farther than
+-- a covered point is no farther in a direction than a bound that no point of S exceeds
 pub covered_near : (S : List Pair) (d p : Pair) (m : ℤ) → ((s : Pair) → Contains S s → product d s ≤ℤ m) → Covers S p
     → product d p ≤ℤ m
 covered_near S d p m h c = elim (le_or_lt (product d p) m) [
@@ -26,7 +26,7 @@ covered_near S d p m h c = elim (le_or_lt (product d p) m) [
   | inr k ↦ absurd (not_covered S p (d, all_of (λ s. product d s <ℤ product d p) S (λ s n. le_less_trans _ _ _ (h s n) k)) c)
 ]
 
--- ---- a corner
+-- ---- a vertex
 
 -- how much farther from q another point is than c
 farther_by : (c p q : Pair)
@@ -41,7 +41,7 @@ pub distance_nn : (a b : Pair) → pos 0 ≤ℤ distance_squared a b
 unfolding distance_squared
 distance_nn a b = sum_nn _ _ (square_nn (b.x -ℤ a.x)) (square_nn (b.y -ℤ a.y))
 
--- no covered point is nearer than the nearest corner
+-- no covered point is nearer than the nearest vertex
 pub corner_nearest : NoneNearerThanCorner
 corner_nearest S q c p h k =
     farther _ _ _ _ _ (farther_by c p q) (distance_nn c p)
@@ -57,7 +57,8 @@ corner_nearest S q c p h k =
 abbrev along_by : Pair → Pair → Pair → Pair → ℤ
 along_by a b q p = (b.x -ℤ a.x) *ℤ (p.x -ℤ q.x) +ℤ (b.y -ℤ a.y) *ℤ (p.y -ℤ q.y)
 
--- the squares of the parts of a vector across another and along it make the product of both squared lengths (Lagrange)
+-- the squares of the parts of a vector across another and along it sum to the product of both squared lengths
+-- (Lagrange)
 pub lagrange : (u v x y : ℤ)
     → (u *ℤ u +ℤ v *ℤ v) *ℤ (x *ℤ x +ℤ y *ℤ y)
     ≡ (u *ℤ y -ℤ v *ℤ x) *ℤ (u *ℤ y -ℤ v *ℤ x) +ℤ (u *ℤ x +ℤ v *ℤ y) *ℤ (u *ℤ x +ℤ v *ℤ y)

@@ -1,4 +1,4 @@
--- Two sets that a line divides: an edge of one of them has the other on its right, or on its line.
+-- If a line divides two sets, an edge of one of them has the other on its right, or on its line.
 use Rattle.std.proofs.lemmas.Grind.{common_steps}
 use Rattle.std.proofs.Common.{◌≡◌, ℕ, ◌+◌, ◌≤◌, ◌<◌, ℤ, pos, ◌-ℤ◌, ◌≤ℤ◌, ◌<ℤ◌, neg_ℤ, ◌⊎◌, inl, inr, sym, subst, List}
 use Rattle.std.proofs.Common.{length, refl, ap, ap₂, arith}
@@ -36,14 +36,14 @@ use Rattle.hull_outline.proofs.Switches.{holds_by_corners}
 use Rattle.hull_geometry.proofs.Slopes.{product-opp}
 use Rattle.lattice.proofs.LineCrossings.{orient_other}
 
--- the side of a point at a line through one point twice
+-- a point has no side of a line through one point twice
 orient_cycled : (c u : Pair) → orient c c u ≡ pos 0
 unfolding orient
 orient_cycled c u = simp ring_laws (omega (arith, linear))
 
--- ---- a corner that bounds a set
+-- ---- a vertex that bounds a set
 
--- where two points lie no farther to the left of a line than v, no point of T does
+-- if two points lie no farther to the left of a line than v, no point of T does
 abbrev pub IsCap : List Pair → Pair → Pair → Pair → Type 0
 IsCap T p v n =
     (a b : Pair) → (orient a b p -ℤ orient a b v) ≤ℤ pos 0 → (orient a b n -ℤ orient a b v) ≤ℤ pos 0
@@ -53,12 +53,12 @@ IsCap T p v n =
 along : (x y z u w : ℤ) → x -ℤ z ≡ u → y -ℤ z ≡ w → x ≤ℤ y → u ≤ℤ w
 along x y z u w e f h = omega (arith, ints)
 
--- of two corners each is one or the other
+-- of two vertices each is one or the other
 one_or_next : (W : List Pair) (i j : ℕ) → i < length W → j < length W → length W ≤ 2
     → (corner W i ≡ corner W j) ⊎ (corner W i ≡ corner W (j + 1))
 one_or_next W i j li lj few = grind (arith, common_steps, cases_lt, previous_at, corner, same_beside)
 
--- each corner of two bounds the set
+-- each vertex of two bounds the set
 cap_of_two : (T W : List Pair) (end j : ℕ) → IsOutlineOf T W → IsParted W end → j < length W → length W ≤ 2
     → IsCap T (previous W j) (corner W j) (corner W (j + 1))
 cap_of_two T W end j o p l few a b hp hn t m =
@@ -76,9 +76,9 @@ cap_of_two T W end j o p l few a b hp hn t m =
     no_more : (x y : ℤ) → (x -ℤ y) ≤ℤ pos 0 → x ≤ℤ y
     no_more x y h = omega (arith, ints)
 
--- ---- the corners where a line touches
+-- ---- the vertices that a line touches
 
--- the steps to or from a corner do not go down, and bend, or are one
+-- the steps to or from a vertex do not go down, and bend, or are one step
 pub record IsTip (d left right : Pair) : Type 0 where
   pub left_up : pos 0 ≤ℤ product d left
   pub right_up : pos 0 ≤ℤ product d right
@@ -102,13 +102,13 @@ axis_of_tips d w l r m s n e f up = elim e.shape [
   ]
 ]
 
--- the corner before is a point of the set
+-- the vertex before is a point of the set
 previous_there : (S V : List Pair) (last j : ℕ) → IsOutlineOf S V → j < length V → Contains S (previous V j)
 previous_there S V last j o l =
     let b = previous_at V j l in
     subst (Contains S) (sym b.3) (corner_extreme S V b.0 o.1 (omega (arith, l))).0
 
--- two corners or more bound the set at each
+-- at least two vertices bound the set at each
 cap_at : (S V : List Pair) (last j : ℕ) → IsOutlineOf S V → IsParted V last → j < length V
     → IsCap S (previous V j) (corner V j) (corner V (j + 1))
 cap_at S V last j o p l = elim (cases_lt 2 (length V)) [
@@ -123,12 +123,12 @@ up_to : (S : List Pair) (d v p : Pair) → IsFirstFarthest S d v → Contains S 
 up_to S d v p f m =
     nn_by_le _ _ _ (product_minus d v p) (All-contains (λ t. product d t ≤ℤ product d v) S p f.1 m)
 
--- nor does a step from the one that is farthest backwards
+-- a step from the point that is farthest backwards does not go down
 up_from : (S : List Pair) (d v p : Pair) → IsFirstFarthest S (opp d) v → Contains S p → pos 0 ≤ℤ product d (minus p v)
 up_from S d v p f m =
     nn_by_le _ _ _ (product_minus_back d p v) (All-contains (λ t. product (opp d) t ≤ℤ product (opp d) v) S p f.1 m)
 
--- the steps to a farthest corner are a tip
+-- the steps to a farthest vertex are a tip
 tip_to : (S V : List Pair) (last j : ℕ) (d : Pair) → IsOutlineOf S V → IsParted V last → j < length V
     → IsFirstFarthest S d (corner V j)
     → IsTip d (minus (corner V j) (previous V j)) (minus (corner V j) (corner V (j + 1)))
@@ -141,7 +141,7 @@ tip_to S V last j d o p l f = record {
   ];
 }
 
--- and the steps from one that is farthest backwards
+-- the steps from a vertex that is farthest backwards are a tip
 tip_from : (T W : List Pair) (end j : ℕ) (d : Pair) → IsOutlineOf T W → IsParted W end → j < length W
     → IsFirstFarthest T (opp d) (corner W j)
     → IsTip d (minus (previous W j) (corner W j)) (minus (corner W (j + 1)) (corner W j))
@@ -156,7 +156,7 @@ tip_from T W end j d o p l f = record {
 
 -- ---- an edge that divides
 
--- the edge to c has T on its right or its line, where the axis has the cap there
+-- the edge to c has T on its right or its line, if the axis has the cap there
 right_of_edge_to : (T : List Pair) (b c p v n : Pair) → IsCap T p v n
     → IsLeftAxis (minus c b) (minus p v) (minus n v) (minus v c) → (t : Pair) → Contains T t → orient b c t ≤ℤ pos 0
 right_of_edge_to T b c p v n h a t m =
@@ -164,7 +164,7 @@ right_of_edge_to T b c p v n h a t m =
     (h b c (np_by _ _ (side_more b c v p) a.left_beside) (np_by _ _ (side_more b c v n) a.right_beside) t m)
     (np_by _ _ (side_after b c v) a.beside)
 
--- and so has the edge from c
+-- the edge from c has T on its right or its line, if the axis has the cap there
 right_of_edge_from : (T : List Pair) (c d p v n : Pair) → IsCap T p v n
     → IsRightAxis (minus c d) (minus p v) (minus n v) (minus v c) → (t : Pair) → Contains T t → orient c d t ≤ℤ pos 0
 right_of_edge_from T c d p v n h a t m =
@@ -173,12 +173,12 @@ right_of_edge_from T c d p v n h a t m =
     (np_opposite _ _ (side_off_more c d v n) a.right_beside) t m)
     (np_opposite _ _ (side_off c d v) a.beside)
 
--- the axis seen from the other set: all steps backwards
+-- the axis seen from the other set: all steps reversed
 left_axis_back : (p v b d c : Pair) → IsLeftAxis (minus p v) (minus c b) (minus c d) (minus v c)
     → IsLeftAxis (minus v p) (minus b c) (minus d c) (minus c v)
 left_axis_back p v b d c a = grind (arith, common_steps, both_back, c, d)
 
--- and the same on the right
+-- the same on the right
 right_axis_back : (n v b d c : Pair) → IsRightAxis (minus n v) (minus c b) (minus c d) (minus v c)
     → IsRightAxis (minus v n) (minus b c) (minus d c) (minus c v)
 right_axis_back n v b d c a = grind (arith, common_steps, both_back, n, c, d)
@@ -188,7 +188,7 @@ abbrev pub HasOnRight : List Pair → List Pair → Type 0
 HasOnRight V T = (i : ℕ) × (i < length V)
     × ((t : Pair) → Contains T t → orient (corner V i) (corner V (i + 1)) t ≤ℤ pos 0)
 
--- the edge to a corner is one of the list
+-- the edge to a vertex is one of the list
 edge_to : (V T : List Pair) (j : ℕ) → j < length V
     → ((t : Pair) → Contains T t → orient (previous V j) (corner V j) t ≤ℤ pos 0) → HasOnRight V T
 edge_to V T j l h =
@@ -199,7 +199,7 @@ edge_to V T j l h =
           (subst (λ (z : Pair). orient z (corner V j) t ≤ℤ pos 0) b.3 (h t m)),
     )
 
--- where a line divides two sets of two corners or more, an edge of one of them does
+-- if a line divides two sets with at least two vertices each, an edge of one of them does
 edge_divides : (S V T W : List Pair) (last end : ℕ) → IsOutlineOf S V → IsParted V last → IsOutlineOf T W
     → IsParted W end → 1 < length V → 1 < length W → AreDivided S T → HasOnRight V T ⊎ HasOnRight W S
 edge_divides S V T W last end o p q r many more (d, n, h) =
@@ -222,7 +222,7 @@ edge_divides S V T W last end o p q r many more (d, n, h) =
           inr (b.0, b.1, right_of_edge_from S w n1 p0 v n0 (cap_at S V last a.0 o p a.1) (right_axis_back n1 w p0 n0 v x))
     ]
 
--- so not where each edge of both has a point of the other on its left
+-- if each edge of both has a point of the other on its left, no line divides them
 pub not_divided : (S V T W : List Pair) (last end : ℕ) → IsOutlineOf S V → IsParted V last → IsOutlineOf T W
     → IsParted W end → 1 < length V → 1 < length W → IsLeftOfEach V T → IsLeftOfEach W S → ¬ AreDivided S T
 not_divided S V T W last end o p q r many more left right h =
@@ -234,7 +234,7 @@ not_divided S V T W last end o p q r many more left right h =
     clash : (V T : List Pair) → IsLeftOfEach V T → HasOnRight V T → ⊥
     clash V T h (i, l, b) = let t = h i l in over _ t.2 (b t.0 t.1)
 
--- backwards, S and T change places
+-- with the direction reversed, S and T are exchanged
 pub divided_turned : (S T : List Pair) → AreDivided S T → AreDivided T S
 divided_turned S T (d, n, h) = (
   opp d,
@@ -272,26 +272,26 @@ divided_by_edge S V T i d p o l many e f h =
     across : (x y z m u v : ℤ) {w : ℤ} → x -ℤ z ≡ m → y -ℤ z ≡ u → w -ℤ z ≡ v → x ≤ℤ y → ¬ (pos 0 <ℤ u) → pos 0 ≤ℤ v → x ≤ℤ w
     across x y z m u v e f g h k l = elim (le_or_lt u (pos 0)) [ inl i ↦ omega (arith, ints) | inr i ↦ absurd (k i) ]
 
--- what the test of all edges says that found one
+-- if the test of all edges found one, its line divides the sets
 pub edge_tells : (r : Bool) (S V T : List Pair) → r ≡ true → TellsEdge r S V T → AreDivided T S
 edge_tells true S V T e h = h
 edge_tells false S V T e h = absurd (cc)
 
--- and that found none
+-- if the test found none, each edge has a point of the other set on its left
 pub each_left : (r : Bool) (S V T : List Pair) → r ≡ false → TellsEdge r S V T → IsLeftOfEach V T
 each_left true S V T e h = absurd (cc)
 each_left false S V T e h = h
 
--- where the edges of S have not told it, those of T do
+-- if no edge of S divides the sets, the edges of T decide
 pub others_tell : (r : Bool) (S V T W : List Pair) (last end : ℕ) → IsOutlineOf S V → IsParted V last → IsOutlineOf T W
     → IsParted W end → 1 < length V → 1 < length W → IsLeftOfEach V T → TellsEdge r T W S → IsTrue r ↔ AreDivided S T
 others_tell true S V T W last end o p q t many more left h = (λ _. h, λ _. refl)
 others_tell false S V T W last end o p q t many more left h =
     (λ e. absurd (cc), λ d. absurd (not_divided S V T W last end o p q t many more left h d))
 
--- ---- one corner
+-- ---- one vertex
 
--- a set of one corner is held by what it meets
+-- a set of one vertex is contained in each set that intersects it
 pub meeting_held : (S V T : List Pair) (last : ℕ) → IsOutlineOf S V → IsParted V last → IsPointSet T → 0 < length V
     → length V ≤ 1 → Meets S T → Holds T S
 meeting_held S V T last o p t n one h =
@@ -307,7 +307,7 @@ meeting_held S V T last o p t n one h =
     itself : (x : ℤ) → x ≤ℤ x
     itself x = omega (arith, ints)
 
-    -- a point that the only one covers is no nearer in any direction
+    -- a point that the only vertex covers is no nearer in any direction
     reached : (u : Pair) → Contains T u → Covers S u → Covers T (corner V 0)
     reached u m c = elim (covers_or_separated T (corner V 0) t) [
       | inl k ↦ k
@@ -331,7 +331,7 @@ meeting_held S V T last o p t n one h =
         absurd (no_line (corner V 0) c (subst (λ (z : Pair). orient (corner V 0) z c <ℤ pos 0) (only b mb)
         (subst (λ (z : Pair). orient z b c <ℤ pos 0) (only a ma) x.0)))
 
--- what meets a set that does not hold it has two corners or more
+-- a set that intersects one that does not contain it has at least two vertices
 pub many_of_met : (S V T : List Pair) (last : ℕ) → IsOutlineOf S V → IsParted V last → IsPointSet T → ¬ Holds T S
     → Meets S T → 1 < length V
 many_of_met S V T last o p t n h = elim (cases_lt 1 (length V)) [
@@ -342,7 +342,7 @@ many_of_met S V T last o p t n h = elim (cases_lt 1 (length V)) [
   ]
 ]
 
--- what S meets meets S
+-- if S intersects T, T intersects S
 pub meets_turned : (S T : List Pair) → Meets S T → Meets T S
 meets_turned S T (Reaches u m c) = IsReached u m c
 meets_turned S T (IsReached s m c) = Reaches s m c
@@ -355,12 +355,12 @@ meets_turned S T (Crosses a b c d ma mb mc md x) =
     below : (x y : ℤ) → x ≡ neg_ℤ y → pos 0 <ℤ y → x <ℤ pos 0
     below x y e h = omega (arith, ints)
 
--- what a test of meeting says that passed
+-- if the test of intersection is true, the sets intersect
 pub meets_tells : (r : Bool) (S T : List Pair) → r ≡ true → TellsMeeting r S T → Meets S T
 meets_tells true S T e h = h
 meets_tells false S T e h = absurd (cc)
 
--- and one that failed
+-- if the test of intersection is false, the sets are disjoint
 pub apart_tells : (r : Bool) (S T : List Pair) → r ≡ false → TellsMeeting r S T → IsApart S T
 apart_tells true S T e h = absurd (cc)
 apart_tells false S T e h = h

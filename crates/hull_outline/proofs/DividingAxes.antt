@@ -1,5 +1,5 @@
--- Vectors that do not go down in a direction, seen from where two sets touch its line: one of those along the edges there has
--- the others on one side.
+-- Vectors that do not go down in a direction, at the points of two sets that touch its line: one of the vectors along
+-- the edges there has the others on one side.
 use Rattle.std.proofs.Common.{◌≡◌, ℤ, pos, ◌+ℤ◌, ◌-ℤ◌, ◌*ℤ◌, ◌≤ℤ◌, ◌<ℤ◌, ◌⊎◌, inl, inr, ◌∙◌, arith}
 use Rattle.std.proofs.lemmas.Int.{ints}
 use Rattle.lattice.specs.Plane.{Pair, product, IsZero}
@@ -17,12 +17,12 @@ by_x : (d l r : Pair) → d.x *ℤ cross r l ≡ product d r *ℤ l.y -ℤ produ
 unfolding product
 by_x d l r = rw (as_pair d, as_pair l, as_pair r) (simp difference_rules (difference-eq _ _ _ _ (omega arith)))
 
--- and the second one
+-- the second coordinate
 by_y : (d l r : Pair) → d.y *ℤ cross r l ≡ product d l *ℤ r.x -ℤ product d r *ℤ l.x
 unfolding product
 by_y d l r = rw (as_pair d, as_pair l, as_pair r) (simp difference_rules (difference-eq _ _ _ _ (omega arith)))
 
--- they are not both level
+-- two vectors that are not in line are not both level
 not_level : (d l r : Pair) → ¬ IsZero d → pos 0 <ℤ cross r l → product d l ≡ pos 0 → product d r ≡ pos 0 → ⊥
 not_level d l r n t hl hr = n (
   cancel_zero d.x (cross r l) t (by_x d l r ∙ none _ _ (zero_times _ l.y hr) (zero_times _ r.y hl)),
@@ -32,19 +32,19 @@ not_level d l r n t hl hr = n (
     none : (x y : ℤ) → x ≡ pos 0 → y ≡ pos 0 → x -ℤ y ≡ pos 0
     none x y e f = omega (arith, ints)
 
--- ---- three products that sum to nothing, none of them below 0
+-- ---- three products not below 0 that sum to 0
 
--- where the first is by a number above 0, its other factor is nothing
+-- if the first product is by a number above 0, its other factor is 0
 first_none : (p k y z : ℤ) → p *ℤ k +ℤ (y +ℤ z) ≡ pos 0 → pos 0 <ℤ k → pos 0 ≤ℤ p → pos 0 ≤ℤ y → pos 0 ≤ℤ z → p ≡ pos 0
 first_none p k y z e hk hp hy hz =
     cancel_zero p k hk (first_of_three _ y z e (product_nn p k hp (nn_above _ hk)) hy hz)
 
--- and so where the second is
+-- if the second product is by a number above 0, its other factor is 0
 second_none : (x p k z : ℤ) → x +ℤ (p *ℤ k +ℤ z) ≡ pos 0 → pos 0 <ℤ k → pos 0 ≤ℤ x → pos 0 ≤ℤ p → pos 0 ≤ℤ z → p ≡ pos 0
 second_none x p k z e hk hx hp hz =
     cancel_zero p k hk (second_of_three x _ z e hx (product_nn p k hp (nn_above _ hk)) hz)
 
--- and where the third is
+-- if the third product is by a number above 0, its other factor is 0
 third_none : (x y p k : ℤ) → x +ℤ (y +ℤ p *ℤ k) ≡ pos 0 → pos 0 <ℤ k → pos 0 ≤ℤ x → pos 0 ≤ℤ y → pos 0 ≤ℤ p → p ≡ pos 0
 third_none x y p k e hk hx hy hp =
     cancel_zero p k hk (third_of_three x y _ e hx hy (product_nn p k hp (nn_above _ hk)))
@@ -64,7 +64,7 @@ left_of_wedge d x m s n up f h = elim (le_or_lt (cross x s) (pos 0)) [
       absurd (not_level d m s n f.bends (first_none _ _ _ _ e k f.left_up q r) (third_none _ _ _ _ e h p q f.right_up))
 ]
 
--- a vector that does not go down lies not left of a wedge's left one and right of its right one
+-- a vector that does not go down is not left of a wedge's left one and right of its right one
 not_outside : (d w l r : Pair) → ¬ IsZero d → IsWedge d l r → pos 0 ≤ℤ product d w → pos 0 <ℤ cross l w
     → cross r w <ℤ pos 0 → ⊥
 not_outside d w l r n f up left right =
@@ -75,7 +75,7 @@ not_outside d w l r n f up left right =
     let s = product_nn _ _ f.left_up (nn_above _ k) in
     not_level d l r n f.bends (third_none _ _ _ _ e k p q f.left_up) (second_none _ _ _ _ e left p f.right_up s)
 
--- nor left of a vector that is left of a wedge's left one, and right of the wedge's right one
+-- a vector that does not go down is not left of a vector left of a wedge's left one, and right of the wedge's right one
 not_astride : (d w x m s : Pair) → ¬ IsZero d → pos 0 ≤ℤ product d x → IsWedge d m s → pos 0 ≤ℤ product d w
     → pos 0 ≤ℤ cross m x → pos 0 ≤ℤ cross s x → pos 0 <ℤ cross x w → cross s w <ℤ pos 0 → ⊥
 not_astride d w x m s n ux f up hm hs left right =
@@ -90,7 +90,7 @@ not_astride d w x m s n ux f up hm hs left right =
     (nn_zero _ (zero_times _ _ x-none)) (product_nn _ _ up hm) f.left_up in
     not_level d m s n f.bends m-none s-none
 
--- the same from the other side: not right of a vector that is right of a wedge's right one, and left of its left one
+-- the same from the other side: it is not right of a vector right of a wedge's right one, and left of its left one
 not_astride_right : (d w x m s : Pair) → ¬ IsZero d → pos 0 ≤ℤ product d x → IsWedge d m s → pos 0 ≤ℤ product d w
     → pos 0 ≤ℤ cross x m → pos 0 ≤ℤ cross x s → cross x w <ℤ pos 0 → pos 0 <ℤ cross m w → ⊥
 not_astride_right d w x m s n ux f up hm hs right left =
@@ -113,7 +113,7 @@ pub record IsLeftAxis (e left right w : Pair) : Type 0 where
   pub left_beside : cross e left ≤ℤ pos 0
   pub right_beside : cross e right ≤ℤ pos 0
 
--- they lie left of it, or on it
+-- the two of a wedge, and w, lie left of e, or on it
 pub record IsRightAxis (e left right w : Pair) : Type 0 where
   pub beside : pos 0 ≤ℤ cross e w
   pub left_beside : pos 0 ≤ℤ cross e left
@@ -123,12 +123,12 @@ pub record IsRightAxis (e left right w : Pair) : Type 0 where
 abbrev pub HasAxis : Pair → Pair → Pair → Pair → Pair → Type 0
 HasAxis l r m s w = (IsLeftAxis l m s w ⊎ IsRightAxis r m s w) ⊎ (IsLeftAxis m l r w ⊎ IsRightAxis s l r w)
 
--- the pairs exchanged
+-- exchanging the pairs keeps an axis
 axis_swap : (l r m s w : Pair) → HasAxis m s l r w → HasAxis l r m s w
 axis_swap l r m s w (inl h) = inr h
 axis_swap l r m s w (inr h) = inl h
 
--- of two wedges, where the left one of the second is not left of that of the first, strictly: the left one of the second is
+-- of two wedges, if the left one of the second is not strictly left of that of the first, the left one of the second is
 -- no farther right than the right one of the first ..
 wedge_left : (d l r m s : Pair) → ¬ IsZero d → IsWedge d l r → IsWedge d m s → pos 0 ≤ℤ cross m l → cross l s ≤ℤ pos 0
 wedge_left d l r m s n e f h = elim (le_or_lt (cross l s) (pos 0)) [
@@ -157,7 +157,7 @@ wedge_right d l r m s n e f h = elim (le_or_lt (cross m r) (pos 0)) [
       absurd (not_level d l r n e.bends l-none r-none)
 ]
 
--- two wedges of which the first reaches no less far to the left
+-- two wedges have an axis if the first reaches no less far to the left
 wedges_from_left : (d w l r m s : Pair) → ¬ IsZero d → IsWedge d l r → IsWedge d m s → pos 0 ≤ℤ product d w
     → pos 0 ≤ℤ cross m l → HasAxis l r m s w
 wedges_from_left d w l r m s n e f up a =
@@ -193,7 +193,7 @@ axis_of_wedges d w l r m s n e f up = elim (le_or_lt (pos 0) (cross m l)) [
       (wedges_from_left d w m s l r n f e up (nn_opposite _ _ (cross_swap l m) (np_below _ a)))
 ]
 
--- of a vector and a wedge one has
+-- a vector and a wedge have an axis
 pub axis_of_vector : (d w x m s : Pair) → ¬ IsZero d → pos 0 ≤ℤ product d x → IsWedge d m s → pos 0 ≤ℤ product d w
     → HasAxis x x m s w
 axis_of_vector d w x m s n ux f up = elim (le_or_lt (cross m x) (pos 0)) [
@@ -228,12 +228,12 @@ axis_of_vector d w x m s n ux f up = elim (le_or_lt (cross m x) (pos 0)) [
   ]
 ]
 
--- a wedge and a vector
+-- a wedge and a vector have an axis
 pub axis_of_wedge : (d w l r x : Pair) → ¬ IsZero d → IsWedge d l r → pos 0 ≤ℤ product d x → pos 0 ≤ℤ product d w
     → HasAxis l r x x w
 axis_of_wedge d w l r x n e ux up = axis_swap l r x x w (axis_of_vector d w x l r n ux e up)
 
--- two vectors of which the second is not left of the first
+-- two vectors have an axis if the second is not left of the first
 vectors_from_left : (d w x y : Pair) → ¬ IsZero d → pos 0 ≤ℤ product d x → pos 0 ≤ℤ product d y → pos 0 ≤ℤ product d w
     → cross x y ≤ℤ pos 0 → HasAxis x x y y w
 vectors_from_left d w x y n ux uy up a = elim (le_or_lt (cross x w) (pos 0)) [
@@ -249,7 +249,7 @@ vectors_from_left d w x y n ux uy up a = elim (le_or_lt (cross x w) (pos 0)) [
   ]
 ]
 
--- of two vectors one has
+-- two vectors have an axis
 pub axis_of_vectors : (d w x y : Pair) → ¬ IsZero d → pos 0 ≤ℤ product d x → pos 0 ≤ℤ product d y → pos 0 ≤ℤ product d w
     → HasAxis x x y y w
 axis_of_vectors d w x y n ux uy up = elim (le_or_lt (cross x y) (pos 0)) [

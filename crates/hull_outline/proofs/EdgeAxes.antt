@@ -1,4 +1,5 @@
--- Two sets of three corners or more that a direction parts: an edge of one of them has the other on its right.
+-- If a direction separates two sets with at least three vertices each, an edge of one of them has the other on its
+-- right.
 use Rattle.std.proofs.lemmas.Grind.{common_steps}
 use Rattle.std.proofs.Common.{◌≡◌, ℕ, ◌+◌, ◌<◌, ℤ, pos, ◌-ℤ◌, ◌≤ℤ◌, ◌<ℤ◌, neg_ℤ, ◌⊎◌, inl, inr, sym, subst, List}
 use Rattle.std.proofs.Common.{length, arith}
@@ -31,7 +32,7 @@ pub product_minus : (d p q : Pair) → product d (minus p q) ≡ product d p -�
 unfolding product
 product_minus d p q = rw (as_pair d, as_pair p, as_pair q) (simp difference_rules (difference-eq _ _ _ _ (omega arith)))
 
--- and in the direction backwards
+-- how far a step goes in the opposite direction
 pub product_minus_back : (d p q : Pair) → product d (minus p q) ≡ product (opp d) q -ℤ product (opp d) p
 unfolding product
 product_minus_back d p q =
@@ -48,12 +49,12 @@ unfolding orient
 side_off_more c n v t =
     rw (as_pair c, as_pair n, as_pair v, as_pair t) (simp difference_rules (difference-eq _ _ _ _ (omega arith)))
 
--- both steps backwards
+-- reversing both steps keeps their cross product
 pub both_back : (a b c d : Pair) → cross (minus a b) (minus c d) ≡ cross (minus b a) (minus d c)
 both_back a b c d =
     rw (as_pair a, as_pair b, as_pair c, as_pair d) (simp difference_rules (difference-eq _ _ _ _ (omega arith)))
 
--- ---- a corner and the edges at it
+-- ---- a vertex and the edges at it
 
 -- all of T lies left of the edges from p to v and from v to n, which bend left
 pub record IsBend (T : List Pair) (p v n : Pair) : Type 0 where
@@ -61,7 +62,7 @@ pub record IsBend (T : List Pair) (p v n : Pair) : Type 0 where
   pub to : IsLeftOf T p v
   pub from : IsLeftOf T v n
 
--- the corners beside v lie no farther to the left of a line than v: so does all of T
+-- if the vertices beside v lie no farther to the left of a line than v, neither does any point of T
 pub bend_at_most : (T : List Pair) (a b p v n : Pair) → IsBend T p v n
     → (orient a b p -ℤ orient a b v) ≤ℤ pos 0 → (orient a b n -ℤ orient a b v) ≤ℤ pos 0
     → (t : Pair) → Contains T t → orient a b t ≤ℤ orient a b v
@@ -79,43 +80,43 @@ bend_at_most T a b p v n h hp hn t m =
     same : (x y z u w : ℤ) → x -ℤ z ≡ u → y -ℤ z ≡ w → (u -ℤ w) ≤ℤ pos 0 → (x -ℤ y) ≤ℤ pos 0
     same x y z u w e f h = omega (arith, ints)
 
--- where v lies right of the line, all of T does
+-- if v lies right of the line, all of T does
 bend_right : (T : List Pair) (a b p v n : Pair) → IsBend T p v n → orient a b v <ℤ pos 0
     → (orient a b p -ℤ orient a b v) ≤ℤ pos 0 → (orient a b n -ℤ orient a b v) ≤ℤ pos 0
     → (t : Pair) → Contains T t → orient a b t <ℤ pos 0
 bend_right T a b p v n h k hp hn t m = omega (arith, ints, bend_at_most T a b p v n h hp hn t m)
 
--- the edge to c has T on its right, where the bend and v are right of it
+-- the edge to c has T on its right, if the bend and v are right of it
 right_of_edge_to : (T : List Pair) (b c p v n : Pair) → IsBend T p v n
     → IsLeftAxis (minus c b) (minus p v) (minus n v) (minus v c) → (t : Pair) → Contains T t → orient b c t <ℤ pos 0
 right_of_edge_to T b c p v n h a =
     bend_right T b c p v n h (omega (arith, ints, side_after b c v, a.beside))
     (np_by _ _ (side_more b c v p) a.left_beside) (np_by _ _ (side_more b c v n) a.right_beside)
 
--- and so has the edge from c
+-- the edge from c has T on its right, if the bend and v are right of it
 right_of_edge_from : (T : List Pair) (c d p v n : Pair) → IsBend T p v n
     → IsRightAxis (minus c d) (minus p v) (minus n v) (minus v c) → (t : Pair) → Contains T t → orient c d t <ℤ pos 0
 right_of_edge_from T c d p v n h a =
     bend_right T c d p v n h (below_opposite _ _ (side_off c d v) a.beside)
     (np_opposite _ _ (side_off_more c d v p) a.left_beside) (np_opposite _ _ (side_off_more c d v n) a.right_beside)
 
--- the axis seen from the other set: all steps backwards
+-- the axis seen from the other set: all steps reversed
 left_axis_back : (p v b d c : Pair) → IsLeftAxis (minus p v) (minus c b) (minus c d) (minus v c)
     → IsLeftAxis (minus v p) (minus b c) (minus d c) (minus c v)
 left_axis_back p v b d c a = grind (arith, common_steps, both_back, c, d)
 
--- and the same on the right
+-- the same on the right
 right_axis_back : (n v b d c : Pair) → IsRightAxis (minus n v) (minus c b) (minus c d) (minus v c)
     → IsRightAxis (minus v n) (minus b c) (minus d c) (minus c v)
 right_axis_back n v b d c a = grind (arith, common_steps, both_back, n, c, d)
 
--- ---- the corners farthest in a direction
+-- ---- the vertices farthest in a direction
 
--- a corner of a set, and those beside it
+-- a vertex of a set, and those beside it
 abbrev pub IsBendAt : List Pair → List Pair → ℕ → Type 0
 IsBendAt S V j = IsBend S (previous V j) (corner V j) (corner V (j + 1))
 
--- three corners or more bend at each
+-- at least three vertices bend at each
 pub bend_at : (S V : List Pair) (last j : ℕ) → IsOutlineOf S V → IsParted V last → 2 < length V → j < length V
     → IsBendAt S V j
 bend_at S V last j o p many l = record {
@@ -124,7 +125,7 @@ bend_at S V last j o p many l = record {
   from = next_left S V j (j + 1) o.1 (omega arith) l;
 }
 
--- in each direction a corner is farthest, that has a place in the list
+-- in each direction the vertex at some index is farthest
 pub top_of : (S V : List Pair) (last : ℕ) (d : Pair) → IsOutlineOf S V → IsParted V last → 0 < length V
     → (j : ℕ) × (j < length V) × IsFirstFarthest S d (corner V j)
 top_of S V last d o p n =
@@ -132,7 +133,7 @@ top_of S V last d o p n =
     let j = placed V r.0 n in
     (j.0, j.1, subst (IsFirstFarthest S d) j.2 r.1)
 
--- the steps to a farthest corner from those beside it do not go down
+-- the steps to a farthest vertex from those beside it do not go down
 pub wedge_to : (S V : List Pair) (d : Pair) (j : ℕ) → IsOutlineOf S V → j < length V → IsBendAt S V j
     → IsFirstFarthest S d (corner V j)
     → IsWedge d (minus (corner V j) (previous V j)) (minus (corner V j) (corner V (j + 1)))
@@ -148,7 +149,7 @@ wedge_to S V d j o l h f =
       bends = rw (← (side_to_end (previous V j) (corner V j) (corner V (j + 1)))) h.bends;
     }
 
--- the steps from a corner that is farthest backwards do not go down
+-- the steps from a vertex that is farthest backwards do not go down
 pub wedge_from : (T W : List Pair) (d : Pair) (j : ℕ) → IsOutlineOf T W → j < length W → IsBendAt T W j
     → IsFirstFarthest T (opp d) (corner W j)
     → IsWedge d (minus (previous W j) (corner W j)) (minus (corner W (j + 1)) (corner W j))
@@ -164,17 +165,17 @@ wedge_from T W d j o l h f =
       bends = rw (← (side_back (previous W j) (corner W j) (corner W (j + 1)))) h.bends;
     }
 
--- ---- an edge that parts
+-- ---- an edge that separates
 
--- the edge from the corner at i has all of T on its right
+-- the edge from the vertex at i has all of T on its right
 abbrev pub IsBesideEdge : List Pair → List Pair → ℕ → Type 0
 IsBesideEdge V T i = (t : Pair) → Contains T t → orient (corner V i) (corner V (i + 1)) t <ℤ pos 0
 
--- some edge of V has
+-- some edge of V has all of T on its right
 abbrev pub IsBesideSome : List Pair → List Pair → Type 0
 IsBesideSome V T = (i : ℕ) × (i < length V) × IsBesideEdge V T i
 
--- the edge to a corner is one of the list
+-- the edge to a vertex is one of the list
 edge_to : (V T : List Pair) (j : ℕ) → j < length V
     → ((t : Pair) → Contains T t → orient (previous V j) (corner V j) t <ℤ pos 0) → IsBesideSome V T
 edge_to V T j l h =
@@ -185,7 +186,7 @@ edge_to V T j l h =
           (subst (λ (z : Pair). orient z (corner V j) t <ℤ pos 0) b.3 (h t m)),
     )
 
--- where a direction parts S from T, some edge of S has T on its right, or some edge of T has S there
+-- if a direction separates S from T, some edge of S has T on its right, or some edge of T has S on its right
 pub edge_parts : (S V T W : List Pair) (last end : ℕ) → IsOutlineOf S V → IsParted V last → IsOutlineOf T W
     → IsParted W end → 2 < length V → 2 < length W → IsApart S T → IsBesideSome V T ⊎ IsBesideSome W S
 edge_parts S V T W last end o p q r many more (d, h) =

@@ -1,4 +1,4 @@
--- The edges between whose ends a point stands, and what the ends of the corners tell of it.
+-- The edges between whose ends a point is, and the ends of the chains.
 use Rattle.std.proofs.Common.{ℕ, ◌+◌, ◌-◌, ◌≤◌, ◌<◌, List, length, inl, inr, refl, subst, arith}
 use Rattle.std.proofs.lemmas.Bool.{cases_lt}
 use Rattle.lattice.specs.Places.{IsOnBoundary}
@@ -16,7 +16,7 @@ use Rattle.hull_outline.proofs.Ends.{ends_of, alone}
 use Rattle.hull_outline.proofs.Made.{parted_is_outline}
 use Rattle.hull_outline.proofs.Rings.{ring_of}
 
--- where the edges up to one end not after q along a chain to an end after q, that one is not the last corner
+-- if all edges up to one along a chain do not end after q, and an end of the chain does, that vertex is not the last
 pub start_within : (side : Side) (V : List Pair) (last start : ℕ) (q : Pair)
     → ¬ (IsAlong side q (corner V (starts_at side last))) → IsAlong side q (corner V (ends_at side V last))
     → starts_at side last ≤ start → start ≤ ends_at side V last
@@ -52,21 +52,21 @@ edge_found side S V last start q o p n from to low high held fails = record {
           (corner V (ends_at side V last)) o p n one (corner_extreme S V (ends_at side V last) o.1 n).0) to))
     ]
 
--- the last corner lies on the boundary
+-- the last vertex lies on the boundary
 pub last_touched : (S V : List Pair) (last : ℕ) (q : Pair) → IsOutlineOf S V → IsParted V last → 0 < length V
     → ¬ (IsBefore (corner V last) q) → ¬ (IsBefore q (corner V last)) → IsOnBoundary S q
 last_touched S V last q o p n h k =
     subst (IsOnBoundary S) (equal_by (corner V last) q h k)
     (touching_last S (corner V last) (corner_extreme S V last o.1 n).0 (ends_of S V last o p n).1)
 
--- the first corner stands before each point that stands after the left end of an edge
+-- the first vertex is before each point that is after the left end of an edge
 pub after_start : (V : List Pair) (last : ℕ) (q : Pair) (e : Pair × Pair) → IsParted V last → 0 < length V
     → ((S : List Pair) → IsOutlineOf S V → IsLowerEdgeAt S q e) → IsBefore e.0 q → IsBefore (corner V 0) q
 after_start V last q e p n k b =
     let o = parted_is_outline V last p in
     up_to (corner V 0) e.0 q ((ends_of o.0 V last o.1 p n).0 e.0 (k o.0 o.1).edge.from) b
 
--- the first corner and the one at `last` are the ends of the set
+-- the first vertex and the one at `last` are the ends of the set
 pub are_ends : (S V : List Pair) (last : ℕ) → IsOutlineOf S V → IsParted V last → 0 < length V
     → AreEnds S (corner V 0) (corner V last)
 are_ends S V last o p n =

@@ -1,4 +1,4 @@
--- The edges between extreme points, and how two of them meet.
+-- The edges between extreme points, and how two of them join.
 use Rattle.std.proofs.Common.{◌≡◌, pos, ◌≤ℤ◌, neg_ℤ, List, ap, ◌∙◌, arith}
 use Rattle.std.specs.List.{Contains}
 use Rattle.std.proofs.lemmas.Int.{ints}
@@ -25,11 +25,12 @@ not_within S a v b ma ev mb av vb z =
     ev.1 (OnSegment a b (in_without v a S (before_apart a v av) ma) (in_without v b S (after_apart b v vb) mb)
     (on_segment a b v av vb z))
 
--- the line from its other end
+-- a point on a line is on the line in the other direction
 pub other_line : (p r q : Pair) → orient p r q ≡ pos 0 → orient r p q ≡ pos 0
 other_line p r q z = orient_other p r q ∙ ap neg_ℤ z
 
--- along a side to an extreme point that has all of S on the left of the line: an edge there
+-- if the step to an extreme point goes along a side and has all of S on the left of its line, it is an edge on that
+-- side
 pub edge_along : (side : Side) (S : List Pair) (u v : Pair) → Contains S u → IsExtreme S v → IsLeftOf S u v
     → IsAlong side u v → IsEdgeOn side S u v
 edge_along side S u v mu ev h b = record {
@@ -49,7 +50,7 @@ in_line : (a b c : Pair) → Ahead a → Ahead b → Ahead c → pos 0 ≤ℤ cr
     → cross a c ≡ pos 0
 in_line a b c ha hb hc ac cb ba = omega (arith, ints, cross_swap a c, cross_trans c b a hc hb ha cb ba)
 
--- an upper edge to v and a lower edge from v: v is the first point
+-- if an upper edge ends at v and a lower edge begins there, v is the first point
 pub first_between : (S : List Pair) (u v w : Pair) → IsUpperEdge S u v → IsLowerEdge S v w → IsFirst S v
 first_between S u v w e f t m b =
     All-contains (λ t. orient u v t ≡ pos 0 → ¬ (IsBefore t v)) S t e.last m
@@ -59,7 +60,7 @@ first_between S u v w e f t m b =
     (at_least _ _ (side_before v w t) (All-contains (λ t. pos 0 ≤ℤ orient v w t) S t f.left m))
     (at_least _ _ (side_back u v w) (All-contains (λ t. pos 0 ≤ℤ orient u v t) S w e.left f.to))) b
 
--- a lower edge to v and an upper edge from v: v is the last point
+-- if a lower edge ends at v and an upper edge begins there, v is the last point
 pub last_between : (S : List Pair) (u v w : Pair) → IsLowerEdge S u v → IsUpperEdge S v w → IsLast S v
 last_between S u v w e f t m b =
     All-contains (λ t. orient u v t ≡ pos 0 → ¬ (IsBefore v t)) S t e.last m

@@ -1,4 +1,4 @@
--- The first corner is the first point of the set, and the corner at `last` the last one.
+-- The first vertex is the first point of the set, and the vertex at `last` the last one.
 use Rattle.std.proofs.Common.{◌≡◌, ℕ, ◌+◌, ◌≤◌, ◌<◌, ◌⊎◌, List, [], ◌∷◌, length, ◌-◌, refl, inl, inr, sym, ap, ◌∙◌, subst, arith}
 use Rattle.std.specs.List.{Contains}
 use Rattle.std.proofs.lemmas.Bool.{cases_lt}
@@ -19,20 +19,20 @@ use Rattle.lattice.proofs.Order.{equal_by}
 use Rattle.hull_geometry.proofs.Along.{along_apart}
 use Rattle.hull_outline.proofs.Rings.{IsRing, ring_of}
 
--- the only corner is each extreme point
+-- each extreme point is the only vertex
 only_corner : (S V : List Pair) (t : Pair) → IsOutlineOf S V → length V ≡ 1 → IsExtreme S t → t ≡ corner V 0
 only_corner S V t o l x =
     let c = corner_of V t ((o.1.members t).1 x) in c.2 ∙ ap (corner V) (omega (arith, l, c.1))
 
--- some point is there
+-- a list with a member is not empty
 some_point : (S : List Pair) (t : Pair) → Contains S t → 0 < length S
 some_point S t m = omega (arith, m.1)
 
--- the last point is there
+-- the last point is a member
 last_there : (S : List Pair) → 0 < length S → Contains S (point_at S (length S - 1))
 last_there S l = Contains-get_or S (length S - 1) origin (omega (arith, l))
 
--- a set of no corners has no points
+-- a set of no vertices has no points
 pub no_corners : (S V : List Pair) → IsOutlineOf S V → length V ≡ 0 → S ≡ []
 no_corners [] V o l = refl
 no_corners (x ∷ xs) V o l =
@@ -41,7 +41,7 @@ no_corners (x ∷ xs) V o l =
     (first_extreme (x ∷ xs) (point_at (x ∷ xs) 0) o.0 m (least (x ∷ xs) o.0)) in
     absurd (omega (arith, l, c.1))
 
--- the ends of the set
+-- the first vertex and the one at `last` are the ends of the set
 pub ends_of : (S V : List Pair) (last : ℕ) → IsOutlineOf S V → IsParted V last → 0 < length V
     → IsFirst S (corner V 0) × IsLast S (corner V last)
 ends_of S V last o p n = elim (cases_lt 1 (length V)) [
@@ -66,14 +66,14 @@ none_before : (side : Side) (S V : List Pair) (last : ℕ) → IsOutlineOf S V �
 none_before Lower S V last o p n = (ends_of S V last o p n).0
 none_before Upper S V last o p n = (ends_of S V last o p n).1
 
--- nor after its end
+-- no point comes after its end
 none_behind : (side : Side) (S V : List Pair) (last : ℕ) → IsOutlineOf S V → IsParted V last → 0 < length V → (t : Pair)
     → Contains S t → ¬ (IsAlong side (corner V (ends_at side V last)) t)
 none_behind Lower S V last o p n t m = (ends_of S V last o p n).1 t m
 none_behind Upper S V last o p n t m =
     λ b. (ends_of S V last o p n).0 t m (subst (IsBefore t) (corner_back V (length V) (omega arith) n) b)
 
--- a single corner is each point
+-- each point is the only vertex
 pub alone : (S V : List Pair) (last at : ℕ) (t : Pair) → IsOutlineOf S V → IsParted V last → 0 < length V → length V ≤ 1
     → Contains S t → t ≡ corner V at
 alone S V last at t o p n one m =
@@ -85,7 +85,7 @@ alone S V last at t o p n one m =
       | inr h ↦ sym (corner_back V at h n)
     ]
 
--- to a corner of a chain goes an edge along its side, or nothing comes before it
+-- to a vertex of a chain leads an edge along its side, or no point comes before it
 pub edge_to : (side : Side) (S V : List Pair) (last at : ℕ) → IsOutlineOf S V → IsParted V last → 0 < length V
     → starts_at side last ≤ at → at ≤ ends_at side V last
     → ((t : Pair) → Contains S t → ¬ (IsAlong side t (corner V at)))
@@ -102,7 +102,7 @@ edge_to side S V last at o p n l u = elim (cases_lt (starts_at side last) at) [
   ]
 ]
 
--- and from it goes one, or nothing comes after it
+-- from a vertex of a chain leads an edge along its side, or no point comes after it
 pub edge_from : (side : Side) (S V : List Pair) (last at : ℕ) → IsOutlineOf S V → IsParted V last → 0 < length V
     → starts_at side last ≤ at → at ≤ ends_at side V last
     → ((t : Pair) → Contains S t → ¬ (IsAlong side (corner V at) t))

@@ -1,4 +1,4 @@
--- How far a set reaches in a direction.
+-- The extent of a set in a direction.
 use Rattle.std.proofs.Common.{◌≡◌, ℤ, ◌-ℤ◌, ◌≤ℤ◌, sym, subst, List, arith}
 use Rattle.std.specs.List.{Contains}
 use Rattle.std.proofs.lemmas.Int.{ints}
@@ -10,7 +10,7 @@ use Rattle.hull_outline.specs.Steps.{backward}
 use Rattle.lattice.proofs.Numbers.{le_opposites}
 use Rattle.hull_geometry.proofs.Slopes.{product-opp}
 
--- what is farthest backwards is nearest
+-- the point farthest backwards is nearest
 nearest_by : (S : List Pair) (d b q : Pair) → b ≡ backward d → IsFirstFarthest S b q → (t : Pair) → Contains S t
     → product d q ≤ℤ product d t
 nearest_by S d b q e f t m =
@@ -23,7 +23,7 @@ pub no_less_far : (S : List Pair) (d b p q : Pair) → b ≡ backward d → IsFi
     → product d q ≤ℤ product d p
 no_less_far S d b p q e f g = nearest_by S d b q e g p f.0
 
--- and by as much as the set reaches
+-- their difference is the extent
 pub extent_of : (S : List Pair) (d b p q : Pair) (n : ℤ) → b ≡ backward d → IsFirstFarthest S d p
     → IsFirstFarthest S b q → n ≡ product d p -ℤ product d q → IsExtent S d n
 extent_of S d b p q n e f g h = record {

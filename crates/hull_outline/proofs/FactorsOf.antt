@@ -1,4 +1,4 @@
--- The square of a distance as a quotient: how large it is, and how two such compare.
+-- The square of a distance as a quotient: its size, and the comparison of two.
 use Rattle.std.proofs.Common.{◌≡◌, ℕ, ◌*◌, ◌≤◌, ℤ, pos, ◌+ℤ◌, ◌-ℤ◌, ◌*ℤ◌, ◌≤ℤ◌, sym, subst, arith}
 use Rattle.std.proofs.lemmas.Int.{ints}
 use Rattle.std.proofs.lemmas.Nat.{mul-le}
@@ -6,7 +6,7 @@ use Rattle.lattice.specs.Plane.{Pair, orient, distance_squared}
 use Rattle.hull_outline.proofs.Cones.{square_nn}
 use Rattle.hull_outline.proofs.Distances.{lagrange}
 
--- a side is at most as large as both lengths
+-- a squared side is at most the product of both squared lengths
 side_at_most : (a b t : Pair) → (orient a b t *ℤ orient a b t) ≤ℤ (distance_squared a b *ℤ distance_squared a t)
 unfolding orient distance_squared
 side_at_most a b t =

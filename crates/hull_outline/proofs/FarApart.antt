@@ -1,4 +1,4 @@
--- No points of two hulls are nearer to one another than where the two are nearest.
+-- No points of two hulls are nearer to each other than the nearest points of the two.
 use Rattle.std.proofs.Common.{◌≡◌, ℕ, ◌<◌, ℤ, pos, ◌-ℤ◌, ◌*ℤ◌, ◌≤ℤ◌, ◌<ℤ◌, neg_ℤ, refl, sym, ap, ◌∙◌, subst}
 use Rattle.std.proofs.Common.{List, length, get_or, arith}
 use Rattle.std.specs.List.{Contains}
@@ -24,9 +24,9 @@ use Rattle.hull_outline.proofs.Shields.{product_left}
 use Rattle.lattice.proofs.Numbers.{gap_nn, le_by_gap, nn_above, nn_by_le}
 use Rattle.hull_outline.proofs.Diameters.{distance_turned}
 
--- ---- a set that is magnified
+-- ---- a magnified set
 
--- how far a point lies that is k times as far out
+-- how far a point lies after magnifying it by k
 pub times_along : (k : ℤ) (d p : Pair)
     → product d record { x = k *ℤ p.x; y = k *ℤ p.y } ≡ k *ℤ product d p
 unfolding product
@@ -42,7 +42,7 @@ times_le k x y h l = omega (arith, ints, apart k x y, product_nn k (y -ℤ x) h 
     apart k x y = rw (as_difference k, as_difference x, as_difference y)
         (simp difference_rules (difference-eq _ _ _ _ (omega arith)))
 
--- what the magnified set covers lies no farther than so many times the farthest
+-- a point that the magnified set covers lies no farther than k times the farthest
 pub magnified_near : (S : List Pair) (d s p : Pair) (k : ℕ) → IsFarthest S d s → Covers (magnified k S) p
     → product d p ≤ℤ (pos k *ℤ product d s)
 magnified_near S d s p k f c = covered_near (magnified k S) d p (pos k *ℤ product d s) near c
@@ -56,7 +56,7 @@ magnified_near S d s p k f c = covered_near (magnified k S) d p (pos k *ℤ prod
 
 -- ---- two sets with a strip between them
 
--- no points of two magnified sets are nearer to one another than so many times the strip is wide
+-- no points of two sets magnified by k are nearer to each other than k times the width of the strip
 far_apart : (S T : List Pair) (d back s t : Pair) (k : ℕ) (p q : Pair) (h : ℤ) → IsFarthest S d s
     → IsFarthest T back t → ((x : Pair) → product back x ≡ neg_ℤ (product d x)) → h ≡ product d t -ℤ product d s
     → pos 0 ≤ℤ h → Covers (magnified k S) p → Covers (magnified k T) q
@@ -79,7 +79,7 @@ far_apart S T d back s t k p q h fs ft orient_on e hh cp cq =
         → bt ≡ neg_ℤ kt → (k *ℤ h) ≤ℤ (dq -ℤ dp)
     wide k h w ks kt dp dq bq x e a b c d = rw e (omega (arith, ints, x, a, b, c, d))
 
--- the same of the squared distance itself, where that is the strip's width
+-- the same of the squared distance itself, if that is the strip's width
 cancelled : (k l m : ℤ) → pos 0 <ℤ l → ((k *ℤ l) *ℤ (k *ℤ l)) ≤ℤ (l *ℤ m) → ((k *ℤ k) *ℤ l) ≤ℤ m
 cancelled k l m h le = le_by_gap _ _ (cancel_nn (m -ℤ (k *ℤ k) *ℤ l) l h (nn_by_le _ _ _ (drawn k l m) le))
   where
@@ -92,7 +92,7 @@ normal_squared : (a b : Pair) → product (left_of a b) (left_of a b) ≡ distan
 unfolding product distance_squared
 normal_squared a b = rw (as_pair a, as_pair b) (simp difference_rules (difference-eq _ _ _ _ (omega arith)))
 
--- two corners
+-- two vertices are the nearest points
 apart_by_corners : (S T : List Pair) (c d : Pair) (k : ℕ) (p q : Pair) → IsNearestCorner S d c → IsNearestCorner T c d
     → Covers (magnified k S) p → Covers (magnified k T) q
     → ((pos k *ℤ pos k) *ℤ distance_squared c d) ≤ℤ (pos 1 *ℤ distance_squared p q)
@@ -110,7 +110,7 @@ apart_by_corners S T c d k p q hs ht cp cq =
     once : (x y : ℤ) → x ≤ℤ y → x ≤ℤ (pos 1 *ℤ y)
     once x y h = omega (arith, ints)
 
--- a corner of S and an edge of T
+-- a vertex of S and a point of an edge of T are the nearest points
 apart_by_edge : (S T : List Pair) (c a b : Pair) (k : ℕ) (p q : Pair) → IsClosestToEdge S T c a b
     → Covers (magnified k S) p → Covers (magnified k T) q
     → ((pos k *ℤ pos k) *ℤ (orient a b c *ℤ orient a b c)) ≤ℤ (distance_squared a b *ℤ distance_squared p q)

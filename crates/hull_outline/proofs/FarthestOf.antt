@@ -1,4 +1,4 @@
--- The first of the farthest points, by the edges beside the corner that a bisection of a chain found.
+-- The first of the farthest points, by the edges at the vertex that a bisection of a chain found.
 use Rattle.std.proofs.Common.{ℕ, ◌+◌, ◌-◌, ◌≤◌, ◌<◌, ◌≤ℤ◌, ◌<ℤ◌, pos, List, length, inl, inr, subst, arith}
 use Rattle.lattice.specs.Plane.{Pair, product}
 use Rattle.lattice.specs.declared.side.Side.TheVariants.{Lower, Upper}
@@ -10,7 +10,7 @@ use Rattle.hull_outline.specs.Rounds.{corner, IsParted}
 use Rattle.hull_outline.proofs.Corners.{corner_extreme}
 use Rattle.hull_outline.proofs.Ends.{edge_to, edge_from}
 
--- where the direction does not go up, the corner up to which the lower chain rises
+-- if the direction does not go up, it is the vertex up to which the lower chain rises
 pub farthest_below : (S V : List Pair) (last at : ℕ) (d : Pair) → IsOutlineOf S V → IsParted V last → 0 < length V
     → d.y ≤ℤ pos 0 → at ≤ last
     → (0 < at → product d (corner V (at - 1)) <ℤ product d (corner V (at - 1 + 1)))
@@ -29,7 +29,7 @@ farthest_below S V last at d o p n down l held fails =
     (elim (edge_from Lower S V last at o p n (omega arith) l)
     [ inl f ↦ inl f | inr k ↦ inr (corner V (at + 1), lower_support k.1, fails k.0) ])
 
--- where it goes up, the corner from which the upper chain goes back to less far points
+-- if the direction goes up, it is the vertex from which the upper chain goes back to less far points
 pub farthest_above : (S V : List Pair) (last at : ℕ) (d : Pair) → IsOutlineOf S V → IsParted V last → 0 < length V
     → pos 0 <ℤ d.y → last ≤ at → at ≤ length V
     → (last < at → ¬ (product d (corner V (at - 1 + 1)) <ℤ product d (corner V (at - 1))))

@@ -17,20 +17,20 @@ unfold_products a b c d =
 pub products_le : (a b c d : ℤ) → pos 0 ≤ℤ a → a ≤ℤ b → pos 0 ≤ℤ c → c ≤ℤ d → (a *ℤ c) ≤ℤ (b *ℤ d)
 products_le a b c d ha ab hc cd = grind (arith, common_steps, le_by_sum, d, c, unfold_products, product_nn, gap_nn, ints)
 
--- the same, where the first are not equal and the second are above 0
+-- squares of numbers in strict order, none below 0, are in strict order
 pub products_lt : (a b : ℤ) → pos 0 ≤ℤ a → a <ℤ b → (a *ℤ a) <ℤ (b *ℤ b)
 products_lt a b ha ab =
     less_by_sum (b *ℤ b) (a *ℤ a) _ _ (unfold_products a b a b)
     (product_pp (b -ℤ a) b (omega (arith, ints)) (omega (arith, ints)))
     (product_nn a (b -ℤ a) ha (omega (arith, ints)))
 
--- a quotient no greater than one that is no greater than a third, told by products
+-- the identity of three quotients, by products
 middle : (a b c x y z : ℤ) → (c *ℤ x -ℤ a *ℤ z) *ℤ y ≡ (c *ℤ y -ℤ b *ℤ z) *ℤ x +ℤ (b *ℤ x -ℤ a *ℤ y) *ℤ z
 middle a b c x y z =
     rw (as_difference a, as_difference b, as_difference c, as_difference x, as_difference y, as_difference z)
     (simp difference_rules (difference-eq _ _ _ _ (omega arith)))
 
--- quotients in order
+-- quotients in order are transitive
 pub quotients_le : (a b c x y z : ℤ) → pos 0 <ℤ y → pos 0 ≤ℤ x → pos 0 ≤ℤ z → (a *ℤ y) ≤ℤ (b *ℤ x)
     → (b *ℤ z) ≤ℤ (c *ℤ y) → (a *ℤ z) ≤ℤ (c *ℤ x)
 quotients_le a b c x y z hy hx hz first second =
@@ -40,19 +40,19 @@ quotients_le a b c x y z hy hx hz first second =
     sum : (x y z : ℤ) → x ≡ y +ℤ z → pos 0 ≤ℤ y → pos 0 ≤ℤ z → pos 0 ≤ℤ x
     sum x y z e h k = omega (arith, ints)
 
--- ---- a mean of two directions
+-- ---- a direction between two others
 
--- products of two by two
+-- a product of products
 pairs : (m a b : ℤ) → (m *ℤ a) *ℤ (m *ℤ b) ≡ (m *ℤ m) *ℤ (a *ℤ b)
 pairs m a b =
     rw (as_difference m, as_difference a, as_difference b) (simp difference-mul (difference-eq _ _ _ _ (omega arith)))
 
--- and of squares
+-- a product of squares
 squares : (k j l : ℤ) → ((k *ℤ k) *ℤ l) *ℤ ((j *ℤ j) *ℤ l) ≡ ((k *ℤ j) *ℤ l) *ℤ ((k *ℤ j) *ℤ l)
 squares k j l =
     rw (as_difference k, as_difference j, as_difference l) (simp difference-mul (difference-eq _ _ _ _ (omega arith)))
 
--- where m by one square and by another is at most as much of two numbers, it is so by what their roots make together
+-- if the bound m holds for the squares of two numbers, it holds for their product
 pub mixed : (m l k j r s p : ℤ) → pos 0 ≤ℤ m → pos 0 ≤ℤ l → pos 0 ≤ℤ k → pos 0 ≤ℤ j → pos 0 ≤ℤ r → pos 0 ≤ℤ s
     → (m *ℤ r) ≤ℤ ((k *ℤ k) *ℤ l) → (m *ℤ s) ≤ℤ ((j *ℤ j) *ℤ l) → (p *ℤ p) ≤ℤ (r *ℤ s)
     → (m *ℤ p) ≤ℤ ((k *ℤ j) *ℤ l)
@@ -72,7 +72,7 @@ mixed m l k j r s p hm hl hk hj hr hs first second both = elim (le_or_lt (m *ℤ
     clash : (x y z u v : ℤ) → x <ℤ y → y ≡ z → z ≤ℤ u → v ≡ u → v ≤ℤ x → ⊥
     clash x y z u v e f g h i = omega (arith, ints)
 
--- what is said of kappa times d is said of a and b times the two
+-- a bound on kappa times d, by a and b times the two
 expanded : (m l a b k j r s p : ℤ)
     → ((a *ℤ k +ℤ b *ℤ j) *ℤ (a *ℤ k +ℤ b *ℤ j)) *ℤ l
     -ℤ m *ℤ ((a *ℤ a) *ℤ r +ℤ ((a *ℤ b) *ℤ p +ℤ ((a *ℤ b) *ℤ p +ℤ (b *ℤ b) *ℤ s)))
@@ -92,13 +92,13 @@ expanded m l a b k j r s p =
       as_difference p,
     ) (simp difference_rules (difference-eq _ _ _ _ (omega arith)))
 
--- a square drawn in
+-- a square multiplied in
 drawn : (c n l m d : ℤ) → (c *ℤ n) *ℤ (c *ℤ n) *ℤ l -ℤ m *ℤ ((c *ℤ c) *ℤ d) ≡ ((n *ℤ n) *ℤ l -ℤ m *ℤ d) *ℤ (c *ℤ c)
 drawn c n l m d =
     rw (as_difference c, as_difference n, as_difference l, as_difference m, as_difference d)
     (simp difference_rules (difference-eq _ _ _ _ (omega arith)))
 
--- between two directions the quotient is no less than the least at both
+-- between two directions the quotient is no less than the lesser of those of both
 pub between_two : (m l c n d a b k j r s p : ℤ) → pos 0 ≤ℤ m → pos 0 ≤ℤ l → pos 0 <ℤ c → pos 0 ≤ℤ a → pos 0 ≤ℤ b
     → pos 0 ≤ℤ k → pos 0 ≤ℤ j → pos 0 ≤ℤ r → pos 0 ≤ℤ s → (m *ℤ r) ≤ℤ ((k *ℤ k) *ℤ l)
     → (m *ℤ s) ≤ℤ ((j *ℤ j) *ℤ l) → (p *ℤ p) ≤ℤ (r *ℤ s) → c *ℤ n ≡ a *ℤ k +ℤ b *ℤ j

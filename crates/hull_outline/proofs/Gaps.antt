@@ -1,5 +1,5 @@
--- How wide a gap is between a point and a segment that lie across a direction from one another, and that no two sets are
--- farther apart than that.
+-- The width of a gap between a point and a segment on both sides of a direction, and that no two sets are farther apart
+-- than that.
 use Rattle.std.proofs.Common.{◌≡◌, ℤ, pos, ◌+ℤ◌, ◌-ℤ◌, ◌*ℤ◌, ◌≤ℤ◌, ◌<ℤ◌, neg_ℤ, inl, inr, refl, ap, ◌∙◌, subst, arith}
 use Rattle.std.proofs.lemmas.Int.{ints}
 use Rattle.lattice.specs.Plane.{Pair, product, distance_squared}
@@ -11,7 +11,7 @@ use Rattle.hull_outline.proofs.Cones.{square_nn}
 use Rattle.hull_outline.proofs.Fractions.{products_le}
 use Rattle.lattice.proofs.Numbers.{gap_above, le_itself, le_trans, nn_above, sum_nn}
 
--- a direction turned by 90 degrees
+-- a direction rotated by 90 degrees
 abbrev pub turned : Pair → Pair
 turned d = record { x = neg_ℤ d.y; y = d.x }
 
@@ -21,7 +21,7 @@ pub parts : (n e w : Pair)
 unfolding product
 parts n e w = rw (as_pair n, as_pair e, as_pair w) (simp difference_rules (difference-eq _ _ _ _ (omega arith)))
 
--- so many times the step from x to q and so many times the one from y
+-- l times the step from x to q plus m times the step from y to q
 abbrev pub gap : ℤ → ℤ → Pair → Pair → Pair → Pair
 gap l m q x y = record { x = l *ℤ (q.x -ℤ x.x) +ℤ m *ℤ (q.x -ℤ y.x); y = l *ℤ (q.y -ℤ x.y) +ℤ m *ℤ (q.y -ℤ y.y) }
 
@@ -55,32 +55,32 @@ some_length e p q h = elim (le_or_lt (product e e) (pos 0)) [
       absurd (omega (arith, ints, product_pp _ _ g g, cauchy e (step p q), product_np _ _ k (length_nn (step p q))))
 ]
 
--- the square of a product
+-- the square of a product is the product of the squares
 squared_product : (k h l : ℤ) → (k *ℤ k) *ℤ ((h *ℤ h) *ℤ l) ≡ ((k *ℤ h) *ℤ (k *ℤ h)) *ℤ l
 squared_product k h l =
     rw (as_difference k, as_difference h, as_difference l) (simp difference-mul (difference-eq _ _ _ _ (omega arith)))
 
--- three factors
+-- three factors in another order
 pub three_factors : (e w l : ℤ) → (e *ℤ w) *ℤ l ≡ (l *ℤ w) *ℤ e
 three_factors e w l =
     rw (as_difference e, as_difference w, as_difference l) (simp difference-mul (difference-eq _ _ _ _ (omega arith)))
 
--- a difference of squares
+-- a difference of squares is a product
 square_apart : (u g : ℤ) → (u -ℤ g) *ℤ (u +ℤ g) ≡ u *ℤ u -ℤ g *ℤ g
 square_apart u g = rw (as_difference u, as_difference g) (simp difference_rules (difference-eq _ _ _ _ (omega arith)))
 
--- a difference drawn out
+-- a product with a difference is a difference
 drawn_out : (u g e : ℤ) → (u -ℤ g) *ℤ e ≡ u *ℤ e -ℤ g *ℤ e
 drawn_out u g e = rw (as_difference u, as_difference g, as_difference e)
     (simp difference_rules (difference-eq _ _ _ _ (omega arith)))
 
--- of a step across no direction but n, the squared length by that of n
+-- if a step goes nowhere across n, its squared length is that along n
 pub across_nothing : (n w : Pair) → product (turned n) w ≡ pos 0
     → product n n *ℤ product w w ≡ product n w *ℤ product n w
 across_nothing n w z = parts n w w ∙ ap (λ (k : ℤ). product n w *ℤ product n w +ℤ k *ℤ k) z ∙ omega (arith, ints)
 
--- a gap that goes k times farther than h in the direction e, along n alone and not so far as k times H there: h by the
--- length of e is less than H by that of n
+-- if a gap goes k times farther than h in the direction e, goes only along n, and not so far as k times H there, then h
+-- divided by the length of e is less than H divided by that of n
 pub narrower : (n e w : Pair) (k h H : ℤ) → product (turned n) w ≡ pos 0 → pos 0 <ℤ k → pos 0 ≤ℤ h
     → (k *ℤ h) ≤ℤ product e w → neg_ℤ (k *ℤ H) <ℤ product n w → product n w <ℤ (k *ℤ H) → pos 0 <ℤ product e e
     → ((H *ℤ H) *ℤ product e e) ≤ℤ ((h *ℤ h) *ℤ product n n) → ⊥
@@ -120,7 +120,8 @@ pub step_squared : (p q : Pair) → product (step p q) (step p q) ≡ distance_s
 unfolding product distance_squared
 step_squared p q = refl
 
--- a point that lies so far out from another is as far away at least, by the length of the direction
+-- a point that lies h farther than another in a direction is at least as far away, divided by the length of the
+-- direction
 pub as_far : (d p q : Pair) (h : ℤ) → pos 0 ≤ℤ h → h ≤ℤ (product d q -ℤ product d p)
     → (h *ℤ h) ≤ℤ (product d d *ℤ distance_squared p q)
 as_far d p q h hh far =

@@ -1,4 +1,4 @@
--- What a way that is asked along the corners tells of a hull.
+-- The results of raycasts, from what the vertices show of a path.
 use Rattle.std.proofs.Common.{◌≡◌, ◌∙◌, ℕ, ℤ, pos, neg_ℤ, ◌+ℤ◌, ◌-ℤ◌, ◌<ℤ◌, ◌<◌, ap, sym, subst, List, [], arith}
 use Rattle.std.specs.Prelude.{Option, MatchOption}
 use Rattle.std.specs.List.{Contains}
@@ -27,20 +27,20 @@ goes_over S a b p q h = less _ _ h.across
     less : (x y : ℤ) → pos 0 <ℤ (x -ℤ y) → y <ℤ x
     less x y h = omega (arith, ints)
 
--- the step from where a vector leads back to its start is the vector back
+-- the step from the point to which a vector leads back to its start is the opposite vector
 step_to_start : (a w : Pair) → step (moved a w) a ≡ backward w
 step_to_start a w = same_pair _ (backward w) (back a.x w.x) (back a.y w.y)
   where
     back : (x y : ℤ) → x -ℤ (x +ℤ y) ≡ neg_ℤ y
     back x y = omega (arith, ints)
 
--- what is farthest the other way is farthest towards the start
+-- the point farthest in the opposite direction is farthest towards the start
 pub farthest_to_start : (S : List Pair) (a w d c t : Pair) → d ≡ backward w → t ≡ c → IsFarthest S d c
     → IsFarthest S (step (moved a w) a) t
 farthest_to_start S a w d c t e g f =
     subst (λ (v : Pair). IsFarthest S v t) (e ∙ sym (step_to_start a w)) (subst (λ (v : Pair). IsFarthest S d v) (sym g) f)
 
--- an edge or none, told of the way back
+-- an edge that is crossed, or none, for the opposite path
 pub crossed_back : (S : List Pair) (start along a w p q : Pair) → start ≡ a → along ≡ backward w
     → IsCrossed S start (moved start along) p q → IsCrossed S a (moved a (backward w)) p q
 crossed_back S start along a w p q e f h =
@@ -51,7 +51,7 @@ pub not_crossed_back : (S : List Pair) (start along a w : Pair) → start ≡ a 
 not_crossed_back S start along a w e f h =
     subst (λ (v : Pair). IsUncrossed S a (moved a v)) f (subst (λ (v : Pair). IsUncrossed S v (moved v along)) e h)
 
--- what is told of a vector is told of one that is the same
+-- a result for a vector is a result for an equal one
 pub last_along : (S : List Pair) (a w v : Pair) (r : Option Hit) → w ≡ v
     → MatchOption r (MissesRay S a (moved a w)) (λ found. IsLast S a (moved a (backward w)) found)
     → MatchOption r (MissesRay S a (moved a v)) (λ found. IsLast S a (moved a (backward v)) found)
@@ -77,6 +77,6 @@ beyond_end S a b (Corner c) n k h en ek l = apart_before_corner S a b c h.first 
     more : (x y : ℤ) (n k : ℕ) → pos n ≡ x → pos k ≡ y → k < n → y <ℤ x
     more x y n k e f l = omega (arith, ints)
 
--- where the way comes in beyond the end of the segment, that is apart
+-- if the path enters beyond the end of the segment, the segment is disjoint
 pub apart_beyond : (S : List Pair) (a b : Pair) (r : Hit) → IsHit S a b r → r.denominator < r.numerator → IsApart S (segment a b)
 apart_beyond S a b r h l = beyond_end S a b r.place r.numerator r.denominator h.entry h.part h.whole l

@@ -1,4 +1,5 @@
--- What lies inside a hull: not of what a line divides from it, and all of a hull whose corners do.
+-- The inside of a hull: no point of a set that a line divides from it is inside, and all of a hull is inside if its
+-- vertices are.
 use Rattle.std.proofs.Common.{◌≡◌, ℕ, ◌<◌, ℤ, pos, ◌*ℤ◌, ◌≤ℤ◌, ◌<ℤ◌, neg_ℤ, inl, inr, sym, subst, List, length, get_or}
 use Rattle.std.proofs.Common.{arith}
 use Rattle.std.specs.List.{All, Contains}
@@ -25,9 +26,9 @@ use Rattle.hull_outline.proofs.FarApart.{magnified_near, times_along}
 use Rattle.hull_outline.proofs.Switches.{farthest_corner, holds_by_corners, placed}
 use Rattle.hull_geometry.proofs.Slopes.{product-opp}
 
--- ---- of what a line divides
+-- ---- sets that a line divides
 
--- what T covers, magnified, lies beyond all of S
+-- a point that T, magnified, covers lies beyond all of S
 beyond_all : (S T : List Pair) (d : Pair) (k : ℕ) (q s : Pair) → Divides d S T → Covers (magnified k T) q → Contains S s
     → (pos k *ℤ product d s) ≤ℤ product d q
 beyond_all S T d k q s h c m =
@@ -45,7 +46,7 @@ beyond_all S T d k q s h c m =
     back : (k x y u v : ℤ) → x ≡ neg_ℤ u → y ≡ neg_ℤ v → x ≤ℤ (k *ℤ y) → (k *ℤ v) ≤ℤ u
     back k x y u v e f h = omega (arith, ints, negated k v, subst (λ (z : ℤ). x ≤ℤ (k *ℤ z)) f h)
 
--- so it does not lie inside
+-- such a point does not lie inside
 pub none_inside_divided : NoneInsideDivided
 none_inside_divided S T k q (d, n, h) inside c =
     inside.1 (d, n, all_of (λ t. product d t ≤ℤ product d q) (magnified k S) near)
@@ -59,7 +60,7 @@ none_inside_divided S T k q (d, n, h) inside c =
 
 -- ---- of a hull
 
--- where each corner lies inside, whatever the set covers does
+-- if each vertex lies inside, each point that the set covers does
 pub inside_by_corners : (S T W : List Pair) (end : ℕ) → IsPointSet S → IsOutlineOf T W → IsParted W end
     → ((i : ℕ) → i < length W → IsInside S (corner W i)) → HoldsInside S T
 inside_by_corners S T W end o t p h q c = (
@@ -84,7 +85,7 @@ inside_by_corners S T W end o t p h q c = (
   ],
 )
 
--- whatever a hull covers that lies inside, so do its corners
+-- if each point that a hull covers lies inside, so do its vertices
 pub corner_inside : (S T W : List Pair) (i : ℕ) → IsOutlineOf T W → i < length W → HoldsInside S T
     → IsInside S (corner W i)
 corner_inside S T W i o l h = h (corner W i) (Member (corner_extreme T W i o.1 (omega (arith, l))).0)

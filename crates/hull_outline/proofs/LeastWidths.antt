@@ -1,4 +1,4 @@
--- Where a set is least wide: at the normal of an edge.
+-- A set is least wide in the direction of the normal of an edge.
 use Rattle.std.proofs.lemmas.Grind.{common_steps}
 use Rattle.std.proofs.Common.{◌≡◌, ℕ, ◌+◌, ◌≤◌, ◌<◌, ℤ, pos, ◌+ℤ◌, ◌-ℤ◌, ◌*ℤ◌, ◌≤ℤ◌, ◌<ℤ◌, neg_ℤ, inl, inr, refl}
 use Rattle.std.proofs.Common.{sym, ap, ◌∙◌, subst, List, length, arith}
@@ -46,17 +46,17 @@ use Rattle.lattice.proofs.LineCrossings.{orient_other}
 abbrev dot : Pair → Pair → ℤ
 dot g h = g.x *ℤ h.x +ℤ g.y *ℤ h.y
 
--- a distance, by the step
+-- a squared distance, by the step
 length_of_step : (a b : Pair) → distance_squared a b ≡ length_squared (minus b a)
 unfolding distance_squared
 length_of_step a b = refl
 
--- and by the step back
+-- a squared distance, by the step back
 length_of_back : (a b : Pair) → distance_squared a b ≡ length_squared (minus a b)
 unfolding distance_squared
 length_of_back a b = rw (as_pair a, as_pair b) (simp difference_rules (difference-eq _ _ _ _ (omega arith)))
 
--- a direction along itself
+-- a direction's product with itself is its squared length
 along_itself : (d : Pair) → product d d ≡ length_squared d
 unfolding product
 along_itself d = refl
@@ -66,18 +66,18 @@ mean_x : (d g h : Pair) → cross h g *ℤ d.x ≡ product d h *ℤ g.y -ℤ pro
 unfolding product
 mean_x d g h = rw (as_pair d, as_pair g, as_pair h) (simp difference_rules (difference-eq _ _ _ _ (omega arith)))
 
--- and by y
+-- the same by y
 mean_y : (d g h : Pair) → cross h g *ℤ d.y ≡ product d g *ℤ h.x -ℤ product d h *ℤ g.x
 unfolding product
 mean_y d g h = rw (as_pair d, as_pair g, as_pair h) (simp difference_rules (difference-eq _ _ _ _ (omega arith)))
 
--- a weighed square
+-- a weighted square
 weighed_square : (c x y : ℤ) → (c *ℤ c) *ℤ (x *ℤ x +ℤ y *ℤ y) ≡ (c *ℤ x) *ℤ (c *ℤ x) +ℤ (c *ℤ y) *ℤ (c *ℤ y)
 weighed_square c x y =
     rw (as_difference c, as_difference x, as_difference y)
     (simp (difference-add, difference-mul) (difference-eq _ _ _ _ (omega arith)))
 
--- the square of two normals, weighed
+-- the square of two weighted normals
 normals_square : (a b gx gy hx hy : ℤ)
     → (a *ℤ gy -ℤ b *ℤ hy) *ℤ (a *ℤ gy -ℤ b *ℤ hy) +ℤ (b *ℤ hx -ℤ a *ℤ gx) *ℤ (b *ℤ hx -ℤ a *ℤ gx)
     ≡ (a *ℤ a) *ℤ (gx *ℤ gx +ℤ gy *ℤ gy)
@@ -87,7 +87,7 @@ normals_square a b gx gy hx hy =
     rw (as_difference a, as_difference b, as_difference gx, as_difference gy, as_difference hx, as_difference hy)
     (simp difference_rules (difference-eq _ _ _ _ (omega arith)))
 
--- the length of a direction between two others, squared
+-- the squared length of a direction between two others
 mean_square : (d g h : Pair)
     → (cross h g *ℤ cross h g) *ℤ length_squared d
     ≡ (product d h *ℤ product d h) *ℤ length_squared g
@@ -114,14 +114,14 @@ level_length d g = rw (as_pair d, as_pair g) (simp difference_rules (difference-
 
 -- ---- numbers
 
--- two squares
+-- the identity of two squares
 drawn_level : (m l n d r : ℤ)
     → ((n *ℤ n) *ℤ l -ℤ m *ℤ d) *ℤ (r *ℤ r) ≡ ((n *ℤ r) *ℤ (n *ℤ r)) *ℤ l -ℤ m *ℤ ((d *ℤ r) *ℤ r)
 drawn_level m l n d r =
     rw (as_difference m, as_difference l, as_difference n, as_difference d, as_difference r)
     (simp difference_rules (difference-eq _ _ _ _ (omega arith)))
 
--- and what they have in common
+-- their common factor
 common_level : (m l k c r : ℤ)
     → (neg_ℤ (k *ℤ c) *ℤ neg_ℤ (k *ℤ c)) *ℤ l -ℤ m *ℤ ((c *ℤ c) *ℤ r) ≡ (c *ℤ c) *ℤ ((k *ℤ k) *ℤ l -ℤ m *ℤ r)
 common_level m l k c r =
@@ -137,7 +137,7 @@ level_quotient m l n d k r c hr h e f =
     (rw (e, f) (subst (λ (z : ℤ). pos 0 ≤ℤ z) (sym (common_level m l k c r))
     (product_nn (c *ℤ c) _ (square_nn c) (gap_nn _ _ h))))))
 
--- a number, its opposite and a product
+-- a negated number times another is the negated product
 opposite_times : (n c : ℤ) → neg_ℤ n *ℤ c ≡ neg_ℤ (c *ℤ n)
 opposite_times n c =
     rw (as_difference n, as_difference c) (simp (difference-neg, difference-mul) (difference-eq _ _ _ _ (omega arith)))
@@ -150,7 +150,7 @@ IsBounded S V k r =
     (i : ℕ) × (i < length V) × ((t : Pair) → Contains S t → orient (corner V i) (corner V (i + 1)) t ≤ℤ k)
     × (distance_squared (corner V i) (corner V (i + 1)) ≡ r)
 
--- the thinnest strip is no wider than such an edge's
+-- the thinnest strip is no wider than that of such an edge
 weighed : (S V : List Pair) (w : Strip) (k r : ℤ) → IsOutlineOf S V → IsThinnestOf S V (length V) w → IsBounded S V k r
     → (pos 0 ≤ℤ k) × (((side_of w *ℤ side_of w) *ℤ r) ≤ℤ ((k *ℤ k) *ℤ edge_squared w))
 weighed S V w k r o best (i, l, h, e) =
@@ -166,7 +166,7 @@ weighed S V w k r o best (i, l, h, e) =
           (distance_nn w.from w.to) (le_itself _))),
     )
 
--- the edge to a corner, by its place
+-- the edge to a vertex, by its index, bounds S
 bounded_to : (S V : List Pair) (j : ℕ) (k r : ℤ) → j < length V
     → ((t : Pair) → Contains S t → orient (previous V j) (corner V j) t ≤ℤ k)
     → distance_squared (previous V j) (corner V j) ≡ r → IsBounded S V k r
@@ -179,11 +179,11 @@ bounded_to S V j k r l h e =
       ap (distance_squared (corner V b.0)) b.4 ∙ ap (λ (z : Pair). distance_squared z (corner V j)) (sym b.3) ∙ e,
     )
 
--- under another bound
+-- a bound under another name
 rebound : (S V : List Pair) (k j r : ℤ) → k ≡ j → IsBounded S V k r → IsBounded S V j r
 rebound S V k j r e h = subst (λ (z : ℤ). IsBounded S V z r) e h
 
--- the two ends of a set in a direction, and the corners beside them
+-- the two ends of a set in a direction, and the vertices beside them
 record IsCaliper (S V : List Pair) (i j : ℕ) : Type 0 where
   outline : IsOutlineOf S V
   parted : (last : ℕ) × IsParted V last
@@ -191,7 +191,7 @@ record IsCaliper (S V : List Pair) (i j : ℕ) : Type 0 where
   top : i < length V
   bottom : j < length V
 
--- the edge to one end, with the other end farthest from it
+-- the edge to one end has the other end farthest from it
 left_here : (S V : List Pair) (i j : ℕ) → IsCaliper S V i j
     → cross (minus (corner V i) (previous V i)) (minus (previous V j) (corner V j)) ≤ℤ pos 0
     → cross (minus (corner V i) (previous V i)) (minus (corner V (j + 1)) (corner V j)) ≤ℤ pos 0
@@ -206,7 +206,7 @@ left_here S V i j c h k =
     (np_by _ _ (side_more (previous V i) (corner V i) (corner V j) (corner V (j + 1))) k))
     (length_of_step (previous V i) (corner V i)))
 
--- the edge from one end, with the other end farthest from it
+-- the edge from one end has the other end farthest from it
 right_here : (S V : List Pair) (i j : ℕ) → IsCaliper S V i j
     → pos 0 ≤ℤ cross (minus (corner V i) (corner V (i + 1))) (minus (previous V j) (corner V j))
     → pos 0 ≤ℤ cross (minus (corner V i) (corner V (i + 1))) (minus (corner V (j + 1)) (corner V j))
@@ -223,11 +223,11 @@ right_here S V i j c h k =
       length_of_back (corner V i) (corner V (i + 1)),
     )
 
--- the ends exchanged
+-- exchanging the ends keeps a caliper
 exchanged : (S V : List Pair) (i j : ℕ) → IsCaliper S V i j → IsCaliper S V j i
 exchanged S V i j c = record { outline = c.outline; parted = c.parted; many = c.many; top = c.bottom; bottom = c.top }
 
--- the left one of the outermost bounds S
+-- the left one of the outermost edges bounds S
 left_bounded : (S V : List Pair) (i j : ℕ) (d g h : Pair) → IsCaliper S V i j
     → IsSpan d (minus (corner V i) (previous V i)) (minus (corner V i) (corner V (i + 1)))
     (minus (previous V j) (corner V j)) (minus (corner V (j + 1)) (corner V j)) g h
@@ -244,7 +244,7 @@ left_bounded S V i j d g h c s = elim s.left_one [
       (np_by _ _ (both_back (corner V j) (previous V j) (corner V (i + 1)) (corner V i)) a.2))))
 ]
 
--- the right one too
+-- the right one of the outermost edges bounds S
 right_bounded : (S V : List Pair) (i j : ℕ) (d g h : Pair) → IsCaliper S V i j
     → IsSpan d (minus (corner V i) (previous V i)) (minus (corner V i) (corner V (i + 1)))
     (minus (previous V j) (corner V j)) (minus (corner V (j + 1)) (corner V j)) g h
@@ -264,7 +264,7 @@ right_bounded S V i j d g h c s = elim s.right_one [
       (omega (arith, ints, both_back (corner V j) (corner V (j + 1)) (corner V (i + 1)) (corner V i), a.2)))))
 ]
 
--- a square of a length is not below 0
+-- a squared length is not below 0
 length_nn : (g : Pair) → pos 0 ≤ℤ length_squared g
 length_nn g = sum_nn _ _ (square_nn g.x) (square_nn g.y)
 
@@ -317,7 +317,7 @@ by_span S V i j w d g h n c best s e =
     square_only : (x y z : ℤ) → x ≡ y +ℤ z → y ≡ pos 0 → x ≡ z
     square_only x y z e f = omega (arith, ints)
 
--- how far a set reaches is how much farther its farthest point lies than the one farthest backwards
+-- the extent is how much farther the farthest point lies than the one farthest backwards
 extent_is : (S : List Pair) (d p q : Pair) (n : ℤ) → IsExtent S d n → Contains S p → Contains S q
     → ((t : Pair) → Contains S t → product d t ≤ℤ product d p)
     → ((t : Pair) → Contains S t → product d q ≤ℤ product d t)
@@ -326,7 +326,7 @@ extent_is S d p q n h mp mq high low =
     let (s, t, ms, mt, e) = h.reached in
     omega (arith, ints, h.most p q mp mq, high s ms, low t mt)
 
--- three corners or more
+-- for at least three vertices the thinnest strip is no wider than the extent
 least_many : (S V : List Pair) (last : ℕ) (w : Strip) (d : Pair) (n : ℤ) → IsOutlineOf S V → IsParted V last
     → 2 < length V → IsThinnestOf S V (length V) w → pos 0 <ℤ length_squared d → IsExtent S d n
     → ((side_of w *ℤ side_of w) *ℤ length_squared d) ≤ℤ ((n *ℤ n) *ℤ edge_squared w)
@@ -349,7 +349,7 @@ least_many S V last w d n o p many best h x =
     back : (x y z : ℤ) → x ≡ y -ℤ z → n ≡ z -ℤ y → x ≡ neg_ℤ n
     back x y z e f = omega (arith, ints)
 
--- two corners: all points are in line with them
+-- for two vertices all points are in line with them
 least_two : (S V : List Pair) (w : Strip) (d : Pair) (n : ℤ) → IsOutlineOf S V → 1 < length V → length V ≤ 2
     → IsThinnestOf S V (length V) w
     → ((side_of w *ℤ side_of w) *ℤ length_squared d) ≤ℤ ((n *ℤ n) *ℤ edge_squared w)
@@ -393,9 +393,9 @@ least_two S V w d n o two few best =
     up : (x y z : ℤ) → x ≤ℤ pos 0 → y ≡ x → pos 0 ≤ℤ z → y ≤ℤ z
     up x y z h e k = omega (arith, ints)
 
--- ---- the thinnest of all edges
+-- ---- the thinnest strip of all edges
 
--- the strip of an edge is one
+-- the strip of an edge is a strip of the set
 pub strip_of : (S V : List Pair) (i : ℕ) (w : Strip) → IsOutlineOf S V → 1 < length V → i < length V → IsStripAt S V i w
     → IsStrip S w
 strip_of S V i w o two l h = record {
@@ -433,7 +433,7 @@ own_edge S V i w h = grind (arith, common_steps, corner, le_itself)
     Bounds a b = ((side_of w *ℤ side_of w) *ℤ distance_squared a b)
         ≤ℤ ((orient a b w.farthest *ℤ orient a b w.farthest) *ℤ edge_squared w)
 
--- the first edge alone
+-- the strip of the first edge is the thinnest of one
 pub thinnest_first : (S V : List Pair) (w : Strip) → IsOutlineOf S V → 1 < length V → IsStripAt S V 0 w
     → IsThinnestOf S V 1 w
 thinnest_first S V w o two h = (
@@ -448,7 +448,7 @@ thinnest_first S V w o two h = (
 edge_above : (w : Strip) → ¬ (w.from ≡ w.to) → pos 0 <ℤ edge_squared w
 edge_above w n = distance_above w.from w.to (λ e. n (sym e))
 
--- one edge more
+-- the thinner of the best strip and the next one is the thinnest of one edge more
 pub thinnest_more : (S V : List Pair) (i : ℕ) (best next r : Strip) → IsOutlineOf S V → 1 < length V → i < length V
     → IsThinnestOf S V i best → IsStripAt S V i next → IsThinnerOf best next r → IsThinnestOf S V (i + 1) r
 thinnest_more S V i best next r o two l h a (inl (e, n)) =
@@ -496,7 +496,7 @@ thinnest_more S V i best next r o two l h a (inr (e, n)) =
         × (((side_of w *ℤ side_of w) *ℤ distance_squared (corner V k) (corner V (k + 1)))
         ≤ℤ ((orient (corner V k) (corner V (k + 1)) f *ℤ orient (corner V k) (corner V (k + 1)) f) *ℤ edge_squared w))
 
--- the thinnest of all edges is where the set is least wide
+-- the set is least wide in the thinnest strip of all edges
 pub least_of : (S V : List Pair) (last : ℕ) (w : Strip) → IsOutlineOf S V → IsParted V last → 1 < length V
     → IsThinnestOf S V (length V) w → IsLeastWidth S w
 least_of S V last w o p two best = record {
@@ -516,7 +516,7 @@ least_of S V last w o p two best = record {
         → ((side_of w *ℤ side_of w) *ℤ length_squared d) ≤ℤ ((n *ℤ n) *ℤ edge_squared w)
     flat d n h k = omega (arith, ints)
 
--- a set of one corner or none is one point
+-- all points of a set with at most one vertex are equal
 pub one_point : (S V : List Pair) (last : ℕ) → IsOutlineOf S V → IsParted V last → length V < 2 → IsOnePoint S
 one_point S V last o p few s t ms mt = elim (cases_lt 0 (length V)) [
   | inl n ↦

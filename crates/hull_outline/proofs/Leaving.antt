@@ -1,4 +1,5 @@
--- Where a ray goes out of a set, by an edge that goes over its line, or by a corner on it. c is a step back from its start a.
+-- The exit of a ray from a set, by an edge that crosses its line, or by a vertex on it. c is a step back from its start
+-- a.
 use Rattle.std.proofs.lemmas.Grind.{common_steps}
 use Rattle.std.proofs.Common.{◌≡◌, ℕ, ℤ, pos, ◌+ℤ◌, ◌-ℤ◌, ◌*ℤ◌, ◌≤ℤ◌, ◌<ℤ◌, neg_ℤ, inl, inr, refl, sym, ◌∙◌, subst}
 use Rattle.std.proofs.Common.{List, arith}
@@ -31,12 +32,12 @@ pub side_back : (a w t : Pair) → orient a (moved a w) t ≡ neg_ℤ (orient a 
 unfolding orient
 side_back a w t = rw (as_pair a, as_pair w, as_pair t) (simp difference_rules (difference-eq _ _ _ _ (omega arith)))
 
--- from the one to the other it goes twice as far as to the start
+-- the step from the one to the other goes twice as far as that to the start
 twice : (d a w : Pair) → product d (moved a w) -ℤ product d a ≡ product d a -ℤ product d (moved a (backward w))
 unfolding product
 twice d a w = rw (as_pair d, as_pair a, as_pair w) (simp difference_rules (difference-eq _ _ _ _ (omega arith)))
 
--- where the start lies right of an edge that the way goes out by, it misses
+-- if the start lies right of an edge at which the path exits, the path misses
 pub missed_out : (S : List Pair) (a w p q : Pair) → IsLeftOf S p q
     → pos 0 <ℤ (orient a (moved a (backward w)) p -ℤ orient a (moved a (backward w)) q) → orient p q a <ℤ pos 0
     → MissesRay S a (moved a w)
@@ -57,7 +58,7 @@ missed_out S a w p q left over h = (
         → o -ℤ r ≡ sq -ℤ sp → pos 0 <ℤ (sp -ℤ sq) → a ≤ℤ b
     farther b a c q u v o r sp sq e f g h i j k = omega (arith, ints)
 
--- the line is not crossed one way where it is not the other
+-- if the line is not crossed in one direction, it is not crossed in the other
 pub uncrossed_back : (S : List Pair) (a w : Pair) → IsUncrossed S a (moved a (backward w)) → IsUncrossed S a (moved a w)
 uncrossed_back S a w (inl h) = inr (inl (λ s m. below _ _ (side_back a w s) (h s m)))
   where
@@ -72,7 +73,7 @@ uncrossed_back S a w (inr (inr h)) = inr (inr (λ s m. none _ _ (side_back a w s
     none : (x y : ℤ) → x ≡ neg_ℤ y → y ≡ pos 0 → x ≡ pos 0
     none x y e h = omega (arith, ints)
 
--- where no point of S lies so far on as the start, the way misses
+-- if no point of S lies as far along as the start, the path misses
 pub missed_ahead : (S : List Pair) (a w e : Pair) → IsFarthest S w e → product w e <ℤ product w a
     → MissesRay S a (moved a w)
 missed_ahead S a w e far h = (
@@ -84,9 +85,9 @@ missed_ahead S a w e far h = (
     longer : (b a l : ℤ) → b -ℤ a ≡ l → pos 0 ≤ℤ l → a ≤ℤ b
     longer b a l e h = omega (arith, ints)
 
--- ---- none after
+-- ---- no point after
 
--- how far a point of the way lies in a direction
+-- how far a point of the path lies in a direction
 from_along : (d a c : Pair) (k n : ℕ)
     → product d (on_from k n a c) ≡ pos k *ℤ product d a -ℤ pos n *ℤ (product d c -ℤ product d a)
 unfolding product
@@ -107,7 +108,7 @@ from_along d a c k n = parts d.x d.y a.x a.y c.x c.y (pos k) (pos n)
           as_difference n,
         ) (simp difference_rules (difference-eq _ _ _ _ (omega arith)))
 
--- a point of the way that is no farther in a direction than k times e
+-- if a point of the path is no farther in a direction than k times e, it does not come after
 none_past : (k n : ℕ) (da dc de part whole : ℤ) → (pos k *ℤ da -ℤ pos n *ℤ (dc -ℤ da)) ≤ℤ (pos k *ℤ de)
     → part ≡ de -ℤ da → whole ≡ da -ℤ dc → (pos n *ℤ whole) ≤ℤ (pos k *ℤ part)
 none_past k n da dc de part whole h e f =
@@ -121,7 +122,7 @@ none_past k n da dc de part whole h e f =
     turned n x y = rw (as_difference n, as_difference x, as_difference y)
         (simp difference_rules (difference-eq _ _ _ _ (omega arith)))
 
--- no covered point of the way comes after the edge or the corner
+-- no covered point of the path comes after the edge or the vertex
 pub none_after : NoneAfter
 none_after S a c Start k n h m = absurd h
 none_after S a c (Edge p q) k n h m =
@@ -157,9 +158,9 @@ none_after S a c (Corner e) k n h m =
     whole : (x y u v : ℤ) → x ≡ neg_ℤ u → y ≡ neg_ℤ v → v -ℤ u ≡ x -ℤ y
     whole x y u v e f = omega (arith, ints)
 
--- ---- and that point is covered
+-- ---- the exit is covered
 
--- a point of the way by its part of the step back
+-- a point of the path by its fraction of the step back
 from_part : (k n : ℕ) (m : ℤ) (a c : Pair) → m ≡ neg_ℤ (pos n) → at_part k m a c ≡ on_from k n a c
 from_part k n m a c e = same_pair _ _ (at a.x c.x) (at a.y c.y)
   where
@@ -169,7 +170,7 @@ from_part k n m a c e = same_pair _ _ (at a.x c.x) (at a.y c.y)
     at : (x z : ℤ) → pos k *ℤ x +ℤ m *ℤ (z -ℤ x) ≡ pos k *ℤ x -ℤ pos n *ℤ (z -ℤ x)
     at x z = rw e (omega (arith, ints, turned (pos n) (z -ℤ x)))
 
--- the point where the way goes out is covered
+-- the exit of the path is covered
 pub leaves_there : LeavesThere
 leaves_there S a c Start k n h en ek = absurd h
 leaves_there S a c (Edge p q) k n h en ek =
@@ -186,33 +187,33 @@ leaves_there S a c (Corner e) k n h en ek =
     twice_turned : (n x : ℤ) → n ≡ neg_ℤ x → x ≡ neg_ℤ n
     twice_turned n x e = omega (arith, ints)
 
--- ---- what is told
+-- ---- results
 
--- where the line is not crossed, and the point of S farthest on lies beside it or behind, the way misses S
+-- if the line is not crossed, and the point of S farthest along lies beside it or behind, the path misses S
 pub missed_beyond : (S : List Pair) (a w e : Pair) → IsUncrossed S a (moved a w) → IsFarthest S w e → Contains S e
     → ((orient a (moved a w) e ≡ pos 0) → product w e <ℤ product w a) → MissesRay S a (moved a w)
 missed_beyond S a w e (inl h) far m k = missed_left S a (moved a w) h
 missed_beyond S a w e (inr (inl h)) far m k = missed_right S a (moved a w) h
 missed_beyond S a w e (inr (inr h)) far m k = missed_ahead S a w e far (k (h e m))
 
--- a way back, told by where it begins and along what
+-- the opposite path, by its start and its direction
 pub on_back : (start along a w t : Pair) → start ≡ a → along ≡ backward w
     → orient start (moved start along) t ≡ orient a (moved a (backward w)) t
 on_back start along a w t e f = grind (arith, common_steps, orient, moved, along, backward, e, f)
 
--- the other way a point lies as far back
+-- in the opposite direction a point lies as far back
 product_back : (w t : Pair) → product (backward w) t ≡ neg_ℤ (product w t)
 unfolding product
 product_back w t = rw (as_pair w, as_pair t) (simp difference_rules (difference-eq _ _ _ _ (omega arith)))
 
--- the step from there to the start
+-- the step from the point behind the start to the start
 step_from : (a w : Pair) → step (moved a (backward w)) a ≡ w
 step_from a w = same_pair _ w (back a.x w.x) (back a.y w.y)
   where
     back : (x y : ℤ) → x -ℤ (x +ℤ neg_ℤ y) ≡ y
     back x y = omega (arith, ints)
 
--- the sides of a corner on the line, from either side
+-- a vertex on the line is on it from either side
 pub line_back : (a w e : Pair) → orient a (moved a w) e ≡ pos 0 → orient a (moved a (backward w)) e ≡ pos 0
 line_back a w e h = nothing _ _ (side_back a w e) h
   where
@@ -229,7 +230,7 @@ not_behind_back a w e h =
     turned : (x y u v : ℤ) → x ≡ neg_ℤ u → y ≡ neg_ℤ v → v ≤ℤ u → x ≤ℤ y
     turned x y u v e f h = omega (arith, ints)
 
--- the farthest on, seen from the other side
+-- the point farthest along, seen from the other side
 pub farthest_back : (S : List Pair) (a w e : Pair) → IsFarthest S w e
     → IsFarthest S (step (moved a (backward w)) a) e
 farthest_back S a w e f = subst (λ (d : Pair). IsFarthest S d e) (sym (step_from a w)) f
@@ -245,7 +246,7 @@ ahead_back a w e =
     turned : (x y u v : ℤ) → x ≡ neg_ℤ u → y ≡ neg_ℤ v → u -ℤ v ≡ neg_ℤ (x -ℤ y)
     turned x y u v e f = omega (arith, ints)
 
--- a vector is as long as the one back
+-- the squared length of a vector is that of the opposite one
 pub length_back : (a w : Pair)
     → w.x *ℤ w.x +ℤ w.y *ℤ w.y
     ≡ product (step a (moved a (backward w))) (moved a (backward w)) -ℤ product (step a (moved a (backward w))) a

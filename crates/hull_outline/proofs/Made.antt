@@ -1,4 +1,4 @@
--- A round of corners is the vertex list of the set of its own points.
+-- A round of vertices is the vertex list of the set of its own points.
 use Rattle.std.proofs.Common.{◌≡◌, ℕ, suc, ◌+◌, ◌-◌, ◌<◌, List, [], ◌∷◌, length}
 use Rattle.std.proofs.Common.{get_or, inl, inr, refl, sym, ap, ◌∙◌, subst, arith}
 use Rattle.std.proofs.lemmas.Bool.{cases_lt}
@@ -22,7 +22,7 @@ use Rattle.hull_outline.proofs.TwoChains.{after_start}
 use Rattle.hull_outline.proofs.RoundChains.{behind, renumbered, front_convex, behind_convex, behind_front}
 use Rattle.hull_outline.proofs.MadeEdges.{set_of, set_ordered, set_among, set_all, of_corners, made_edge}
 
--- each later corner stands after the first
+-- each later vertex is after the first
 after_first : (V : List Pair) (top k : ℕ) → IsRound V top → 0 < k → k < length V → IsBefore (corner V 0) (corner V k)
 after_first V top k r p n = elim (cases_lt top k) [
   | inr h ↦ later_after (corner V) top 0 k (front_convex V top r) p h
@@ -31,7 +31,7 @@ after_first V top k r p n = elim (cases_lt top k) [
       (omega (arith, h, n)))
 ]
 
--- the first corner is the first point
+-- the first vertex is the first point
 made_first : (V : List Pair) (top : ℕ) → IsRound V top → IsFirst (set_of V) (corner V 0)
 made_first V top r = of_corners V (λ t. ¬ (IsBefore t (corner V 0)))
     (λ k n. elim (cases_lt 0 k) [
@@ -40,7 +40,7 @@ made_first V top r = of_corners V (λ t. ¬ (IsBefore t (corner V 0)))
           (renumbered V (λ z. IsBefore z (corner V 0)) k 0 (omega (arith, p)) b)
     ])
 
--- each corner is extreme
+-- each vertex is extreme
 made_extreme : (V : List Pair) (top k : ℕ) → IsRound V top → k < length V → IsExtreme (set_of V) (corner V k)
 made_extreme V top k r n = elim (cases_lt 0 k) [
   | inr p ↦ renumbered V (IsExtreme (set_of V)) 0 k (omega (arith, p))
@@ -63,7 +63,7 @@ made_extreme V top k r n = elim (cases_lt 0 k) [
   ]
 ]
 
--- two corners are apart
+-- two vertices at different indices are different
 made_apart : (V : List Pair) (top i j : ℕ) → IsRound V top → i < j → j < length V → ¬ (corner V i ≡ corner V j)
 made_apart V top i j r h n e = elim (cases_lt top j) [
   | inr k ↦ before_apart (corner V i) (corner V j) (later_after (corner V) top i j (front_convex V top r) h k) e
@@ -83,7 +83,7 @@ made_apart V top i j r h n e = elim (cases_lt top j) [
   ]
 ]
 
--- no point of S lies right of the line from a member to the next: the list goes round S
+-- if no point of S lies right of the line from a member to the next, the list goes round S
 round_from : (S : List Pair) (first u : Pair) (rest : List Pair)
     → ((i j : ℕ) → j ≡ i + 1 → i < length (u ∷ rest)
     → IsLeftOf S (get_or (u ∷ rest) i first) (get_or (u ∷ rest) j first))
@@ -94,13 +94,13 @@ round_from S first u (v ∷ rest) h = (
   round_from S first v rest (λ i j e l. h (suc i) (suc j) (omega (arith, e)) (omega (arith, l))),
 )
 
--- the corners go round their set
+-- the vertices go round their set
 made_left : (V : List Pair) (top i j : ℕ) → IsRound V top → j ≡ i + 1 → i < length V
     → IsLeftOf (set_of V) (corner V i) (corner V j)
 made_left V top i j r e l = elim (cases_lt i top)
     [ inl h ↦ (made_edge Lower V top i j r e (omega arith) h).left | inr h ↦ (made_edge Upper V top i j r e h l).left ]
 
--- from the first on
+-- from the first on, the vertices are in order
 made_order : (V W : List Pair) (top : ℕ) → V ≡ W → IsRound V top → IsInOrder (set_of V) W
 made_order V [] top q r = absurd (no_corners r.within q)
   where
@@ -114,7 +114,7 @@ made_order V (v ∷ rest) top q r =
           (after_first (v ∷ rest) top (suc k) along (omega arith) (omega (arith, l))),
     )
 
--- a round of corners is the vertex list of its set
+-- a round of vertices is the vertex list of its set
 made_list : (V : List Pair) (top : ℕ) → IsRound V top → IsVertexList (set_of V) V
 made_list V top r = record {
   distinct = λ i j d h n e. made_apart V top i j r h n
@@ -126,7 +126,7 @@ made_list V top r = record {
   order = made_order V V top refl r;
 }
 
--- a round of corners is an outline
+-- a round of vertices is a polygon
 pub round_is_outline : (V : List Pair) (top : ℕ) → IsRound V top → IsOutline V
 round_is_outline V top r = (set_of V, (set_ordered V, made_list V top r))
 
@@ -138,12 +138,12 @@ small_set V l = λ i j d h n. absurd (omega (arith, h, n, l))
 pub small_outline : (V : List Pair) → length V < 2 → IsOutline V
 small_outline V l = (V, (small_set V l, small_list V l))
 
--- a list that is parted is an outline
+-- a list that is split at an index is a polygon
 pub parted_is_outline : (V : List Pair) (last : ℕ) → IsParted V last → IsOutline V
 parted_is_outline V last p = elim (cases_lt (length V) 2)
     [ inl l ↦ small_outline V l | inr l ↦ round_is_outline V last (p.1 (omega (arith, l))) ]
 
--- a list that is parted is the outline of the set that has just its points
+-- a list that is split at an index is the polygon of the set that has only its points
 pub own_outline : (V : List Pair) (last : ℕ) → IsParted V last → IsOwnOutline V
 own_outline V last p S s m = elim (cases_lt (length V) 2) [
   | inl l ↦ subst (λ (z : List Pair). IsVertexList z V)

@@ -1,4 +1,4 @@
--- The set of the corners of a round, and its edges.
+-- The set of the vertices of a round, and its edges.
 use Rattle.std.proofs.Common.{◌≡◌, ℕ, zero, suc, ◌+◌, ◌≤◌, ◌<◌, pos, ◌≤ℤ◌, ◌⊎◌, List, [], ◌∷◌, length}
 use Rattle.std.proofs.Common.{inl, inr, sym, subst, arith}
 use Rattle.std.specs.List.{Contains}
@@ -18,19 +18,19 @@ use Rattle.hull_geometry.proofs.PointLists.{all_of}
 use Rattle.hull_outline.proofs.RoundChains.{renumbered, left_ahead, left_back}
 use Rattle.hull_outline.specs.Touches.{starts_at, ends_at}
 
--- ---- the set of the corners
+-- ---- the set of the vertices
 
 -- the points of a list in the order "before"
 abbrev pub set_of : List Pair → List Pair
 set_of [] = []
 set_of (v ∷ vs) = with_point v (set_of vs)
 
--- they are in that order
+-- the set is in that order
 pub set_ordered : (V : List Pair) → IsPointSet (set_of V)
 set_ordered [] = AllPairs-none
 set_ordered (v ∷ vs) = ordered_with v (set_of vs) (set_ordered vs)
 
--- each of them is a member of the list
+-- each point of the set is a member of the list
 pub set_among : (V : List Pair) (t : Pair) → Contains (set_of V) t → Contains V t
 set_among [] t m = m
 set_among (v ∷ vs) t m = elim ((members_with v t (set_of vs)).0 m) [
@@ -38,7 +38,7 @@ set_among (v ∷ vs) t m = elim ((members_with v t (set_of vs)).0 m) [
   | inr k ↦ let n = set_among vs t k in (suc n.0, omega (arith, n.1), n.2)
 ]
 
--- and each member is one of them
+-- each member of the list is a point of the set
 pub set_all : (V : List Pair) (t : Pair) → Contains V t → Contains (set_of V) t
 set_all [] t m = m
 set_all (v ∷ vs) t (zero, l, e) = (members_with v t (set_of vs)).1 (inl (sym e))
@@ -46,7 +46,7 @@ set_all (v ∷ vs) t (suc k, l, e) = (members_with v t (set_of vs)).1 (inr (set_
 
 -- ---- the edges of that set
 
--- what holds of each corner holds of each point of the set
+-- a property of each vertex is one of each point of the set
 pub of_corners : (V : List Pair) (P : Pair → Type 0) → ((k : ℕ) → k < length V → P (corner V k)) → (t : Pair)
     → Contains (set_of V) t → P t
 of_corners V P h t m = let c = corner_of V t (set_among V t m) in subst P (sym c.2) (h c.0 c.1)
@@ -56,20 +56,20 @@ ends_alone : (u v t : Pair) → IsLeftOrEnd u v t → orient u v t ≡ pos 0 →
 ends_alone u v t (inl h) z = absurd (omega (arith, ints))
 ends_alone u v t (inr e) z = e
 
--- the step from a corner to the next goes along its side
+-- the step from a vertex to the next goes along its side
 made_step : (side : Side) (V : List Pair) (top i j : ℕ) → IsRound V top → j ≡ i + 1 → starts_at side top ≤ i
     → i < ends_at side V top → IsAlong side (corner V i) (corner V j)
 made_step Lower V top i j r e k l =
     renumbered V (IsBefore (corner V i)) (i + 1) j (sym e) ((r.steps i (omega (arith, l, r.within))).0 l)
 made_step Upper V top i j r e k l = renumbered V (λ z. IsBefore z (corner V i)) (i + 1) j (sym e) ((r.steps i l).1 k)
 
--- and has each corner on its left, or at one of its ends
+-- it has each vertex on its left, or at one of its ends
 made_beside : (side : Side) (V : List Pair) (top i j k : ℕ) → IsRound V top → j ≡ i + 1 → starts_at side top ≤ i
     → i < ends_at side V top → k < length V → IsLeftOrEnd (corner V i) (corner V j) (corner V k)
 made_beside Lower V top i j k r e f l n = left_ahead V top i j k r e l n
 made_beside Upper V top i j k r e f l n = left_back V top i j k r e f l n
 
--- from a corner to the next goes an edge
+-- the step from a vertex to the next is an edge
 pub made_edge : (side : Side) (V : List Pair) (top i j : ℕ) → IsRound V top → j ≡ i + 1 → starts_at side top ≤ i
     → i < ends_at side V top → IsEdgeOn side (set_of V) (corner V i) (corner V j)
 made_edge side V top i j r e f l =

@@ -1,4 +1,4 @@
--- Seen from a point outside, some corner or some edge is the nearest.
+-- Seen from a point outside, some vertex or some edge is the nearest.
 use Rattle.std.proofs.lemmas.Grind.{common_steps}
 use Rattle.std.proofs.Common.{◌≡◌, ℕ, zero, suc, ◌+◌, ◌-◌, ◌≤◌, ◌<◌, ℤ, pos, negsuc, ◌-ℤ◌, ◌≤ℤ◌, ◌<ℤ◌, neg_ℤ, ◌⊎◌, inl}
 use Rattle.std.proofs.Common.{inr, refl, sym, ap, ◌∙◌, subst, List, length, arith}
@@ -33,13 +33,13 @@ use Rattle.hull_outline.proofs.Switches.{farthest_corner, placed, less_told}
 use Rattle.lattice.proofs.Numbers.{gap_np, le_itself, le_trans, less_opposites, not_less}
 use Rattle.lattice.proofs.LineCrossings.{orient_other}
 
--- ---- the corners beside a corner
+-- ---- the vertices beside a vertex
 
--- i comes before j round a list of so many corners
+-- i comes before j round a list of n vertices
 abbrev IsStep : ℕ → ℕ → ℕ → Type 0
 IsStep n i j = (j ≡ i + 1) ⊎ ((j ≡ 0) × (i + 1 ≡ n))
 
--- the place of the corner before
+-- the index of the vertex before
 pub previous_at : (V : List Pair) (j : ℕ) → j < length V
     → (i : ℕ) × (i < length V) × IsStep (length V) i j × (previous V j ≡ corner V i) × (corner V (i + 1) ≡ corner V j)
 previous_at V zero l = (
@@ -51,7 +51,7 @@ previous_at V zero l = (
 )
 previous_at V (suc j) l = (j, omega (arith, l), inl (omega arith), refl, ap (corner V) (omega arith))
 
--- the place of the one behind
+-- the index of the vertex after
 pub next_at : (V : List Pair) (j : ℕ) → j < length V
     → (i : ℕ) × (i < length V) × IsStep (length V) j i × (corner V (j + 1) ≡ corner V i) × (previous V i ≡ corner V j)
 next_at V j l = elim (cases_lt (j + 1) (length V)) [
@@ -65,7 +65,7 @@ next_at V j l = elim (cases_lt (j + 1) (length V)) [
   )
 ]
 
--- corners at two places are apart
+-- vertices at two indices are different
 corners_apart : (S V : List Pair) (i j : ℕ) → IsVertexList S V → i < length V → j < length V → ¬ (i ≡ j)
     → ¬ (corner V i ≡ corner V j)
 corners_apart S V i j h li lj n e = elim (cases_lt i j) [
@@ -73,18 +73,18 @@ corners_apart S V i j h li lj n e = elim (cases_lt i j) [
   | inr k ↦ h.distinct j i (point_at V 0) (omega (arith, k, n)) li (sym e)
 ]
 
--- no point lies right of the edge to a corner
+-- no point lies right of the edge to a vertex
 pub left_before : (S V : List Pair) (j : ℕ) → IsVertexList S V → j < length V → IsLeftOf S (previous V j) (corner V j)
 left_before S V j h l =
     let b = previous_at V j l in
     subst (λ (z : Pair). IsLeftOf S z (corner V j)) (sym b.3)
     (subst (IsLeftOf S (corner V b.0)) b.4 (next_left S V b.0 (b.0 + 1) h refl b.1))
 
--- a side that is not right, and is not zero
+-- a side that is not negative, and is not zero, is positive
 positive : (x : ℤ) → pos 0 ≤ℤ x → ¬ (x ≡ pos 0) → pos 0 <ℤ x
 positive x h n = elim (le_or_lt x (pos 0)) [ inl k ↦ absurd (n (omega (arith, ints))) | inr k ↦ k ]
 
--- three corners or more bend left at each
+-- at least three vertices bend left at each
 pub bends_at : (S V : List Pair) (j : ℕ) → IsVertexList S V → j < length V → 2 < length V
     → pos 0 <ℤ orient (previous V j) (corner V j) (corner V (j + 1))
 bends_at S V j h l many =
@@ -100,17 +100,17 @@ bends_at S V j h l many =
     (corners_apart S V b.0 a.0 h b.1 a.1 (omega (arith, b.2, a.2, many)))
     (corners_apart S V j a.0 h l a.1 (omega (arith, a.2, many)))))
 
--- of two corners, or of one, the one before is the one behind
+-- of at most two vertices, the one before is the one after
 pub same_beside : (V : List Pair) (j : ℕ) → j < length V → length V ≤ 2 → previous V j ≡ corner V (j + 1)
 same_beside V j l few = grind (arith, common_steps, previous_at, next_at, corner)
 
--- ---- a corner that is turned from is the nearest
+-- ---- a vertex from which q is in the direction of neither neighbour is the nearest
 
--- a difference that is not positive
+-- if a difference is not positive, the first number is at most the second
 no_more : (x y : ℤ) → (x -ℤ y) ≤ℤ pos 0 → x ≤ℤ y
 no_more x y h = omega (arith, ints)
 
--- on the way from there to q no point lies farther
+-- in the direction from there to q no point lies farther
 pub farthest_from : (S V : List Pair) (last j : ℕ) (q : Pair) → IsOutlineOf S V → IsParted V last → j < length V
     → IsTurnedFrom (previous V j) (corner V j) (corner V (j + 1)) q
     → IsFarthest S (step (corner V j) q) (corner V j)
@@ -150,9 +150,9 @@ farthest_from S V last j q o p l t = elim (cases_lt 2 (length V)) [
           ]
         ]
 
--- ---- where no edge is seen, q is covered
+-- ---- if no edge is seen, q is covered
 
--- whether one of the first n can be told
+-- whether one of the first n has a property can be decided
 pub search_below : (P : ℕ → Type 0) → ((i : ℕ) → P i ⊎ ¬ P i) → (n : ℕ)
     → ((k : ℕ) × (k < n) × P k) ⊎ ((k : ℕ) → k < n → ¬ P k)
 search_below P told zero = inr (λ k l. absurd (omega (arith, l)))
@@ -167,7 +167,7 @@ search_below P told (suc n) = elim (search_below P told n) [
   ]
 ]
 
--- three corners or more, and q right of none of the edges: it is covered
+-- if there are at least three vertices, and q is right of no edge, q is covered
 unseen_many : (S V : List Pair) (last : ℕ) (q : Pair) → IsOutlineOf S V → IsParted V last → 2 < length V → ¬ Covers S q
     → ((j : ℕ) → j < length V → ¬ (orient (corner V j) (corner V (j + 1)) q <ℤ pos 0)) → ⊥
 unseen_many S V last q o p many out h = elim (covers_or_separated S q o.0) [
@@ -192,7 +192,7 @@ unseen_many S V last q o p many out h = elim (covers_or_separated S q o.0) [
     clash : (x y : ℤ) → x <ℤ y → (y -ℤ x) ≤ℤ pos 0 → ⊥
     clash x y h k = omega (arith, ints)
 
--- ---- on the line of two corners
+-- ---- on the line of two vertices
 
 -- no point of a segment is farther than both its ends
 not_over : (d u v t : Pair) → product d u <ℤ product d t → product d v <ℤ product d t → IsOnSegment u v t → ⊥
@@ -206,7 +206,7 @@ not_over d u v t h k s =
     )
     (OnSegment u v (start_there u v) (end_there u v) s)
 
--- the way back
+-- the step back has the opposite products
 pub step_back : (a b t : Pair) → product (step b a) t ≡ neg_ℤ (product (step a b) t)
 unfolding product
 step_back a b t = rw (as_pair a, as_pair b, as_pair t) (simp difference_rules (difference-eq _ _ _ _ (omega arith)))
@@ -226,32 +226,32 @@ between_both a b q z h k =
     short : product f q <ℤ product f b
     short = less_opposites _ _ _ _ (step_back a b b) (step_back a b q) k
 
--- ---- where no corner and no edge is the nearest: there is none nearer to go on to
+-- ---- if no vertex and no edge is the nearest, there is none nearer to go on to
 
--- none of the corners is the nearest, and none of the edges
+-- none of the vertices and none of the edges is the nearest
 abbrev pub NoneNearest : List Pair → Pair → Type 0
 NoneNearest V q =
     (k : ℕ) → k < length V
     → ¬ IsTurnedFrom (previous V k) (corner V k) (corner V (k + 1)) q × ¬ IsBeside (corner V k) (corner V (k + 1)) q
 
--- q lies right of an edge to the corner at j or from it
+-- q lies right of an edge to the vertex at j or from it
 abbrev IsSeenAt : List Pair → Pair → ℕ → Type 0
 IsSeenAt V q j = (orient (previous V j) (corner V j) q <ℤ pos 0) ⊎ (orient (corner V j) (corner V (j + 1)) q <ℤ pos 0)
 
--- no corner at an edge that is seen is nearer than so much
+-- no vertex at an edge that is seen has a squared distance below m
 abbrev NoneWithin : List Pair → Pair → ℕ → Type 0
 NoneWithin V q m = (j : ℕ) → j < length V → IsSeenAt V q j → far (corner V j) q <ℤ pos m → ⊥
 
--- whether q lies onward can be told
+-- whether q lies onward can be decided
 onward_told : (a b q : Pair) → IsOnward a b q ⊎ ¬ IsOnward a b q
 onward_told a b q = less_told (product (step a b) a) (product (step a b) q)
 
--- a number less than one that is at most so much
+-- a number less than one below m + 1 is below m
 one_less : (m : ℕ) (x y : ℤ) → x <ℤ y → y <ℤ pos (suc m) → x <ℤ pos m
 one_less m x y h k = omega (arith, ints)
 
 module _ (S V : List Pair) (q : Pair) (o : IsOutlineOf S V) (none : NoneNearest V q) where
-  -- from an edge that is seen, with q onward on it, one goes on to its end
+  -- if an edge is seen, with q onward on it, the search goes on to its end
   go_on : (m j : ℕ) → NoneWithin V q m → j < length V → orient (corner V j) (corner V (j + 1)) q <ℤ pos 0
       → IsOnward (corner V j) (corner V (j + 1)) q → far (corner V j) q <ℤ pos (suc m) → ⊥
   go_on m j ih l s h b = elim (onward_told (corner V (j + 1)) (corner V j) q) [
@@ -264,7 +264,7 @@ module _ (S V : List Pair) (q : Pair) (o : IsOutlineOf S V) (none : NoneNearest 
         (nearer_to_next (corner V j) (corner V (j + 1)) q h k)) b)
   ]
 
-  -- from one with q back on it, one goes back to its start
+  -- if an edge is seen, with q back on it, the search goes back to its start
   go_back : (m j : ℕ) → NoneWithin V q m → j < length V → orient (previous V j) (corner V j) q <ℤ pos 0
       → IsOnward (corner V j) (previous V j) q → far (corner V j) q <ℤ pos (suc m) → ⊥
   go_back m j ih l s h b =
@@ -278,7 +278,7 @@ module _ (S V : List Pair) (q : Pair) (o : IsOutlineOf S V) (none : NoneNearest 
             (nearer_to_next (corner V j) (previous V j) q h k)) b)
       ]
 
-  -- q right of the edge from a corner alone, and not onward on it: not back on the other
+  -- if q is right of only the edge from a vertex, and not onward on it, it is not back on the other
   not_back : (j : ℕ) → j < length V → pos 0 ≤ℤ orient (previous V j) (corner V j) q
       → orient (corner V j) (corner V (j + 1)) q <ℤ pos 0 → ¬ IsOnward (corner V j) (corner V (j + 1)) q
       → ¬ IsOnward (corner V j) (previous V j) q
@@ -287,7 +287,7 @@ module _ (S V : List Pair) (q : Pair) (o : IsOutlineOf S V) (none : NoneNearest 
     | inr few ↦ subst (λ (z : Pair). ¬ IsOnward (corner V j) z q) (sym (same_beside V j l few)) n
   ]
 
-  -- right of the edge to it alone, and not back on that: not onward on the other
+  -- if q is right of only the edge to a vertex, and not back on it, it is not onward on the other
   not_on : (j : ℕ) → j < length V → orient (previous V j) (corner V j) q <ℤ pos 0
       → pos 0 ≤ℤ orient (corner V j) (corner V (j + 1)) q → ¬ IsOnward (corner V j) (previous V j) q
       → ¬ IsOnward (corner V j) (corner V (j + 1)) q
@@ -296,7 +296,7 @@ module _ (S V : List Pair) (q : Pair) (o : IsOutlineOf S V) (none : NoneNearest 
     | inr few ↦ subst (λ (z : Pair). ¬ IsOnward (corner V j) z q) (same_beside V j l few) n
   ]
 
-  -- from a corner where the edge from it is seen
+  -- the search goes on from a vertex if the edge from it is seen
   step_out : (m j : ℕ) → NoneWithin V q m → j < length V → orient (corner V j) (corner V (j + 1)) q <ℤ pos 0
       → far (corner V j) q <ℤ pos (suc m) → ⊥
   step_out m j ih l s b = elim (onward_told (corner V j) (corner V (j + 1)) q) [
@@ -310,7 +310,7 @@ module _ (S V : List Pair) (q : Pair) (o : IsOutlineOf S V) (none : NoneNearest 
     ]
   ]
 
-  -- from one where only the edge to it is seen
+  -- the search goes on from a vertex if only the edge to it is seen
   step_in : (m j : ℕ) → NoneWithin V q m → j < length V → orient (previous V j) (corner V j) q <ℤ pos 0
       → pos 0 ≤ℤ orient (corner V j) (corner V (j + 1)) q → far (corner V j) q <ℤ pos (suc m) → ⊥
   step_in m j ih l s h b = elim (onward_told (corner V j) (previous V j) q) [
@@ -318,7 +318,7 @@ module _ (S V : List Pair) (q : Pair) (o : IsOutlineOf S V) (none : NoneNearest 
     | inr stay ↦ (none j l).0 (stay, not_on j l s h stay)
   ]
 
-  -- no corner at an edge that is seen is near
+  -- no vertex at an edge that is seen has a squared distance below m, for any m
   none_within : (m : ℕ) → NoneWithin V q m
   none_within zero j l s b = negative _ (way_forward (corner V j) q) b
     where
@@ -332,12 +332,12 @@ module _ (S V : List Pair) (q : Pair) (o : IsOutlineOf S V) (none : NoneNearest 
     ]
   ]
 
-  -- a number above a whole number
+  -- each whole number is below some natural number
   above_it : (z : ℤ) → (m : ℕ) × (z <ℤ pos m)
   above_it (pos n) = (suc n, omega (arith, ints))
   above_it (negsuc n) = (0, omega (arith, ints))
 
-  -- one or two corners, and q right of no edge: it is covered
+  -- if there are one or two vertices, and q is right of no edge, q is covered
   none_few : (length V ≤ 2) → 0 < length V → ¬ Covers S q
       → ((j : ℕ) → j < length V → ¬ (orient (corner V j) (corner V (j + 1)) q <ℤ pos 0)) → ⊥
   none_few few n out h =
@@ -357,7 +357,7 @@ module _ (S V : List Pair) (q : Pair) (o : IsOutlineOf S V) (none : NoneNearest 
         ]
       ]
 
-  -- some corner or some edge is the nearest to a point that is not covered
+  -- some vertex or some edge is the nearest to a point that is not covered
   pub never_none : (last : ℕ) → IsParted V last → 0 < length V → ¬ Covers S q → ⊥
   never_none last p n out =
       elim (search_below (λ k. orient (corner V k) (corner V (k + 1)) q <ℤ pos 0)

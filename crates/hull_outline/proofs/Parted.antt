@@ -1,4 +1,4 @@
--- What meets is not apart: where two segments cross, no direction parts their ends.
+-- Sets that intersect are not disjoint: if two segments cross, no direction separates their ends.
 use Rattle.std.proofs.lemmas.Grind.{common_steps}
 use Rattle.std.proofs.Common.{◌≡◌, ℤ, pos, negsuc, ◌+ℤ◌, ◌-ℤ◌, ◌*ℤ◌, ◌≤ℤ◌, ◌<ℤ◌, inl, inr, ap, arith}
 use Rattle.std.proofs.lemmas.Int.{ints}
@@ -23,20 +23,20 @@ unfolding orient
 weights_x a b c e =
     rw (as_pair a, as_pair b, as_pair c, as_pair e) (simp difference_rules (difference-eq _ _ _ _ (omega arith)))
 
--- and by y
+-- the same by y
 pub weights_y : (a b c e : Pair)
     → orient c e a *ℤ b.y -ℤ orient c e b *ℤ a.y ≡ orient a b e *ℤ c.y -ℤ orient a b c *ℤ e.y
 unfolding orient
 weights_y a b c e =
     rw (as_pair a, as_pair b, as_pair c, as_pair e) (simp difference_rules (difference-eq _ _ _ _ (omega arith)))
 
--- the weights have one sum
+-- both weights have the same sum
 pub weights_sum : (a b c e : Pair) → orient c e a -ℤ orient c e b ≡ orient a b e -ℤ orient a b c
 unfolding orient
 weights_sum a b c e =
     rw (as_pair a, as_pair b, as_pair c, as_pair e) (simp difference_rules (difference-eq _ _ _ _ (omega arith)))
 
--- weights of two coordinates, taken together
+-- weighted sums of two coordinates, taken together
 together : (p q u v w z x y : ℤ)
     → p *ℤ (u *ℤ x +ℤ v *ℤ y) -ℤ q *ℤ (u *ℤ w +ℤ v *ℤ z) ≡ u *ℤ (p *ℤ x -ℤ q *ℤ w) +ℤ v *ℤ (p *ℤ y -ℤ q *ℤ z)
 together p q u v w z x y =
@@ -51,20 +51,20 @@ together p q u v w z x y =
       as_difference y,
     ) (simp difference_rules (difference-eq _ _ _ _ (omega arith)))
 
--- and by how far they lie in a direction
+-- the weights of how far the points lie in a direction
 pub weights : (d a b c e : Pair)
     → orient c e a *ℤ product d b -ℤ orient c e b *ℤ product d a
     ≡ orient a b e *ℤ product d c -ℤ orient a b c *ℤ product d e
 unfolding product
 weights d a b c e = grind (arith, common_steps, together, orient, c, e, weights_x, weights_y)
 
--- weights of numbers as seen from m
+-- a weighted difference as seen from m
 seen_from : (p q x w m : ℤ) → p *ℤ (x -ℤ m) -ℤ q *ℤ (w -ℤ m) ≡ (p *ℤ x -ℤ q *ℤ w) -ℤ (p -ℤ q) *ℤ m
 seen_from p q x w m =
     rw (as_difference p, as_difference q, as_difference x, as_difference w, as_difference m)
     (simp difference_rules (difference-eq _ _ _ _ (omega arith)))
 
--- the same from any number m
+-- a balance of weighted differences holds from any number m
 shifted : (p q r s w x y z m : ℤ) → p *ℤ x -ℤ q *ℤ w ≡ r *ℤ y -ℤ s *ℤ z → p -ℤ q ≡ r -ℤ s
     → p *ℤ (x -ℤ m) -ℤ q *ℤ (w -ℤ m) ≡ r *ℤ (y -ℤ m) -ℤ s *ℤ (z -ℤ m)
 shifted p q r s w x y z m e f = grind (arith, common_steps, seen_from, e, f)
@@ -79,13 +79,13 @@ weights_from d a b c e m =
 
 -- ---- signs
 
--- a product of two negative numbers
+-- a product of two negative numbers is positive
 pub product_mm : (a b : ℤ) → a <ℤ pos 0 → b <ℤ pos 0 → pos 0 <ℤ (a *ℤ b)
 product_mm (negsuc m) (negsuc n) h k = omega (arith, ints)
 product_mm (negsuc m) (pos n) h k = absurd (omega (arith, ints))
 product_mm (pos m) b h k = absurd (omega (arith, ints))
 
--- a weight above 0 and one below 0 of two numbers below 0
+-- a weighted sum, by a weight not below 0 and one not above 0 that is subtracted, of two numbers below 0 is below 0
 pub below_both : (r s x y : ℤ) → pos 0 ≤ℤ r → s ≤ℤ pos 0 → s <ℤ r → x <ℤ pos 0 → y <ℤ pos 0
     → (r *ℤ x -ℤ s *ℤ y) <ℤ pos 0
 below_both r s x y hr hs h hx hy = elim (le_or_lt r (pos 0)) [
@@ -94,15 +94,15 @@ below_both r s x y hr hs h hx hy = elim (le_or_lt r (pos 0)) [
       rw e (omega (arith, ints))
 ]
 
--- one that is not negative, and one that is not positive
+-- a product of a number that is not negative and one that is not positive is not positive
 pub product_ns : (a b : ℤ) → pos 0 ≤ℤ a → b ≤ℤ pos 0 → (a *ℤ b) ≤ℤ pos 0
 product_ns a b h k = let c = *ℤ_comm a b in let p = product_np b a k h in omega (arith, ints)
 
--- a negative number and a positive one
+-- a product of a negative number and a positive one is negative
 pub product_mp : (a b : ℤ) → a <ℤ pos 0 → pos 0 <ℤ b → (a *ℤ b) <ℤ pos 0
 product_mp a b h k = let c = *ℤ_comm a b in let p = product_pn b a k h in omega (arith, ints)
 
--- ---- what meets is not apart
+-- ---- sets that intersect are not disjoint
 
 -- two weights of numbers above 0 and two of numbers not above it do not balance
 unbalanced : (p q r s w x y z : ℤ) → pos 0 <ℤ p → q <ℤ pos 0 → pos 0 <ℤ r → s <ℤ pos 0 → w ≤ℤ pos 0 → x ≤ℤ pos 0
@@ -113,7 +113,7 @@ unbalanced p q r s w x y z hp hq hr hs hw hx hy hz e =
     let c = product_pp r y hr hy in
     let d = product_mp s z hs hz in omega (arith, ints)
 
--- no segment crosses another with both ends farther than m, while its own are not
+-- if both ends of a segment lie farther than m, and those of another do not, they do not cross
 uncrossed : (d a b c e : Pair) (m : ℤ) → IsCrossing a b c e → product d a ≤ℤ m → product d b ≤ℤ m → m <ℤ product d c
     → m <ℤ product d e → ⊥
 uncrossed d a b c e m x ha hb hc he =
@@ -121,7 +121,7 @@ uncrossed d a b c e m x ha hb hc he =
     (product d c -ℤ m) (product d e -ℤ m) x.2 x.3 x.1 x.0 (gap_np _ _ ha) (gap_np _ _ hb) (gap_above _ _ hc)
     (gap_above _ _ he) (weights_from d a b c e m)
 
--- a direction that parts the ends of two segments: they do not cross
+-- if a direction separates the ends of two segments, they do not cross
 not_crossing : (d a b c e : Pair) → product d a <ℤ product d c → product d a <ℤ product d e → product d b <ℤ product d c
     → product d b <ℤ product d e → IsCrossing a b c e → ⊥
 not_crossing d a b c e ac ae bc be x = elim (le_or_lt (product d a) (product d b)) [
@@ -129,11 +129,11 @@ not_crossing d a b c e ac ae bc be x = elim (le_or_lt (product d a) (product d b
   | inr h ↦ uncrossed d a b c e (product d a) x (le_itself _) (le_less _ _ h) ac ae
 ]
 
--- what is farther in it is less far in the other
+-- a point that is farther in a direction is less far in the opposite one
 pub farther_back : (d s t : Pair) → product d s <ℤ product d t → product (opp d) t <ℤ product (opp d) s
 farther_back d s t h = rw (product-opp d s, product-opp d t) (omega (arith, ints))
 
--- no two sets both meet and are apart
+-- no two sets both intersect and are disjoint
 pub never_both : NeverBoth
 never_both S T (Reaches t m c) (d, p) =
     not_covered S t (d, all_of (λ s. product d s <ℤ product d t) S (λ s i. p s t i m)) c

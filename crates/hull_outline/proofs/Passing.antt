@@ -1,5 +1,5 @@
--- A point of S that T does not cover, and one that both sets have in common: the way between them passes an edge of T,
--- which is then not apart from S.
+-- If S has a point that T does not cover, and both sets share a point, the segment between the two passes an edge of T,
+-- which is then not disjoint from S.
 use Rattle.std.proofs.Common.{◌≡◌, ℕ, ◌+◌, ◌-◌, ◌≤◌, ◌<◌, ℤ, pos, ◌+ℤ◌, ◌-ℤ◌, ◌*ℤ◌, ◌≤ℤ◌, ◌<ℤ◌, neg_ℤ, ◌⊎◌, inl, inr}
 use Rattle.std.proofs.Common.{refl, sym, ap, ◌∙◌, subst, List, length, arith}
 use Rattle.std.specs.List.{Contains}
@@ -34,7 +34,7 @@ use Rattle.hull_geometry.proofs.Slopes.{product-opp}
 
 -- ---- weights
 
--- three weights, not below 0 and not all 0, of numbers above 0
+-- a sum of numbers above 0 with three weights, not below 0 and not all 0, is above 0
 weigh_above : (u v w x y z : ℤ) → pos 0 ≤ℤ u → pos 0 ≤ℤ v → pos 0 ≤ℤ w → pos 0 <ℤ (u +ℤ v +ℤ w) → pos 0 <ℤ x
     → pos 0 <ℤ y → pos 0 <ℤ z → pos 0 <ℤ (u *ℤ x +ℤ v *ℤ y +ℤ w *ℤ z)
 weigh_above u v w x y z hu hv hw h hx hy hz =
@@ -49,7 +49,7 @@ weigh_above u v w x y z hu hv hw h hx hy hz =
       ]
     ]
 
--- how far a weighted sum stays below so many times a number
+-- how far a weighted sum stays below a multiple of m
 weigh_from : (u v w x y z m : ℤ)
     → (u +ℤ v +ℤ w) *ℤ m -ℤ (u *ℤ x +ℤ v *ℤ y +ℤ w *ℤ z) ≡ u *ℤ (m -ℤ x) +ℤ v *ℤ (m -ℤ y) +ℤ w *ℤ (m -ℤ z)
 weigh_from u v w x y z m =
@@ -64,7 +64,7 @@ weigh_from u v w x y z m =
     )
     (simp difference_rules (difference-eq _ _ _ _ (omega arith)))
 
--- weighted numbers that are all less than m
+-- a weighted sum of numbers that are all less than m is less than that multiple of m
 weigh_less : (u v w x y z m : ℤ) → pos 0 ≤ℤ u → pos 0 ≤ℤ v → pos 0 ≤ℤ w → pos 0 <ℤ (u +ℤ v +ℤ w) → x <ℤ m → y <ℤ m
     → z <ℤ m → (u *ℤ x +ℤ v *ℤ y +ℤ w *ℤ z) <ℤ ((u +ℤ v +ℤ w) *ℤ m)
 weigh_less u v w x y z m hu hv hw h hx hy hz =
@@ -72,7 +72,7 @@ weigh_less u v w x y z m hu hv hw h hx hy hz =
     (weigh_above u v w (m -ℤ x) (m -ℤ y) (m -ℤ z) hu hv hw h (omega (arith, ints)) (omega (arith, ints))
     (omega (arith, ints)))
 
--- or not more
+-- a weighted sum of numbers not more than m is not more than that multiple of m
 weigh_most : (u v w x y z m : ℤ) → pos 0 ≤ℤ u → pos 0 ≤ℤ v → pos 0 ≤ℤ w → x ≤ℤ m → y ≤ℤ m → z ≤ℤ m
     → (u *ℤ x +ℤ v *ℤ y +ℤ w *ℤ z) ≤ℤ ((u +ℤ v +ℤ w) *ℤ m)
 weigh_most u v w x y z m hu hv hw hx hy hz =
@@ -90,7 +90,7 @@ weigh_points f a b c u v w =
     rw (as_pair f, as_pair a, as_pair b, as_pair c, as_difference u, as_difference v, as_difference w)
     (simp (difference-add, difference-mul) (difference-eq _ _ _ _ (omega arith)))
 
--- a point so many times as far out
+-- a point magnified by k
 abbrev times : ℤ → Pair → Pair
 times k p = record { x = k *ℤ p.x; y = k *ℤ p.y }
 
@@ -109,7 +109,7 @@ times_less k x y h l = less_by_gap _ _ _ (spread k x y) (product_pp k (y -ℤ x)
     spread k x y = rw (as_difference k, as_difference x, as_difference y)
         (simp difference_rules (difference-eq _ _ _ _ (omega arith)))
 
--- the side of a point at an edge that is so many times as far out
+-- the side of a point at an edge magnified by k
 times_side : (k : ℤ) (a b x : Pair)
     → orient (times k b) (times k a) x ≡ k *ℤ (product (left_of b a) x -ℤ product (left_of b a) (times k b))
 unfolding orient product
@@ -118,7 +118,7 @@ times_side k a b x =
 
 -- ---- the edge that is passed
 
--- two weights of numbers above 0
+-- a weighted sum of numbers above 0 is above 0 ..
 above_both : (r s y z : ℤ) → pos 0 ≤ℤ r → s ≤ℤ pos 0 → s <ℤ r → pos 0 <ℤ y → pos 0 <ℤ z → pos 0 <ℤ (r *ℤ y -ℤ s *ℤ z)
 above_both r s y z hr hs h hy hz = elim (le_or_lt r (pos 0)) [
   | inr l ↦ let p = product_pp r y l hy in let n = product_np s z hs (omega (arith, ints)) in omega (arith, ints)
@@ -126,7 +126,7 @@ above_both r s y z hr hs h hy hz = elim (le_or_lt r (pos 0)) [
       rw e (omega (arith, ints))
 ]
 
--- do not balance two of numbers not above 0
+-- .. and does not equal one of numbers not above 0
 pub overweighed : (p q r s w x y z : ℤ) → pos 0 ≤ℤ p → q ≤ℤ pos 0 → pos 0 ≤ℤ r → s ≤ℤ pos 0 → s <ℤ r → w ≤ℤ pos 0
     → x ≤ℤ pos 0 → pos 0 <ℤ y → pos 0 <ℤ z → p *ℤ x -ℤ q *ℤ w ≡ r *ℤ y -ℤ s *ℤ z → ⊥
 overweighed p q r s w x y z hp hq hr hs l hw hx hy hz e =
@@ -139,25 +139,25 @@ module _ (S T : List Pair) (h : Shared S T) where
   pub total : ℤ
   total = h.u +ℤ h.v +ℤ h.w
 
-  -- so many times the point in common
+  -- the common point, magnified by the sum of the weights
   pub common : Pair
   common = record { x = h.u *ℤ h.d.x +ℤ h.v *ℤ h.e.x +ℤ h.w *ℤ h.f.x; y = h.u *ℤ h.d.y +ℤ h.v *ℤ h.e.y +ℤ h.w *ℤ h.f.y }
 
-  -- it is less far than what all of T is less far than
+  -- if all of T is less far than a bound, so is the common point
   pub less_than_T : (f : Pair) (m : ℤ) → ((t : Pair) → Contains T t → product f t <ℤ m)
       → product f common <ℤ (total *ℤ m)
   unfolding common total
   less_than_T f m k = rw (weigh_points f h.d h.e h.f h.u h.v h.w)
       (weigh_less h.u h.v h.w _ _ _ m h.u_nn h.v_nn h.w_nn h.some (k h.d h.d_there) (k h.e h.e_there) (k h.f h.f_there))
 
-  -- and no farther than what none of T is farther than
+  -- if no point of T is farther than a bound, neither is the common point
   pub most_of_T : (f : Pair) (m : ℤ) → ((t : Pair) → Contains T t → product f t ≤ℤ m)
       → product f common ≤ℤ (total *ℤ m)
   unfolding common total
   most_of_T f m k = rw (weigh_points f h.d h.e h.f h.u h.v h.w)
       (weigh_most h.u h.v h.w _ _ _ m h.u_nn h.v_nn h.w_nn (k h.d h.d_there) (k h.e h.e_there) (k h.f h.f_there))
 
-  -- and less far than what all of S is less far than
+  -- if all of S is less far than a bound, so is the common point
   pub less_than_S : (f : Pair) (m : ℤ) → ((s : Pair) → Contains S s → product f s <ℤ m)
       → product f common <ℤ (total *ℤ m)
   unfolding common total
@@ -169,18 +169,18 @@ module _ (S T : List Pair) (h : Shared S T) where
   unfolding total
   total_above = h.some
 
--- a point so many times as far out is still nearer
+-- magnifying two points keeps which is nearer
 times_nearer : (k : ℤ) (f p q : Pair) → pos 0 <ℤ k → product f p <ℤ product f q
     → product f (times k p) <ℤ product f (times k q)
 times_nearer k f p q h l = rw (times_far k f p, times_far k f q) (times_less k (product f p) (product f q) h l)
 
 module _ (S T : List Pair) (h : Shared S T) (v g : Pair) (mv : Contains S v)
     (free : (t : Pair) → Contains T t → product g t <ℤ product g v) where
-  -- on which side of the way from v to the point in common a point of T lies
+  -- the side of the step from v to the common point on which a point of T lies
   pub side : Pair → ℤ
   side c = orient (times (total S T h) v) (common S T h) (times (total S T h) c)
 
-  -- the point in common does not lie right of an edge that has T on its left
+  -- the common point does not lie right of an edge that has T on its left
   not_right : (a b : Pair) → IsLeftOf T a b
       → orient (times (total S T h) b) (times (total S T h) a) (common S T h) ≤ℤ pos 0
   not_right a b left =
@@ -195,7 +195,7 @@ module _ (S T : List Pair) (h : Shared S T) (v g : Pair) (mv : Contains S v)
       near t mt = le_by_opposite _ _ _ _ (product_left b a t) (orient_other a b t)
           (All-contains (λ z. pos 0 ≤ℤ orient a b z) T t left mt)
 
-  -- no edge that is passed is apart from S
+  -- no edge that is passed is disjoint from S
   pub not_passed : (a b d : Pair) → Contains T a → Contains T b → IsLeftOf T a b → Parts d S (segment a b)
       → pos 0 ≤ℤ side a → side b ≤ℤ pos 0 → side b <ℤ side a → ⊥
   unfolding side
@@ -236,7 +236,7 @@ module _ (S T : List Pair) (h : Shared S T) (v g : Pair) (mv : Contains S v)
 
 -- ---- an edge is passed
 
--- between a corner where Q holds and one where it does not, round the list, Q ends at an edge
+-- between a vertex with the property Q and one without it, round the list, Q ends at an edge
 ends_ahead : (V : List Pair) (Q : Pair → Type 0) → ((p : Pair) → Q p ⊎ ¬ Q p) → (i j : ℕ) → i < j → j ≤ length V
     → Q (corner V i) → ¬ Q (corner V j)
     → (m : ℕ) × (m < length V) × Q (corner V m) × ¬ Q (corner V (m + 1))
@@ -259,7 +259,7 @@ ends_ahead V Q told i j l n q f =
       subst (λ (k : ℕ). ¬ Q (corner V k)) (omega (arith, moved)) past,
     )
 
--- wherever the two are
+-- the same for any two such vertices
 ends_round : (V : List Pair) (Q : Pair → Type 0) → ((p : Pair) → Q p ⊎ ¬ Q p) → (i j : ℕ) → i < length V → j < length V
     → Q (corner V i) → ¬ Q (corner V j)
     → (m : ℕ) × (m < length V) × Q (corner V m) × ¬ Q (corner V (m + 1))
@@ -275,15 +275,15 @@ ends_round V Q told i j li lj q f = elim (cases_lt i j) [
   ]
 ]
 
--- whether a number is below another can be told
+-- whether a number is below 0 can be decided
 below_told : (x : ℤ) → (x <ℤ pos 0) ⊎ ¬ (x <ℤ pos 0)
 below_told x = less_told x (pos 0)
 
--- whether it is not below it
+-- whether a number is not below 0 can be decided
 from_told : (x : ℤ) → (pos 0 ≤ℤ x) ⊎ ¬ (pos 0 ≤ℤ x)
 from_told x = elim (le_or_lt (pos 0) x) [ inl h ↦ inl h | inr h ↦ inr (λ k. omega (arith, ints)) ]
 
--- two points that lie as far as a third, when they are so many times as far out
+-- two points that lie as far as a third, when magnified, lie equally far
 same_far : {m : ℤ} (k : ℤ) (f p q : Pair) → pos 0 <ℤ k → product f (times k p) ≡ m → product f (times k q) ≡ m
     → product f p ≡ product f q
 same_far {m} k f p q big e g =
@@ -294,7 +294,7 @@ same_far {m} k f p q big e g =
     spread x y z = rw (as_difference x, as_difference y, as_difference z)
         (simp difference_rules (difference-eq _ _ _ _ (omega arith)))
 
--- where three corners that bend lie as far, all points do
+-- if three vertices that bend lie as far, all points do
 level_by : (f p c n x : Pair) → pos 0 <ℤ orient p c n → product f n ≡ product f c → product f p ≡ product f c
     → product f x ≡ product f c
 level_by f p c n x t en ep =
@@ -326,7 +326,7 @@ unfolding product
 step_north f c =
     rw (as_pair f, as_pair c, as_difference (pos 1)) (simp difference_rules (difference-eq _ _ _ _ (omega arith)))
 
--- a turned step that goes nowhere is between one point and itself
+-- a rotated step that goes nowhere is one between a point and itself
 turned_nothing : (a b c : Pair) → product (left_of a b) (east c) ≡ product (left_of a b) c
     → product (left_of a b) (north c) ≡ product (left_of a b) c → b ≡ a
 turned_nothing a b c e n =
@@ -335,11 +335,11 @@ turned_nothing a b c e n =
 module _ (S T W : List Pair) (last : ℕ) (o : IsOutlineOf T W) (p : IsParted W last) (many : 2 < length W)
     (h : Shared S T) (v g : Pair) (mv : Contains S v)
     (free : (t : Pair) → Contains T t → product g t <ℤ product g v) where
-  -- on which side of the way from v a point of T lies
+  -- the side of the step from v on which a point of T lies
   at : Pair → ℤ
   at c = side S T h v g mv free c
 
-  -- by how far it lies to the left
+  -- the side is how far it lies to the left
   at_is : (c : Pair)
       → product (left_of (times (total S T h) v) (common S T h)) (times (total S T h) c)
       -ℤ product (left_of (times (total S T h) v) (common S T h)) (times (total S T h) v)
@@ -347,13 +347,13 @@ module _ (S T W : List Pair) (last : ℕ) (o : IsOutlineOf T W) (p : IsParted W 
   unfolding at side
   at_is c = product_left (times (total S T h) v) (common S T h) (times (total S T h) c)
 
-  -- the point in common lies on the way
+  -- the common point lies on the line of that step
   on_way : product (left_of (times (total S T h) v) (common S T h)) (common S T h)
       ≡ product (left_of (times (total S T h) v) (common S T h)) (times (total S T h) v)
   on_way = equal_by_none _ _ _ (product_left (times (total S T h) v) (common S T h) (common S T h))
       (orient_end (times (total S T h) v) (common S T h))
 
-  -- some corner does not lie right of the way
+  -- some vertex does not lie right of that line
   some_left : (i : ℕ) × (i < length W) × (pos 0 ≤ℤ at (corner W i))
   some_left =
       let k : ℤ = total S T h in
@@ -371,7 +371,7 @@ module _ (S T W : List Pair) (last : ℕ) (o : IsOutlineOf T W) (p : IsParted W 
       left_by : (x y z u w : ℤ) → x -ℤ y ≡ z → u ≡ y → x ≡ w → u ≤ℤ w → pos 0 ≤ℤ z
       left_by x y z u w e f g l = omega (arith, ints)
 
-  -- and some does not lie left of it
+  -- some vertex does not lie left of that line
   some_right : (i : ℕ) × (i < length W) × (at (corner W i) ≤ℤ pos 0)
   some_right =
       let k : ℤ = total S T h in
@@ -391,7 +391,7 @@ module _ (S T W : List Pair) (last : ℕ) (o : IsOutlineOf T W) (p : IsParted W 
       right_by : (x y z u w n m : ℤ) → x -ℤ y ≡ z → u ≡ y → n ≡ neg_ℤ x → n ≡ w → m ≡ neg_ℤ u → m ≤ℤ w → z ≤ℤ pos 0
       right_by x y z u w n m e f g h i l = omega (arith, ints)
 
-  -- not all lie on it
+  -- not all vertices lie on it
   not_level : ((i : ℕ) → i < length W → at (corner W i) ≡ pos 0) → ⊥
   not_level level =
       let k : ℤ = total S T h in
@@ -415,7 +415,7 @@ module _ (S T W : List Pair) (last : ℕ) (o : IsOutlineOf T W) (p : IsParted W 
           ≡ product (left_of (times (total S T h) v) (common S T h)) (times (total S T h) v)
       flat c z = equal_by_none _ _ _ (at_is c) z
 
-  -- so some edge is passed
+  -- some edge is passed
   passed : (m : ℕ) × (m < length W) × (pos 0 ≤ℤ at (corner W m)) × (at (corner W (m + 1)) ≤ℤ pos 0)
       × (at (corner W (m + 1)) <ℤ at (corner W m))
   passed = elim (search_below (λ i. at (corner W i) <ℤ pos 0) (λ i. below_told (at (corner W i))) (length W)) [
@@ -435,7 +435,7 @@ module _ (S T W : List Pair) (last : ℕ) (o : IsOutlineOf T W) (p : IsParted W 
         ]
   ]
 
-  -- where all edges are apart from S there is no point in common
+  -- if all edges are disjoint from S there is no common point
   pub none_shared : ((i : ℕ) → i < length W → IsApart S (segment (corner W i) (corner W (i + 1)))) → ⊥
   unfolding side at
   none_shared edges =

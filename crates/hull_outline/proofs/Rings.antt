@@ -1,4 +1,4 @@
--- The corners of a set by their places: the lower edges from the first to the last, and the upper edges back.
+-- The vertices of a set by their indices: the lower edges from the first to the last, and the upper edges back.
 use Rattle.std.proofs.Common.{◌≡◌, ℕ, zero, suc, ◌+◌, ◌-◌, ◌≤◌, ◌<◌, ◌⊎◌, List, length, inl, inr, refl, sym, subst}
 use Rattle.std.proofs.Common.{arith}
 use Rattle.std.proofs.lemmas.Bool.{cases_lt}
@@ -15,25 +15,25 @@ use Rattle.hull_outline.proofs.Corners.{corner_back, corner_extreme, next_left, 
 use Rattle.hull_outline.proofs.EdgesOf.{edge_along, first_between, last_between}
 use Rattle.hull_outline.specs.Touches.{starts_at, ends_at}
 
--- the edges of S are those between the corners, and its ends are the first corner and the one at `top`
+-- the edges of S are those between the vertices, and its ends are the first vertex and the one at `top`
 pub record IsRing (S V : List Pair) (top : ℕ) : Type 0 where
   pub edge : (side : Side) (i j : ℕ) → j ≡ i + 1 → starts_at side top ≤ i → i < ends_at side V top
       → IsEdgeOn side S (corner V i) (corner V j)
   pub first : IsFirst S (corner V 0)
   pub last : IsLast S (corner V top)
 
--- from a corner along a side to the next: an edge there
+-- the step from a vertex along a side to the next is an edge there
 edge_on : (side : Side) (S V : List Pair) (i j : ℕ) → IsVertexList S V → j ≡ i + 1 → i < length V
     → IsAlong side (corner V i) (corner V j) → IsEdgeOn side S (corner V i) (corner V j)
 edge_on side S V i j h e l b =
     edge_along side S (corner V i) (corner V j) (corner_extreme S V i h (omega (arith, l))).0
     (corner_extreme S V j h (omega (arith, l))) (next_left S V i j h e l) b
 
--- a next corner under another number
+-- a property of the next vertex holds under another number
 next_to : (V : List Pair) (P : Pair → Type 0) (i j : ℕ) → j ≡ i + 1 → P (corner V (i + 1)) → P (corner V j)
 next_to V P i j e p = subst (λ (n : ℕ). P (corner V n)) (sym e) p
 
--- a round of corners that are those of S goes along its edges
+-- a round of vertices that are those of S goes along its edges
 pub ring_of : (S V : List Pair) (top : ℕ) → IsOutlineOf S V → IsRound V top → IsRing S V top
 ring_of S V top o r = record {
   edge = edge;
@@ -55,16 +55,16 @@ ring_of S V top o r = record {
     edge Upper i j e k l =
         edge_on Upper S V i j o.1 e l (next_to V (λ z. IsBefore z (corner V i)) i j e ((r.steps i l).1 k))
 
--- ---- a summit of the corners of a set parts them
+-- ---- a summit of the vertices of a set splits them
 
--- the corners go forward to the one at `top`, and back from it
+-- the vertices go forward to the one at `top`, and back from it
 pub record IsSummit (V : List Pair) (top : ℕ) : Type 0 where
   pub starts : 0 < top
   pub within : top < length V
   pub forward : IsBefore (corner V (top - 1)) (corner V top)
   pub backward : IsBefore (corner V (top + 1)) (corner V top)
 
--- from each corner to the next goes an edge
+-- from each vertex to the next leads an edge
 edge_at : (S V : List Pair) (i j : ℕ) → IsVertexList S V → j ≡ i + 1 → i < length V → 1 < length V
     → IsLowerEdge S (corner V i) (corner V j) ⊎ IsUpperEdge S (corner V i) (corner V j)
 edge_at S V i j h e l n = elim (before_total (corner V i) (corner V j)) [
@@ -108,7 +108,7 @@ back_from_summit S V top (suc d) i j h s f e l =
           (back_from_summit S V top d (i - 1) i h s (omega (arith, f)) (omega (arith, f)) (omega (arith, l))) low)
     ]
 
--- the corners of a set are a round, parted at each summit of theirs
+-- the vertices of a set are a round, split at any summit
 pub round_of : (S V : List Pair) (top : ℕ) → IsOutlineOf S V → IsSummit V top → IsRound V top
 round_of S V top o s = record {
   starts = s.starts;
@@ -128,7 +128,7 @@ round_of S V top o s = record {
     back : (i j : ℕ) → j ≡ i + 1 → top ≤ i → i < length V → IsUpperEdge S (corner V i) (corner V j)
     back i j e k l = back_from_summit S V top (i - top) i j o.1 s (omega (arith, k)) e l
 
--- where the corners go forward up to a place and not from it, it is a summit
+-- if the vertices go forward up to an index and not from it, the vertex there is a summit
 pub summit_of : (S V : List Pair) (top : ℕ) → IsOutlineOf S V → 1 < length V → top ≤ length V - 1
     → (0 < top → IsBefore (corner V (top - 1)) (corner V (top - 1 + 1)))
     → (top < length V - 1 → ¬ (IsBefore (corner V top) (corner V (top + 1)))) → IsSummit V top

@@ -1,5 +1,5 @@
--- Where what is nearest to a point of S in T is no farther off than what is nearest to other points of the two in the
--- other set, no point of S lies farther on the way there.
+-- If the nearest feature of T to a point of S is no farther off than the nearest features to other points of the two,
+-- no point of S lies farther in that direction.
 use Rattle.std.proofs.lemmas.Grind.{common_steps}
 use Rattle.std.proofs.Common.{◌≡◌, ℤ, pos, ◌+ℤ◌, ◌-ℤ◌, ◌*ℤ◌, ◌≤ℤ◌, ◌<ℤ◌, negsuc, neg_ℤ, inl, inr}
 use Rattle.std.proofs.Common.{refl, sym, ap, ◌∙◌, subst, List, [], ◌∷◌, arith}
@@ -27,9 +27,10 @@ use Rattle.lattice.proofs.Numbers.{less_across, less_not_le, less_opposites, nn_
 use Rattle.hull_geometry.proofs.EdgeSteps.{product_same}
 use Rattle.hull_outline.proofs.Passing.{times_less}
 
--- ---- what parts a set from a point, as a fraction
+-- ---- a separation of a set from a point, as a fraction
 
--- how far q lies beyond a farthest point in a direction: its square by that of the direction's length
+-- how far q lies beyond a farthest point in a direction: its square, divided by that of the direction's length, is that
+-- of the distance
 abbrev pub depth : Separation → Pair → ℤ
 depth w q = product w.direction q -ℤ product w.direction w.farthest
 
@@ -37,19 +38,19 @@ depth w q = product w.direction q -ℤ product w.direction w.farthest
 abbrev pub reach : Separation → ℤ
 reach w = product w.direction w.direction
 
--- what parts S from q, no less wide than H by the root of L
+-- a separation of S from q that is at least as wide as H divided by the root of L
 abbrev pub Rival : List Pair → Pair → ℤ → ℤ → Type 0
 Rival S q H L =
     (w : Separation) × IsSeparation S (q ∷ []) w × (((H *ℤ H) *ℤ reach w) ≤ℤ ((depth w q *ℤ depth w q) *ℤ L))
 
--- q lies beyond
+-- q lies beyond S
 pub farther_than : (S : List Pair) (q : Pair) (w : Separation) → IsSeparation S (q ∷ []) w
     → product w.direction w.farthest <ℤ product w.direction q
 farther_than S q w h =
     All-contains (λ t. product w.direction w.farthest <ℤ product w.direction t) (q ∷ []) q h.beyond
     (0, omega arith, refl)
 
--- by more than nothing
+-- q lies beyond S by more than 0
 pub depth_above : (S : List Pair) (q : Pair) (w : Separation) → IsSeparation S (q ∷ []) w → pos 0 <ℤ depth w q
 depth_above S q w h = gap_above _ _ (farther_than S q w h)
 
@@ -57,7 +58,7 @@ depth_above S q w h = gap_above _ _ (farther_than S q w h)
 pub reach_above : (S : List Pair) (q : Pair) (w : Separation) → IsSeparation S (q ∷ []) w → pos 0 <ℤ reach w
 reach_above S q w h = some_length w.direction w.farthest q (farther_than S q w h)
 
--- as far at least beyond each point of S
+-- q lies at least as far beyond each point of S
 pub depth_from : (S : List Pair) (q x : Pair) (w : Separation) → IsSeparation S (q ∷ []) w → Contains S x
     → depth w q ≤ℤ (product w.direction q -ℤ product w.direction x)
 depth_from S q x w h m =
@@ -68,18 +69,18 @@ depth_from S q x w h m =
 
 -- ---- weights
 
--- two weighed numbers less as many times a third
+-- a weighted sum of two numbers minus as many times a third is the sum of the weighted differences
 weighed_less : (l m h u v : ℤ) → (l *ℤ u +ℤ m *ℤ v) -ℤ (l +ℤ m) *ℤ h ≡ l *ℤ (u -ℤ h) +ℤ m *ℤ (v -ℤ h)
 weighed_less l m h u v =
     rw (as_difference l, as_difference m, as_difference h, as_difference u, as_difference v)
     (simp difference_rules (difference-eq _ _ _ _ (omega arith)))
 
--- two numbers no less than a third, weighed
+-- a weighted sum of two numbers no less than a third is no less than its multiple
 weighed_up : (l m h u v : ℤ) → pos 0 ≤ℤ l → pos 0 ≤ℤ m → h ≤ℤ u → h ≤ℤ v → ((l +ℤ m) *ℤ h) ≤ℤ (l *ℤ u +ℤ m *ℤ v)
 weighed_up l m h u v hl hm hu hv =
     le_by_sum _ _ _ _ (weighed_less l m h u v) (product_nn l (u -ℤ h) hl (gap_nn _ _ hu)) (product_nn m (v -ℤ h) hm (gap_nn _ _ hv))
 
--- two numbers below 0, weighed
+-- a weighted sum of two numbers below 0 is below 0
 weighed_below : (l m u v : ℤ) → pos 0 ≤ℤ l → pos 0 ≤ℤ m → pos 0 <ℤ (l +ℤ m) → u <ℤ pos 0 → v <ℤ pos 0
     → (l *ℤ u +ℤ m *ℤ v) <ℤ pos 0
 weighed_below l m u v hl hm h hu hv =
@@ -89,17 +90,17 @@ weighed_below l m u v hl hm h hu hv =
     below : (x k u v : ℤ) → x -ℤ k *ℤ negsuc 0 ≡ u +ℤ v → pos 0 <ℤ k → u ≤ℤ pos 0 → v ≤ℤ pos 0 → x <ℤ pos 0
     below x k u v e h p q = omega (arith, ints)
 
--- two numbers above 0, weighed
+-- a weighted sum of two numbers above 0 is above 0
 weighed_above : (l m u v : ℤ) → pos 0 ≤ℤ l → pos 0 ≤ℤ m → pos 0 <ℤ (l +ℤ m) → pos 0 <ℤ u → pos 0 <ℤ v
     → pos 0 <ℤ (l *ℤ u +ℤ m *ℤ v)
 weighed_above l m u v hl hm h hu hv =
     omega (arith, ints, weighed_up l m (pos 1) u v hl hm (omega (arith, ints)) (omega (arith, ints)))
 
--- the same number, weighed
+-- a weighted sum of equal numbers is their multiple
 weighed_same : (l m u v : ℤ) → u ≡ v → l *ℤ u +ℤ m *ℤ v ≡ (l +ℤ m) *ℤ v
 weighed_same l m u v e = ap (λ (z : ℤ). l *ℤ z +ℤ m *ℤ v) e ∙ sym (distrib_r l m v)
 
--- z between x and y, by the distances of the others
+-- the weights of z between x and y, by its distances from them
 balanced : (x y z : ℤ) → (y -ℤ z) *ℤ (z -ℤ x) +ℤ (z -ℤ x) *ℤ (z -ℤ y) ≡ pos 0
 balanced x y z = omega (arith, ints, flipped x y z)
   where
@@ -109,7 +110,7 @@ balanced x y z = omega (arith, ints, flipped x y z)
 
 -- ---- a gap that is narrower
 
--- what parts S from q is no wider than the gap between q and a point between two of S
+-- a separation of S from q is no wider than the gap between q and a point between two of S
 loses : (S : List Pair) (q x y n : Pair) (l m H : ℤ) → Rival S q H (product n n) → Contains S x → Contains S y
     → pos 0 ≤ℤ l → pos 0 ≤ℤ m → pos 0 <ℤ (l +ℤ m) → product (turned n) (gap l m q x y) ≡ pos 0
     → neg_ℤ ((l +ℤ m) *ℤ H) <ℤ product n (gap l m q x y) → product n (gap l m q x y) <ℤ ((l +ℤ m) *ℤ H) → ⊥
@@ -119,14 +120,14 @@ loses S q x y n l m H (w, h, more) mx my hl hm k z low high =
     (weighed_up l m (depth w q) _ _ hl hm (depth_from S q x w h mx) (depth_from S q y w h my)))
     low high (reach_above S q w h) more
 
--- what lies across no direction but n: how far it goes in another, by how far it goes along n
+-- if w goes nowhere across n, how far it goes in another direction, by how far it goes along n
 across : (n d w : Pair) → product (turned n) w ≡ pos 0 → product n n *ℤ product d w ≡ product n d *ℤ product n w
 across n d w z =
     parts n d w ∙ ap (λ (k : ℤ). product n d *ℤ product n w +ℤ product (turned n) d *ℤ k) z ∙ omega (arith, ints)
 
--- ---- a corner that is the nearest
+-- ---- a vertex that is the nearest
 
--- the way there and back has one length
+-- the step there and the step back have the same squared length
 both_ways : (c d : Pair) → product (step d c) (step d c) ≡ product (step c d) (step c d)
 unfolding product
 both_ways c d = rw (as_pair c, as_pair d) (simp difference_rules (difference-eq _ _ _ _ (omega arith)))
@@ -139,15 +140,16 @@ shorter l r h hl m = le_by_gap _ _ (cancel_nn ((h *ℤ h) -ℤ l *ℤ r) l hl (n
     drawn k l r = rw (as_difference k, as_difference l, as_difference r)
         (simp difference_rules (difference-eq _ _ _ _ (omega arith)))
 
--- a square that is not above 0
+-- a number whose square is not above 0 is 0
 no_square : (t : ℤ) → (t *ℤ t) ≤ℤ pos 0 → t ≡ pos 0
 no_square t h = grind (arith, common_steps, le_or_lt, pos, ints, square_above)
 
--- squares in order
+-- if squares are in order, so are the numbers
 root_le : (g h : ℤ) → pos 0 ≤ℤ h → (g *ℤ g) ≤ℤ (h *ℤ h) → g ≤ℤ h
 root_le g h hh m = elim (le_or_lt g h) [ inl k ↦ k | inr k ↦ absurd (less_not_le _ _ (products_lt h g hh k) m) ]
 
--- where what parts S from d is no narrower than the way from c in S to d, no point of S lies farther on that way
+-- if the separation of S from d is no narrower than the step from c in S to d, no point of S lies farther in that
+-- direction
 pub corner_closest : (S : List Pair) (c d : Pair) → Contains S c → product (step d c) d <ℤ product (step d c) c
     → Rival S d (product (step d c) c -ℤ product (step d c) d) (product (step d c) (step d c)) → (s : Pair)
     → Contains S s → product (step c d) s ≤ℤ product (step c d) c
@@ -182,7 +184,7 @@ corner_closest S c d mc apart (w, r, more) s ms = elim (le_or_lt (product e s) (
     far : h ≤ℤ g
     far = rw (along_step n c d) (depth_from S d c w r mc)
 
-    -- the whole way, squared
+    -- the square of the whole step
     whole : R *ℤ product e e ≡ g *ℤ g +ℤ product (turned n) e *ℤ product (turned n) e
     whole = parts n e e
 
@@ -220,7 +222,7 @@ corner_closest S c d mc apart (w, r, more) s ms = elim (le_or_lt (product e s) (
 
 -- ---- an edge that is the nearest
 
--- the normal of an edge, turned, goes along the edge
+-- the normal of an edge, rotated, goes along the edge
 turned_edge : (a b t : Pair) → product (turned (left_of b a)) t ≡ product (step a b) t
 unfolding product
 turned_edge a b t = rw (as_pair a, as_pair b, as_pair t) (simp difference_rules (difference-eq _ _ _ _ (omega arith)))
@@ -230,23 +232,23 @@ pub other_normal : (a b t : Pair) → product (left_of a b) t ≡ neg_ℤ (produ
 unfolding product
 other_normal a b t = rw (as_pair a, as_pair b, as_pair t) (simp difference_rules (difference-eq _ _ _ _ (omega arith)))
 
--- both ends of an edge lie as far along its normal
+-- both ends of an edge lie equally far along its normal
 ends_level : (a b : Pair) → product (left_of b a) a ≡ product (left_of b a) b
 unfolding product
 ends_level a b = rw (as_pair a, as_pair b) (simp difference_rules (difference-eq _ _ _ _ (omega arith)))
 
--- which way two products go that are equal but for a factor above 0
+-- the signs of two equal products: the third factor is above 0
 same_way : (l x y z : ℤ) → pos 0 <ℤ l → l *ℤ x ≡ y *ℤ z → y <ℤ pos 0 → x <ℤ pos 0 → pos 0 <ℤ z
 same_way l x y z hl e hy hx = grind (arith, common_steps, le_or_lt, pos, below_not_nn, e, product_pn, product_same, np_below)
 
--- and the other way
+-- the signs of two equal products: the third factor is below 0
 other_way : (l x y z : ℤ) → pos 0 <ℤ l → l *ℤ x ≡ y *ℤ z → y <ℤ pos 0 → pos 0 <ℤ x → z <ℤ pos 0
 other_way l x y z hl e hy hx = elim (le_or_lt (pos 0) z) [
   | inr k ↦ k
   | inl k ↦ absurd (above_not_np _ _ e (product_pp l x hl hx) (product_np y z (np_below _ hy) k))
 ]
 
--- and the first factor by the second
+-- the signs of two equal products: the second factor is below 0
 first_way : (l x y z : ℤ) → pos 0 <ℤ l → l *ℤ x ≡ y *ℤ z → pos 0 <ℤ z → x <ℤ pos 0 → y <ℤ pos 0
 first_way l x y z hl e hz hx = grind (arith, common_steps, le_or_lt, pos, below_not_nn, e, product_pn, product_nn, nn_above)
 
@@ -261,7 +263,7 @@ module _ (S T : List Pair) (c a b s : Pair) (d : Pair)
   abbrev out : Pair → ℤ
   out t = product (left_of b a) t
 
-  -- and along it
+  -- how far a point lies along the edge
   abbrev on : Pair → ℤ
   on t = product (turned (left_of b a)) t
 
@@ -277,16 +279,16 @@ module _ (S T : List Pair) (c a b s : Pair) (d : Pair)
   long : pos 0 <ℤ product n n
   long = some_length n b c c_out
 
-  -- beyond its start
+  -- c lies beyond its start
   after_start : on a <ℤ on c
   after_start = rw (turned_edge a b a, turned_edge a b c) h.beside.1
 
-  -- before its end
+  -- c lies before its end
   before_end : on c <ℤ on b
   before_end = rw (turned_edge a b b, turned_edge a b c)
       (less_opposites _ _ _ _ (step_back a b b) (step_back a b c) h.beside.2)
 
-  -- the weights of a point between two others in a row, by how far it lies along
+  -- a point between two others in a row, by how far it lies along
   flat : (q x y : Pair) → product (turned n) (gap (on y -ℤ on q) (on q -ℤ on x) q x y) ≡ pos 0
   flat q x y = along_gap (turned n) _ _ q x y ∙ balanced (on x) (on y) (on q)
 
@@ -299,7 +301,7 @@ module _ (S T : List Pair) (c a b s : Pair) (d : Pair)
       ∙ weighed_same (on b -ℤ on q) (on q -ℤ on a) (out q -ℤ out a) (out q -ℤ out b)
       (ap (λ (z : ℤ). out q -ℤ z) (ends_level a b))
 
-  -- d goes against the normal: c lies out
+  -- d goes against the normal, since c lies out
   against : product n d <ℤ pos 0
   against =
       first_way (product n n) (product d w) (product n d) (product n w) long (across n d w (flat c a b))
@@ -317,7 +319,7 @@ module _ (S T : List Pair) (c a b s : Pair) (d : Pair)
       left : (x y : ℤ) → x <ℤ y → pos 0 ≤ℤ (y -ℤ x)
       left x y h = omega (arith, ints)
 
-  -- s over the edge is nearer to it
+  -- a point s over the edge is nearer to it
   over : on a ≤ℤ on s → on s ≤ℤ on b → Rival T s H (product n n) → ⊥
   over l m r =
       loses T s a b n (on b -ℤ on s) (on s -ℤ on a) H r h.start.0 h.end.0 (gap_nn _ _ m) (gap_nn _ _ l) sum (flat s a b)
@@ -337,7 +339,7 @@ module _ (S T : List Pair) (c a b s : Pair) (d : Pair)
           (weighed_below _ _ _ _ (gap_nn _ _ m) (gap_nn _ _ l) sum
           (gap_below _ _ (parts_them s a ms h.start.0)) (gap_below _ _ (parts_them s b ms h.end.0)))))
 
-  -- where s lies past an end of the edge, that end is nearer to S
+  -- if s lies past an end of the edge, that end is nearer to S
   past : (q : Pair) (l m : ℤ) → Contains T q → out q ≡ out b → pos 0 <ℤ l → pos 0 <ℤ m
       → product (turned n) (gap l m q c s) ≡ pos 0 → Rival S q H (product n n) → ⊥
   past q l m mq e hl hm z r =
@@ -365,7 +367,7 @@ module _ (S T : List Pair) (c a b s : Pair) (d : Pair)
       low : (x y z : ℤ) → x +ℤ y ≡ z → pos 0 <ℤ z → neg_ℤ y <ℤ x
       low x y z e h = omega (arith, ints)
 
-  -- s lies over the edge, or past one of its ends
+  -- s lies over the edge, or past one of its ends: a contradiction either way
   pub edge_closest : Rival T s H (product n n) → Rival S a H (product n n) → Rival S b H (product n n) → ⊥
   edge_closest rs ra rb = elim (le_or_lt (on s) (on b)) [
     | inr k ↦ past b (on s -ℤ on b) (on b -ℤ on c) h.end.0 refl (gap_above _ _ k) (gap_above _ _ before_end) (flat b c s) rb

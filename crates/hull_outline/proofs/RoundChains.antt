@@ -1,4 +1,4 @@
--- The two chains of a round of corners, and that each corner lies left of each edge or is one of its ends.
+-- The two chains of a round of vertices, and that each vertex lies left of each edge or is one of its ends.
 use Rattle.std.proofs.Common.{◌≡◌, ℕ, ◌+◌, ◌-◌, ◌≤◌, ◌<◌, ℤ, pos, ◌<ℤ◌, List, length}
 use Rattle.std.proofs.Common.{inl, inr, sym, ap, ◌∙◌, subst, arith}
 use Rattle.std.proofs.lemmas.Bool.{cases_lt}
@@ -12,15 +12,15 @@ use Rattle.hull_outline.proofs.TwoChains.{IsCounterpart, edge_left}
 
 -- ---- the two chains of a round
 
--- the round from `top` on, after a turn
+-- the round from `top` on, after a rotation by 180 degrees
 abbrev pub behind : List Pair → ℕ → ℕ → Pair
 behind V top i = turned_point (corner V (top + i))
 
--- a corner under another number
+-- a property of a vertex holds under another number
 pub renumbered : (V : List Pair) (P : Pair → Type 0) (i j : ℕ) → i ≡ j → P (corner V i) → P (corner V j)
 renumbered V P i j e p = subst (λ (n : ℕ). P (corner V n)) e p
 
--- the corners up to `top` are convex
+-- the vertices up to `top` are convex
 pub front_convex : (V : List Pair) (top : ℕ) → IsRound V top → IsConvex (corner V) top
 front_convex V top r = record {
   ascends = λ i j e l. renumbered V (IsBefore (corner V i)) (i + 1) j (sym e)
@@ -31,7 +31,7 @@ front_convex V top r = record {
       (omega (arith, e, f, l, r.within))));
 }
 
--- and those from there on, after a turn
+-- the vertices from `top` on, rotated, are convex
 pub behind_convex : (V : List Pair) (top : ℕ) → IsRound V top → IsConvex (behind V top) (length V - top)
 behind_convex V top r = record {
   ascends = λ i j e l. turned_order (corner V (top + j)) (corner V (top + i))
@@ -47,12 +47,12 @@ behind_convex V top r = record {
       (omega (arith, e, f, l, r.within)))));
 }
 
--- the first corner is the end of the chain behind
+-- the first vertex, rotated, is the end of the second chain
 back_at_first : (V : List Pair) (top : ℕ) → IsRound V top → behind V top (length V - top) ≡ turned_point (corner V 0)
 back_at_first V top r =
     ap turned_point (corner_back V (top + (length V - top)) (omega (arith, r.within)) (omega (arith, r.within)))
 
--- the chain behind is the counterpart of the one in front
+-- the second chain is the counterpart of the first
 pub behind_front : (V : List Pair) (top : ℕ) → IsRound V top
     → IsCounterpart (corner V) top (behind V top) (length V - top)
 behind_front V top r = record {
@@ -61,7 +61,7 @@ behind_front V top r = record {
   ends = back_at_first V top r;
 }
 
--- and the other way round
+-- the first chain is the counterpart of the second
 front_behind : (V : List Pair) (top : ℕ) → IsRound V top
     → IsCounterpart (behind V top) (length V - top) (corner V) top
 front_behind V top r = record {
@@ -71,9 +71,9 @@ front_behind V top r = record {
       ∙ ap (λ (n : ℕ). turned_point (turned_point (corner V n))) (omega arith);
 }
 
--- ---- each corner lies left of each edge, or is one of its ends
+-- ---- each vertex lies left of each edge, or is one of its ends
 
--- an edge forward
+-- each vertex lies left of an edge forward, or is one of its ends
 pub left_ahead : (V : List Pair) (top i j k : ℕ) → IsRound V top → j ≡ i + 1 → i < top → k < length V
     → IsLeftOrEnd (corner V i) (corner V j) (corner V k)
 left_ahead V top i j k r e l n = elim (cases_lt top k) [
@@ -84,13 +84,13 @@ left_ahead V top i j k r e l n = elim (cases_lt top k) [
       (behind_front V top r) e (omega (arith, e, l)) (omega (arith, h)) (omega (arith, h, n))))
 ]
 
--- left of an edge or one of its ends, seen after a turn
+-- a point left of a rotated edge or at one of its ends is so before the rotation
 turned_left : (u v t : Pair) → IsLeftOrEnd (turned_point u) (turned_point v) (turned_point t) → IsLeftOrEnd u v t
 turned_left u v t (inl h) = inl (subst (λ (n : ℤ). pos 0 <ℤ n) (side_turned u v t) h)
 turned_left u v t (inr (inl e)) = inr (inl (sym (turned_twice t) ∙ ap turned_point e ∙ turned_twice u))
 turned_left u v t (inr (inr e)) = inr (inr (sym (turned_twice t) ∙ ap turned_point e ∙ turned_twice v))
 
--- an edge back, by the numbers from `top` on
+-- each vertex lies left of an edge back, or is one of its ends, by the numbers from `top` on
 left_back_from : (V : List Pair) (top a b k : ℕ) → IsRound V top → b ≡ a + 1 → b ≤ length V - top → k < length V
     → IsLeftOrEnd (corner V (top + a)) (corner V (top + b)) (corner V k)
 left_back_from V top a b k r e l n =
@@ -109,7 +109,7 @@ left_back_from V top a b k r e l n =
       ]
     ])
 
--- an edge back
+-- each vertex lies left of an edge back, or is one of its ends
 pub left_back : (V : List Pair) (top i j k : ℕ) → IsRound V top → j ≡ i + 1 → top ≤ i → i < length V → k < length V
     → IsLeftOrEnd (corner V i) (corner V j) (corner V k)
 left_back V top i j k r e f l n =

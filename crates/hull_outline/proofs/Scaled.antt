@@ -2,13 +2,13 @@
 use Rattle.std.proofs.Common.{◌≡◌, ℕ, ◌+◌, ◌*◌, ◌^◌, ◌<◌, ◌≤◌, subst, arith}
 use Rattle.std.proofs.lemmas.Nat.{pow-add}
 
--- one power more
+-- multiplying by 4 raises the power by one
 pub four_more : (n m k : ℕ) → m ≡ n * 4 ^ k → 4 * m ≡ n * 4 ^ (k + 1)
 four_more n m k e = more n m (4 ^ k) (4 ^ (k + 1)) (pow-add 4 k 1) e
   where
     more : (n m p q : ℕ) → q ≡ p * 4 → m ≡ n * p → 4 * m ≡ n * q
     more n m p q f e = rw (f, e) (omega arith)
 
--- so often is enough: a number above 0 times 4^95 is no less than 2^190
+-- 95 steps are enough: a number above 0 times 4^95 is no less than 2^190
 pub enough : (n m k : ℕ) → 0 < n → m ≡ n * 4 ^ k → k ≡ 95 → 2 ^ 190 ≤ m
 enough n m k p e f = let g : m ≡ n * 4 ^ 95 = subst (λ (j : ℕ). m ≡ n * 4 ^ j) f e in omega (arith, g, p)

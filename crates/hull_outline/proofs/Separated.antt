@@ -1,4 +1,4 @@
--- Directions that part a set from another, with a farthest point.
+-- Directions that separate a set from another, with a farthest point.
 use Rattle.std.proofs.Common.{◌≡◌, zero, suc, ℤ, pos, ◌+ℤ◌, ◌-ℤ◌, ◌*ℤ◌, ◌≤ℤ◌, ◌<ℤ◌, inl, inr, sym, subst}
 use Rattle.std.proofs.Common.{List, [], ◌∷◌, arith}
 use Rattle.std.specs.List.{All, Contains}
@@ -20,7 +20,7 @@ use Rattle.hull_outline.proofs.Shields.{product_left, parted_right, parts_turned
 use Rattle.lattice.proofs.Numbers.{le_by_opposite, le_less_trans, less_by_opposite, less_by_sum}
 use Rattle.lattice.proofs.LineCrossings.{orient_other}
 
--- a direction that parts them, and a farthest point in it
+-- a direction that separates them and a farthest point in it are a separation
 pub separation_of : (S T : List Pair) (w : Separation) → Contains S w.farthest → IsFarthest S w.direction w.farthest
     → Parts w.direction S T → IsSeparation S T w
 separation_of S T w m f p = record {
@@ -29,14 +29,14 @@ separation_of S T w m f p = record {
   beyond = all_of (λ t. product w.direction w.farthest <ℤ product w.direction t) T (λ t n. p w.farthest t m n);
 }
 
--- a direction that parts S from a point
+-- the direction of a separation separates S from the point
 pub separation_parts : (S : List Pair) (q : Pair) (w : Separation) → IsSeparation S (q ∷ []) w
     → Parts w.direction S (q ∷ [])
 separation_parts S q w h s t ms mt =
     le_less_trans _ _ _ (All-contains (λ u. product w.direction u ≤ℤ product w.direction w.farthest) S s h.farthest ms)
     (All-contains (λ u. product w.direction w.farthest <ℤ product w.direction u) (q ∷ []) t h.beyond mt)
 
--- what lies beyond a point lies beyond for all of one
+-- a point beyond another is beyond it for all of a list of one
 pub beyond_one : (d p q : Pair) → product d p <ℤ product d q → All (λ t. product d p <ℤ product d t) (q ∷ [])
 beyond_one d p q h = all_of (λ t. product d p <ℤ product d t) (q ∷ []) (λ t m. only t m)
   where
@@ -44,7 +44,7 @@ beyond_one d p q h = all_of (λ t. product d p <ℤ product d t) (q ∷ []) (λ 
     only t (zero, l, e) = subst (λ (z : Pair). product d p <ℤ product d z) e h
     only t (suc i, l, e) = absurd (omega (arith, l))
 
--- the way from one point to another goes on
+-- the step from one point to another goes on
 pub way_on : (c q : Pair) → ¬ (c ≡ q) → product (step c q) c <ℤ product (step c q) q
 way_on c q n = elim (before_total c q) [
   | inr (inl e) ↦ absurd (n e)
@@ -71,7 +71,7 @@ way_on c q n = elim (before_total c q) [
 abbrev pub apart_by : Pair → Pair → Separation
 apart_by d p = record { direction = d; farthest = p }
 
--- the way from the nearest corner parts
+-- the step from the nearest vertex is a separation
 pub from_corner : (S : List Pair) (q c d : Pair) → IsNearestCorner S q c → d ≡ step c q
     → IsSeparation S (q ∷ []) (apart_by d c)
 from_corner S q c d h e =
@@ -82,7 +82,7 @@ from_corner S q c d h e =
       beyond = beyond_one (step c q) c q (way_on c q (λ e. h.outside (Member (subst (Contains S) e h.corner.0))));
     }
 
--- so does the normal of the nearest edge
+-- the normal of the nearest edge is a separation
 pub from_edge : (S : List Pair) (q a b d : Pair) → IsNearestEdge S q a b → d ≡ left_of b a
     → IsSeparation S (q ∷ []) (apart_by d b)
 from_edge S q a b d h e =
@@ -95,26 +95,26 @@ from_edge S q a b d h e =
       beyond = beyond_one (left_of b a) b q (less_by_opposite _ _ _ _ (product_left b a q) (orient_other a b q) h.beside.0);
     }
 
--- what parts S from the nearer end of a segment parts it from the segment
+-- a separation of S from the nearer end of a segment is one from the segment
 pub from_start : (S : List Pair) (a b : Pair) (w : Separation) → IsShielded S a b → IsSeparation S (a ∷ []) w
     → IsSeparation S (segment a b) w
 from_start S a b w h s = separation_of S (segment a b) w s.there s.farthest
     (h.1 w.direction (separation_parts S a w s))
 
--- and the same from the other end
+-- the same for the other end
 pub from_end : (S : List Pair) (a b : Pair) (w : Separation) → IsShielded S b a → IsSeparation S (b ∷ []) w
     → IsSeparation S (segment a b) w
 from_end S a b w h s = separation_of S (segment a b) w s.there s.farthest
     (parts_turned S w.direction a b (h.1 w.direction (separation_parts S b w s)))
 
--- a set right of the segment's line is parted by its normal
+-- the normal of a segment separates it from a set right of its line
 pub from_right : (S : List Pair) (a b p d : Pair) → IsLeftmost S a b p → orient a b p <ℤ pos 0 → d ≡ left_of a b
     → IsSeparation S (segment a b) (apart_by d p)
 from_right S a b p d l h e =
     subst (λ (z : Pair). IsSeparation S (segment a b) (apart_by z p)) (sym e)
     (separation_of S (segment a b) (apart_by (left_of a b) p) l.0 l.1 (parted_right S a b p l h))
 
--- so is one left of it
+-- the normal of a segment separates it from a set left of its line
 pub from_left : (S : List Pair) (a b p d : Pair) → IsLeftmost S b a p → orient b a p <ℤ pos 0 → d ≡ left_of b a
     → IsSeparation S (segment a b) (apart_by d p)
 from_left S a b p d l h e =

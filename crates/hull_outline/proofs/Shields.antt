@@ -1,4 +1,4 @@
--- How a set stands to a segment, by its points farthest to the left and to the right of the segment's line.
+-- The relation of a set to a segment, by its points farthest to the left and to the right of the segment's line.
 use Rattle.std.proofs.Common.{◌≡◌, zero, suc, ℤ, pos, ◌-ℤ◌, ◌*ℤ◌, ◌≤ℤ◌, ◌<ℤ◌, neg_ℤ, ◌⊎◌, inl, inr, refl, sym, ap}
 use Rattle.std.proofs.Common.{◌∙◌, subst, List, [], ◌∷◌, arith}
 use Rattle.std.specs.List.{Contains}
@@ -35,15 +35,15 @@ one_of_two a b t (zero, l, e) = inl (sym e)
 one_of_two a b t (suc zero, l, e) = inr (sym e)
 one_of_two a b t (suc (suc k), l, e) = absurd (omega (arith, l))
 
--- a is an end
+-- a is an end of the segment
 pub start_there : (a b : Pair) → Contains (segment a b) a
 start_there a b = (0, omega arith, refl)
 
--- b is the other
+-- b is an end of the segment
 pub end_there : (a b : Pair) → Contains (segment a b) b
 end_there a b = (1, omega arith, refl)
 
--- a direction in which b is no nearer than a, and S is nearer: it parts S from both
+-- if b is no nearer than a in a direction, and S is nearer, the direction separates S from both
 pub parts_both : (S : List Pair) (d a b : Pair) → ((s : Pair) → Contains S s → product d s <ℤ product d a)
     → product d a ≤ℤ product d b → Parts d S (segment a b)
 parts_both S d a b h l s t ms mt = elim (one_of_two a b t mt) [
@@ -51,7 +51,7 @@ parts_both S d a b h l s t ms mt = elim (one_of_two a b t mt) [
   | inr e ↦ subst (λ (z : Pair). product d s <ℤ product d z) (sym e) (less_le_trans _ _ _ (h s ms) l)
 ]
 
--- a is shielded where b is no nearer in each direction that parts S from a
+-- a is shielded if b is no nearer in each direction that separates S from a
 shielded : (S : List Pair) (a b : Pair) → ¬ Covers S a
     → ((d : Pair) → ((s : Pair) → Contains S s → product d s <ℤ product d a) → product d a ≤ℤ product d b)
     → IsShielded S a b
@@ -73,7 +73,7 @@ pub between_back : (x y v : ℤ) → IsBetween x y v → IsBetween y x v
 between_back x y v (inl h) = inr h
 between_back x y v (inr h) = inl h
 
--- a point of the line that stands at or after p and at or before r is on the segment
+-- a point of the line that is at or after p, and at or before r, is on the segment
 up_to : (p q r : Pair) → orient p r q ≡ pos 0 → ¬ IsBefore q p → ¬ IsBefore r q → IsOnSegment p r q
 up_to p q r z nqp nrq = elim (before_total p q) [
   | inr (inr b) ↦ absurd (nqp b)
@@ -93,7 +93,7 @@ up_to p q r z nqp nrq = elim (before_total p q) [
   ]
 ]
 
--- so is one that stands among both
+-- a point of the line that is among both is on the segment
 pub among_on_segment : (p q r : Pair) → orient p r q ≡ pos 0 → IsAmong p q r → IsOnSegment p r q
 among_on_segment p q r z (inl h) = up_to p q r z h.0 h.1
 among_on_segment p q r z (inr h) =
@@ -130,7 +130,7 @@ third_among a b u nu na = elim (before_total a u) [
   ]
 ]
 
--- a on the segment from u to b, and farther than u: b is no nearer
+-- if a is on the segment from u to b, and farther than u, b is no nearer
 no_nearer : (d u a b : Pair) → IsOnSegment u b a → product d u <ℤ product d a → product d a ≤ℤ product d b
 no_nearer d u a b h l = elim (le_or_lt (product d a) (product d b)) [
   | inl k ↦ k
@@ -144,14 +144,14 @@ no_nearer d u a b h l = elim (le_or_lt (product d a) (product d b)) [
       (OnSegment u b (start_there u b) (end_there u b) h))
 ]
 
--- where a lies between a point of S and b, it shields b
+-- if a lies between a point of S and b, it shields b
 pub shielded_in_line : (S : List Pair) (u a b : Pair) → Contains S u → ¬ Covers S a → IsOnSegment u b a
     → IsShielded S a b
 shielded_in_line S u a b m n h = shielded S a b n (λ d f. no_nearer d u a b h (f u m))
 
 -- ---- across the line of the segment
 
--- where weights of two numbers below 0 are a negative weight of another, that one is above 0
+-- if a weighted sum of two numbers below 0 is a negative multiple of another number, that one is above 0
 pub pushed : (p q r s x w y z : ℤ) → p <ℤ pos 0 → w ≡ pos 0 → pos 0 ≤ℤ r → s ≤ℤ pos 0 → s <ℤ r → y <ℤ pos 0
     → z <ℤ pos 0 → p *ℤ x -ℤ q *ℤ w ≡ r *ℤ y -ℤ s *ℤ z → pos 0 <ℤ x
 pushed p q r s x w y z hp hw hr hs l hy hz e = elim (le_or_lt x (pos 0)) [
@@ -163,7 +163,7 @@ pushed p q r s x w y z hp hw hr hs l hy hz e = elim (le_or_lt x (pos 0)) [
       absurd (omega (arith, ints))
 ]
 
--- a difference above 0
+-- if a difference is above 0, the first number is the greater
 not_less : (x y : ℤ) → pos 0 <ℤ (x -ℤ y) → y ≤ℤ x
 not_less x y h = omega (arith, ints)
 
@@ -171,8 +171,8 @@ not_less x y h = omega (arith, ints)
 pub side_back : (u v t : Pair) → pos 0 <ℤ orient u v t → orient v u t <ℤ pos 0
 side_back u v t h = below_opposite _ _ (orient_other u v t) h
 
--- the line of a and b goes between two points of S, and both ends lie beyond the line of those: the nearer end shields
--- the other
+-- if the line of a and b goes between two points of S, and both ends lie beyond the line of those, the nearer end
+-- shields the other
 pub shielded_across : (S : List Pair) (a b left right : Pair) → Contains S left → Contains S right → ¬ Covers S a
     → pos 0 <ℤ orient a b left → pos 0 <ℤ orient b a right → pos 0 <ℤ orient left right a → IsShielded S a b
 shielded_across S a b left right ml mr n above below beyond =
@@ -187,21 +187,21 @@ spread : (s e a : ℤ) → s *ℤ (e -ℤ a) ≡ s *ℤ e -ℤ s *ℤ a
 spread s e a = rw (as_difference s, as_difference e, as_difference a)
     (simp difference_rules (difference-eq _ _ _ _ (omega arith)))
 
--- what is left of two weights when their sum is taken off the second number
+-- the rest of a weighted sum after subtracting the multiple of the second number
 rest_first : (p q a b : ℤ) → (p *ℤ b -ℤ q *ℤ a) -ℤ (p -ℤ q) *ℤ a ≡ p *ℤ (b -ℤ a)
 rest_first p q a b = rw (as_difference p, as_difference q, as_difference a, as_difference b)
     (simp difference_rules (difference-eq _ _ _ _ (omega arith)))
 
--- and when they are taken off their sum of the first
+-- the rest of the multiple of the first number after subtracting the weighted sum
 rest_second : (p q a b : ℤ) → (p -ℤ q) *ℤ b -ℤ (p *ℤ b -ℤ q *ℤ a) ≡ q *ℤ (a -ℤ b)
 rest_second p q a b = rw (as_difference p, as_difference q, as_difference a, as_difference b)
     (simp difference_rules (difference-eq _ _ _ _ (omega arith)))
 
--- a product with a positive number that is not negative
+-- if a product with a positive number is not negative, the other factor is not
 positive_part : (s x : ℤ) → pos 0 <ℤ s → pos 0 ≤ℤ (s *ℤ x) → pos 0 ≤ℤ x
 positive_part s x h k = cancel_nn x s h (rw (*ℤ_comm x s) k)
 
--- e weighs as much as b and a together, neither of which weighs less than nothing: it is between them
+-- a weighted mean of b and a, with weights not below 0, is between them
 between_ordered : (p q s a b e : ℤ) → pos 0 ≤ℤ p → q ≤ℤ pos 0 → pos 0 <ℤ s → s ≡ p -ℤ q
     → s *ℤ e ≡ p *ℤ b -ℤ q *ℤ a → a ≤ℤ b → (a ≤ℤ e) × (e ≤ℤ b)
 between_ordered p q s a b e hp hq hs w h l =
@@ -220,7 +220,7 @@ exchanged : (p q a b : ℤ) → p *ℤ b -ℤ q *ℤ a ≡ neg_ℤ q *ℤ a -ℤ
 exchanged p q a b = rw (as_difference p, as_difference q, as_difference a, as_difference b)
     (simp difference_rules (difference-eq _ _ _ _ (omega arith)))
 
--- whichever of them is less
+-- the same, whichever of them is less
 pub between_by : (p q s a b e : ℤ) → pos 0 ≤ℤ p → q ≤ℤ pos 0 → pos 0 <ℤ s → s ≡ p -ℤ q → s *ℤ e ≡ p *ℤ b -ℤ q *ℤ a
     → IsBetween a b e
 between_by p q s a b e hp hq hs w h = elim (le_or_lt a b) [
@@ -229,7 +229,7 @@ between_by p q s a b e hp hq hs w h = elim (le_or_lt a b) [
       (omega (arith, ints)) (h ∙ exchanged p q a b) (omega (arith, ints)))
 ]
 
--- a weight that is nothing leaves the other, negated
+-- if one weight is 0, only the other product is left, negated
 other_left : (p q a b w : ℤ) → p ≡ pos 0 → p *ℤ b -ℤ q *ℤ a ≡ w → neg_ℤ q *ℤ a ≡ w
 other_left p q a b w z e = negated q a ∙ omega (arith, ints) ∙ ap (λ (k : ℤ). k *ℤ b -ℤ q *ℤ a) (sym z) ∙ e
   where
@@ -237,7 +237,7 @@ other_left p q a b w z e = negated q a ∙ omega (arith, ints) ∙ ap (λ (k : �
     negated x y = rw (as_difference x, as_difference y, as_difference b, as_difference (pos 0))
         (simp difference_rules (difference-eq _ _ _ _ (omega arith)))
 
--- the line of a and b goes between left and right, and a lies on the line of those: it is on their segment
+-- if the line of a and b goes between left and right, and a lies on the line of those, a is on their segment
 pub start_on : (a b left right : Pair) → pos 0 <ℤ orient a b left → orient a b right <ℤ pos 0
     → orient right left a ≡ pos 0 → IsOnSegment left right a
 start_on a b left right above below e =
@@ -255,14 +255,14 @@ start_on a b left right above below e =
         (omega (arith, ints)) (omega (arith, ints)) (omega (arith, ints))
         (other_left (orient right left a) (orient right left b) x y _ e h)
 
--- ---- the direction that parts them
+-- ---- the direction that separates them
 
 -- how far a point lies to the left of a line
 pub product_left : (a b t : Pair) → product (left_of a b) t -ℤ product (left_of a b) a ≡ orient a b t
 unfolding orient product
 product_left a b t = rw (as_pair a, as_pair b, as_pair t) (simp difference_rules (difference-eq _ _ _ _ (omega arith)))
 
--- a set that lies right of the line from a to b is parted from both
+-- a set that lies right of the line from a to b is separated from both
 pub parted_right : (S : List Pair) (a b p : Pair) → IsLeftmost S a b p → orient a b p <ℤ pos 0
     → Parts (left_of a b) S (segment a b)
 parted_right S a b p l h =
@@ -277,14 +277,14 @@ parted_right S a b p l h =
     level : (x y w : ℤ) → x -ℤ y ≡ w → w ≡ pos 0 → y ≤ℤ x
     level x y w e f = omega (arith, ints)
 
--- the ends exchanged
+-- exchanging the ends keeps the separation
 pub parts_turned : (S : List Pair) (d a b : Pair) → Parts d S (segment b a) → Parts d S (segment a b)
 parts_turned S d a b h s t ms mt = elim (one_of_two a b t mt) [
   | inl e ↦ subst (λ (z : Pair). product d s <ℤ product d z) (sym e) (h s a ms (end_there b a))
   | inr e ↦ subst (λ (z : Pair). product d s <ℤ product d z) (sym e) (h s b ms (start_there b a))
 ]
 
--- a set that lies behind a is apart from the segment
+-- a set that lies behind a is disjoint from the segment
 pub apart_behind : (S : List Pair) (a b : Pair) → IsPointSet S → IsShielded S a b → IsApart S (segment a b)
 apart_behind S a b o h = elim (covers_or_separated S a o) [
   | inl c ↦ absurd (h.0 c)
@@ -298,11 +298,11 @@ apart_behind S a b o h = elim (covers_or_separated S a o) [
     only d s t (zero, l, e) k = subst (λ (z : Pair). product d s <ℤ product d z) e k
     only d s t (suc i, l, e) k = absurd (omega (arith, l))
 
--- so is one that lies beyond b
+-- a set that lies beyond b is disjoint from the segment
 pub apart_beyond : (S : List Pair) (a b : Pair) → IsPointSet S → IsShielded S b a → IsApart S (segment a b)
 apart_beyond S a b o h = let p = apart_behind S b a o h in (p.0, parts_turned S p.0 a b p.1)
 
--- no points are parted by any direction
+-- the empty set is disjoint from each set
 pub apart_empty : (S T : List Pair) → S ≡ [] → IsApart S T
 apart_empty S T e = (
   left_of origin origin,

@@ -1,4 +1,4 @@
--- Corners stay as a covered point comes, and as a point goes that is none of them.
+-- The vertices stay when a covered point is added, and when a point is removed that is not one of them.
 use Rattle.std.proofs.Common.{◌≡◌, ℕ, zero, suc, ◌+◌, ◌-◌, ◌≤◌, ◌<◌, pos, ◌≤ℤ◌, ◌⊎◌, List, length, inl, inr, sym, ap, ◌∙◌, subst}
 use Rattle.std.proofs.Common.{arith}
 use Rattle.std.specs.List.{Contains}
@@ -28,7 +28,7 @@ use Rattle.hull_outline.proofs.MadeEdges.{set_of, set_ordered, set_among, set_al
 use Rattle.hull_outline.proofs.RoundChains.{renumbered}
 use Rattle.hull_outline.proofs.Switches.{switch_of}
 
--- ---- a covered point stands under a segment between two corners
+-- ---- a covered point is under a segment between two vertices
 
 -- along a side, a covered point comes neither before the start of a chain nor after its end
 within_ends : (side : Side) (S V : List Pair) (last : ℕ) (t : Pair) → IsOutlineOf S V → IsParted V last → 0 < length V
@@ -43,7 +43,7 @@ within_ends Upper S V last t o p n c =
       λ b. outside_before S (corner V 0) t ends.0 (subst (IsBefore t) (corner_back V (length V) (omega arith) n) b) c,
     )
 
--- whether one point comes before another along a side can be told
+-- whether one point comes before another along a side can be decided
 along_told : (side : Side) (u v : Pair) → IsAlong side u v ⊎ ¬ (IsAlong side u v)
 along_told side u v = elim (along_total side u v) [
   | inl b ↦ inl b
@@ -51,11 +51,11 @@ along_told side u v = elim (along_total side u v) [
   | inr (inr b) ↦ inr (along_not side v u b)
 ]
 
--- t is a corner, or stands inwards of a segment between two corners
+-- t is a vertex, or lies inwards of a segment between two vertices
 abbrev IsUnder : Side → List Pair → Pair → Type 0
 IsUnder side V t = Contains V t ⊎ ((a b : Pair) × Contains V a × Contains V b × IsInwards side a b t)
 
--- a covered point between the ends of an edge stands inwards of it
+-- a covered point between the ends of an edge lies inwards of it
 under_edge : (side : Side) (S V : List Pair) (u v t : Pair) → IsEdgeOn side S u v → Contains V u → Contains V v
     → IsAlong side u t → IsAlong side t v → Covers S t → IsUnder side V t
 under_edge side S V u v t e mu mv b k c = inr (by_side side e b k)
@@ -98,7 +98,7 @@ under_chain side S V last t o p n c to =
     span Lower = omega arith
     span Upper = omega (arith, p.0 n)
 
--- each covered point is a corner or stands inwards of a segment between two
+-- each covered point is a vertex or lies inwards of a segment between two
 under : (side : Side) (S V : List Pair) (last : ℕ) (t : Pair) → IsOutlineOf S V → IsParted V last → Covers S t
     → IsUnder side V t
 under side S V last t o p c = elim (cases_lt 0 (length V)) [
@@ -110,9 +110,9 @@ under side S V last t o p c = elim (cases_lt 0 (length V)) [
   ]
 ]
 
--- ---- other sets with the same corners
+-- ---- other sets with the same vertices
 
--- where a set has the corners of S among its points, and no point that S does not cover, it has the same corners
+-- if a set has the vertices of S among its points, and no point that S does not cover, it has the same vertices
 same_corners : (S T V : List Pair) (last : ℕ) → IsOutlineOf S V → IsParted V last → IsPointSet T
     → ((t : Pair) → Contains V t → Contains T t) → ((t : Pair) → Contains T t → Covers S t) → IsVertexList T V
 same_corners S T V last o p s sub cov =
@@ -124,7 +124,7 @@ same_corners S T V last o p s sub cov =
       ];
     })).vertices V (own_outline V last p (set_of V) (set_ordered V) (λ t. (set_among V t, set_all V t)))
 
--- the corners stay as a covered point comes
+-- the vertices stay when a covered point is added
 pub stay_with : (S V : List Pair) (last : ℕ) (p : Pair) → IsOutlineOf S V → IsParted V last → Covers S p
     → IsVertexList (with_point p S) V
 stay_with S V last p o parted c =
@@ -132,7 +132,7 @@ stay_with S V last p o parted c =
     (λ t m. (members_with p t S).1 (inr ((o.1.members t).0 m).0))
     (λ t m. elim ((members_with p t S).0 m) [ inl e ↦ subst (Covers S) (sym e) c | inr k ↦ Member k ])
 
--- and as a point goes that is none of them
+-- the vertices stay when a point is removed that is not one of them
 pub stay_without : (S V : List Pair) (last : ℕ) (p : Pair) → IsOutlineOf S V → IsParted V last → ¬ (Contains V p)
     → IsVertexList (without_point p S) V
 stay_without S V last p o parted n =
@@ -140,9 +140,9 @@ stay_without S V last p o parted n =
     (λ t m. in_without p t S (λ e. n (subst (Contains V) e m)) ((o.1.members t).0 m).0)
     (λ t m. Member ((members_without p t S o.0).0 m).0)
 
--- ---- where a point stands on a chain of a round
+-- ---- the position of a point on a chain of a round
 
--- from a corner the next ones come along its chain
+-- the vertices after a vertex come after it along its chain
 later_along : (side : Side) (V : List Pair) (last i n : ℕ) → IsRound V last → starts_at side last ≤ i
     → i + suc n ≤ ends_at side V last → IsAlong side (corner V i) (corner V (i + suc n))
 later_along side V last i n r l u = go side n l u
@@ -161,7 +161,7 @@ later_along side V last i n r l u = go side n l u
         (renumbered V (IsAlong side (corner V (i + suc n))) (i + suc n + 1) (i + suc (suc n)) (omega arith)
         (step side (i + suc n) (omega (arith, l)) (omega (arith, u))))
 
--- a single corner stands at every place
+-- a single vertex is at every index
 single : (V : List Pair) (i j : ℕ) → 0 < length V → length V ≤ 1 → corner V i ≡ corner V j
 single V i j n one = only i ∙ sym (only j)
   where
@@ -171,7 +171,7 @@ single V i j n one = only i ∙ sym (only j)
       | inr h ↦ corner_back V k h n
     ]
 
--- where the corners come before p up to a place, and not from it, p is the corner there if it is one of the chain
+-- if the vertices come before p up to an index, and not from it, p is the vertex there if it is one of the chain
 pub found_on : (side : Side) (V : List Pair) (last at : ℕ) (p : Pair) → 0 < length V → IsParted V last
     → starts_at side last ≤ at → at ≤ ends_at side V last
     → (starts_at side last < at → IsAlong side (corner V (at - 1)) p)
@@ -196,13 +196,13 @@ found_on side V last at p n parted from to held fails (i, l, u, e) = elim (cases
   ]
 ]
 
--- a corner is one of a chain
+-- a vertex is on one of the chains
 pub on_either : (V : List Pair) (last : ℕ) (p : Pair) → Contains V p → StandsOn Lower V last p ⊎ StandsOn Upper V last p
 on_either V last p m = let c = corner_of V p m in elim (cases_lt last c.0) [
   | inr h ↦ inl (c.0, omega arith, h, sym c.2)
   | inl h ↦ inr (c.0, omega (arith, h), omega (arith, c.1), sym c.2)
 ]
 
--- and what stands on a chain is one
+-- a point that is on a chain is a vertex
 pub on_one : (side : Side) (V : List Pair) (last : ℕ) (p : Pair) → 0 < length V → StandsOn side V last p → Contains V p
 on_one side V last p n (i, l, u, e) = subst (Contains V) e (corner_there V i n)

@@ -1,4 +1,4 @@
--- A place in a range where a test goes from true to false; and so, in each direction, a corner that is farthest.
+-- An index of a range at which a test changes from true to false; and so, in each direction, a vertex that is farthest.
 use Rattle.std.proofs.Common.{◌≡◌, ℕ, zero, suc, ◌+◌, ◌-◌, ◌≤◌, ◌<◌, ℤ, pos, ◌≤ℤ◌, ◌<ℤ◌, ◌⊎◌, inl, inr, List, length}
 use Rattle.std.proofs.Common.{refl, sym, subst, arith}
 use Rattle.std.specs.List.{Contains, All}
@@ -20,14 +20,14 @@ use Rattle.hull_outline.specs.Rounds.{corner, IsParted}
 use Rattle.hull_outline.proofs.FarthestOf.{farthest_below, farthest_above}
 use Rattle.lattice.proofs.Numbers.{le_less_trans, less_le_trans}
 
--- P is true before the place and false at it; the ends count as such
+-- P is true before the index and false at it; at the ends the missing condition counts as met
 pub record IsSwitch (P : ℕ → Type 0) (low high at : ℕ) : Type 0 where
   pub from : low ≤ at
   pub to : at ≤ high
   pub held : low < at → P (at - 1)
   pub fails : at < high → ¬ P at
 
--- there is such a place
+-- there is such an index
 pub switch_of : (P : ℕ → Type 0) → ((i : ℕ) → P i ⊎ ¬ P i) → (n low high : ℕ) → high ≡ low + n
     → (at : ℕ) × IsSwitch P low high at
 switch_of P told zero low high e = (
@@ -59,15 +59,15 @@ switch_of P told (suc n) low high e = elim (told low) [
   )
 ]
 
--- whether one number is less than another can be told
+-- whether one number is less than another can be decided
 pub less_told : (a b : ℤ) → (a <ℤ b) ⊎ ¬ (a <ℤ b)
 less_told a b = elim (le_or_lt b a) [ inl h ↦ inr (λ k. omega (arith, ints)) | inr h ↦ inl h ]
 
--- whether one is not can be told
+-- whether one number is not less than another can be decided
 not_less_told : (a b : ℤ) → ¬ (a <ℤ b) ⊎ ¬ (¬ (a <ℤ b))
 not_less_told a b = elim (less_told a b) [ inl h ↦ inr (λ n. n h) | inr h ↦ inl h ]
 
--- in each direction a corner is the first of the farthest
+-- in each direction a vertex is the first of the farthest
 pub farthest_corner : (S V : List Pair) (last : ℕ) (d : Pair) → IsOutlineOf S V → IsParted V last → 0 < length V
     → (i : ℕ) × IsFirstFarthest S d (corner V i)
 farthest_corner S V last d o p n = elim (le_or_lt d.y (pos 0)) [
@@ -83,11 +83,11 @@ farthest_corner S V last d o p n = elim (le_or_lt d.y (pos 0)) [
     double : (a b : ℤ) → ¬ (¬ (a <ℤ b)) → a <ℤ b
     double a b h = elim (le_or_lt b a) [ inl k ↦ absurd (h (λ l. omega (arith, ints))) | inr k ↦ k ]
 
--- each corner has a place in the list
+-- each vertex has an index in the list
 pub placed : (V : List Pair) (i : ℕ) → 0 < length V → (j : ℕ) × (j < length V) × (corner V i ≡ corner V j)
 placed V i n = elim (cases_lt i (length V)) [ inl h ↦ (i, h, refl) | inr h ↦ (0, n, corner_back V i h n) ]
 
--- a direction in which all corners lie less far than m: so do all points
+-- if all vertices lie less far than m in a direction, so do all points
 pub all_nearer : (S V : List Pair) (last : ℕ) (d : Pair) (m : ℤ) → IsOutlineOf S V → IsParted V last → 0 < length V
     → ((i : ℕ) → i < length V → product d (corner V i) <ℤ m) → (s : Pair) → Contains S s → product d s <ℤ m
 all_nearer S V last d m o p n h s ms =
@@ -96,7 +96,7 @@ all_nearer S V last d m o p n h s ms =
     le_less_trans _ _ _ (All-contains (λ t. product d t ≤ℤ product d (corner V r.0)) S s r.1.1 ms)
     (subst (λ (z : Pair). product d z <ℤ m) (sym j.2) (h j.0 j.1))
 
--- what covers each corner covers whatever the set covers
+-- if each vertex is covered, so is each point that the set covers
 pub holds_by_corners : (S T W : List Pair) (last : ℕ) → IsPointSet S → IsOutlineOf T W → IsParted W last
     → ((i : ℕ) → i < length W → Covers S (corner W i)) → Holds S T
 holds_by_corners S T W last o t p h q c = elim (covers_or_separated S q o) [

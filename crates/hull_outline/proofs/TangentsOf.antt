@@ -1,4 +1,4 @@
--- Where the tangents from a point outside touch, by the edges beside the corner that a bisection found.
+-- The points that the tangents from a point outside touch, by the edges at the vertex that a bisection found.
 use Rattle.std.proofs.Common.{ℕ, ◌+◌, ◌-◌, ◌≤◌, ◌<◌, List, length, inl, inr, sym, subst, arith}
 use Rattle.std.proofs.lemmas.Bool.{cases_lt}
 use Rattle.lattice.specs.Plane.{Pair, IsBefore}
@@ -15,7 +15,7 @@ use Rattle.hull_outline.specs.Touches.{IsPassed, IsToCome, starts_at, ends_at}
 use Rattle.hull_outline.proofs.Corners.{corner_back, corner_extreme}
 use Rattle.hull_outline.proofs.Ends.{edge_to, edge_from}
 
--- the left tangent touches the corner up to which the edges are passed
+-- the left tangent touches the vertex up to which the edges are passed
 pub left_at : (side : Side) (S V : List Pair) (last at : ℕ) (q : Pair) → IsOutlineOf S V → IsParted V last → 0 < length V
     → IsOnChain Left side (corner V 0) (corner V last) S q → starts_at side last ≤ at → at ≤ ends_at side V last
     → (starts_at side last < at → IsPassed side q (corner V (at - 1)) (corner V (at - 1 + 1)))
@@ -36,7 +36,7 @@ left_at side S V last at q o p n h l u held fails =
     from_start Lower b = b
     from_start Upper b = b
 
--- the right one touches the corner from which they are to come
+-- the right tangent touches the vertex from which the edges are to come
 pub right_at : (side : Side) (S V : List Pair) (last at : ℕ) (q : Pair) → IsOutlineOf S V → IsParted V last → 0 < length V
     → IsOnChain Right side (corner V 0) (corner V last) S q → starts_at side last ≤ at → at ≤ ends_at side V last
     → (starts_at side last < at → ¬ (IsToCome side q (corner V (at - 1)) (corner V (at - 1 + 1))))

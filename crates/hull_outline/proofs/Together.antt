@@ -1,4 +1,4 @@
--- Two sets, by the edges of the second: one of them meets the first, or the two are apart.
+-- Two sets, by the edges of the second: one of them intersects the first, or the two are disjoint.
 use Rattle.std.proofs.Common.{◌≡◌, ℕ, ◌+◌, ◌≤◌, ◌<◌, ℤ, ◌<ℤ◌, neg_ℤ, inl, inr, subst, List, [], length, arith}
 use Rattle.std.specs.List.{Contains}
 use Rattle.std.proofs.lemmas.Bool.{cases_lt}
@@ -18,14 +18,14 @@ use Rattle.hull_outline.proofs.Shields.{start_there, end_there}
 use Rattle.hull_outline.proofs.Switches.{all_nearer}
 use Rattle.hull_geometry.proofs.Slopes.{product-opp}
 
--- any set is apart from no points
+-- any set is disjoint from the empty set
 pub apart_from_none : (S T : List Pair) → T ≡ [] → IsApart S T
 apart_from_none S T e = (
   origin,
   λ s t ms mt. absurd (let m = subst (λ (z : List Pair). Contains z t) e mt in omega (arith, m.1)),
 )
 
--- one corner or two that lie farther than m: so does the set
+-- if the only one or two vertices lie farther than m, so does the set
 pub few_beyond : (T W : List Pair) (last : ℕ) (d : Pair) (m : ℤ) → IsOutlineOf T W → IsParted W last → 0 < length W
     → length W ≤ 2 → m <ℤ product d (corner W 0) → m <ℤ product d (corner W 1) → (t : Pair) → Contains T t
     → m <ℤ product d t
@@ -45,7 +45,7 @@ few_beyond T W last d m o p n few first second t mt =
       | inl k ↦ subst (λ (j : ℕ). m <ℤ product d (corner W j)) (omega (arith, k, l, few)) second
     ]
 
--- what is apart from their segment is apart from the set
+-- a set that is disjoint from their segment is disjoint from the set
 apart_few : (S T W : List Pair) (last : ℕ) → IsOutlineOf T W → IsParted W last → 0 < length W → length W ≤ 2
     → IsApart S (segment (corner W 0) (corner W 1)) → IsApart S T
 apart_few S T W last o p n few (d, h) = (
@@ -55,7 +55,7 @@ apart_few S T W last o p n few (d, h) = (
       (h s (corner W 1) ms (end_there (corner W 0) (corner W 1))) t mt,
 )
 
--- a set whose point is not covered, and apart from each edge: they are apart
+-- if a point of the second set is not covered, and the first is disjoint from each edge, the two are disjoint
 pub apart_from_edges : (S T W : List Pair) (last : ℕ) (v : Pair) → IsOutlineOf T W → IsParted W last → 0 < length W
     → Contains S v → ¬ Covers T v
     → ((i : ℕ) → i < length W → IsApart S (segment (corner W i) (corner W (i + 1)))) → IsApart S T

@@ -1,4 +1,4 @@
--- The triangles between the first corner and the edges.
+-- The triangles between the first vertex and the edges.
 use Rattle.std.proofs.Common.{ℕ, ◌-◌, ◌≤◌, ◌<◌, pos, ◌≤ℤ◌, List, length, arith}
 use Rattle.std.proofs.lemmas.List.Elements.{All-contains}
 use Rattle.lattice.specs.Plane.{Pair, orient}
@@ -7,7 +7,7 @@ use Rattle.hull_outline.specs.Outlines.{IsOutline}
 use Rattle.hull_outline.specs.Rounds.{corner}
 use Rattle.hull_outline.proofs.Corners.{corner_extreme, next_left}
 
--- a triangle between the first corner and an edge does not bend right
+-- a triangle between the first vertex and an edge does not bend right
 pub triangle_left : (V : List Pair) (i : ℕ) → IsOutline V → 1 ≤ i → i < length V
     → pos 0 ≤ℤ orient (corner V 0) (corner V (i - 1)) (corner V i)
 triangle_left V i (S, o) p l =

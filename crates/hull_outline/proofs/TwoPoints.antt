@@ -1,4 +1,4 @@
--- The two ends of a segment in order, and one end alone, are the outline of their set.
+-- The two ends of a segment in order, and a single end, are the polygon of their set.
 use Rattle.std.proofs.Common.{◌≡◌, ℕ, zero, suc, ◌<◌, ◌≤◌, List, [], ◌∷◌, length, take, inl, inr, refl, sym, ap, ◌∙◌, subst}
 use Rattle.std.proofs.Common.{arith}
 use Rattle.lattice.specs.Covers.{IsPointSet}
@@ -14,23 +14,23 @@ use Rattle.hull_outline.proofs.Made.{own_outline}
 
 -- ---- the set of the ends
 
--- of two points in order it is both
+-- the set of two points in order is both
 pub ends_in_order : (p q : Pair) → IsBefore p q → ends p q ≡ p ∷ q ∷ []
 ends_in_order p q b = rw (is_before-false q p (before_not p q b), is_before-true p q b) refl
 
--- of two the other way, too
+-- the set of two points in reversed order is both
 pub ends_turned : (p q : Pair) → IsBefore q p → ends p q ≡ q ∷ p ∷ []
 ends_turned p q b = rw (is_before-true q p b) refl
 
--- of one point twice it is that one
+-- the set of one point twice is that one
 pub ends_alone : (p : Pair) → ends p p ≡ p ∷ []
 ends_alone p = rw (is_before-false p p (before_irrefl p)) refl
 
--- it is in order
+-- the set of the ends is in order
 ends_ordered : (a b : Pair) → IsPointSet (ends a b)
 ends_ordered a b = ordered_with a (b ∷ []) (λ i j d h n. absurd (omega (arith, h, n)))
 
--- ---- its outline
+-- ---- its polygon
 
 two_steps : (p q : Pair) → IsBefore p q → (i : ℕ) → i < length (p ∷ q ∷ []) → GoesOn (p ∷ q ∷ []) 1 i
 two_steps p q b zero l = (λ k. b, λ k. absurd (omega (arith, k)))
@@ -51,19 +51,19 @@ two_round p q b = record {
   bends = two_bends p q;
 }
 
--- so their last one stands second
+-- the last one of two points in order is at index 1
 two_parted : (p q : Pair) → IsBefore p q → IsParted (p ∷ q ∷ []) 1
 two_parted p q b = (λ n. omega arith, λ n. two_round p q b)
 
--- they are the outline of their set
+-- they are the polygon of their set
 two_outline : (p q : Pair) → IsBefore p q → IsPointSet (p ∷ q ∷ []) → IsOutlineOf (p ∷ q ∷ []) (p ∷ q ∷ [])
 two_outline p q b s = (s, own_outline (p ∷ q ∷ []) 1 (two_parted p q b) (p ∷ q ∷ []) s (λ t. (λ m. m, λ m. m)))
 
--- and so is one
+-- one point is the polygon of its set
 one_outline : (p : Pair) → IsPointSet (p ∷ []) → IsOutlineOf (p ∷ []) (p ∷ [])
 one_outline p s = (s, small_list (p ∷ []) (omega arith))
 
--- the ends of a segment are the outline of their set
+-- the ends of a segment are the polygon of their set
 pub ends_outline : (a b : Pair) → IsOutlineOf (ends a b) (ends a b)
 ends_outline a b = elim (before_total a b) [
   | inl h ↦ subst (λ (z : List Pair). IsOutlineOf z z) (sym (ends_in_order a b h))
@@ -75,7 +75,7 @@ ends_outline a b = elim (before_total a b) [
       (two_outline b a h (subst IsPointSet (ends_turned a b h) (ends_ordered a b)))
 ]
 
--- there are one or two
+-- there are at most two ends
 pub ends_few : (a b : Pair) → length (ends a b) ≤ 2
 ends_few a b = elim (before_total a b) [
   | inl h ↦ rw (ends_in_order a b h) (omega arith)
@@ -83,7 +83,7 @@ ends_few a b = elim (before_total a b) [
   | inr (inr h) ↦ rw (ends_turned a b h) (omega arith)
 ]
 
--- so there is one
+-- there is at least one end
 pub ends_some : (a b : Pair) → ¬ (ends a b ≡ [])
 ends_some a b = elim (before_total a b) [
   | inl h ↦ λ e. none _ _ (sym (ends_in_order a b h) ∙ e)
@@ -96,21 +96,21 @@ ends_some a b = elim (before_total a b) [
 
 -- ---- two points in a list
 
--- a list of two is those
+-- a list of two points is those at 0 and at 1
 pub two_of : (V : List Pair) → length V ≡ 2 → V ≡ point_at V 0 ∷ point_at V 1 ∷ []
 two_of [] l = absurd (omega (arith, l))
 two_of (p ∷ []) l = absurd (omega (arith, l))
 two_of (p ∷ q ∷ []) l = refl
 two_of (p ∷ q ∷ r ∷ V) l = absurd (omega (arith, l))
 
--- of it the first alone
+-- the first point of such a list is the one at 0
 pub one_of_two_points : (V : List Pair) → length V ≡ 2 → take 1 V ≡ point_at V 0 ∷ []
 one_of_two_points [] l = absurd (omega (arith, l))
 one_of_two_points (p ∷ []) l = absurd (omega (arith, l))
 one_of_two_points (p ∷ q ∷ []) l = refl
 one_of_two_points (p ∷ q ∷ r ∷ V) l = absurd (omega (arith, l))
 
--- the first of two alone, where they are one
+-- if two points are equal, the first is the set of both
 pub first_alone : (p q : Pair) → ¬ IsBefore p q → ¬ IsBefore q p → p ∷ [] ≡ ends p q
 first_alone p q n m = elim (before_total p q) [
   | inl h ↦ absurd (n h)

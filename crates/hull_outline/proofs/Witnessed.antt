@@ -1,4 +1,4 @@
--- Meetings and separations of two sets.
+-- Common points and separations of two sets.
 use Rattle.std.proofs.Common.{◌≡◌, ℕ, ◌≤◌, ◌<◌, ℤ, pos, ◌-ℤ◌, ◌≤ℤ◌, ◌<ℤ◌, neg_ℤ, ◌⊎◌, inl, inr, sym, subst, List, []}
 use Rattle.std.proofs.Common.{length, arith}
 use Rattle.std.specs.List.{Contains}
@@ -29,28 +29,28 @@ use Rattle.hull_geometry.proofs.Slopes.{product-opp}
 use Rattle.lattice.proofs.LineCrossings.{orient_other}
 use Rattle.hull_geometry.proofs.FringeHulls.{covers_more}
 
--- what meets somewhere meets
+-- sets with a common point intersect
 pub meeting_meets : (S T : List Pair) (m : Meeting) → IsMeeting S T m → Meets S T
 meeting_meets S T (OfOther t) h = Reaches t h.0 h.1
 meeting_meets S T (OfThis s) h = IsReached s h.0 h.1
 meeting_meets S T (Crossing a b c d) h = Crosses a b c d h.0 h.1 h.2 h.3 h.4
 
--- what meets a part somewhere meets the whole there
+-- a common point with a part of a set is one with the whole set
 pub meeting_more : (S T U : List Pair) (m : Meeting) → ((t : Pair) → Contains T t → Contains U t) → IsMeeting S T m
     → IsMeeting S U m
 meeting_more S T U (OfOther t) f h = (f t h.0, h.1)
 meeting_more S T U (OfThis s) f h = (h.0, covers_more T U s f h.1)
 meeting_more S T U (Crossing a b c d) f h = (h.0, h.1, f c h.2, f d h.3, h.4)
 
--- what is apart from the whole is apart from a part
+-- a set that is disjoint from the whole is disjoint from a part
 pub apart_less : (S T U : List Pair) → ((t : Pair) → Contains U t → Contains T t) → IsApart S T → IsApart S U
 apart_less S T U f (d, h) = (d, λ s t ms mt. h s t ms (f t mt))
 
--- backwards, S and T change places
+-- with the direction reversed, S and T are exchanged
 pub apart_turned : (S T : List Pair) → IsApart S T → IsApart T S
 apart_turned S T (d, h) = (opp d, λ t s mt ms. farther_back d s t (h s t ms mt))
 
--- the ends of one corner or two are points of the set
+-- the ends of the only one or two vertices are points of the set
 pub ends_there : (T W : List Pair) (t : Pair) → IsOutlineOf T W → 0 < length W
     → Contains (segment (corner W 0) (corner W 1)) t → Contains T t
 ends_there T W t o n m = elim (one_of_two (corner W 0) (corner W 1) t m) [
@@ -58,7 +58,7 @@ ends_there T W t o n m = elim (one_of_two (corner W 0) (corner W 1) t m) [
   | inr e ↦ subst (Contains T) (sym e) (corner_extreme T W 1 o.1 n).0
 ]
 
--- a set with a corner is neither empty nor both meets and is apart
+-- a set with a vertex is not empty, and does not intersect a set that is disjoint from it
 pub not_met : (S V T W : List Pair) → IsOutlineOf S V → 0 < length V → IsOutlineOf T W → 0 < length W → IsApart S T
     → (S ≡ []) ⊎ Meets S (segment (corner W 0) (corner W 1)) → ⊥
 not_met S V T W o n q m a (inl e) =
@@ -67,7 +67,7 @@ not_met S V T W o n q m a (inr h) =
     never_both S (segment (corner W 0) (corner W 1)) h
     (apart_less S T (segment (corner W 0) (corner W 1)) (λ t k. ends_there T W t q m k) a)
 
--- what parts S from one corner or two parts it from the set of these
+-- a separation of S from the only one or two vertices is one from their set
 pub separation_few : (S T W : List Pair) (last : ℕ) (w : Separation) → IsOutlineOf T W → IsParted W last → 0 < length W
     → length W ≤ 2 → IsSeparation S (segment (corner W 0) (corner W 1)) w → IsSeparation S T w
 separation_few S T W last w o p n few h = record {
@@ -84,7 +84,7 @@ separation_few S T W last w o p n few h = record {
     ends : List Pair
     ends = segment (corner W 0) (corner W 1)
 
--- what parts T from S, backwards, with a point of S farthest there
+-- the reversed separation of T from S, with a point of S farthest there, is one of S from T
 pub separation_turned : (S T : List Pair) (w : Separation) (d p : Pair) → IsSeparation T S w → d ≡ backward w.direction
     → IsFirstFarthest S d p → IsSeparation S T (apart_by d p)
 separation_turned S T w d p h e f = record {
@@ -102,7 +102,7 @@ separation_turned S T w d p h e f = record {
         (All-contains (λ u. product w.direction u ≤ℤ product w.direction w.farthest) T t h.farthest m)
         (All-contains (λ u. product w.direction w.farthest <ℤ product w.direction u) S p h.beyond f.0)
 
--- the normal of an edge that has T on its right
+-- the normal of an edge that has T on its right is a separation
 pub separation_beside : (S T : List Pair) (a b d : Pair) → Contains S b → IsLeftOf S a b
     → ((t : Pair) → Contains T t → orient a b t <ℤ pos 0) → d ≡ left_of b a → IsSeparation S T (apart_by d b)
 separation_beside S T a b d m l h e =
@@ -116,7 +116,7 @@ separation_beside S T a b d m l h e =
           (λ t n. less_by_opposite _ _ _ _ (product_left b a t) (orient_other a b t) (h t n));
     }
 
--- where the leftmost point of T lies right of a line, all of T does
+-- if the leftmost point of T lies right of a line, all of T does
 pub right_of_line : (T : List Pair) (a b d p : Pair) → IsFirstFarthest T d p → d ≡ left_of a b
     → orient a b p <ℤ pos 0 → (t : Pair) → Contains T t → orient a b t <ℤ pos 0
 right_of_line T a b d p f e h t m =
@@ -130,7 +130,7 @@ right_of_line T a b d p f e h t m =
     under : (x y z u v : ℤ) → x -ℤ z ≡ u → y -ℤ z ≡ v → x ≤ℤ y → v <ℤ pos 0 → u <ℤ pos 0
     under x y z u v e f h k = omega (arith, ints)
 
--- of two sets of three corners or more that are apart, the edges of one have not all of the other's on the left
+-- of two disjoint sets with at least three vertices each, the edges of one do not have all of the other's on the left
 pub not_both_left : (S V T W : List Pair) (last end : ℕ) → IsOutlineOf S V → IsParted V last → IsOutlineOf T W
     → IsParted W end → 2 < length V → 2 < length W → IsApart S T → HasOnLeft V T → HasOnLeft W S → ⊥
 not_both_left S V T W last end o p q r many more a left right =

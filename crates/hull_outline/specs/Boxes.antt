@@ -1,10 +1,10 @@
--- The box of a set of points, and one hull within another.
+-- The bounding box of a set of points, and one hull inside another.
 use Rattle.std.specs.Prelude.{◌≡◌, ◌≤ℤ◌, List}
 use Rattle.std.specs.List.{All, Contains}
 use Rattle.lattice.specs.Plane.{Pair}
 use Rattle.lattice.specs.Covers.{Covers}
 
--- each point of S lies within the box between two points, and on each of its sides lies one
+-- each point of S lies in the box between two points, and each side of the box has one
 pub record IsBox (S : List Pair) (least greatest : Pair) : Type 0 where
   pub from_left : All (λ t. least.x ≤ℤ t.x) S
   pub from_below : All (λ t. least.y ≤ℤ t.y) S
@@ -15,6 +15,6 @@ pub record IsBox (S : List Pair) (least greatest : Pair) : Type 0 where
   pub right : (t : Pair) × Contains S t × (t.x ≡ greatest.x)
   pub top : (t : Pair) × Contains S t × (t.y ≡ greatest.y)
 
--- S covers whatever T covers
+-- S covers each point that T covers
 abbrev pub Holds : List Pair → List Pair → Type 0
 Holds S T = (q : Pair) → Covers T q → Covers S q

@@ -1,6 +1,6 @@
--- Where the hulls of two sets are nearest to one another: at a corner of each, or at a corner of the one and an edge of
--- the other. Between them lies a strip as wide as they are apart, across the way from the one to the other: all of the
--- one lies before it and all of the other behind it.
+-- The nearest points of the hulls of two sets: a vertex of each, or a vertex of the one and a point of an edge of the
+-- other. Between the hulls lies a strip whose width is their distance, perpendicular to the vector between the nearest
+-- points: all of the one hull lies before it and all of the other after it.
 use Rattle.std.specs.Prelude.{ℕ, ◌<◌, ℤ, pos, ◌*ℤ◌, ◌≤ℤ◌, List, length, map}
 use Rattle.lattice.specs.Plane.{Pair, orient, distance_squared}
 use Rattle.lattice.specs.Covers.{Covers, IsExtreme}
@@ -14,42 +14,42 @@ use Rattle.hull_outline.specs.declared.distance.Distance.TheVariants.{Zero, Corn
 use Rattle.hull_outline.specs.declared.nearest.Nearest.{Nearest}
 use Rattle.hull_outline.specs.declared.nearest.Nearest.TheVariants.{Covered, Corner, Edge}
 
--- the edge of T from a to b is nearest to the corner c of S, and no point of S lies nearer to its line
+-- the edge of T from a to b is nearest to the vertex c of S, and no point of S lies nearer to its line
 pub record IsClosestToEdge (S T : List Pair) (c a b : Pair) : Type 0 where
   pub corner : IsExtreme S c
   pub edge : IsNearestEdge T c a b
   pub closest : IsFarthest S (left_of a b) c
 
--- where S and T are nearest to one another
+-- the nearest points of S and T
 abbrev pub IsDistance : List Pair → List Pair → Distance → Type 0
 IsDistance S T Zero = Meets S T
 IsDistance S T (Corners c d) = IsNearestCorner S d c × IsNearestCorner T c d
 IsDistance S T (CornerAndEdge c a b) = IsClosestToEdge S T c a b
 IsDistance S T (EdgeAndCorner a b d) = IsClosestToEdge T S d a b
 
--- ---- in one pass over the corners
+-- ---- in one pass over the vertices
 
--- the way from c to what is nearest to it: to that corner, or across that edge
+-- the vector from c to the nearest feature: to that vertex, or perpendicular to that edge
 abbrev pub way_to : Pair → Nearest → Pair
 way_to c Covered = step c c
 way_to c (Corner d) = step c d
 way_to c (Edge a b) = left_of a b
 
--- c is a corner of S, there T is nearest to it, and no point of S lies farther on the way there
+-- c is a vertex of S, this is the nearest feature of T to it, and no point of S lies farther in that direction
 pub record IsClosest (S T : List Pair) (c : Pair) (place : Nearest) : Type 0 where
   pub corner : IsExtreme S c
   pub nearest : IsNearest T c place
   pub closest : IsFarthest S (way_to c place) c
 
--- some point of S lies farther than c on the way to what is nearest to c in T
+-- some point of S lies farther than c in the direction from c to the nearest feature of T
 abbrev pub IsPassedBy : List Pair → List Pair → Pair → Type 0
 IsPassedBy S T c = (place : Nearest) × IsNearest T c place × ¬ IsFarthest S (way_to c place) c
 
--- none of the corners V of S is closest to T
+-- none of the vertices V of S is closest to T
 abbrev pub HasNoClosest : List Pair → List Pair → List Pair → Type 0
 HasNoClosest V S T = (i : ℕ) → i < length V → IsPassedBy S T (corner V i)
 
--- ---- that no two points are nearer to one another
+-- ---- no two points are nearer to each other
 
 -- the squared distance is this number ..
 abbrev pub dividend : Distance → ℤ
@@ -65,12 +65,12 @@ divisor (Corners c d) = pos 1
 divisor (CornerAndEdge c a b) = distance_squared a b
 divisor (EdgeAndCorner a b d) = distance_squared a b
 
--- a set k times as large
+-- a set magnified by k
 abbrev pub magnified : ℕ → List Pair → List Pair
 magnified k S = map (λ p. record { x = pos k *ℤ p.x; y = pos k *ℤ p.y }) S
 
--- no points of the two hulls are nearer to one another than where the two are nearest: also none of fractions, which are
--- whole numbers in sets k times as large
+-- no points of the two hulls are nearer to each other than the nearest points of the two, points with fractions as
+-- coordinates included: these are points with whole coordinates in the magnified sets
 abbrev pub NoneCloser : Type 0
 NoneCloser =
     (S T : List Pair) (found : Distance) (k : ℕ) (p q : Pair) → IsDistance S T found → Covers (magnified k S) p

@@ -1,5 +1,5 @@
--- How far a set of points reaches in a direction, which two of its points are farthest from one another, and where it
--- is least wide.
+-- The extent of a set of points in a direction, the two points that are farthest from each other, and the direction in
+-- which it is least wide.
 use Rattle.std.specs.Prelude.{◌≡◌, ◌⊎◌, ℕ, ◌+◌, ◌<◌, ℤ, ◌+ℤ◌, ◌-ℤ◌, ◌*ℤ◌, ◌≤ℤ◌, ◌<ℤ◌, List}
 use Rattle.std.specs.List.{All, Contains}
 use Rattle.lattice.specs.Plane.{Pair, orient, product, distance_squared}
@@ -9,8 +9,8 @@ use Rattle.hull_outline.specs.Rounds.{corner}
 use Rattle.hull_outline.specs.Steps.{left_of}
 use Rattle.hull_outline.specs.declared.strips.Strip.{Strip}
 
--- in the direction d no point of S lies farther than another by more than n, and one by so much: the width of S along
--- d is n by the length of d
+-- in the direction d no point of S lies farther than another by more than n, and one does by n: the width of S along d
+-- is n divided by the length of d
 pub record IsExtent (S : List Pair) (d : Pair) (n : ℤ) : Type 0 where
   pub most : (s t : Pair) → Contains S s → Contains S t → (product d s -ℤ product d t) ≤ℤ n
   pub reached : (s : Pair) × (t : Pair) × Contains S s × Contains S t × (product d s -ℤ product d t ≡ n)
@@ -21,16 +21,16 @@ pub record IsDiameter (S : List Pair) (p q : Pair) : Type 0 where
   pub end : Contains S q
   pub farthest : (s t : Pair) → Contains S s → Contains S t → distance_squared s t ≤ℤ distance_squared p q
 
--- ---- in one pass over the corners
+-- ---- in one pass over the vertices
 
--- r is whichever of two pairs of points is farther apart
+-- r is the pair of points with the greater distance, of two pairs
 abbrev pub IsFarther : Pair × Pair → Pair × Pair → Pair × Pair → Type 0
 IsFarther p q r =
     ((r ≡ p) × (distance_squared q.0 q.1 ≤ℤ distance_squared p.0 p.1))
     ⊎ ((r ≡ q) × (distance_squared p.0 p.1 ≤ℤ distance_squared q.0 q.1))
 
--- of the first n corners V of S, each is no farther than p and q are apart from the first of the points farthest to the
--- left of the edge from it
+-- for each of the first n vertices V of S, its distance to the first of the points farthest to the left of its edge is
+-- at most that of p and q
 abbrev pub IsDiameterOf : List Pair → List Pair → ℕ → Pair → Pair → Type 0
 IsDiameterOf S V n p q =
     Contains S p × Contains S q
@@ -43,7 +43,7 @@ IsDiameterOf S V n p q =
 abbrev pub length_squared : Pair → ℤ
 length_squared d = d.x *ℤ d.x +ℤ d.y *ℤ d.y
 
--- how wide a strip is: twice the area of its edge and its farthest point, which is its width by the length of the edge
+-- the width of a strip, times the length of its edge: twice the area of its edge and its farthest point
 abbrev pub side_of : Strip → ℤ
 side_of w = orient w.from w.to w.farthest
 
@@ -51,7 +51,7 @@ side_of w = orient w.from w.to w.farthest
 abbrev pub edge_squared : Strip → ℤ
 edge_squared w = distance_squared w.from w.to
 
--- all of S lies left of the line through two of its points, and none farther than a third
+-- all of S lies left of the line through two of its points, and no point farther than a third
 pub record IsStrip (S : List Pair) (w : Strip) : Type 0 where
   pub start : Contains S w.from
   pub end : Contains S w.to
@@ -60,14 +60,14 @@ pub record IsStrip (S : List Pair) (w : Strip) : Type 0 where
   pub there : Contains S w.farthest
   pub farthest : All (λ t. orient w.from w.to t ≤ℤ side_of w) S
 
--- in no direction, of whole numbers of any size, S is less wide than that strip: the square of how far it reaches,
--- divided by the squared length of the direction, is no less than that of the strip by its edge
+-- in no direction, of whole numbers of any size, S is less wide than that strip: the square of its extent, divided by
+-- the squared length of the direction, is no less than that of the strip by its edge
 pub record IsLeastWidth (S : List Pair) (w : Strip) : Type 0 where
   pub strip : IsStrip S w
   pub least : (d : Pair) (n : ℤ) → IsExtent S d n
       → ((side_of w *ℤ side_of w) *ℤ length_squared d) ≤ℤ ((n *ℤ n) *ℤ edge_squared w)
 
--- all points of S are one
+-- all points of S are equal
 abbrev pub IsOnePoint : List Pair → Type 0
 IsOnePoint S = (s t : Pair) → Contains S s → Contains S t → s ≡ t
 
@@ -75,17 +75,17 @@ IsOnePoint S = (s t : Pair) → Contains S s → Contains S t → s ≡ t
 abbrev pub IsThinner : Strip → Strip → Type 0
 IsThinner p q = ((side_of p *ℤ side_of p) *ℤ edge_squared q) <ℤ ((side_of q *ℤ side_of q) *ℤ edge_squared p)
 
--- r is q where that is thinner than p, else p
+-- r is q if that is thinner than p, else p
 abbrev pub IsThinnerOf : Strip → Strip → Strip → Type 0
 IsThinnerOf p q r = ((r ≡ p) × ¬ IsThinner q p) ⊎ ((r ≡ q) × IsThinner q p)
 
--- the strip of the edge from the corner at i, with the first of the points farthest to its left
+-- the strip of the edge from the vertex at i, with the first of the points farthest to its left
 pub record IsStripAt (S V : List Pair) (i : ℕ) (w : Strip) : Type 0 where
   pub from_corner : w.from ≡ corner V i
   pub to_next : w.to ≡ corner V (i + 1)
   pub opposite : IsFirstFarthest S (left_of (corner V i) (corner V (i + 1))) w.farthest
 
--- w is a strip of S, and none of those of the first n edges of its corners V is thinner
+-- w is a strip of S, and none of those of the first n edges of its vertices V is thinner
 abbrev pub IsThinnestOf : List Pair → List Pair → ℕ → Strip → Type 0
 IsThinnestOf S V n w =
     IsStrip S w × ((i : ℕ) → i < n → (f : Pair) × Contains S f

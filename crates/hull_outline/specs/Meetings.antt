@@ -1,5 +1,5 @@
--- Whether the hulls of two finite sets of points meet, or a direction parts them: the two are each other's opposite.
--- A segment is the set of its two ends, which may be one point.
+-- The hulls of two finite sets of points intersect, or a direction separates them: each is the opposite of the other. A
+-- segment is the set of its two ends, which may be one point.
 use Rattle.std.specs.Prelude.{pos, ◌<ℤ◌, List, [], ◌∷◌, Bool, true, false}
 use Rattle.std.specs.List.{Contains}
 use Rattle.lattice.specs.Plane.{Pair, orient, product}
@@ -9,7 +9,7 @@ use Rattle.lattice.specs.Covers.{Covers}
 abbrev pub Parts : Pair → List Pair → List Pair → Type 0
 Parts d S T = (s t : Pair) → Contains S s → Contains T t → product d s <ℤ product d t
 
--- some direction, of whole numbers of any size, parts S from T
+-- some direction, of whole numbers of any size, separates S from T
 abbrev pub IsApart : List Pair → List Pair → Type 0
 IsApart S T = (d : Pair) × Parts d S T
 
@@ -18,15 +18,15 @@ abbrev pub IsCrossing : Pair → Pair → Pair → Pair → Type 0
 IsCrossing a b c d =
     (orient a b c <ℤ pos 0) × (pos 0 <ℤ orient a b d) × (pos 0 <ℤ orient c d a) × (orient c d b <ℤ pos 0)
 
--- the hulls of S and T have a point in common: one of them covers a point of the other, or a segment between two points
--- of the one crosses a segment between two points of the other
+-- the hulls of S and T share a point: one of them covers a point of the other, or a segment between two points of the
+-- one crosses a segment between two points of the other
 pub data Meets (S T : List Pair) : Type 0 where
   Reaches : (t : Pair) → Contains T t → Covers S t → Meets S T
   IsReached : (s : Pair) → Contains S s → Covers T s → Meets S T
   Crosses : (a b c d : Pair) → Contains S a → Contains S b → Contains T c → Contains T d → IsCrossing a b c d
       → Meets S T
 
--- the answer says which of the two is so
+-- the result decides which of the two holds
 abbrev pub TellsMeeting : Bool → List Pair → List Pair → Type 0
 TellsMeeting true S T = Meets S T
 TellsMeeting false S T = IsApart S T
@@ -35,6 +35,6 @@ TellsMeeting false S T = IsApart S T
 abbrev pub segment : Pair → Pair → List Pair
 segment a b = a ∷ b ∷ []
 
--- no two sets both meet and are apart
+-- no two sets both intersect and are disjoint
 abbrev pub NeverBoth : Type 0
 NeverBoth = (S T : List Pair) → Meets S T → ¬ IsApart S T

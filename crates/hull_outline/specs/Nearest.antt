@@ -1,4 +1,4 @@
--- The point of a hull that is nearest to a point outside of it: a corner, or the foot on an edge.
+-- The point of a hull that is nearest to a point outside of it: a vertex, or the foot on an edge.
 use Rattle.std.specs.Prelude.{◌⊎◌, ℕ, zero, suc, ◌+◌, ◌-◌, pos, ◌*ℤ◌, ◌≤ℤ◌, ◌<ℤ◌, List, length}
 use Rattle.lattice.specs.Plane.{Pair, orient, product, distance_squared}
 use Rattle.lattice.specs.Covers.{Covers, IsExtreme}
@@ -11,7 +11,7 @@ use Rattle.hull_outline.specs.declared.nearest.Nearest.TheVariants.{Covered, Cor
 use Rattle.lattice.specs.declared.side.Side.{Side}
 use Rattle.hull_geometry.specs.Edges.{IsAlong}
 
--- on the way from a to b, q lies farther than a: its foot on their line is beyond a
+-- in the direction from a to b, q lies farther than a: its foot on their line is beyond a
 abbrev pub IsOnward : Pair → Pair → Pair → Type 0
 IsOnward a b q = product (step a b) a <ℤ product (step a b) q
 
@@ -19,54 +19,54 @@ IsOnward a b q = product (step a b) a <ℤ product (step a b) q
 abbrev pub IsBeside : Pair → Pair → Pair → Type 0
 IsBeside a b q = (orient a b q <ℤ pos 0) × IsOnward a b q × IsOnward b a q
 
--- c is a corner, and on the way from there to q, which is not covered, no point of S lies farther
+-- c is a vertex, and in the direction from c to q, which is not covered, no point of S lies farther
 pub record IsNearestCorner (S : List Pair) (q c : Pair) : Type 0 where
   pub outside : ¬ Covers S q
   pub corner : IsExtreme S c
   pub nearest : IsFarthest S (step c q) c
 
--- a and b are corners with all of S on the left of the edge from a to b, and q lies beside it on the right
+-- a and b are vertices with all of S on the left of the edge from a to b, and q lies beside it on the right
 pub record IsNearestEdge (S : List Pair) (q a b : Pair) : Type 0 where
   pub start : IsExtreme S a
   pub end : IsExtreme S b
   pub left : IsLeftOf S a b
   pub beside : IsBeside a b q
 
--- where the nearest point to q is
+-- the nearest point to q
 abbrev pub IsNearest : List Pair → Pair → Nearest → Type 0
 IsNearest S q Covered = Covers S q
 IsNearest S q (Corner c) = IsNearestCorner S q c
 IsNearest S q (Edge a b) = IsNearestEdge S q a b
 
--- ---- along the corners
+-- ---- along the vertices
 
--- the corner before the one at i, round the list
+-- the vertex before the one at i, round the list
 abbrev pub previous : List Pair → ℕ → Pair
 previous V zero = corner V (length V - 1)
 previous V (suc i) = corner V i
 
--- from c, q lies on the way neither to p nor to n
+-- seen from c, q lies in the direction neither of p nor of n
 abbrev pub IsTurnedFrom : Pair → Pair → Pair → Pair → Type 0
 IsTurnedFrom p c n q = ¬ IsOnward c p q × ¬ IsOnward c n q
 
--- neither the corner at i nor the edge from it is the nearest to q
+-- neither the vertex at i nor the edge from it is the nearest to q
 abbrev pub IsPassedOver : List Pair → ℕ → Pair → Type 0
 IsPassedOver V i q =
     ¬ IsTurnedFrom (previous V i) (corner V i) (corner V (i + 1)) q × ¬ IsBeside (corner V i) (corner V (i + 1)) q
 
--- q lies right of the edge from a to b, no less far than b; or it does not, and b stands before q along the chain
+-- q lies right of the edge from a to b, no less far than b; or it does not, and b is before q along the chain
 abbrev pub ComesNearer : Side → Pair → Pair → Pair → Type 0
 ComesNearer side a b q = ((orient a b q <ℤ pos 0) × ¬ IsOnward b a q) ⊎ ((pos 0 ≤ℤ orient a b q) × IsAlong side b q)
 
--- ---- that they are the nearest
+-- ---- these are the nearest
 
--- no point that S covers is nearer to q than its nearest corner
+-- no point that S covers is nearer to q than its nearest vertex
 abbrev pub NoneNearerThanCorner : Type 0
 NoneNearerThanCorner =
     (S : List Pair) (q c p : Pair) → IsNearestCorner S q c → Covers S p → distance_squared q c ≤ℤ distance_squared q p
 
--- nor than its nearest edge: the square of the side of q, by the square of the edge's length, is no more than the
--- square of the distance
+-- no point that S covers is nearer to q than its nearest edge: the square of the side of q, divided by the square of
+-- the edge's length, is at most the square of the distance
 abbrev pub NoneNearerThanEdge : Type 0
 NoneNearerThanEdge =
     (S : List Pair) (q a b p : Pair) → IsNearestEdge S q a b → Covers S p

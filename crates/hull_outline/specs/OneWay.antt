@@ -1,4 +1,4 @@
--- A list is a round in one way: what a ghost field asks.
+-- That a list is a round has one proof: a ghost field requires that.
 use Rattle.std.specs.Prelude.{ℕ, ◌<◌, List}
 use native.Mathlib.Bridge.{le_prop}
 use Rattle.lattice.specs.Plane.{Pair}
@@ -13,6 +13,6 @@ less_prop m n = le_prop
 round_prop : (V : List Pair) (last : ℕ) → IsProp (IsRound V last)
 round_prop V last = hlevel (before_prop, lt_prop, less_prop)
 
--- that a list is parted has one proof
+-- that a list is split at an index has one proof
 pub IsParted-prop : (V : List Pair) (last : ℕ) → IsProp (IsParted V last)
 IsParted-prop V last = hlevel (round_prop, less_prop)

@@ -1,4 +1,4 @@
--- Whether where two hulls are nearest to one another is within a length.
+-- Whether the distance of two hulls is at most a length.
 use Rattle.std.specs.Prelude.{◌≡◌, ◌⊎◌, pos, ◌*ℤ◌, ◌≤ℤ◌, Bool, true, false, List, []}
 use Rattle.lattice.specs.Plane.{Pair}
 use Rattle.hull_outline.specs.Closest.{IsDistance, dividend, divisor}
@@ -11,7 +11,7 @@ IsNoFarther found r =
     (dividend found *ℤ (pos r.denominator *ℤ pos r.denominator))
     ≤ℤ ((pos r.numerator *ℤ pos r.numerator) *ℤ divisor found)
 
--- S and T are no farther apart than that; or they are, or one of them is empty
+-- the distance of S and T is at most that length; or it is more, or one of them is empty
 abbrev pub TellsWithin : Bool → Length → List Pair → List Pair → Type 0
 TellsWithin true r S T = (found : Distance) × IsDistance S T found × IsNoFarther found r
 TellsWithin false r S T = (S ≡ []) ⊎ (T ≡ []) ⊎ ((found : Distance) × IsDistance S T found × ¬ IsNoFarther found r)

@@ -1,5 +1,5 @@
--- How the hulls of two finite sets of points stand to one another. A line divides them where each lies on a side of its own;
--- both may touch it.
+-- The relation of the hulls of two finite sets of points. A line divides them if each lies on its own side of it; both
+-- may touch it.
 use Rattle.std.specs.Prelude.{ℕ, ◌+◌, ◌<◌, pos, ◌<ℤ◌, ◌≤ℤ◌, List, length, Bool, true, false}
 use Rattle.std.specs.List.{Contains}
 use Rattle.lattice.specs.Plane.{Pair, orient, product, IsZero}
@@ -12,7 +12,7 @@ use Rattle.hull_outline.specs.Rounds.{corner}
 use Rattle.hull_outline.specs.declared.relations.Relation.{Relation}
 use Rattle.hull_outline.specs.declared.relations.Relation.TheVariants as relation
 
--- in the direction d no point of S lies farther than one of T
+-- in the direction d no point of S lies farther than any point of T
 abbrev pub Divides : Pair → List Pair → List Pair → Type 0
 Divides d S T = (s t : Pair) → Contains S s → Contains T t → product d s ≤ℤ product d t
 
@@ -20,11 +20,11 @@ Divides d S T = (s t : Pair) → Contains S s → Contains T t → product d s �
 abbrev pub AreDivided : List Pair → List Pair → Type 0
 AreDivided S T = (d : Pair) × ¬ IsZero d × Divides d S T
 
--- neither holds the other
+-- neither contains the other
 abbrev pub HoldsNeither : List Pair → List Pair → Type 0
 HoldsNeither S T = ¬ Holds S T × ¬ Holds T S
 
--- how S stands to T
+-- the relation of S to T
 abbrev pub IsRelation : List Pair → List Pair → Relation → Type 0
 IsRelation S T relation.Equal = Holds S T × Holds T S
 IsRelation S T relation.Covers = Holds S T × ¬ Holds T S
@@ -33,19 +33,19 @@ IsRelation S T relation.Apart = HoldsNeither S T × IsApart S T
 IsRelation S T relation.Touching = HoldsNeither S T × Meets S T × AreDivided S T
 IsRelation S T relation.Overlapping = HoldsNeither S T × Meets S T × ¬ AreDivided S T
 
--- whatever T covers lies inside S, and none of it on the boundary
+-- each point that T covers lies inside S, and none on the boundary
 abbrev pub HoldsInside : List Pair → List Pair → Type 0
 HoldsInside S T = (q : Pair) → Covers T q → IsInside S q
 
--- where a line divides two sets, nothing that lies inside the one is covered by the other: also nothing of fractions, which
--- are whole numbers in sets k times as large
+-- if a line divides two sets, no point inside the one is covered by the other, points with fractions as coordinates
+-- included: these are points with whole coordinates in the magnified sets
 abbrev pub NoneInsideDivided : Type 0
 NoneInsideDivided =
     (S T : List Pair) (k : ℕ) (q : Pair) → AreDivided S T → IsInside (magnified k S) q → ¬ Covers (magnified k T) q
 
 -- ---- along the edges
 
--- of each edge of the corners V, some point of T lies on the left
+-- for each edge of the vertices V, some point of T lies on its left
 abbrev pub IsLeftOfEach : List Pair → List Pair → Type 0
 IsLeftOfEach V T = (i : ℕ) → i < length V → (t : Pair) × Contains T t × (pos 0 <ℤ orient (corner V i) (corner V (i + 1)) t)
 

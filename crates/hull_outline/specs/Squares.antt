@@ -1,4 +1,4 @@
--- The square of the distance of two hulls as a fraction, and which of two such is the greater.
+-- The square of the distance of two hulls as a fraction, and the comparison of two such fractions.
 use Rattle.std.specs.Prelude.{◌≡◌, ℕ, ◌+◌, ◌*◌, ◌^◌, ◌<◌, ◌≤◌, pos, ◌*ℤ◌, ◌<ℤ◌}
 use Rattle.std.specs.declared.cmp.Ordering.{Ordering}
 use Rattle.std.specs.declared.cmp.Ordering.TheVariants.{Less, Equal, Greater}
@@ -13,11 +13,11 @@ use Rattle.hull_outline.specs.declared.squares.Words.{Words}
 abbrev pub word : ℕ
 word = 2 ^ 64
 
--- the number above of a fraction in words
+-- the numerator of a fraction in words
 abbrev pub numerator_of : SquaredDistance → ℕ
 numerator_of f = (f.high * word + f.middle) * word + f.low
 
--- and the one below
+-- the denominator of a fraction in words
 abbrev pub denominator_of : SquaredDistance → ℕ
 denominator_of f = f.divisor_high * word + f.divisor_low
 
@@ -25,19 +25,19 @@ denominator_of f = f.divisor_high * word + f.divisor_low
 abbrev pub IsSquareOf : Distance → SquaredDistance → Type 0
 IsSquareOf found f = (pos (numerator_of f) ≡ dividend found) × (pos (denominator_of f) ≡ divisor found)
 
--- how one number stands to another
+-- the order of two numbers
 abbrev pub TellsOrder : ℕ → ℕ → Ordering → Type 0
 TellsOrder m n Less = m < n
 TellsOrder m n Equal = m ≡ n
 TellsOrder m n Greater = n < m
 
--- how one distance stands to another, by their squares
+-- the order of two distances, by their squares
 abbrev pub TellsNearer : Distance → Distance → Ordering → Type 0
 TellsNearer x y Less = (dividend x *ℤ divisor y) <ℤ (dividend y *ℤ divisor x)
 TellsNearer x y Equal = dividend x *ℤ divisor y ≡ dividend y *ℤ divisor x
 TellsNearer x y Greater = (dividend y *ℤ divisor x) <ℤ (dividend x *ℤ divisor y)
 
--- ---- how it is worked out
+-- ---- the computation
 
 -- the square of the distance is the product of the first two, divided by the third
 abbrev pub AreFactorsOf : Distance → Factors → Type 0

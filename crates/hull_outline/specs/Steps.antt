@@ -6,14 +6,14 @@ use Rattle.lattice.specs.Plane.{Pair}
 abbrev pub step : Pair → Pair → Pair
 step a b = record { x = b.x -ℤ a.x; y = b.y -ℤ a.y }
 
--- the same, turned to the left by 90 degrees
+-- the step from a to b, rotated to the left by 90 degrees
 abbrev pub left_of : Pair → Pair → Pair
 left_of a b = record { x = a.y -ℤ b.y; y = b.x -ℤ a.x }
 
--- a direction turned to the left by 90 degrees
+-- a direction rotated to the left by 90 degrees
 abbrev pub turned_left : Pair → Pair
 turned_left d = record { x = neg_ℤ d.y; y = d.x }
 
--- a direction backwards
+-- the opposite direction
 abbrev pub backward : Pair → Pair
 backward d = record { x = neg_ℤ d.x; y = neg_ℤ d.y }

@@ -1,4 +1,4 @@
--- What a caller can test of the hulls of two finite sets: where they meet, or what parts them.
+-- Witnesses for the hulls of two finite sets, in a form that a caller can test: a common point, or a separation.
 use Rattle.std.specs.Prelude.{List}
 use Rattle.std.specs.List.{Contains}
 use Rattle.lattice.specs.Plane.{Pair}
@@ -16,7 +16,7 @@ IsMeeting S T (OfOther t) = Contains T t × Covers S t
 IsMeeting S T (OfThis s) = Contains S s × Covers T s
 IsMeeting S T (Crossing a b c d) = Contains S a × Contains S b × Contains T c × Contains T d × IsCrossing a b c d
 
--- where they meet, or what parts S from T
+-- a common point, or a separation of S from T
 abbrev pub IsWitness : List Pair → List Pair → Witness → Type 0
 IsWitness S T (Meets m) = IsMeeting S T m
 IsWitness S T (Apart w) = IsSeparation S T w

@@ -10,7 +10,7 @@ ghost use Rattle.hull_outline.specs.Lent.{corners_of};
 use super::outline::Outline;
 use lattice::{Point, orient};
 
-/// The doubled area of a triangle that does not bend right.
+/// Returns the doubled area of a triangle that does not bend right.
 fn doubled_triangle(first: Point, u: Point, v: Point) -> u128
     requires { pos 0 ≤ℤ plane.orient first u v }
     ensures value { pos result ≡ plane.orient first u v }
@@ -19,7 +19,7 @@ fn doubled_triangle(first: Point, u: Point, v: Point) -> u128
     orient(first, u, v) as u128
 }
 
-/// The doubled area inside the corners: the triangles between the first one and each edge.
+/// Returns the doubled area inside the vertices: the triangles between the first one and each edge.
 fn doubled_area_of(corners: &[Point]) -> u128
     requires { IsShortOutline corners.now }
     ensures { pos result ≡ doubled_area corners.now }
@@ -32,7 +32,7 @@ fn doubled_area_of(corners: &[Point]) -> u128
 }
 
 impl<'a> Outline<'a> {
-    /// The doubled area of the hull, in one pass over the corners.
+    /// Returns the doubled area of the hull, in one pass over the vertices.
     pub fn area2(&self) -> u128
         ensures { HoldsOfSetsOf (corners_of self.now) (λ S. IsDoubledArea S (pos result)) }
     {

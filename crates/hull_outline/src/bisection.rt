@@ -6,8 +6,9 @@ ghost use Rattle.hull_outline.specs.Touches.{starts_at, ends_at};
 
 use lattice::{Point, Side, before};
 
-/// A place from `low` to `high` such that `holds` is true of the edge before it and false of the edge from it: of the
-/// corners there and the next ones. The ends count as such. (A step adds and takes off, so that a test by a sign takes no branch.)
+/// Returns an index from `low` to `high` such that `holds` is true of the edge that ends there and false of the edge
+/// that begins there: of the vertices at that index and the adjacent ones. At the two ends the condition of the missing
+/// edge counts as met. (Each step adds and subtracts, so that a test by a sign needs no branch.)
 pub(crate) fn first_failing<F: Fn(Point, Point) -> bool>(
     corners: &[Point],
     low: usize,
@@ -39,8 +40,8 @@ pub(crate) fn first_failing<F: Fn(Point, Point) -> bool>(
     low
 }
 
-/// The same on the chain back, from the corner at `last` to the end of the list, behind which the first corner stands
-/// again.
+/// Returns the same on the chain back, from the vertex at `last` to the end of the list, after which the first vertex
+/// follows again.
 pub(crate) fn first_failing_back<F: Fn(Point, Point) -> bool>(
     corners: &[Point],
     last: usize,
@@ -64,7 +65,7 @@ pub(crate) fn first_failing_back<F: Fn(Point, Point) -> bool>(
     }
 }
 
-/// The same on the chain on this side.
+/// Returns the same on the chain on this side.
 pub(crate) fn first_failing_on<F: Fn(Point, Point) -> bool>(
     side: Side,
     corners: &[Point],
@@ -86,7 +87,7 @@ pub(crate) fn first_failing_on<F: Fn(Point, Point) -> bool>(
     }
 }
 
-/// Whether `p` stands before `q` along the chain on this side, which goes back on the upper one.
+/// Whether `p` is before `q` along the chain on this side, which goes back on the upper one.
 pub(crate) fn is_along(side: Side, p: Point, q: Point) -> bool
     ensures { IsTrue result ↔ IsAlong side p q }
 {

@@ -1,4 +1,4 @@
-//! Where a ray or a segment first comes into a hull, and how far on its way that is.
+//! Raycasts: the first point of a hull on a ray or a segment, the last one on a ray, and how far along these are.
 ghost use Rattle.std.specs.Prelude.{◌≡◌, ◌↔◌, IsTrue, ◌<◌, ◌≤◌, ◌+◌, ◌*◌, length, pos, ◌-ℤ◌, ◌≤ℤ◌, ◌<ℤ◌, MatchOption};
 ghost use Rattle.lattice.specs.Plane.{orient, product, widest_side, IsWithin};
 ghost use Rattle.hull_outline.specs.Casts.{IsCrossed, IsFarthestOn, IsHit, IsKept, IsLast, IsNearestBack, IsUncrossed, MissesRay};
@@ -16,36 +16,36 @@ use super::rounds::corner_at;
 use super::vector::Vector;
 use lattice::{Direction, Point, orient};
 
-/// Where a way first comes into a hull.
+/// The kind of point at which a path first enters a hull. A path is a ray or a segment.
 #[derive(Clone, Copy, PartialEq, Eq, Debug)]
 pub enum Entry {
-    /// At its start, which the hull covers.
+    /// The start of the path, which the hull covers.
     Start,
-    /// Across the edge from one corner to the next, counterclockwise, or at an end of it.
+    /// Across the edge from one vertex to the next, counterclockwise, or at an end of it.
     Edge(Point, Point),
-    /// At this corner, of a hull that lies on the way's line.
+    /// At this vertex, of a hull that lies on the path's line.
     Corner(Point),
 }
 
-/// Where a way first comes into a hull, and how far on it that is.
+/// The first point of a path in a hull, and how far along the path it is.
 #[derive(Clone, Copy, PartialEq, Eq, Debug)]
 pub struct Hit {
-    /// The start, an edge or a corner.
+    /// The start, an edge or a vertex.
     pub place: Entry,
-    /// So far on the way, at most 2^85,
+    /// The distance along the path, at most 2^85,
     pub numerator: u128,
-    /// divided by this, above 0 and at most 2^85, where the step of the way is 1.
+    /// divided by this number, which is above 0 and at most 2^85. The step of the path has the length 1.
     pub denominator: u128,
 }
 
-/// A way from a point along a vector.
+/// A path from a point along a vector.
 #[derive(Clone, Copy)]
 pub(crate) struct Way {
     start: Point,
     along: Vector,
 }
 
-/// How much more a number is than another, than which it is no less.
+/// Returns how much greater one number is than another, which is not greater.
 fn excess(a: i128, b: i128) -> u128
     requires order { b ≤ℤ a }
     requires first { IsWithin (2 * widest_side) a }
@@ -57,7 +57,7 @@ fn excess(a: i128, b: i128) -> u128
 }
 
 impl Way {
-    /// On which side of the way's line a point lies: above 0 left of it.
+    /// Returns on which side of the path's line a point lies: a number above 0 if it lies left of it.
     fn side(&self, t: Point) -> i128
         ensures value { result ≡ orient self.now.start (moved self.now.start self.now.along) t }
         ensures size { IsWithin (2 * widest_side) result }
@@ -66,7 +66,7 @@ impl Way {
         left.product(t) - left.product(self.start)
     }
 
-    /// How far ahead of the start a point lies, times the length of the step.
+    /// Returns how far ahead of the start a point lies, times the length of the step.
     fn ahead(&self, t: Point) -> i128
         ensures value { result ≡ product self.now.along t -ℤ product self.now.along self.now.start }
         ensures size { IsWithin (2 * widest_side) result }
@@ -81,21 +81,21 @@ impl Way {
         self.side(t) != 0
     }
 
-    /// Whether a point lies farther on the way than its start.
+    /// Whether a point lies farther along the path than its start.
     fn is_ahead(&self, t: Point) -> bool
         ensures { IsTrue result ↔ (product self.now.along self.now.start <ℤ product self.now.along t) }
     {
         is_nearer(self.along, self.start, t)
     }
 
-    /// Whether a point lies farther back.
+    /// Whether a point lies farther back than the start.
     fn is_behind(&self, t: Point) -> bool
         ensures { IsTrue result ↔ (product self.now.along t <ℤ product self.now.along self.now.start) }
     {
         is_nearer(self.along, t, self.start)
     }
 
-    /// Whether a point lies left of the line, or on it where that counts.
+    /// Whether a point lies left of the line, or on it if that counts.
     fn keeps(&self, touching: bool, t: Point) -> bool
         ensures { IsTrue result ↔ IsKept touching self.now.start (moved self.now.start self.now.along) t }
     {
@@ -104,7 +104,7 @@ impl Way {
     }
 }
 
-/// A place from `low` to `high` whose corner is kept, while the next is not.
+/// Returns an index from `low` to `high` whose vertex is kept, and whose next vertex is not.
 fn last_kept(corners: &[Point], low: usize, high: usize, way: &Way, touching: bool) -> usize
     requires ordered { low < high }
     requires within { high ≤ length corners.now }
@@ -127,7 +127,7 @@ fn last_kept(corners: &[Point], low: usize, high: usize, way: &Way, touching: bo
     low
 }
 
-/// The same from a corner that is kept round the list to one that is not.
+/// Returns such an index on the way round the list, from a vertex that is kept to one that is not.
 fn last_kept_round(corners: &[Point], from: usize, to: usize, way: &Way, touching: bool) -> usize
     requires start { from < length corners.now }
     requires end { to < length corners.now }
@@ -146,7 +146,7 @@ fn last_kept_round(corners: &[Point], from: usize, to: usize, way: &Way, touchin
     }
 }
 
-/// The edge by which the hull goes over from the left of the way's line to its right, if it does.
+/// Returns the edge by which the hull crosses from the left of the path's line to its right, if there is one.
 fn crossing(corners: &[Point], last: usize, way: &Way) -> Option<(Point, Point)>
     requires some { 0 < length corners.now }
     requires parted { IsParted corners.now last }
@@ -170,7 +170,7 @@ fn crossing(corners: &[Point], last: usize, way: &Way) -> Option<(Point, Point)>
 }
 
 impl Way {
-    /// Where the way comes in across an edge that goes over its line, if the start lies right of that.
+    /// Returns the entry of the path across an edge that crosses its line, if the start lies right of that edge.
     fn across(&self, p: Point, q: Point) -> Option<Hit>
         requires { orient self.now.start (moved self.now.start self.now.along) q
             <ℤ orient self.now.start (moved self.now.start self.now.along) p }
@@ -187,8 +187,8 @@ impl Way {
         })
     }
 
-    /// Where the way comes to a hull that its line does not cross, whose farthest corner back on it is `c`: there, if the hull lies on
-    /// the line and ahead.
+    /// Returns the entry of the path into a hull that its line does not cross, whose farthest vertex back on it is `c`:
+    /// the entry is `c` if the hull lies on the line and ahead.
     fn up_to(&self, c: Point) -> Option<Hit>
         ensures { TellsHit self.now.start (moved self.now.start self.now.along)
             (λ S. IsNearestBack S self.now.start (moved self.now.start self.now.along) c) result }
@@ -208,7 +208,7 @@ impl Way {
 }
 
 impl Way {
-    /// The way back from the start.
+    /// Returns the path back from the start.
     fn back(&self) -> Way
         ensures start { result.start ≡ self.now.start }
         ensures along { result.along ≡ backward self.now.along }
@@ -219,7 +219,8 @@ impl Way {
         }
     }
 
-    /// Where the way goes out across an edge that goes over its line, seen from the other side, if the start does not lie right of that.
+    /// Returns the exit of the path across an edge that crosses its line, seen from the other side, if the start does
+    /// not lie right of that edge.
     fn out_across(&self, p: Point, q: Point) -> Option<Hit>
         requires { orient self.now.start (moved self.now.start (backward self.now.along)) q
             <ℤ orient self.now.start (moved self.now.start (backward self.now.along)) p }
@@ -237,8 +238,8 @@ impl Way {
         })
     }
 
-    /// Where it goes out of a hull that its line does not cross, whose farthest corner on it is `e`: there, if the hull lies on the line
-    /// and not behind.
+    /// Returns the exit of the path from a hull that its line does not cross, whose farthest vertex along it is `e`:
+    /// the exit is `e` if the hull lies on the line and not behind.
     fn out_at(&self, e: Point) -> Option<Hit>
         ensures { TellsLast self.now.start self.now.along (λ S. IsFarthestOn S self.now.start self.now.along e) result }
     {
@@ -257,7 +258,7 @@ impl Way {
 }
 
 impl<'a> Outline<'a> {
-    /// Where a way first comes into the hull, of one corner at least.
+    /// Returns the entry of a path into the hull, which has at least one vertex.
     fn hit(&self, way: &Way) -> Option<Hit>
         requires { 0 < length (corners_of self.now) }
         ensures { HoldsOfSetsOf (corners_of self.now) (λ S. MatchOption result
@@ -280,9 +281,10 @@ impl<'a> Outline<'a> {
         }
     }
 
-    /// Where the ray from `start` in a direction first comes into the hull, and how far on it that is, by the direction; `None` where
-    /// it misses, and for the empty hull. A ray that only touches comes in where it touches first. Two bisections for the place of the
-    /// start, and one each for the farthest corners beside the ray, and for the edge between them.
+    /// Returns the first point of the hull on the ray from `start` in a direction, and how far along the ray it is, in
+    /// units of the direction, or `None` if the ray misses or the hull is empty. A ray that only touches enters at the
+    /// first point that it touches. Two bisections for the place of the start, one for each of the farthest vertices on
+    /// both sides of the ray, and one for the edge between them.
     pub fn cast_ray(&self, start: Point, direction: Direction) -> Option<Hit>
         ensures { HoldsOfSetsOf (corners_of self.now) (λ S. MatchOption result (MissesRay S start (moved start direction))
             (λ found. IsHit S start (moved start direction) found)) }
@@ -296,8 +298,9 @@ impl<'a> Outline<'a> {
         })
     }
 
-    /// The last point in the hull of the ray from `start` in a direction, and how far on it that is; `None` where it misses, and for the
-    /// empty hull. Where the ray only touches in one point that is the first, too.
+    /// Returns the last point of the hull on the ray from `start` in a direction, and how far along the ray it is, or
+    /// `None` if the ray misses or the hull is empty. If the ray only touches in one point, that is the first point,
+    /// too.
     pub fn last_on_ray(&self, start: Point, direction: Direction) -> Option<Hit>
         ensures { HoldsOfSetsOf (corners_of self.now) (λ S. MatchOption result (MissesRay S start (moved start direction))
             (λ found. IsLast S start (moved start (backward direction)) found)) }
@@ -318,8 +321,9 @@ impl<'a> Outline<'a> {
         }
     }
 
-    /// Where the segment from `a` to `b`, which may be one point, first comes into the hull, and how far on it that is, by its length;
-    /// `None` where they have no point in common. Its last point in the hull is where the segment from `b` to `a` first comes in.
+    /// Returns the first point of the hull on the segment from `a` to `b`, which may be one point, and how far along
+    /// the segment it is, in units of its length, or `None` if they share no point. The last point of the segment in
+    /// the hull is the first point on the segment from `b` to `a`.
     pub fn cast_segment(&self, a: Point, b: Point) -> Option<Hit>
         ensures { HoldsOfSetsOf (corners_of self.now) (λ S. MatchOption result (IsApart S (segment a b))
             (λ found. IsHit S a b found × (found.numerator ≤ found.denominator))) }

@@ -1,4 +1,4 @@
-//! The two points of a hull that are farthest from one another.
+//! The two points of a hull that are farthest from each other.
 ghost use Rattle.std.specs.Prelude.{◌≡◌, ◌<◌, ◌+◌, length, [], MatchOption};
 ghost use Rattle.hull_geometry.specs.Tangents.{IsFirstFarthest};
 ghost use Rattle.hull_outline.specs.Extents.{IsDiameter, IsFarther};
@@ -13,7 +13,7 @@ use super::rounds::corner_at;
 use super::vector::Vector;
 use lattice::{Point, distance_squared};
 
-/// The first of the points farthest to the left of the edge from the corner at `i`.
+/// Returns the first of the points farthest to the left of the edge from the vertex at `i`.
 pub(crate) fn opposite(corners: &[Point], last: usize, i: usize) -> Point
     requires parted { IsParted corners.now last }
     requires within { i < length corners.now }
@@ -24,7 +24,7 @@ pub(crate) fn opposite(corners: &[Point], last: usize, i: usize) -> Point
     farthest(corners, last, edge)
 }
 
-/// Of two pairs of points the one that is farther apart; the first where both are as far.
+/// Returns the pair of points with the greater distance, of two pairs; the first if both have the same.
 fn farther(p: (Point, Point), q: (Point, Point)) -> (Point, Point)
     ensures { IsFarther p q result }
 {
@@ -35,7 +35,7 @@ fn farther(p: (Point, Point), q: (Point, Point)) -> (Point, Point)
     }
 }
 
-/// The two points of these corners that are farthest from one another.
+/// Returns the two points of these vertices that are farthest from each other.
 fn farthest_two(corners: &[Point], last: usize) -> (Point, Point)
     requires some { 0 < length corners.now }
     requires parted { IsParted corners.now last }
@@ -49,11 +49,11 @@ fn farthest_two(corners: &[Point], last: usize) -> (Point, Point)
 }
 
 impl<'a> Outline<'a> {
-    /// The two points that are farthest from one another, which are one where the set has no other; `None` for the
-    /// empty set. [`distance_squared`](lattice::distance_squared) of them is the squared diameter.
+    /// Returns the two points that are farthest from each other, which are equal if the set has only one point, or
+    /// `None` if it is empty. [`distance_squared`](lattice::distance_squared) of them is the squared diameter.
     ///
-    /// Two such points stand, one way or the other, as a corner and a point farthest from the edge that begins there
-    /// (Shamos, 1978; Toussaint, 1983), which a bisection finds: one for each corner.
+    /// In one order or the other, two such points are a vertex and a point farthest from the edge that begins there
+    /// (Shamos, 1978; Toussaint, 1983), which a bisection finds: one for each vertex.
     pub fn diameter(&self) -> Option<(Point, Point)>
         ensures { HoldsOfSetsOf (corners_of self.now)
             (λ S. MatchOption result (S ≡ []) (λ ends. IsDiameter S ends.0 ends.1)) }

@@ -1,4 +1,4 @@
-//! Where two hulls are nearest to one another.
+//! The nearest points of two hulls.
 ghost use Rattle.std.specs.Prelude.{◌≡◌, ◌⊎◌, ◌↔◌, IsTrue, ◌<◌, length, List, [], MatchOption};
 ghost use Rattle.lattice.specs.Plane.{Pair};
 ghost use Rattle.lattice.specs.Covers.{IsExtreme};
@@ -16,22 +16,22 @@ use super::rounds::corner_at;
 use super::vector::Vector;
 use lattice::Point;
 
-/// Where two hulls are nearest to one another.
+/// The nearest points of two hulls.
 #[derive(Clone, Copy, PartialEq, Eq, Debug)]
 pub enum Distance {
-    /// They have a point in common.
+    /// They share a point.
     Zero,
-    /// At a corner of this hull, the first point, and a corner of the other.
+    /// A vertex of this hull, the first point, and a vertex of the other.
     Corners(Point, Point),
-    /// At a corner of this hull, the first point, and the foot of it on the edge of the other hull from the second point
-    /// to the third, counterclockwise, strictly between those.
+    /// A vertex of this hull, the first point, and its foot on the edge of the other hull from the second point to the
+    /// third, counterclockwise, strictly between those.
     CornerAndEdge(Point, Point, Point),
-    /// At a corner of the other hull, the third point, and the foot of it on the edge of this hull from the first point
-    /// to the second, counterclockwise, strictly between those.
+    /// A vertex of the other hull, the third point, and its foot on the edge of this hull from the first point to the
+    /// second, counterclockwise, strictly between those.
     EdgeAndCorner(Point, Point, Point),
 }
 
-/// The way from `c` to what is nearest to it.
+/// Returns the vector from `c` to the nearest point.
 fn way_to(c: Point, place: &Nearest) -> Vector
     ensures { result ≡ way_to c place.now }
 {
@@ -42,7 +42,7 @@ fn way_to(c: Point, place: &Nearest) -> Vector
     }
 }
 
-/// The distance, by the closest corner of this hull and what is nearest to it in the other.
+/// Returns the distance, by the closest vertex of this hull and the nearest feature of the other.
 fn by_this(c: Point, place: Nearest) -> Distance
     ensures { (S T : List Pair) → IsClosest S T c place → IsDistance S T result }
 {
@@ -53,7 +53,7 @@ fn by_this(c: Point, place: Nearest) -> Distance
     }
 }
 
-/// The distance, by the closest corner of the other hull and what is nearest to it in this one.
+/// Returns the distance, by the closest vertex of the other hull and the nearest feature of this one.
 fn by_other(d: Point, place: Nearest) -> Distance
     ensures { (S T : List Pair) → IsClosest T S d place → IsDistance S T result }
 {
@@ -65,7 +65,7 @@ fn by_other(d: Point, place: Nearest) -> Distance
 }
 
 impl<'a> Outline<'a> {
-    /// Whether no point of this hull, of one corner at least, lies farther than `c` in the direction `d`.
+    /// Whether no point of this hull, which has at least one vertex, lies farther than `c` in the direction `d`.
     fn is_farthest(&self, d: Vector, c: Point) -> bool
         requires { 0 < length (corners_of self.now) }
         ensures { HoldsOfSetsOf (corners_of self.now) (λ S. IsTrue result ↔ IsFarthest S d c) }
@@ -73,7 +73,8 @@ impl<'a> Outline<'a> {
         !is_nearer(d, c, farthest(self.corners, self.last, d))
     }
 
-    /// This corner and what is nearest to it in another hull, if no point of this one lies farther on the way there.
+    /// Returns this vertex and the nearest feature of another hull, if no point of this hull lies farther in the
+    /// direction to it.
     fn if_closest(&self, c: Point, place: Nearest) -> Option<(Point, Nearest)>
         requires { 0 < length (corners_of self.now) }
         ensures { HoldsOfSetsOf (corners_of self.now) (λ S. (T : List Pair) → IsExtreme S c → IsNearest T c place
@@ -86,8 +87,8 @@ impl<'a> Outline<'a> {
         }
     }
 
-    /// The first corner of this hull than which none of its points is closer to `other`, from which it is apart, and
-    /// what is nearest to it there.
+    /// Returns the first vertex of this hull than which none of its points is closer to `other`, which is disjoint from
+    /// it, and the nearest feature there.
     fn closest_corner(&self, other: &Outline) -> Option<(Point, Nearest)>
         requires that { 0 < length (corners_of other.now) }
         requires apart { HoldsOfBoth (corners_of self.now) (corners_of other.now) (λ S T. IsApart S T) }
@@ -104,7 +105,7 @@ impl<'a> Outline<'a> {
         None
     }
 
-    /// Where this hull and `other` are nearest to one another, which are apart and have one corner at least each.
+    /// Returns the nearest points of this hull and `other`, which are disjoint and have at least one vertex each.
     fn distance_apart(&self, other: &Outline) -> Distance
         requires this { 0 < length (corners_of self.now) }
         requires that { 0 < length (corners_of other.now) }
@@ -120,12 +121,12 @@ impl<'a> Outline<'a> {
         }
     }
 
-    /// Where this hull and `other` are nearest to one another; `None` where either is empty. A question of a segment
-    /// for each edge of `other`, and where they are apart [`Outline::nearest`] for each corner of `other`, and if none of
+    /// Returns the nearest points of this hull and `other`, or `None` if either is empty. A question of a segment for
+    /// each edge of `other`. If they are disjoint, [`Outline::nearest`] for each vertex of `other`, and if none of
     /// those is the closest of its hull, for each of this one.
     ///
-    /// Of `Corners(c, d)` the squared distance is [`distance_squared`](lattice::distance_squared) of the two; of a
-    /// corner `c` and an edge from `a` to `b` it is the square of [`orient`](lattice::orient) of `a`, `b` and `c`,
+    /// For `Corners(c, d)` the squared distance is [`distance_squared`](lattice::distance_squared) of the two; for a
+    /// vertex `c` and an edge from `a` to `b` it is the square of [`orient`](lattice::orient) of `a`, `b` and `c`,
     /// divided by the squared distance of `a` and `b`.
     pub fn distance(&self, other: &Outline) -> Option<Distance>
         ensures { HoldsOfBoth (corners_of self.now) (corners_of other.now)

@@ -1,4 +1,5 @@
-//! How a hull stands to a segment: they meet, or the hull lies beside its line, behind its start or beyond its end.
+//! The relation of a hull to a segment: they intersect, or the hull lies beside its line, behind its start or beyond
+//! its end.
 ghost use Rattle.std.specs.Prelude.{◌≡◌, ◌↔◌, IsTrue, ◌<◌, length, pos, ◌<ℤ◌, ◌≤ℤ◌, List, MatchOption};
 ghost use Rattle.std.specs.List.{Contains};
 ghost use Rattle.lattice.specs.Plane.{Pair, orient};
@@ -16,10 +17,10 @@ use super::rounds::is_left;
 use super::vector::Vector;
 use lattice::{Point, before};
 
-/// How a hull stands to a segment.
+/// The relation of a hull to a segment.
 #[derive(Clone, Copy)]
 pub(crate) enum Encounter {
-    /// They have a point in common.
+    /// They share a point.
     Met(Meeting),
     /// The hull lies right of the segment's line; this is one of its points nearest to the line.
     OnRight(Point),
@@ -31,14 +32,15 @@ pub(crate) enum Encounter {
     Beyond,
 }
 
-/// Whether `q` stands between `p` and `r` in the order of points, or is one of them.
+/// Whether `q` is between `p` and `r` in the order of points, or is one of them.
 fn is_among(p: Point, q: Point, r: Point) -> bool
     ensures { IsTrue result ↔ IsAmong p q r }
 {
     !before(q, p) && !before(r, q) || !before(q, r) && !before(p, q)
 }
 
-/// How a hull stands to the segment from `a` to `b`, neither of which it covers, by a point of it on their line.
+/// Returns the relation of a hull to the segment from `a` to `b`, neither of which it covers, by a point of it on their
+/// line.
 fn encounter_in_line(a: Point, b: Point, u: Point) -> Encounter
     ensures { (S : List Pair) → Contains S u → ¬ Covers S a → ¬ Covers S b → orient a b u ≡ pos 0
         → IsEncounter S a b result }
@@ -52,7 +54,8 @@ fn encounter_in_line(a: Point, b: Point, u: Point) -> Encounter
     }
 }
 
-/// Where the segment from `a` to `b`, which goes between `left` and `right`, meets the segment of those.
+/// Returns the intersection of the segment from `a` to `b`, which goes between `left` and `right`, with the segment of
+/// those.
 fn meeting_between(a: Point, b: Point, left: Point, right: Point) -> Meeting
     requires left_of_it { pos 0 <ℤ orient a b left }
     requires right_of_it { pos 0 <ℤ orient b a right }
@@ -69,8 +72,8 @@ fn meeting_between(a: Point, b: Point, left: Point, right: Point) -> Meeting
     }
 }
 
-/// How a hull stands to the segment from `a` to `b`, neither of which it covers, by its points farthest to the left and
-/// to the right of their line.
+/// Returns the relation of a hull to the segment from `a` to `b`, neither of which it covers, by its points farthest to
+/// the left and to the right of their line.
 fn encounter_between(a: Point, b: Point, left: Point, right: Point) -> Encounter
     ensures { (S : List Pair) → IsFlanked S a b left right → IsEncounter S a b result }
 {
@@ -92,7 +95,7 @@ fn encounter_between(a: Point, b: Point, left: Point, right: Point) -> Encounter
 }
 
 impl<'a> Outline<'a> {
-    /// How the hull, of one corner at least, stands to the segment from `a` to `b`.
+    /// Returns the relation of the hull, which has at least one vertex, to the segment from `a` to `b`.
     pub(crate) fn encounter(&self, a: Point, b: Point) -> Encounter
         requires { 0 < length (corners_of self.now) }
         ensures { HoldsOfSetsOf (corners_of self.now) (λ S. IsEncounter S a b result) }
@@ -108,7 +111,8 @@ impl<'a> Outline<'a> {
         encounter_between(a, b, left, right)
     }
 
-    /// Where the hull, of one corner at least, and the segment from `a` to `b` meet, if they do.
+    /// Returns the intersection of the hull, which has at least one vertex, with the segment from `a` to `b`, if there
+    /// is one.
     pub(crate) fn meeting_with_segment(&self, a: Point, b: Point) -> Option<Meeting>
         requires { 0 < length (corners_of self.now) }
         ensures { HoldsOfSetsOf (corners_of self.now)
@@ -123,8 +127,8 @@ impl<'a> Outline<'a> {
         }
     }
 
-    /// Whether the hull and the segment from `a` to `b` have a point in common, ends and boundary included; `a` and `b`
-    /// may be one point. A bisection for the place of each end, and one for each side of the segment.
+    /// Whether the hull and the segment from `a` to `b` share a point, ends and boundary included; `a` and `b` may be
+    /// one point. A bisection for the place of each end, and one for each side of the segment.
     pub fn meets_segment(&self, a: Point, b: Point) -> bool
         ensures { HoldsOfSetsOf (corners_of self.now) (λ S. TellsMeeting result S (segment a b)) }
     {

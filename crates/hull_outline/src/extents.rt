@@ -1,4 +1,4 @@
-//! The box of a hull, and one hull within another.
+//! The bounding box of a hull, and one hull inside another.
 ghost use Rattle.std.specs.Prelude.{◌≡◌, ◌↔◌, IsTrue, MatchOption, ◌<◌, length, [], pos, neg_ℤ};
 ghost use Rattle.lattice.specs.Plane.{IsCoordinate};
 ghost use Rattle.lattice.specs.Covers.{Covers};
@@ -14,7 +14,7 @@ use super::vector::Vector;
 use hull_set::Place;
 use lattice::Point;
 
-/// The point in the column of `p` and in the row of `q`.
+/// Returns the point in the column of `p` and in the row of `q`.
 fn in_column_and_row(p: Point, q: Point) -> Point
     ensures { result ≡ record { x = p.x; y = q.y } }
 {
@@ -24,7 +24,7 @@ fn in_column_and_row(p: Point, q: Point) -> Point
     }
 }
 
-/// The box of these corners: between the first and the last by x, and the lowest and the highest.
+/// Returns the box of these vertices: between the first and the last by x, and the lowest and the highest.
 fn box_of(corners: &[Point], last: usize) -> (Point, Point)
     requires some { 0 < length corners.now }
     requires parted { IsParted corners.now last }
@@ -39,8 +39,8 @@ fn box_of(corners: &[Point], last: usize) -> (Point, Point)
 }
 
 impl<'a> Outline<'a> {
-    /// The least and the greatest corner of the smallest box, with sides along the axes, that holds the set; `None`
-    /// for the empty set. Two bisections.
+    /// Returns the least and the greatest vertex of the smallest box, with sides along the axes, that contains the set,
+    /// or `None` if the set is empty. Two bisections.
     pub fn bounding_box(&self) -> Option<(Point, Point)>
         ensures { HoldsOfSetsOf (corners_of self.now)
             (λ S. MatchOption result (S ≡ []) (λ ends. IsBox S ends.0 ends.1)) }
@@ -63,8 +63,8 @@ impl<'a> Outline<'a> {
         }
     }
 
-    /// Whether the hull holds the whole hull of `other`, boundaries included: whatever point that one covers, this one
-    /// covers. A bisection for each corner of `other`.
+    /// Whether the hull contains the whole hull of `other`, boundaries included: it covers each point that the other
+    /// covers. A bisection for each vertex of `other`.
     pub fn contains(&self, other: &Outline) -> bool
         ensures { HoldsOfBoth (corners_of self.now) (corners_of other.now) (λ S T. IsTrue result ↔ Holds S T) }
     {

@@ -21,7 +21,8 @@ pub(crate) fn is_nearer(d: Vector, p: Point, q: Point) -> bool
     d.along_step(Vector::step(q, p)) < 0
 }
 
-/// The place of the first of the farthest in a direction that does not go up: of the corner up to which the lower chain rises.
+/// Returns the index of the first of the farthest in a direction that does not go up: of the vertex up to which the
+/// lower chain rises.
 fn place_below(corners: &[Point], last: usize, d: Vector) -> usize
     requires some { 0 < length corners.now }
     requires parted { IsParted corners.now last }
@@ -35,7 +36,7 @@ fn place_below(corners: &[Point], last: usize, d: Vector) -> usize
     }
 }
 
-/// The same in a direction that goes up: of the corner from which the upper chain falls.
+/// Returns the same in a direction that goes up: the index of the vertex from which the upper chain falls.
 fn place_above(corners: &[Point], last: usize, d: Vector) -> usize
     requires some { 0 < length corners.now }
     requires parted { IsParted corners.now last }
@@ -49,8 +50,8 @@ fn place_above(corners: &[Point], last: usize, d: Vector) -> usize
     }
 }
 
-/// The place of the first of the points that lie farthest in a direction, which may be zero: then all lie as far. The first point may be
-/// told at the end of the list, too.
+/// Returns the index of the first of the points that lie farthest in a direction, which may be zero: then all lie as
+/// far. For the first vertex the result may be the end of the list.
 fn place_of_farthest(corners: &[Point], last: usize, d: Vector) -> usize
     requires some { 0 < length corners.now }
     requires parted { IsParted corners.now last }
@@ -64,7 +65,7 @@ fn place_of_farthest(corners: &[Point], last: usize, d: Vector) -> usize
     }
 }
 
-/// The first of the points that lie farthest in a direction.
+/// Returns the first of the points that lie farthest in a direction.
 pub(crate) fn farthest(corners: &[Point], last: usize, d: Vector) -> Point
     requires some { 0 < length corners.now }
     requires parted { IsParted corners.now last }
@@ -73,7 +74,7 @@ pub(crate) fn farthest(corners: &[Point], last: usize, d: Vector) -> Point
     corner_at(corners, place_of_farthest(corners, last, d))
 }
 
-/// Its place in the list.
+/// Returns its index in the list.
 pub(crate) fn farthest_place(corners: &[Point], last: usize, d: Vector) -> usize
     requires some { 0 < length corners.now }
     requires parted { IsParted corners.now last }
@@ -85,9 +86,10 @@ pub(crate) fn farthest_place(corners: &[Point], last: usize, d: Vector) -> usize
 }
 
 impl<'a> Outline<'a> {
-    /// The first, by x and then y, of the points with the greatest product with `d`; `None` for the empty set.
+    /// Returns the first, by x and then y, of the points with the greatest product with `d`, or `None` if the set is
+    /// empty.
     ///
-    /// A bisection of the chain that `d` faces, whose edges go from rising in `d` to falling.
+    /// A bisection of the chain that `d` faces, whose edges first rise in `d` and then fall.
     pub fn extreme(&self, d: Direction) -> Option<Point>
         ensures { HoldsOfSetsOf (corners_of self.now) (λ S. AnswersExtreme S d (reply_to_extreme result)) }
     {

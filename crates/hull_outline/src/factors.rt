@@ -1,4 +1,4 @@
-//! The square of a distance as a quotient of numbers that 128 bits hold.
+//! The square of a distance as a quotient of numbers that fit in 128 bits.
 ghost use Rattle.std.specs.Prelude.{◌≡◌, ◌≤◌, ◌*◌, pos, ◌*ℤ◌};
 ghost use Rattle.lattice.specs.Plane as plane;
 ghost use Rattle.lattice.specs.Plane.{widest_side};
@@ -16,7 +16,7 @@ pub(crate) struct Factors {
     pub(crate) divisor: u128,
 }
 
-/// How far `t` lies beside the line from `a` to `b`, by the distance of the two.
+/// Returns how far `t` lies beside the line from `a` to `b`, times the distance of the two.
 pub(crate) fn distance_beside(a: Point, b: Point, t: Point) -> u128
     ensures value { pos result *ℤ pos result ≡ plane.orient a b t *ℤ plane.orient a b t }
     ensures size { result ≤ widest_side }
@@ -29,7 +29,7 @@ pub(crate) fn distance_beside(a: Point, b: Point, t: Point) -> u128
     }
 }
 
-/// The square of the distance of `t` from the line from `a` to `b`.
+/// Returns the square of the distance of `t` from the line from `a` to `b`.
 fn beside(a: Point, b: Point, t: Point) -> Factors
     ensures value { (pos (result.first * result.second) ≡ plane.orient a b t *ℤ plane.orient a b t)
         × (pos result.divisor ≡ plane.distance_squared a b) }
@@ -45,7 +45,7 @@ fn beside(a: Point, b: Point, t: Point) -> Factors
 }
 
 impl Distance {
-    /// The numbers of its square.
+    /// Returns the factors of the square of the distance.
     pub(crate) fn factors(&self) -> Factors
         ensures value { AreFactorsOf self.now result }
         ensures small { AreSmall result }

@@ -1,13 +1,14 @@
-//! Questions about a convex hull from the list of its corners, by bisection.
+//! Questions about a convex hull, answered from the list of its vertices by bisection.
 //!
-//! An [`Outline`] borrows the corners that [`HullSet::vertices`](hull_set::HullSet::vertices) gave, or any list that
-//! is the corners of some set ([`is_outline`]). Nothing of it is ever written, so any number of threads may ask one at
-//! once, with no lock; each answer is the one that is right for every set with these corners (`specs/Outlines.antt`).
-//! [`Outline::place`], [`Outline::extreme`], [`Outline::tangents`], [`Outline::nearest`], [`Outline::meets_segment`],
-//! [`Outline::apart_from_segment`], [`Outline::bounding_box`] and [`Outline::width_along`] take a number of steps that
-//! grows with the logarithm of the corners' number, [`Outline::contains`], [`Outline::meets`], [`Outline::witness`],
-//! [`Outline::relation`], [`Outline::distance`], [`Outline::diameter`] and [`Outline::least_width`] as many for each corner at
-//! most, and [`Outline::area2`] and [`is_outline`] one pass. No memory is asked for.
+//! An [`Outline`] is a convex polygon: it borrows the vertices that [`HullSet::vertices`](hull_set::HullSet::vertices)
+//! returned, or any list that is the vertices of some set ([`is_outline`]). It is never written, so any number of
+//! threads may ask one at once, without a lock. Each answer is the one that is right for every set with these vertices
+//! (`specs/Outlines.antt`). [`Outline::place`], [`Outline::extreme`], [`Outline::tangents`], [`Outline::nearest`],
+//! [`Outline::meets_segment`], [`Outline::apart_from_segment`], [`Outline::bounding_box`] and [`Outline::width_along`]
+//! take a number of steps that grows with the logarithm of the number of vertices. [`Outline::contains`],
+//! [`Outline::meets`], [`Outline::witness`], [`Outline::relation`], [`Outline::distance`], [`Outline::diameter`] and
+//! [`Outline::least_width`] take at most as many for each vertex, and [`Outline::area2`] and [`is_outline`] one pass.
+//! Nothing is allocated.
 //!
 //! # A worked example
 //!

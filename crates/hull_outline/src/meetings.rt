@@ -1,4 +1,4 @@
-//! Whether two hulls meet, and where.
+//! Whether two hulls intersect, and a common point.
 ghost use Rattle.std.specs.Prelude.{◌<◌, length, MatchOption};
 ghost use Rattle.hull_outline.specs.Meetings.{IsApart, TellsMeeting};
 ghost use Rattle.hull_outline.specs.Outlines.{HoldsOfBoth};
@@ -9,20 +9,20 @@ use super::outline::Outline;
 use super::rounds::corner_at;
 use lattice::Point;
 
-/// Where two hulls meet, as a caller can test it.
+/// A common point of two hulls, in a form that a caller can test.
 #[derive(Clone, Copy, PartialEq, Eq, Debug)]
 pub enum Meeting {
-    /// At this corner of the other hull, which this one covers.
+    /// This vertex of the other hull, which this one covers.
     OfOther(Point),
-    /// At this corner of this hull, which the other one covers.
+    /// This vertex of this hull, which the other one covers.
     OfThis(Point),
-    /// Where two segments cross: the one from the first point to the second, corners of this hull, and the one from the
-    /// third to the fourth, corners of the other.
+    /// The crossing of two segments: the one from the first point to the second, vertices of this hull, and the one
+    /// from the third to the fourth, vertices of the other.
     Crossing(Point, Point, Point, Point),
 }
 
 impl<'a> Outline<'a> {
-    /// Where this hull and `other` meet, if they do; both have one corner at least.
+    /// Returns a common point of this hull and `other`, if there is one; both have at least one vertex.
     pub(crate) fn meeting(&self, other: &Outline) -> Option<Meeting>
         requires this { 0 < length (corners_of self.now) }
         requires that { 0 < length (corners_of other.now) }
@@ -45,8 +45,8 @@ impl<'a> Outline<'a> {
         None
     }
 
-    /// Whether this hull and `other` have a point in common, boundaries included. A question of a segment for each edge
-    /// of `other`.
+    /// Whether this hull and `other` share a point, boundaries included. A question of a segment for each edge of
+    /// `other`.
     pub fn meets(&self, other: &Outline) -> bool
         ensures { HoldsOfBoth (corners_of self.now) (corners_of other.now) (λ S T. TellsMeeting result S T) }
     {

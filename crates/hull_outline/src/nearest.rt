@@ -1,4 +1,4 @@
-//! The nearest point of a hull: one of its corners, or a point of one of its edges.
+//! The nearest point of a hull: one of its vertices, or a point of one of its edges.
 ghost use Rattle.std.specs.Prelude.{◌≡◌, ◌↔◌, IsTrue, ◌<◌, ◌+◌, length, pos, ◌<ℤ◌, MatchOption, []};
 ghost use Rattle.lattice.specs.Plane as plane;
 ghost use Rattle.lattice.specs.Covers.{Covers};
@@ -14,14 +14,15 @@ use super::rounds::corner_at;
 use super::vector::Vector;
 use lattice::{Point, Side, orient};
 
-/// Where the point of a hull is that is nearest to a point `q`.
+/// The point of a hull that is nearest to a point `q`.
 #[derive(Clone, Copy, PartialEq, Eq, Debug)]
 pub enum Nearest {
-    /// The hull covers `q`: it is its own nearest point.
+    /// The hull covers `q`, which is its own nearest point.
     Covered,
-    /// At a corner.
+    /// This vertex.
     Corner(Point),
-    /// On the edge from one corner to the next, counterclockwise, strictly between them: the foot of `q` on their line.
+    /// A point of the edge from one vertex to the next, counterclockwise, strictly between them: the foot of `q` on
+    /// their line.
     Edge(Point, Point),
 }
 
@@ -32,7 +33,7 @@ pub(crate) fn is_right(a: Point, b: Point, t: Point) -> bool
     orient(a, b, t) < 0
 }
 
-/// Whether `q` lies farther than `a` on the way from there to `b`.
+/// Whether `q` lies farther than `a` in the direction from `a` to `b`.
 fn is_onward(a: Point, b: Point, q: Point) -> bool
     ensures { IsTrue result ↔ IsOnward a b q }
 {
@@ -47,14 +48,14 @@ fn is_beside(a: Point, b: Point, q: Point) -> bool
     is_right(a, b, q) && is_onward(a, b, q) && is_onward(b, a, q)
 }
 
-/// Whether `q`, seen from `c`, lies on the way neither to `p` nor to `n`.
+/// Whether `q`, seen from `c`, lies in the direction neither of `p` nor of `n`.
 fn is_turned_from(p: Point, c: Point, n: Point, q: Point) -> bool
     ensures { IsTrue result ↔ IsTurnedFrom p c n q }
 {
     !is_onward(c, p, q) && !is_onward(c, n, q)
 }
 
-/// The corner before the one at `i`, round the list.
+/// Returns the vertex before the one at `i`, round the list.
 fn corner_before(corners: &[Point], i: usize) -> Point
     requires { i < length corners.now }
     ensures { result ≡ previous corners.now i }
@@ -66,7 +67,7 @@ fn corner_before(corners: &[Point], i: usize) -> Point
     }
 }
 
-/// Whether the corner at `i` is the nearest to `q`, which the hull does not cover.
+/// Whether the vertex at `i` is the nearest to `q`, which the hull does not cover.
 fn is_nearest_at(corners: &[Point], i: usize, q: Point) -> bool
     requires { i < length corners.now }
     ensures { IsTrue result
@@ -80,7 +81,7 @@ fn is_nearest_at(corners: &[Point], i: usize, q: Point) -> bool
     )
 }
 
-/// Whether `q` lies beside the edge from the corner at `i`.
+/// Whether `q` lies beside the edge from the vertex at `i`.
 fn is_beside_at(corners: &[Point], i: usize, q: Point) -> bool
     requires { i < length corners.now }
     ensures { IsTrue result ↔ IsBeside (corner corners.now i) (corner corners.now (i + 1)) q }
@@ -88,7 +89,8 @@ fn is_beside_at(corners: &[Point], i: usize, q: Point) -> bool
     is_beside(corner_at(corners, i), corner_at(corners, i + 1), q)
 }
 
-/// The corner at `i` or the edge from it, whichever is the nearest to `q`, which the hull does not cover, if one is.
+/// Returns the vertex at `i` or the edge from it, whichever is the nearest to `q`, which the hull does not cover, or
+/// `None` if neither is.
 fn nearest_at(corners: &[Point], last: usize, i: usize, q: Point) -> Option<Nearest>
     requires within { i < length corners.now }
     requires parted { IsParted corners.now last }
@@ -105,7 +107,7 @@ fn nearest_at(corners: &[Point], last: usize, i: usize, q: Point) -> Option<Near
     None
 }
 
-/// The corner or the edge nearest to `q`, which the hull does not cover, in one pass.
+/// Returns the vertex or the edge nearest to `q`, which the hull does not cover, in one pass.
 fn nearest_of_all(corners: &[Point], last: usize, q: Point) -> Nearest
     requires some { 0 < length corners.now }
     requires parted { IsParted corners.now last }
@@ -120,8 +122,8 @@ fn nearest_of_all(corners: &[Point], last: usize, q: Point) -> Nearest
     unreachable!()
 }
 
-/// Whether the way along an edge of the chain on this side still comes nearer to `q` at its end; where `q` does not see the
-/// edge, whether the edge ends before it.
+/// Whether an edge of the chain on this side still comes nearer to `q` at its end; if `q` does not see the edge,
+/// whether the edge ends before it.
 fn comes_nearer(side: Side, start: Point, end: Point, q: Point) -> bool
     ensures { IsTrue result ↔ ComesNearer side start end q }
 {
@@ -132,7 +134,7 @@ fn comes_nearer(side: Side, start: Point, end: Point, q: Point) -> bool
     }
 }
 
-/// The place of the corner up to which the chain on this side comes nearer to `q`.
+/// Returns the index of the vertex up to which the chain on this side comes nearer to `q`.
 fn nearest_on(side: Side, corners: &[Point], last: usize, q: Point) -> usize
     requires { last < length corners.now }
     ensures { result < length corners.now }
@@ -142,12 +144,12 @@ fn nearest_on(side: Side, corners: &[Point], last: usize, q: Point) -> usize
     if place < corners.len() { place } else { 0 }
 }
 
-/// The corner or the edge nearest to `q`, which the hull does not cover.
+/// Returns the vertex or the edge nearest to `q`, which the hull does not cover.
 ///
-/// Along the part of the boundary that `q` sees the way to it falls, and then rises: the distance from `q` to the line of an
-/// edge, along a ray that goes round, is that length by the cosine of the ray's angle, and the boundary is the greatest of
-/// these. So a bisection of each chain finds where it changes. That one of the two does is not proved: should none have,
-/// one pass looks for it, which no test has seen.
+/// Along the part of the boundary that `q` sees, the distance to `q` falls, and then rises: the distance from `q` to
+/// the line of an edge, along a ray that goes round, is the distance from the line divided by the cosine of the ray's
+/// angle, and the boundary is the greatest of these. So a bisection of each chain finds where it changes. It is not
+/// proved that one of the two does: if neither did, one pass would search for it, which no test has seen.
 pub(crate) fn nearest_outside(corners: &[Point], last: usize, q: Point) -> Nearest
     requires some { 0 < length corners.now }
     requires parted { IsParted corners.now last }
@@ -166,10 +168,10 @@ pub(crate) fn nearest_outside(corners: &[Point], last: usize, q: Point) -> Neare
 }
 
 impl<'a> Outline<'a> {
-    /// Where the point of the hull is that is nearest to `q`; `None` for the empty set. A bisection of both
-    /// chains, and two for the place of `q`.
+    /// Returns the point of the hull that is nearest to `q`, or `None` if the set is empty. A bisection of both chains,
+    /// and two for the place of `q`.
     ///
-    /// Of `Corner(c)` the squared distance is [`distance_squared`](lattice::distance_squared) of `q` and `c`; of
+    /// For `Corner(c)` the squared distance is [`distance_squared`](lattice::distance_squared) of `q` and `c`; for
     /// `Edge(a, b)` it is the square of [`orient`](lattice::orient) of `a`, `b` and `q`, divided by the squared
     /// distance of `a` and `b`.
     pub fn nearest(&self, q: Point) -> Option<Nearest>

@@ -1,4 +1,4 @@
-//! An outline: the corners of a set, lent, with the place of the last of them.
+//! A convex polygon: the borrowed vertices of a set, with the index of the last of them.
 ghost use Rattle.std.specs.Prelude.{◌≤◌, length};
 ghost use Rattle.hull_set.specs.declared.TheConstants.{POINT_LIMIT};
 ghost use Rattle.hull_outline.specs.Rounds.{IsParted};
@@ -8,11 +8,11 @@ use super::rounds::{last_of, summit};
 use hull_set::POINT_LIMIT;
 use lattice::Point;
 
-/// The corners of a set of points, as [`HullSet::vertices`](hull_set::HullSet::vertices) gives them: counterclockwise
-/// from the first by x and then y, at most [`POINT_LIMIT`]. Nothing of it is ever written, so that any number of
-/// threads may ask one outline at once.
+/// The vertices of a set of points, as [`HullSet::vertices`](hull_set::HullSet::vertices) returns them:
+/// counterclockwise from the first by x and then y, at most [`POINT_LIMIT`]. It is never written, so that any number of
+/// threads may ask one polygon at once.
 ///
-/// Each question is answered as the set was at the moment when its corners were taken.
+/// Each question is answered for the set at the moment when its vertices were taken.
 #[derive(Clone, Copy)]
 pub struct Outline<'a> {
     pub(crate) corners: &'a [Point],
@@ -26,7 +26,7 @@ impl<'a> Outline<'a> {
     ghost use Rattle.hull_outline.specs.Outlines.{IsOwnOutline, IsShortOutline};
     ghost use Rattle.hull_outline.specs.Lent.{corners_of};
 
-    /// The outline of these corners, or nothing where they are not the corners of a set, or more than
+    /// Returns the polygon of these vertices, or `None` if they are not the vertices of a set, or more than
     /// [`POINT_LIMIT`]. One pass, as [`is_outline`](crate::is_outline).
     pub fn new(corners: &'a [Point]) -> Option<Outline<'a>>
         ensures outline { MatchOption result (¬ IsShortOutline corners.now)
@@ -40,7 +40,8 @@ impl<'a> Outline<'a> {
         Some(Outline { corners, last })
     }
 
-    /// The outline of the corners that a set gave. No pass over them: a bisection finds the last one.
+    /// Returns the polygon of the vertices that a set returned. Makes no pass over them: a bisection finds the last
+    /// one.
     pub fn of_vertices(corners: &'a [Point]) -> Outline<'a>
         requires { IsShortOutline corners.now }
         ensures { corners_of result ≡ corners.now }
@@ -53,7 +54,8 @@ impl<'a> Outline<'a> {
         Outline { corners, last }
     }
 
-    /// The outline of corners whose last one, by x and then y, stands at `last`. Neither a pass nor a bisection.
+    /// Returns the polygon of vertices whose last one, by x and then y, is at `last`. Needs neither a pass nor a
+    /// bisection.
     pub fn of_parted(corners: &'a [Point], last: usize) -> Outline<'a>
         requires parted { IsParted corners.now last }
         requires few { length corners.now ≤ POINT_LIMIT }
@@ -62,14 +64,14 @@ impl<'a> Outline<'a> {
         Outline { corners, last }
     }
 
-    /// The place of the last corner, for [`Outline::of_parted`].
+    /// Returns the index of the last vertex, for [`Outline::of_parted`].
     pub fn last(&self) -> usize
         ensures { IsParted (corners_of self.now) result }
     {
         self.last
     }
 
-    /// The corners.
+    /// Returns the vertices.
     pub fn corners(&self) -> &'a [Point]
         ensures corners { result.now ≡ corners_of self.now }
         ensures outline { IsShortOutline (corners_of self.now) }

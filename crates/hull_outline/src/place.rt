@@ -1,4 +1,4 @@
-//! Where a point lies.
+//! The place of a point.
 ghost use Rattle.hull_set.specs.Replies.{LiesAt};
 ghost use Rattle.hull_outline.specs.Outlines.{HoldsOfSetsOf};
 ghost use Rattle.hull_outline.specs.Lent.{corners_of};
@@ -9,8 +9,8 @@ use hull_set::Place;
 use lattice::Point;
 
 impl<'a> Outline<'a> {
-    /// Where `q` lies: by its sides of the lower and of the upper edge between whose ends it stands, each found by a
-    /// bisection of its chain (Preparata and Shamos, 1985).
+    /// Returns the place of `q`, by its sides of the lower and of the upper edge between whose ends it is, each found
+    /// by a bisection of its chain (Preparata and Shamos, 1985).
     pub fn place(&self, q: Point) -> Place
         ensures { HoldsOfSetsOf (corners_of self.now) (λ S. LiesAt S q result) }
     {

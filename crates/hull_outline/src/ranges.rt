@@ -1,4 +1,4 @@
-//! Whether two hulls are within a length of one another: with no division and no root, so exactly.
+//! Whether two hulls are within a distance of each other: exactly, without a division or a root.
 ghost use Rattle.std.specs.Prelude.{◌↔◌, IsTrue, ◌<◌, ◌≤◌, ◌*◌};
 ghost use Rattle.lattice.specs.Plane.{widest_side};
 ghost use Rattle.hull_outline.specs.Outlines.{HoldsOfBoth};
@@ -14,9 +14,9 @@ use super::strips::length_of;
 /// A length: the quotient of two numbers. With the denominator 0 it is longer than any distance.
 #[derive(Clone, Copy, PartialEq, Eq, Debug)]
 pub struct Length {
-    /// So many units,
+    /// The length in units,
     pub numerator: u64,
-    /// divided by this.
+    /// divided by this number.
     pub denominator: u32,
 }
 
@@ -47,7 +47,7 @@ impl Length {
 }
 
 impl Distance {
-    /// Whether this distance is at most that length. Squares are compared, by products of 252 bits.
+    /// Whether this distance is at most that length. It compares squares, by products of 252 bits.
     pub fn is_within(&self, length: Length) -> bool
         ensures { IsTrue result ↔ IsNoFarther self.now length }
     {
@@ -65,8 +65,8 @@ impl Distance {
 }
 
 impl<'a> Outline<'a> {
-    /// Whether this hull and `other` are no farther apart than that length; false where either is empty. As
-    /// [`Outline::distance`].
+    /// Whether the distance of this hull and `other` is at most that length; false if either is empty. The cost is that
+    /// of [`Outline::distance`].
     pub fn is_within(&self, other: &Outline, length: Length) -> bool
         ensures { HoldsOfBoth (corners_of self.now) (corners_of other.now) (λ S T. TellsWithin result length S T) }
     {

@@ -1,8 +1,8 @@
-//! Fractions of numbers that 128 bits do not hold, compared.
+//! Comparison of fractions whose numbers do not fit in 128 bits.
 ghost use Rattle.std.specs.Prelude.{◌≡◌, ◌↔◌, IsTrue, ◌<◌, ◌≤◌, ◌+◌, ◌*◌, ◌^◌};
 ghost use Rattle.hull_outline.specs.Wide.{HasDigits, base, number_of};
 
-/// 2^42: two digits to it are one to the base 2^84.
+/// 2^42: two digits to this base are one to the base 2^84.
 const HALF: u128 = 4398046511104;
 
 /// The base of the digits, 2^84.
@@ -16,7 +16,7 @@ pub(crate) struct Wide {
     low: u128,
 }
 
-/// The product of a half digit and a digit.
+/// Returns the product of a half digit and a digit.
 fn half_product(a: u128, b: u128) -> u128
     requires first { a < 2 ^ 42 }
     requires second { b < base }
@@ -26,7 +26,7 @@ fn half_product(a: u128, b: u128) -> u128
     a * b
 }
 
-/// The product of two digits, the upper and the lower one.
+/// Returns the product of two digits, the upper and the lower digit.
 pub(crate) fn two_digits(a: u128, b: u128) -> (u128, u128)
     requires first { a < base }
     requires second { b < base }
@@ -40,7 +40,7 @@ pub(crate) fn two_digits(a: u128, b: u128) -> (u128, u128)
     (upper / HALF + rest / BASE, rest % BASE)
 }
 
-/// The product of three digits.
+/// Returns the product of three digits.
 pub(crate) fn three_digits(a: u128, b: u128, c: u128) -> Wide
     requires first { a < base }
     requires second { b < base }
@@ -59,7 +59,7 @@ pub(crate) fn three_digits(a: u128, b: u128, c: u128) -> Wide
     }
 }
 
-/// Four times a number.
+/// Returns four times a number.
 pub(crate) fn four_times(w: Wide) -> Wide
     requires digits { HasDigits w }
     requires small { number_of w < 2 ^ 250 }
@@ -90,8 +90,8 @@ pub(crate) fn is_less(u: Wide, v: Wide) -> bool
     }
 }
 
-/// Whether the square of `a`, divided by `b`, is less than the square of `c`, divided by `d`, of numbers below 2^84:
-/// asked without a division.
+/// Whether the square of `a`, divided by `b`, is less than the square of `c`, divided by `d`, of numbers below 2^84. It
+/// does not divide.
 pub(crate) fn is_less_ratio(a: u128, b: u128, c: u128, d: u128) -> bool
     requires first { a < base }
     requires second { b < base }

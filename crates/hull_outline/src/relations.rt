@@ -1,4 +1,4 @@
-//! How two hulls stand to one another: apart, touching, overlapping, one within the other, or equal.
+//! The relation of two hulls: disjoint, touching, overlapping, one inside the other, or equal.
 ghost use Rattle.std.specs.Prelude.{◌↔◌, IsTrue, ◌<◌, length, pos, ◌<ℤ◌};
 ghost use Rattle.lattice.specs.Plane as plane;
 ghost use Rattle.hull_outline.specs.Outlines.{HoldsOfBoth, HoldsOfSetsOf};
@@ -13,20 +13,20 @@ use super::vector::Vector;
 use hull_set::Place;
 use lattice::{Point, orient};
 
-/// How one hull stands to another: the first of these that is so, from the last to the first.
+/// The relation of one hull to another: the last of these that holds.
 #[derive(Clone, Copy, PartialEq, Eq, Debug)]
 pub enum Relation {
-    /// They have no point in common.
+    /// They share no point.
     Apart,
-    /// They have a point in common, and a line divides them: nothing that lies inside the one is covered by the other.
+    /// They share a point, and a line divides them: no point inside the one is covered by the other.
     Touching,
-    /// They have a point in common, and no line divides them.
+    /// They share a point, and no line divides them.
     Overlapping,
-    /// The other hull holds this one, which does not hold the other.
+    /// The other hull contains this one, which does not contain the other.
     Within,
-    /// This hull holds the other one, which does not hold this.
+    /// This hull contains the other one, which does not contain this one.
     Covers,
-    /// Each holds the other.
+    /// Each contains the other.
     Equal,
 }
 
@@ -38,8 +38,8 @@ fn is_left(a: Point, b: Point, t: Point) -> bool
 }
 
 impl<'a> Outline<'a> {
-    /// Whether an edge of this hull, of two corners at least, has all of `other` on its right or on its line. A bisection for
-    /// each edge.
+    /// Whether an edge of this hull, which has at least two vertices, has all of `other` on its right or on its line. A
+    /// bisection for each edge.
     fn has_dividing_edge(&self, other: &Outline) -> bool
         requires this { 1 < length (corners_of self.now) }
         requires that { 0 < length (corners_of other.now) }
@@ -56,9 +56,10 @@ impl<'a> Outline<'a> {
         false
     }
 
-    /// Whether a line divides this hull from `other`; both have two corners at least.
+    /// Whether a line divides this hull from `other`; both have at least two vertices.
     ///
-    /// Where one does, an edge of one of them does: a line turned round the point where they touch comes to an edge first.
+    /// If one does, the line of an edge of one of them does: a line that is rotated about the point that both touch
+    /// comes to an edge first.
     fn is_divided(&self, other: &Outline) -> bool
         requires this { 1 < length (corners_of self.now) }
         requires that { 1 < length (corners_of other.now) }
@@ -67,7 +68,7 @@ impl<'a> Outline<'a> {
         self.has_dividing_edge(other) || other.has_dividing_edge(self)
     }
 
-    /// How this hull stands to `other`, neither of which holds the other.
+    /// Returns the relation of this hull to `other`, if neither contains the other.
     fn relation_of_neither(&self, other: &Outline) -> Relation
         requires neither { HoldsOfBoth (corners_of self.now) (corners_of other.now) (λ S T. HoldsNeither S T) }
         ensures { HoldsOfBoth (corners_of self.now) (corners_of other.now) (λ S T. IsRelation S T result) }
@@ -81,8 +82,9 @@ impl<'a> Outline<'a> {
         }
     }
 
-    /// How this hull stands to `other`. A bisection for each corner of both, a question of a segment for each edge of
-    /// `other`, and where they meet a bisection for each edge of both. The empty hull is within every other one.
+    /// Returns the relation of this hull to `other`. A bisection for each vertex of both, a question of a segment for
+    /// each edge of `other`, and if they intersect a bisection for each edge of both. Every other hull contains the
+    /// empty hull.
     pub fn relation(&self, other: &Outline) -> Relation
         ensures { HoldsOfBoth (corners_of self.now) (corners_of other.now) (λ S T. IsRelation S T result) }
     {
@@ -105,8 +107,8 @@ impl<'a> Outline<'a> {
         }
     }
 
-    /// Whether all of `other` lies inside this hull, with no point of it on the boundary. A bisection for each corner of
-    /// `other`.
+    /// Whether all of `other` lies inside this hull, with no point of it on the boundary. A bisection for each vertex
+    /// of `other`.
     pub fn contains_inside(&self, other: &Outline) -> bool
         ensures { HoldsOfBoth (corners_of self.now) (corners_of other.now) (λ S T. IsTrue result ↔ HoldsInside S T) }
     {

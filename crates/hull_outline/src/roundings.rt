@@ -1,4 +1,4 @@
-//! A distance between the two doubles next to it: its root, exactly.
+//! A distance, which is a root, exactly enclosed by the two doubles next to it.
 ghost use Rattle.std.specs.Prelude.{◌≡◌, ◌<◌, ◌≤◌, ◌+◌, ◌*◌, ◌^◌};
 ghost use Rattle.hull_outline.specs.Roundings.{IsRounded, IsRoundedRoot, full};
 ghost use Rattle.hull_outline.specs.Squares.{AreSmall};
@@ -8,25 +8,27 @@ use super::distance::Distance;
 use super::factors::Factors;
 use super::ratios::{Wide, four_times, is_less, three_digits};
 
-/// 2^52, the least number of 53 bits: as many has a double.
+/// 2^52, the least number of 53 bits, which is the precision of a double.
 const FULL: u128 = 4503599627370496;
 
-/// The least shift that no distance needs: the squares of two that are not 0 differ by less than 4^95.
+/// The least shift that is greater than any distance needs: the squares of two distances that are not 0 differ by less than a
+/// factor of 4^95.
 const SHIFTS: u32 = 95;
 
-/// A distance between two doubles: the greatest that is not above it and the least that is not below it, each a whole number
-/// divided by a power of two. They are one where the distance is a double; else nothing stands between them.
+/// A distance between two doubles: the greatest that is not above it and the least that is not below it, each a whole
+/// number divided by a power of two. They are equal if the distance is a double; else no double is between them.
 #[derive(Clone, Copy, PartialEq, Eq, Debug)]
 pub struct Rounded {
     /// The lower one, times 2^shift: 0, or a number of 53 bits.
     pub lower: u64,
-    /// The upper one, times 2^shift: the same, or one more.
+    /// The upper one, times 2^shift: the same as the lower one, or one more.
     pub upper: u64,
-    /// The power of two.
+    /// The exponent of the power of two.
     pub shift: u32,
 }
 
-/// A square times so large a power of four that its quotient by the divisor has a root of 53 bits, and that power.
+/// Returns a square times a power of four, so large that its quotient by the divisor has a root of 53 bits, and the
+/// exponent of that power.
 fn scaled(factors: Factors) -> (Wide, u32)
     requires some { 0 < factors.first * factors.second }
     requires small { AreSmall factors }
@@ -46,7 +48,7 @@ fn scaled(factors: Factors) -> (Wide, u32)
     unreachable!()
 }
 
-/// The greatest number whose square, times the divisor, is no more than a number; it has 53 bits.
+/// Returns the greatest number whose square, times the divisor, is at most a number; it has 53 bits.
 fn root(number: Wide, divisor: u128) -> u64
     requires digits { HasDigits number }
     requires small { divisor < base }
@@ -70,7 +72,7 @@ fn root(number: Wide, divisor: u128) -> u64
     low as u64
 }
 
-/// The root of a quotient between two doubles.
+/// Returns the root of a quotient between two doubles.
 fn rounded_root(factors: Factors) -> Rounded
     requires some { 0 < factors.first * factors.second }
     requires small { AreSmall factors }
@@ -95,7 +97,8 @@ fn rounded_root(factors: Factors) -> Rounded
 }
 
 impl Distance {
-    /// This distance between the two doubles next to it. No root is taken: some 150 products of 252 bits are compared.
+    /// Returns this distance between the two doubles next to it. No root is computed: some 150 products of 252 bits are
+    /// compared.
     pub fn rounded(&self) -> Rounded
         ensures { IsRounded self.now result }
     {

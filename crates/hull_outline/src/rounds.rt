@@ -1,4 +1,4 @@
-//! Whether a list of points is the outline of a set, in one pass.
+//! Whether a list of points is the vertices of a convex polygon, in one pass.
 ghost use Rattle.std.specs.Prelude.{◌≡◌, ◌↔◌, pos, ◌<ℤ◌, ◌+◌, ◌<◌, ◌≤◌, length, IsTrue, MatchOption};
 ghost use Rattle.lattice.specs.Plane as plane;
 ghost use Rattle.lattice.specs.Plane.{IsBefore};
@@ -15,7 +15,7 @@ pub(crate) fn is_left(a: Point, b: Point, t: Point) -> bool
     orient(a, b, t) > 0
 }
 
-/// The corner at `i`; at the end of the list the first one again.
+/// Returns the vertex at `i`; at the end of the list the first one again.
 pub(crate) fn corner_at(corners: &[Point], i: usize) -> Point
     requires some { 0 < length corners.now }
     requires within { i ≤ length corners.now }
@@ -28,7 +28,7 @@ pub(crate) fn corner_at(corners: &[Point], i: usize) -> Point
     }
 }
 
-/// Whether the corner after the one at `i` lies forward.
+/// Whether the vertex after the one at `i` lies forward.
 fn is_forward(corners: &[Point], i: usize) -> bool
     requires { i < length corners.now }
     ensures { IsTrue result ↔ IsBefore (corner corners.now i) (corner corners.now (i + 1)) }
@@ -36,7 +36,7 @@ fn is_forward(corners: &[Point], i: usize) -> bool
     before(corner_at(corners, i), corner_at(corners, i + 1))
 }
 
-/// Whether it lies back.
+/// Whether the vertex after the one at `i` lies back.
 fn is_back(corners: &[Point], i: usize) -> bool
     requires { i < length corners.now }
     ensures { IsTrue result ↔ IsBefore (corner corners.now (i + 1)) (corner corners.now i) }
@@ -44,7 +44,7 @@ fn is_back(corners: &[Point], i: usize) -> bool
     before(corner_at(corners, i + 1), corner_at(corners, i))
 }
 
-/// Whether the list bends left behind the corner at `i`.
+/// Whether the list bends left after the vertex at `i`.
 fn bends_left(corners: &[Point], i: usize) -> bool
     requires { i + 1 < length corners.now }
     ensures { IsTrue result
@@ -57,7 +57,7 @@ fn bends_left(corners: &[Point], i: usize) -> bool
     )
 }
 
-/// The place of the last corner, where the corners are those of a set.
+/// Returns the index of the last vertex, if the vertices are those of a set.
 pub(crate) fn summit(corners: &[Point]) -> usize
     requires { 1 < length corners.now }
     ensures within { result < length corners.now }
@@ -71,7 +71,7 @@ pub(crate) fn summit(corners: &[Point]) -> usize
     )
 }
 
-/// Whether the next corner lies forward up to the one at `last`, and back from there on.
+/// Whether the next vertex lies forward if `i` is before `last`, and back from `last` on.
 fn goes_on(corners: &[Point], last: usize, i: usize) -> bool
     requires { i < length corners.now }
     ensures { IsTrue result ↔ GoesOn corners.now last i }
@@ -83,7 +83,7 @@ fn goes_on(corners: &[Point], last: usize, i: usize) -> bool
     }
 }
 
-/// Whether the list bends left behind the corner at `i`, if it goes on the same way.
+/// Whether the list bends left after the vertex at `i`, if it goes on in the same direction.
 fn bends(corners: &[Point], last: usize, i: usize) -> bool
     requires { i < length corners.now }
     ensures { IsTrue result ↔ BendsLeft corners.now last i }
@@ -95,7 +95,7 @@ fn bends(corners: &[Point], last: usize, i: usize) -> bool
     }
 }
 
-/// Whether the corners go forward to the one at `last`, and back, and bend left between.
+/// Whether the vertices go forward to the one at `last`, and then back, and bend left between.
 fn is_round(corners: &[Point], last: usize) -> bool
     requires starts { 0 < last }
     requires within { last < length corners.now }
@@ -109,7 +109,8 @@ fn is_round(corners: &[Point], last: usize) -> bool
     true
 }
 
-/// The place of the last corner of an outline, or nothing where the list is none; of fewer than two corners it is 0.
+/// Returns the index of the last vertex of a polygon, or `None` if the list is not a polygon; of fewer than two
+/// vertices it is 0.
 pub(crate) fn last_of(corners: &[Point]) -> Option<usize>
     ensures { MatchOption result (¬ IsOutline corners.now)
         (λ last. IsOutline corners.now × IsParted corners.now last) }
@@ -125,11 +126,11 @@ pub(crate) fn last_of(corners: &[Point]) -> Option<usize>
     }
 }
 
-/// Whether the points are the corners of a set, counterclockwise from the first by x and then y, as
-/// [`HullSet::vertices`](hull_set::HullSet::vertices) gives them.
+/// Whether the points are the vertices of a set, counterclockwise from the first by x and then y, as
+/// [`HullSet::vertices`](hull_set::HullSet::vertices) returns them.
 ///
-/// One pass: a list of two points or more is an outline where it goes forward to its last point and back from there to
-/// the first, and bends left in between (the two chains of Andrew, 1979). Lists of one point and of none are outlines.
+/// One pass: a list of at least two points is a polygon if it goes forward to its last point and back from there to the
+/// first, and bends left in between (the two chains of Andrew, 1979). Lists of one point and of none are polygons.
 pub fn is_outline(corners: &[Point]) -> bool
     ensures { IsTrue result ↔ IsOutline corners.now }
 {

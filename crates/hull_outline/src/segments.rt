@@ -1,4 +1,4 @@
-//! How a hull stands to a segment as another hull, and how far it is from one. A segment may be one point.
+//! The relation of a hull to a segment, taken as another hull, and their distance. A segment may be one point.
 ghost use Rattle.std.specs.Prelude.{◌≡◌, length, [], MatchOption};
 ghost use Rattle.lattice.specs.Plane.{IsBefore};
 ghost use Rattle.hull_geometry.specs.Positions.{point_at};
@@ -15,7 +15,7 @@ use super::ranges::Length;
 use super::relations::Relation;
 use lattice::{Point, before};
 
-/// Two points, the first by x and then y before the other.
+/// Returns two points, the first by x and then y before the other.
 fn in_order(a: Point, b: Point) -> [Point; 2]
     ensures two { length result ≡ 2 }
     ensures order { ¬ IsBefore (point_at result 1) (point_at result 0) }
@@ -24,7 +24,7 @@ fn in_order(a: Point, b: Point) -> [Point; 2]
     if before(b, a) { [b, a] } else { [a, b] }
 }
 
-/// The outline of two points in order: both, or one where they are the same.
+/// Returns the polygon of two points in order: both, or one if they are equal.
 fn segment_of<'a>(points: &'a [Point]) -> Outline<'a>
     requires two { length points.now ≡ 2 }
     requires order { ¬ IsBefore (point_at points.now 1) (point_at points.now 0) }
@@ -38,8 +38,8 @@ fn segment_of<'a>(points: &'a [Point]) -> Outline<'a>
 }
 
 impl<'a> Outline<'a> {
-    /// How this hull stands to the segment from `a` to `b`, as [`Outline::relation`] tells it of two hulls: a segment that runs
-    /// along an edge touches, one that goes through overlaps, and one that ends inside overlaps, too.
+    /// Returns the relation of this hull to the segment from `a` to `b`, as [`Outline::relation`] does for two hulls: a
+    /// segment along an edge touches, one that goes through overlaps, and one that ends inside overlaps, too.
     pub fn relation_to_segment(&self, a: Point, b: Point) -> Relation
         ensures { HoldsOfSetsOf (corners_of self.now) (λ S. IsRelation S (ends a b) result) }
     {
@@ -47,8 +47,8 @@ impl<'a> Outline<'a> {
         self.relation(&segment_of(&points))
     }
 
-    /// Where this hull and the segment from `a` to `b` are nearest to one another; `None` for the empty hull. As
-    /// [`Outline::distance`].
+    /// Returns the nearest points of this hull and the segment from `a` to `b`, or `None` if the hull is empty. The
+    /// cost is that of [`Outline::distance`].
     pub fn distance_to_segment(&self, a: Point, b: Point) -> Option<Distance>
         ensures { HoldsOfSetsOf (corners_of self.now)
             (λ S. MatchOption result (S ≡ []) (λ found. IsDistance S (ends a b) found)) }
@@ -57,7 +57,8 @@ impl<'a> Outline<'a> {
         self.distance(&segment_of(&points))
     }
 
-    /// Whether this hull and the segment from `a` to `b` are no farther apart than that length; false for the empty hull.
+    /// Whether the distance of this hull and the segment from `a` to `b` is at most that length; false if the hull is
+    /// empty.
     pub fn is_within_of_segment(&self, a: Point, b: Point, length: Length) -> bool
         ensures { HoldsOfSetsOf (corners_of self.now) (λ S. TellsWithin result length S (ends a b)) }
     {

@@ -1,4 +1,4 @@
-//! What parts a hull from a point or a segment, as a caller can test it.
+//! Directions that separate a hull from a point or a segment, in a form that a caller can test.
 ghost use Rattle.std.specs.Prelude.{◌≡◌, ◌⊎◌, ◌<◌, length, [], ◌∷◌, MatchOption};
 ghost use Rattle.lattice.specs.Covers.{Covers};
 ghost use Rattle.hull_outline.specs.Meetings.{Meets, segment};
@@ -13,7 +13,7 @@ use super::outline::Outline;
 use super::vector::Vector;
 use lattice::Point;
 
-/// A direction that parts a set from another: no point of the set has a greater [`Vector::product`] with it than
+/// A direction that separates a set from another: no point of the set has a greater [`Vector::product`] with it than
 /// `farthest`, and each point of the other set has.
 #[derive(Clone, Copy, PartialEq, Eq, Debug)]
 pub struct Separation {
@@ -23,7 +23,8 @@ pub struct Separation {
     pub farthest: Point,
 }
 
-/// What parts the hull of these corners from `q`, which it does not cover: the way from its nearest point.
+/// Returns the separation of the hull of these vertices from `q`, which it does not cover: the direction from its
+/// nearest point to `q`.
 fn separation_from(corners: &[Point], last: usize, q: Point) -> Separation
     requires some { 0 < length corners.now }
     requires parted { IsParted corners.now last }
@@ -44,10 +45,11 @@ fn separation_from(corners: &[Point], last: usize, q: Point) -> Separation
 }
 
 impl<'a> Outline<'a> {
-    /// A direction that parts the hull from the segment from `a` to `b`, which may be one point; `None` where they have
-    /// a point in common, and for the empty set. As [`Outline::meets_segment`], and [`Outline::nearest`] of an end.
+    /// Returns a direction that separates the hull from the segment from `a` to `b`, which may be one point, or `None`
+    /// if they share a point or the set is empty. The cost is that of [`Outline::meets_segment`], and of
+    /// [`Outline::nearest`] for an end.
     ///
-    /// It is a normal of the segment or of an edge, or the way from a corner to an end of the segment.
+    /// It is a normal of the segment or of an edge, or the vector from a vertex to an end of the segment.
     pub fn apart_from_segment(&self, a: Point, b: Point) -> Option<Separation>
         ensures { HoldsOfSetsOf (corners_of self.now)
             (λ S. MatchOption result ((S ≡ []) ⊎ Meets S (segment a b)) (λ found. IsSeparation S (segment a b) found)) }

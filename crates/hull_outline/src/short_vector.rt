@@ -1,4 +1,4 @@
-//! Directions with small components: how far a step goes in one is multiplied in 64 bits, where that takes 128.
+//! Directions with small components: how far a step goes in one is computed in 64 bits, instead of 128.
 ghost use Rattle.std.specs.Prelude.{◌≡◌, ◌↔◌, ◌^◌, ◌*ℤ◌, ◌+ℤ◌, ◌<ℤ◌, IsTrue, MatchOption};
 ghost use Rattle.lattice.specs.Plane as plane;
 ghost use Rattle.lattice.specs.Plane.{IsWithin, widest_side};
@@ -38,7 +38,7 @@ fn is_short(component: i64) -> bool
 }
 
 impl ShortVector {
-    /// The same direction, where its components are short.
+    /// Returns the same direction, or `None` if a component is not short.
     pub(crate) fn of(d: Vector) -> Option<ShortVector>
         ensures { MatchOption result (¬ (IsWithin (2 ^ 20) d.x × IsWithin (2 ^ 20) d.y)) (λ short. short ≡ d) }
     {
@@ -50,7 +50,7 @@ impl ShortVector {
         }
     }
 
-    /// How far a step goes in this direction.
+    /// Returns how far a step goes in this direction.
     fn along_step(self, step: Vector) -> i128
         ensures value { result ≡ self.x *ℤ step.x +ℤ self.y *ℤ step.y }
         ensures size { IsWithin widest_side result }

@@ -1,4 +1,4 @@
-//! From where a point looks at a hull.
+//! The location of a point relative to a hull.
 ghost use Rattle.std.specs.Prelude.{◌<◌, length};
 ghost use Rattle.lattice.specs.Plane.{IsBefore};
 ghost use Rattle.hull_geometry.specs.Edges.{IsAlong};
@@ -13,7 +13,8 @@ use super::rounds::corner_at;
 use hull_geometry::{Sight, sight_by};
 use lattice::{Point, Side, before, orient};
 
-/// The edge on this side that begins at `q`, or the one that begins before `q` along the chain and ends after it.
+/// Returns the edge on this side that begins at `q`, or the one that begins before `q` along the chain and ends after
+/// it.
 fn edge_at(side: Side, corners: &[Point], last: usize, q: Point) -> (Point, Point)
     requires some { 0 < length corners.now }
     requires parted { IsParted corners.now last }
@@ -25,7 +26,7 @@ fn edge_at(side: Side, corners: &[Point], last: usize, q: Point) -> (Point, Poin
     (corner_at(corners, start), corner_at(corners, start + 1))
 }
 
-/// From where `q` looks, which does not stand before the first corner, and stands before the last.
+/// Returns the location of `q`, which is not before the first vertex, and is before the last.
 fn look_between(corners: &[Point], last: usize, q: Point) -> Sight
     requires some { 0 < length corners.now }
     requires parted { IsParted corners.now last }
@@ -45,7 +46,7 @@ fn look_between(corners: &[Point], last: usize, q: Point) -> Sight
     sight_by(lower, orient(upper.0, upper.1, q))
 }
 
-/// From where `q` looks at the hull of these corners, of which there is one at least.
+/// Returns the location of `q` relative to the hull of these vertices, of which there is at least one.
 pub(crate) fn look(corners: &[Point], last: usize, q: Point) -> Sight
     requires some { 0 < length corners.now }
     requires parted { IsParted corners.now last }

@@ -1,4 +1,4 @@
-//! Squared distances as fractions in words of 64 bits, and which of two is the greater.
+//! Squared distances as fractions in words of 64 bits, and their comparison.
 ghost use Rattle.std.specs.Prelude.{◌≡◌, ◌<◌, ◌≤◌, ◌+◌, ◌*◌, ◌-◌, ◌↔◌, IsTrue};
 ghost use Rattle.hull_outline.specs.Squares.{HasWords, IsSquareOf, TellsNearer, TellsOrder};
 ghost use Rattle.hull_outline.specs.Squares.{denominator_of, number_of_words, numerator_of, word};
@@ -11,10 +11,10 @@ use std::cmp::Ordering;
 /// The base of words, 2^64.
 const WORD: u128 = 18446744073709551616;
 
-/// The base of digits, 2^84, by that of words.
+/// 2^84, the base of digits, divided by the base of words.
 const DIGIT: u128 = 1048576;
 
-/// The base of words by that.
+/// The base of words, divided by that.
 const REST: u128 = 17592186044416;
 
 /// A squared distance: a fraction of two whole numbers in words of 64 bits, not in lowest terms.
@@ -42,14 +42,14 @@ pub(crate) struct Words {
     first: u128,
 }
 
-/// The words of a number, the higher and the lower one.
+/// Returns the words of a number, the higher and the lower one.
 fn two_words(number: u128) -> (u64, u64)
     ensures { result.0 * word + result.1 ≡ number }
 {
     ((number / WORD) as u64, (number % WORD) as u64)
 }
 
-/// The words of a number of two digits, from the highest to the lowest.
+/// Returns the words of a number of two digits, from the highest to the lowest.
 fn three_words(upper: u128, lower: u128) -> (u64, u64, u64)
     requires first { upper < base }
     requires second { lower < base }
@@ -59,7 +59,7 @@ fn three_words(upper: u128, lower: u128) -> (u64, u64, u64)
     ((upper / REST) as u64, middle as u64, (lower % WORD) as u64)
 }
 
-/// The product of two numbers, divided by a third.
+/// Returns the product of two numbers, divided by a third.
 pub(crate) fn fraction(a: u128, b: u128, divisor: u128) -> SquaredDistance
     requires first { a < base }
     requires second { b < base }
@@ -78,7 +78,7 @@ pub(crate) fn fraction(a: u128, b: u128, divisor: u128) -> SquaredDistance
     }
 }
 
-/// The product of two words.
+/// Returns the product of two words.
 fn product_of_words(a: u64, b: u64) -> u128
     ensures value { result ≡ a * b }
     ensures size { result ≤ (word - 1) * (word - 1) }
@@ -86,7 +86,7 @@ fn product_of_words(a: u64, b: u64) -> u128
     u128::from(a) * u128::from(b)
 }
 
-/// The product of two words and what is carried, the higher and the lower word.
+/// Returns the product of two words plus the carry, the higher and the lower word.
 fn product_and_carried(a: u64, b: u64, carried: u128) -> (u128, u128)
     requires { carried < word }
     ensures value { result.0 * word + result.1 ≡ a * b + carried }
@@ -97,7 +97,7 @@ fn product_and_carried(a: u64, b: u64, carried: u128) -> (u128, u128)
     (sum / WORD, sum % WORD)
 }
 
-/// The numerator times a word, from the highest word to the lowest.
+/// Returns the numerator times a word, from the highest word to the lowest.
 fn times_word(n: &SquaredDistance, by: u64) -> (u128, u128, u128, u128)
     ensures value { ((result.0 * word + result.1) * word + result.2) * word + result.3 ≡ numerator_of n.now * by }
     ensures fourth { result.0 < word }
@@ -111,7 +111,7 @@ fn times_word(n: &SquaredDistance, by: u64) -> (u128, u128, u128, u128)
     (fourth, third, second, first)
 }
 
-/// Two products, the second of which stands a word higher, in one.
+/// Returns the sum of two products, the second of which is one word higher.
 fn sum_of_shifted(below: (u128, u128, u128, u128), above: (u128, u128, u128, u128)) -> Words
     requires fourth { below.0 < word }
     requires third { below.1 < word }
@@ -138,7 +138,7 @@ fn sum_of_shifted(below: (u128, u128, u128, u128), above: (u128, u128, u128, u12
     }
 }
 
-/// The numerator of the one times the denominator of the other.
+/// Returns the numerator of the one times the denominator of the other.
 fn product(n: &SquaredDistance, d: &SquaredDistance) -> Words
     ensures value { number_of_words result ≡ numerator_of n.now * denominator_of d.now }
     ensures words { HasWords result }
@@ -167,7 +167,7 @@ fn is_less(u: Words, v: Words) -> bool
     }
 }
 
-/// How one number stands to another.
+/// Returns the order of two numbers.
 fn order(u: Words, v: Words) -> Ordering
     requires first { HasWords u }
     requires second { HasWords v }
@@ -183,8 +183,8 @@ fn order(u: Words, v: Words) -> Ordering
 }
 
 impl SquaredDistance {
-    /// How this fraction stands to the other, exactly: by the products of the one's numerator with the other's denominator, which
-    /// are compared in 320 bits. Fractions that are equal may have other words.
+    /// Returns the order of this fraction and the other, exactly: it compares the products of the one's numerator with
+    /// the other's denominator, in 320 bits. Fractions that are equal may have different words.
     pub fn compare(&self, other: &SquaredDistance) -> Ordering
         ensures { TellsOrder (numerator_of self.now * denominator_of other.now) (numerator_of other.now * denominator_of self.now)
             result }
@@ -194,7 +194,7 @@ impl SquaredDistance {
 }
 
 impl Distance {
-    /// The square of this distance.
+    /// Returns the square of this distance.
     pub fn squared(&self) -> SquaredDistance
         ensures { IsSquareOf self.now result }
     {
@@ -202,7 +202,7 @@ impl Distance {
         fraction(factors.first, factors.second, factors.divisor)
     }
 
-    /// How this distance stands to the other, exactly.
+    /// Returns the order of this distance and the other, exactly.
     pub fn compare(&self, other: &Distance) -> Ordering
         ensures { TellsNearer self.now other.now result }
     {

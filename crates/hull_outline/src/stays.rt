@@ -1,4 +1,4 @@
-//! Whether a set keeps its corners as a point comes or goes.
+//! Whether a set keeps its vertices when a point is added or removed.
 ghost use Rattle.std.specs.Prelude.{◌↔◌, ◌<◌, IsTrue, length};
 ghost use Rattle.std.specs.List.{Contains};
 ghost use Rattle.lattice.specs.Covers.{Covers, with_point, without_point};
@@ -13,7 +13,7 @@ use super::outline::Outline;
 use super::rounds::corner_at;
 use lattice::{Point, Side};
 
-/// Whether `p` is a corner of the chain on this side.
+/// Whether `p` is a vertex of the chain on this side.
 fn stands_on(side: Side, corners: &[Point], last: usize, p: Point) -> bool
     requires some { 0 < length corners.now }
     requires parted { IsParted corners.now last }
@@ -24,7 +24,7 @@ fn stands_on(side: Side, corners: &[Point], last: usize, p: Point) -> bool
 }
 
 impl<'a> Outline<'a> {
-    /// Whether `p` is a corner. A bisection of each chain.
+    /// Whether `p` is a vertex. A bisection of each chain.
     pub fn has_corner(&self, p: Point) -> bool
         ensures { IsTrue result ↔ Contains (corners_of self.now) p }
     {
@@ -35,7 +35,7 @@ impl<'a> Outline<'a> {
             || stands_on(Side::Upper, self.corners, self.last, p)
     }
 
-    /// Whether the corners stay as `p` comes to the set, or is there: just where the hull covers it.
+    /// Whether the vertices stay when `p` is added to the set, or is in it: if and only if the hull covers it.
     pub fn stays_with(&self, p: Point) -> bool
         ensures covered { HoldsOfSetsOf (corners_of self.now) (λ S. IsTrue result ↔ Covers S p) }
         ensures stays { IsTrue result → HoldsOfSetsOf (corners_of self.now)
@@ -44,7 +44,8 @@ impl<'a> Outline<'a> {
         self.covers(p)
     }
 
-    /// Whether the corners stay as `p` leaves the set, or is not there: just where it is none of them.
+    /// Whether the vertices stay when `p` is removed from the set, or is not in it: if and only if it is not one of
+    /// them.
     pub fn stays_without(&self, p: Point) -> bool
         ensures other { IsTrue result ↔ ¬ Contains (corners_of self.now) p }
         ensures stays { IsTrue result → HoldsOfSetsOf (corners_of self.now)

@@ -1,4 +1,4 @@
-//! Where a hull is least wide.
+//! The direction in which a hull is least wide.
 ghost use Rattle.std.specs.Prelude.{◌≡◌, ◌↔◌, IsTrue, ◌<◌, ◌≤◌, length, pos, ◌≤ℤ◌, MatchOption};
 ghost use Rattle.lattice.specs.Plane as plane;
 ghost use Rattle.lattice.specs.Plane.{widest_side, IsWithin};
@@ -14,20 +14,20 @@ use super::ratios::is_less_ratio;
 use super::rounds::corner_at;
 use lattice::{Point, distance_squared, orient};
 
-/// The strip between the line of an edge and the parallel to it through the point farthest from it, which holds a hull.
-/// Its width is [`orient`](lattice::orient) of the three points by the length of the edge: squared, the square of that
-/// number divided by [`distance_squared`](lattice::distance_squared) of the edge's ends.
+/// The strip between the line of an edge and the parallel to it through the point farthest from it; it contains the
+/// hull. Its width is [`orient`](lattice::orient) of the three points divided by the length of the edge. The squared
+/// width is the square of that number divided by [`distance_squared`](lattice::distance_squared) of the edge's ends.
 #[derive(Clone, Copy, PartialEq, Eq, Debug)]
 pub struct Strip {
-    /// The corner where the edge begins; the hull lies left of it.
+    /// The vertex at which the edge begins; the hull lies left of it.
     pub from: Point,
-    /// The next corner.
+    /// The next vertex.
     pub to: Point,
-    /// A corner farthest from the edge.
+    /// A vertex farthest from the edge.
     pub farthest: Point,
 }
 
-/// A number that is not below 0.
+/// Returns a number that is not below 0, without a sign.
 pub(crate) fn natural(number: i128) -> u128
     requires above { pos 0 ≤ℤ number }
     requires within { IsWithin widest_side number }
@@ -37,7 +37,7 @@ pub(crate) fn natural(number: i128) -> u128
     number as u128
 }
 
-/// The square of the distance of two points.
+/// Returns the square of the distance of two points.
 pub(crate) fn length_of(a: Point, b: Point) -> u128
     ensures value { pos result ≡ plane.distance_squared a b }
     ensures size { result ≤ widest_side }
@@ -45,7 +45,7 @@ pub(crate) fn length_of(a: Point, b: Point) -> u128
     natural(distance_squared(a, b))
 }
 
-/// Twice the area of the edge and the farthest point.
+/// Returns twice the area of the edge and the farthest point.
 fn side(w: &Strip) -> u128
     requires { pos 0 ≤ℤ side_of w.now }
     ensures value { pos result ≡ side_of w.now }
@@ -54,7 +54,7 @@ fn side(w: &Strip) -> u128
     natural(orient(w.from, w.to, w.farthest))
 }
 
-/// The square of the length of the edge.
+/// Returns the square of the length of the edge.
 fn edge(w: &Strip) -> u128
     ensures value { pos result ≡ edge_squared w.now }
     ensures size { result ≤ widest_side }
@@ -62,7 +62,7 @@ fn edge(w: &Strip) -> u128
     length_of(w.from, w.to)
 }
 
-/// Whether one strip is less wide than another: by the square of the side of each, divided by its edge's.
+/// Whether one strip is less wide than another: it compares the square of each side, divided by that of the edge.
 fn is_thinner(p: &Strip, q: &Strip) -> bool
     requires first { pos 0 ≤ℤ side_of p.now }
     requires second { pos 0 ≤ℤ side_of q.now }
@@ -71,7 +71,7 @@ fn is_thinner(p: &Strip, q: &Strip) -> bool
     is_less_ratio(side(p), edge(p), side(q), edge(q))
 }
 
-/// The less wide of two strips; the first where both are as wide.
+/// Returns the less wide of two strips; the first if both are as wide.
 fn thinner(p: Strip, q: Strip) -> Strip
     requires first { pos 0 ≤ℤ side_of p }
     requires second { pos 0 ≤ℤ side_of q }
@@ -81,7 +81,7 @@ fn thinner(p: Strip, q: Strip) -> Strip
     if is_second { q } else { p }
 }
 
-/// The strip of the edge from the corner at `i`.
+/// Returns the strip of the edge from the vertex at `i`.
 fn strip_at(corners: &[Point], last: usize, i: usize) -> Strip
     requires parted { IsParted corners.now last }
     requires within { i < length corners.now }
@@ -94,7 +94,7 @@ fn strip_at(corners: &[Point], last: usize, i: usize) -> Strip
     }
 }
 
-/// The strip of the edge from which the hull is least wide.
+/// Returns the strip of the edge for which the hull is least wide.
 fn thinnest(corners: &[Point], last: usize) -> Strip
     requires two { 1 < length corners.now }
     requires parted { IsParted corners.now last }
@@ -108,8 +108,8 @@ fn thinnest(corners: &[Point], last: usize) -> Strip
 }
 
 impl<'a> Outline<'a> {
-    /// Where the hull is least wide: the strip of an edge, than which no direction has a narrower one; `None` where
-    /// there are fewer than two corners. A bisection for each corner.
+    /// Returns the strip of an edge in which the hull is least wide: no direction has a narrower one; or `None` if
+    /// there are fewer than two vertices. A bisection for each vertex.
     ///
     /// Between the normals of two edges the width of a convex polygon is least at one of them (Toussaint, 1983).
     /// Widths are compared squared and exactly, by products of 252 bits.

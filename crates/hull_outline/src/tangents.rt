@@ -1,4 +1,4 @@
-//! Where the tangents from a point touch.
+//! The points that the tangents from a point touch.
 ghost use Rattle.std.specs.Prelude.{◌↔◌, IsTrue, ◌<◌, length};
 ghost use Rattle.hull_set.specs.Replies.{AnswersTangents, reply_to_tangents};
 ghost use Rattle.hull_geometry.specs.Sights.{IsOnChain};
@@ -22,15 +22,15 @@ fn is_passed(side: Side, start: Point, end: Point, q: Point) -> bool
     is_along(side, end, q) && is_left(start, end, q)
 }
 
-/// Whether it begins after `q`, and has it on its left.
+/// Whether an edge begins after `q` along the chain on this side, and has `q` on its left.
 fn is_to_come(side: Side, start: Point, end: Point, q: Point) -> bool
     ensures { IsTrue result ↔ IsToCome side q start end }
 {
     is_along(side, q, start) && is_left(start, end, q)
 }
 
-/// The tangent point on this hand seen from `q`, where the tangent touches the chain on this side: the corner up to which
-/// the edges are passed on the left hand, and the one from which they are to come on the right.
+/// Returns the tangent point on this hand seen from `q`, if the tangent touches the chain on this side: the vertex up
+/// to which the edges are passed on the left hand, and the one from which they are to come on the right.
 fn tangent_on(hand: Hand, side: Side, corners: &[Point], last: usize, q: Point) -> Point
     requires some { 0 < length corners.now }
     requires parted { IsParted corners.now last }
@@ -51,8 +51,9 @@ fn tangent_on(hand: Hand, side: Side, corners: &[Point], last: usize, q: Point) 
 }
 
 impl<'a> Outline<'a> {
-    /// The left and the right tangent point seen from `q`, of points in line with `q` the farther one; `None` where the
-    /// set is empty or covers `q`. Each is found by a bisection of its chain (Preparata and Shamos, 1985).
+    /// Returns the left and the right tangent point seen from `q`, of points in line with `q` the farther one, or
+    /// `None` if the set is empty or covers `q`. Each is found by a bisection of its chain (Preparata and Shamos,
+    /// 1985).
     pub fn tangents(&self, q: Point) -> Option<(Point, Point)>
         ensures { HoldsOfSetsOf (corners_of self.now) (λ S. AnswersTangents S q (reply_to_tangents result)) }
     {

@@ -28,7 +28,7 @@ impl Model for Vector {
 }
 
 impl Vector {
-    /// The same direction.
+    /// Returns the same direction.
     pub(crate) fn along(d: Direction) -> Vector
         ensures { result ≡ d }
     {
@@ -38,21 +38,21 @@ impl Vector {
         }
     }
 
-    /// The direction down.
+    /// Returns the direction down.
     pub(crate) fn down() -> Vector
         ensures { result ≡ record { x = pos 0; y = neg_ℤ (pos 1) } }
     {
         Vector { dx: 0, dy: -1 }
     }
 
-    /// The direction up.
+    /// Returns the direction up.
     pub(crate) fn up() -> Vector
         ensures { result ≡ record { x = pos 0; y = pos 1 } }
     {
         Vector { dx: 0, dy: 1 }
     }
 
-    /// The step from `a` to `b`.
+    /// Returns the step from `a` to `b`.
     pub(crate) fn step(a: Point, b: Point) -> Vector
         ensures { result ≡ step a b }
     {
@@ -62,7 +62,7 @@ impl Vector {
         }
     }
 
-    /// The same, turned to the left by 90 degrees.
+    /// Returns the step from `a` to `b`, rotated to the left by 90 degrees.
     pub(crate) fn left_of(a: Point, b: Point) -> Vector
         ensures { result ≡ left_of a b }
     {
@@ -72,7 +72,7 @@ impl Vector {
         }
     }
 
-    /// The direction turned to the left by 90 degrees.
+    /// Returns the direction rotated to the left by 90 degrees.
     pub(crate) fn turned_left(self) -> Vector
         ensures { result ≡ turned_left self }
     {
@@ -82,7 +82,7 @@ impl Vector {
         }
     }
 
-    /// The square of its length.
+    /// Returns the square of its length.
     pub(crate) fn squared_length(self) -> i128
         ensures value { result ≡ self.x *ℤ self.x +ℤ self.y *ℤ self.y }
         ensures size { IsWithin widest_side result }
@@ -90,7 +90,7 @@ impl Vector {
         sum_of_products(self.x(), self.x(), self.y(), self.y())
     }
 
-    /// The direction backwards.
+    /// Returns the opposite direction.
     pub(crate) fn back(self) -> Vector
         ensures { result ≡ backward self }
     {
@@ -100,7 +100,7 @@ impl Vector {
         }
     }
 
-    /// The first component.
+    /// Returns the first component.
     pub fn x(self) -> i64
         ensures value { result ≡ self.x }
         ensures size { IsWithin (2 * widest) result }
@@ -108,7 +108,7 @@ impl Vector {
         self.dx
     }
 
-    /// The second component.
+    /// Returns the second component.
     pub fn y(self) -> i64
         ensures value { result ≡ self.y }
         ensures size { IsWithin (2 * widest) result }
@@ -116,7 +116,7 @@ impl Vector {
         self.dy
     }
 
-    /// How far `p` lies in this direction: the sum of the products of their components.
+    /// Returns how far `p` lies in this direction: the sum of the products of their components.
     #[tactic(auto, unfolding(lattice::specs::Plane::product))]
     pub fn product(self, p: Point) -> i128
         ensures value { result ≡ plane.product self p }
@@ -125,7 +125,7 @@ impl Vector {
         sum_of_products(self.x(), p.x(), self.y(), p.y())
     }
 
-    /// How far a step goes in this direction.
+    /// Returns how far a step goes in this direction.
     pub(crate) fn along_step(self, step: Vector) -> i128
         ensures value { result ≡ self.x *ℤ step.x +ℤ self.y *ℤ step.y }
         ensures size { IsWithin widest_side result }

@@ -1,4 +1,4 @@
-//! How far a hull reaches in a direction.
+//! The extent of a hull in a direction.
 ghost use Rattle.std.specs.Prelude.{◌≡◌, ◌≤◌, ◌<◌, ◌*◌, length, [], pos, ◌-ℤ◌, ◌≤ℤ◌, MatchOption};
 ghost use Rattle.lattice.specs.Plane as plane;
 ghost use Rattle.lattice.specs.Plane.{widest_side};
@@ -12,7 +12,7 @@ use super::outline::Outline;
 use super::vector::Vector;
 use lattice::{Direction, Point};
 
-/// How much farther `p` lies than `q` in the direction `d`, in which it lies no less far.
+/// Returns how much farther `p` lies than `q` in the direction `d`, in which it lies no less far.
 fn how_much_farther(d: Vector, p: Point, q: Point) -> u128
     requires { plane.product d q ≤ℤ plane.product d p }
     ensures value { pos result ≡ plane.product d p -ℤ plane.product d q }
@@ -21,7 +21,7 @@ fn how_much_farther(d: Vector, p: Point, q: Point) -> u128
     (d.product(p) - d.product(q)) as u128
 }
 
-/// How far the hull of these corners reaches in a direction.
+/// Returns the extent of the hull of these vertices in a direction.
 fn extent(corners: &[Point], last: usize, d: Vector) -> u128
     requires some { 0 < length corners.now }
     requires parted { IsParted corners.now last }
@@ -34,8 +34,8 @@ fn extent(corners: &[Point], last: usize, d: Vector) -> u128
 }
 
 impl<'a> Outline<'a> {
-    /// How far the hull reaches in the direction `d`: the greatest product of a point with `d` less the least, exact;
-    /// `None` for the empty set. Divided by the length of `d` it is the width along `d`. Two bisections.
+    /// Returns the extent of the hull in the direction `d`: the greatest product of a point with `d` minus the least,
+    /// exact; or `None` if the set is empty. Divided by the length of `d` it is the width along `d`. Two bisections.
     pub fn width_along(&self, d: Direction) -> Option<u128>
         ensures { HoldsOfSetsOf (corners_of self.now)
             (λ S. MatchOption result (S ≡ []) (λ n. IsExtent S d (pos n))) }

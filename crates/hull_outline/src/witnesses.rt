@@ -1,4 +1,4 @@
-//! What shows that two hulls meet, or that they are apart.
+//! Witnesses: what shows that two hulls intersect, or that they are disjoint.
 ghost use Rattle.std.specs.Prelude.{◌≡◌, ◌⊎◌, ◌<◌, ◌≤◌, length, [], MatchOption};
 ghost use Rattle.hull_outline.specs.Meetings.{IsApart};
 ghost use Rattle.hull_outline.specs.Outlines.{HoldsOfBoth};
@@ -14,17 +14,17 @@ use super::rounds::corner_at;
 use super::separations::Separation;
 use super::vector::Vector;
 
-/// What shows how two hulls stand to each other.
+/// A witness of the relation of two hulls.
 #[derive(Clone, Copy, PartialEq, Eq, Debug)]
 pub enum Witness {
-    /// They meet here.
+    /// They share this point.
     Meets(Meeting),
-    /// They are apart: this parts this hull from the other.
+    /// They are disjoint: this separates this hull from the other.
     Apart(Separation),
 }
 
 impl<'a> Outline<'a> {
-    /// What parts this hull from `other`, of one corner or two, from which it is apart.
+    /// Returns the separation of this hull from `other`, which has one or two vertices and is disjoint from it.
     fn separation_from_few(&self, other: &Outline) -> Separation
         requires this { 0 < length (corners_of self.now) }
         requires that { 0 < length (corners_of other.now) }
@@ -39,7 +39,8 @@ impl<'a> Outline<'a> {
         }
     }
 
-    /// The first edge of this hull that has all of `other`, of one corner at least, on its right, as what parts them.
+    /// Returns the separation by the first edge of this hull that has all of `other`, which has at least one vertex, on
+    /// its right.
     fn separation_by_edge(&self, other: &Outline) -> Option<Separation>
         requires that { 0 < length (corners_of other.now) }
         ensures { HoldsOfBoth (corners_of self.now) (corners_of other.now)
@@ -58,7 +59,8 @@ impl<'a> Outline<'a> {
         None
     }
 
-    /// What parts this hull, of one corner at least, from `other`, by what parts that one from this.
+    /// Returns the separation of this hull, which has at least one vertex, from `other`, by that of the other from this
+    /// one.
     fn turned_separation(&self, other: &Outline, found: Separation) -> Separation
         requires this { 0 < length (corners_of self.now) }
         requires parts { HoldsOfBoth (corners_of self.now) (corners_of other.now) (λ S T. IsSeparation T S found) }
@@ -71,7 +73,7 @@ impl<'a> Outline<'a> {
         }
     }
 
-    /// What parts this hull from `other`, from which it is apart; both have three corners or more.
+    /// Returns the separation of this hull from `other`, which is disjoint from it; both have at least three vertices.
     fn separation_from_many(&self, other: &Outline) -> Separation
         requires this { 2 < length (corners_of self.now) }
         requires that { 2 < length (corners_of other.now) }
@@ -87,7 +89,7 @@ impl<'a> Outline<'a> {
         }
     }
 
-    /// What parts this hull from `other`, from which it is apart; both have one corner at least.
+    /// Returns the separation of this hull from `other`, which is disjoint from it; both have at least one vertex.
     fn separation(&self, other: &Outline) -> Separation
         requires this { 0 < length (corners_of self.now) }
         requires that { 0 < length (corners_of other.now) }
@@ -103,11 +105,11 @@ impl<'a> Outline<'a> {
         }
     }
 
-    /// Where this hull and `other` meet, or a direction that parts them, with a farthest point of this hull in it;
-    /// `None` where either is empty. A question of a segment for each edge of `other`, and where they are apart a
-    /// bisection for each edge of both.
+    /// Returns a common point of this hull and `other`, or a direction that separates them, with a farthest point of
+    /// this hull in it, or `None` if either is empty. A question of a segment for each edge of `other`, and if they are
+    /// disjoint a bisection for each edge of both.
     ///
-    /// Of two sets with three corners or more that are apart, one has an edge whose line parts them.
+    /// If two sets with at least three vertices each are disjoint, one has an edge whose line separates them.
     pub fn witness(&self, other: &Outline) -> Option<Witness>
         ensures { HoldsOfBoth (corners_of self.now) (corners_of other.now)
             (λ S T. MatchOption result ((S ≡ []) ⊎ (T ≡ [])) (λ found. IsWitness S T found)) }

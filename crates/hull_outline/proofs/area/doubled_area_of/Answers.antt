@@ -1,4 +1,4 @@
--- no triangle between the first corner and an edge bends right
+-- no triangle between the first vertex and an edge bends right
 use Rattle.std.proofs.Common.{◌-◌, ◌<◌, arith, length}
 use Rattle.hull_outline.proofs.Corners.{read_corner}
 use Rattle.hull_outline.proofs.Triangles.{triangle_left}

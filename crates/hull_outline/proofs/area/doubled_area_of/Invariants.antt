@@ -1,4 +1,4 @@
--- the triangles so far and the fan that is left make the whole
+-- the triangles so far and the rest of the fan are the whole
 use Rattle.std.proofs.Common.{◌≡◌, ◌≤◌, ◌-◌, ◌*◌, pos, ◌+ℤ◌, drop}
 use Rattle.lattice.specs.Plane.{widest_side}
 use Rattle.lattice.specs.Vertices.{fan, doubled_area}

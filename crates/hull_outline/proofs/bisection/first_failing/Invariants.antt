@@ -1,4 +1,4 @@
--- the test was true of the edge before `low`, and is false of the edge behind those that are left
+-- the test was true of the edge before `low`, and is false of the edge after those that are left
 use Rattle.std.proofs.Common.{◌<◌, ◌≤◌, ◌+◌, ◌-◌, true, false}
 use Rattle.hull_outline.specs.Rounds.{corner}
 use Rattle.hull_outline.proofs.bisection.first_failing.Given as goal

@@ -1,4 +1,4 @@
--- grind closes these at once; what is tried first takes long
+-- grind closes these at once; the tactic that is tried first takes long
 use Rattle.std.proofs.Common.{arith}
 use Rattle.std.proofs.lemmas.Grind.{common_steps}
 use Rattle.hull_outline.proofs.bisection.first_failing_back.Goals as goal

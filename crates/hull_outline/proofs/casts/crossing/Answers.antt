@@ -1,4 +1,5 @@
--- the leftmost and the rightmost corner tell whether the line is crossed, and a corner that is kept before one that is not tells where
+-- the leftmost and the rightmost vertex decide whether the line is crossed; a vertex that is kept before one that is
+-- not is the place
 use Rattle.std.proofs.Common.{◌≡◌, ◌<◌, ◌+◌, ◌↔◌, IsTrue, ℕ, refl, sym, subst, Bool, false, List, length}
 use Rattle.std.specs.Prelude.{not}
 use Rattle.hull_outline.specs.Outlines.{IsOutlineOf}
@@ -11,7 +12,7 @@ use Rattle.hull_outline.proofs.Corners.{corner_extreme, next_left}
 use Rattle.hull_outline.proofs.Courses.{kept_over, most_left, most_right, none_left, none_right}
 use Rattle.hull_outline.proofs.casts.crossing.Goals as goal
 
--- the direction is the one meant
+-- an equal direction has the same farthest point
 turned : (S : List Pair) (w d : Pair) (t : Pair) → d ≡ turned_left w → IsFarthest S d t → IsFarthest S (turned_left w) t
 turned S w d t e f = subst (λ (v : Pair). IsFarthest S v t) e f
 
@@ -46,7 +47,7 @@ returns-then-keeps c = λ S o.
     (subst (λ (t : Pair). IsTrue c.keeps-2.result ↔ IsKept (not c.keeps-is_left.result) a (moved a w) t) c.corner_at.ensures c.keeps-2.ensures)
     c.if-keeps.true
 
--- the corners there, where the line is crossed
+-- the vertices there are an edge at which the line is crossed
 crossed : (S V : List Pair) (a b p q : Pair) (i : ℕ) (t : Bool) → IsOutlineOf S V → 0 < length V → i < length V
     → IsKept t a b (corner V i) → ¬ IsKept t a b (corner V (i + 1)) → p ≡ corner V i → q ≡ corner V (i + 1) → IsCrossed S a b p q
 crossed S V a b p q i t o n l h f e g =

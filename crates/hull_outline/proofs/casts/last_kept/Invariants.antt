@@ -1,4 +1,4 @@
--- the corner at `low` is kept, and the one at `high` is not
+-- the vertex at `low` is kept, and the one at `high` is not
 use Rattle.std.proofs.Common.{◌-◌, ◌<◌, ◌≤◌}
 use Rattle.hull_outline.specs.Casts.{IsKept, moved}
 use Rattle.hull_outline.specs.Rounds.{corner}

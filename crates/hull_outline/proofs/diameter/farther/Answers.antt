@@ -1,4 +1,4 @@
--- the rules alone close these at once; what is tried first takes long
+-- the rules close these at once; the tactic that is tried first takes long
 use Rattle.std.proofs.Common.{rules}
 use Rattle.hull_outline.proofs.diameter.farther.Goals as goal
 

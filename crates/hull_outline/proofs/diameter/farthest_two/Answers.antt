@@ -1,4 +1,4 @@
--- the first corner alone; then each with the one opposite of its edge
+-- the first vertex; then each with the one opposite its edge
 use Rattle.std.proofs.Common.{ℕ, ◌+◌, ◌≤ℤ◌, inl, inr, sym, subst, List, arith}
 use Rattle.std.proofs.lemmas.Bool.{cases_lt}
 use Rattle.std.specs.List.{Contains}
@@ -20,7 +20,7 @@ loop-i-init c = λ S o.
       λ i l. absurd (omega (arith, l)),
     )
 
--- one pair more
+-- the better of the best pair and the next one is the best so far
 more : (S V : List Pair) (i : ℕ) (best r : Pair × Pair) (f : Pair) → Contains S (corner V i) → Contains S f
     → IsFirstFarthest S (left_of (corner V i) (corner V (i + 1))) f → IsDiameterOf S V i best.0 best.1
     → IsFarther best (corner V i, f) r → IsDiameterOf S V (i + 1) r.0 r.1

@@ -1,4 +1,4 @@
--- the best two so far
+-- the best pair so far
 use Rattle.std.proofs.Common.{List}
 use Rattle.lattice.specs.Plane.{Pair}
 use Rattle.hull_outline.specs.Extents.{IsDiameterOf}

@@ -1,4 +1,4 @@
--- the edge goes between the two corners
+-- the edge goes between the two vertices
 use Rattle.std.proofs.Common.{ap, ◌∙◌, subst}
 use Rattle.lattice.specs.Plane.{Pair}
 use Rattle.hull_geometry.specs.Tangents.{IsFirstFarthest}

@@ -1,4 +1,4 @@
--- what is nearest to the closest corner of the other hull
+-- the nearest feature to the closest vertex of the other hull
 use Rattle.std.proofs.Common.{subst}
 use Rattle.hull_outline.specs.Closest.{IsClosest}
 use Rattle.hull_outline.specs.Meetings.{Reaches}

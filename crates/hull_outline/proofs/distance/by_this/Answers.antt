@@ -1,4 +1,4 @@
--- what is nearest to the closest corner of this hull
+-- the nearest feature to the closest vertex of this hull
 use Rattle.std.proofs.Common.{subst}
 use Rattle.hull_outline.specs.Closest.{IsClosest}
 use Rattle.hull_outline.specs.Meetings.{IsReached}

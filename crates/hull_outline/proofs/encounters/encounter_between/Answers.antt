@@ -1,4 +1,4 @@
--- the sides of the two points tell how the set stands to the segment
+-- the sides of the two points determine the relation of the set to the segment
 use Rattle.std.proofs.Common.{◌≡◌, pos, ◌<ℤ◌, inl, inr, arith}
 use Rattle.std.proofs.lemmas.Int.{ints}
 use Rattle.lattice.specs.Plane.{Pair, orient}
@@ -9,7 +9,7 @@ use Rattle.lattice.proofs.Tests.{passed, failed}
 use Rattle.lattice.proofs.Numbers.{not_less}
 use Rattle.hull_outline.proofs.encounters.encounter_between.Goals as goal
 
--- a point on neither side
+-- a point on neither side is on the line
 on_line : (a b t : Pair) → ¬ (pos 0 <ℤ orient b a t) → ¬ (pos 0 <ℤ orient a b t) → orient a b t ≡ pos 0
 on_line a b t m n = elim (le_or_lt (orient a b t) (pos 0)) [
   | inr h ↦ absurd (n h)

@@ -7,7 +7,7 @@ use Rattle.hull_outline.proofs.Shields.{among_on_segment, shielded_in_line, thir
 use Rattle.lattice.proofs.Tests.{passed, failed}
 use Rattle.hull_outline.proofs.encounters.encounter_in_line.Goals as goal
 
--- the line, seen from the point
+-- the three points are in line, seen from the point
 from_point : (a b u : Pair) → orient a b u ≡ pos 0 → orient u a b ≡ pos 0
 from_point a b u z = sym (orient-cycle a b u) ∙ z
 

@@ -1,4 +1,4 @@
--- an end on the line of the two points is covered; where neither is, the segments cross
+-- an end on the line of the two points is covered; if neither is, the segments cross
 use Rattle.std.proofs.Common.{◌≡◌, ℤ, pos, neg_ℤ, ◌≤ℤ◌, ◌<ℤ◌, inl, inr, arith}
 use Rattle.std.proofs.lemmas.Int.{ints}
 use Rattle.lattice.specs.Covers.{OnSegment}
@@ -8,7 +8,7 @@ use Rattle.lattice.proofs.LineCrossings.{orient_other}
 use Rattle.lattice.proofs.Tests.{passed, failed}
 use Rattle.hull_outline.proofs.encounters.meeting_between.Goals as goal
 
--- a number that is not above 0, nor its opposite
+-- a number that is not above 0, and whose opposite is not, is 0
 nothing : (x y : ℤ) → y ≡ neg_ℤ x → ¬ (pos 0 <ℤ x) → y ≤ℤ pos 0 → x ≡ pos 0
 nothing x y e n h = elim (le_or_lt x (pos 0)) [ inl k ↦ omega (arith, ints) | inr k ↦ absurd (n k) ]
 

@@ -1,4 +1,4 @@
--- the first corner, the last, the lowest and the highest make the box
+-- the first vertex, the last, the lowest and the highest determine the box
 use Rattle.std.proofs.Common.{subst}
 use Rattle.lattice.specs.Plane.{Pair}
 use Rattle.hull_geometry.specs.Tangents.{IsFirstFarthest}

@@ -1,4 +1,4 @@
--- the corner at that place
+-- the vertex at that index
 use Rattle.std.proofs.Common.{sym, subst}
 use Rattle.hull_geometry.specs.Tangents.{IsFirstFarthest}
 use Rattle.hull_outline.proofs.extreme.farthest.Goals as goal

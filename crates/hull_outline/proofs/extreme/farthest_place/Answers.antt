@@ -1,4 +1,4 @@
--- behind the end stands the first corner again
+-- after the end is the first vertex again
 use Rattle.std.proofs.Common.{subst}
 use Rattle.hull_geometry.specs.Tangents.{IsFirstFarthest}
 use Rattle.hull_outline.proofs.Corners.{corner_back}

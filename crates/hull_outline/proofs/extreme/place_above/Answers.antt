@@ -1,4 +1,4 @@
--- the bisection found a corner up to which the upper chain does not fall, and from which it does
+-- the bisection found a vertex up to which the upper chain does not fall, and from which it does
 use Rattle.std.proofs.Common.{◌≡◌, pos, ◌<ℤ◌, rules, of_calls, subst, sym}
 use Rattle.lattice.specs.Plane.{Pair}
 use Rattle.hull_geometry.specs.Tangents.{IsFirstFarthest}

@@ -1,4 +1,4 @@
--- the bisection found a corner up to which the lower chain rises, and from which it does not
+-- the bisection found a vertex up to which the lower chain rises, and from which it does not
 use Rattle.std.proofs.Common.{◌≡◌, pos, ◌≤ℤ◌, rules, of_calls, subst, sym}
 use Rattle.lattice.specs.Plane.{Pair}
 use Rattle.hull_geometry.specs.Tangents.{IsFirstFarthest}

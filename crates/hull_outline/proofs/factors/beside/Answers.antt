@@ -1,4 +1,4 @@
--- a side is no larger than the edge and the way to the point together
+-- a side is at most the product of the edge and the distance to the point
 use Rattle.hull_outline.proofs.FactorsOf.{quotient_small}
 use Rattle.hull_outline.proofs.factors.beside.Goals as goal
 

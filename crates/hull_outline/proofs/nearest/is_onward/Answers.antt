@@ -1,4 +1,4 @@
--- the rules alone close this at once; what is tried first takes long
+-- the rules close this at once; the tactic that is tried first takes long
 use Rattle.std.proofs.Common.{rules}
 use Rattle.hull_outline.proofs.nearest.is_onward.Goals as goal
 

@@ -1,4 +1,4 @@
--- a corner or an edge that passes is the nearest
+-- a vertex or an edge that passes the test is the nearest
 use Rattle.std.proofs.Common.{◌<◌, ◌+◌, length, arith}
 use Rattle.hull_outline.proofs.Corners.{corner_extreme, next_left}
 use Rattle.hull_outline.proofs.NearestOf.{farthest_from}

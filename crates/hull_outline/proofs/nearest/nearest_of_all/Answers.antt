@@ -1,4 +1,4 @@
--- some corner or some edge is the nearest
+-- some vertex or some edge is the nearest
 use Rattle.std.proofs.Common.{◌≡◌, ℕ, inl, inr, subst, arith}
 use Rattle.std.proofs.lemmas.Bool.{cases_lt}
 use Rattle.hull_outline.specs.Nearest.{IsPassedOver}

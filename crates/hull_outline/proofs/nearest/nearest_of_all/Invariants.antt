@@ -1,4 +1,4 @@
--- none of the corners so far is the nearest, and none of the edges from them
+-- none of the vertices so far is the nearest, and none of the edges from them
 use Rattle.std.proofs.Common.{ℕ, ◌<◌}
 use Rattle.hull_outline.specs.Nearest.{IsPassedOver}
 use Rattle.hull_outline.proofs.nearest.nearest_of_all.Given as goal

@@ -7,7 +7,7 @@ use Rattle.hull_outline.proofs.ratios.two_digits.Goals as goal
 split : (a b x y : ℕ) → a ≡ x * 4398046511104 + y → a * b ≡ (x * b) * 4398046511104 + y * b
 split a b x y e = ap (λ (z : ℕ). z * b) e ∙ omega arith
 
--- a number is so many halves and a rest
+-- a number is a multiple of the half base and a rest
 halves : (a : ℕ) → a ≡ a / 4398046511104 * 4398046511104 + a % 4398046511104
 halves a = omega arith
 

@@ -1,9 +1,9 @@
--- each place that was passed goes on and bends left
+-- each index that was passed goes on and bends left
 use Rattle.std.proofs.Common.{ℕ, ◌+◌, ◌<◌, inl, inr, subst, arith}
 use Rattle.std.proofs.lemmas.Bool.{cases_lt}
 use Rattle.hull_outline.proofs.rounds.is_round.Goals as goal
 
--- what holds below a number and at it holds below the next
+-- a property of all numbers below n and of n is one of all numbers below n + 1
 one_more : (P : ℕ → Type 0) (n k : ℕ) → ((k : ℕ) → k < n → P k) → P n → k < n + 1 → P k
 one_more P n k h p l = elim (cases_lt k n) [ inl b ↦ h k b | inr b ↦ subst P (omega (arith, b, l)) p ]
 

@@ -1,4 +1,4 @@
--- a short list is the vertex list of itself; of a longer one it was tested that it is a round
+-- a short list is its own vertex list; a longer one was tested to be a round
 use Rattle.std.proofs.Common.{arith}
 use Rattle.hull_geometry.proofs.Rounding.{small_list}
 use Rattle.hull_outline.proofs.Made.{round_is_outline}

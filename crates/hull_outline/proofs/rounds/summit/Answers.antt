@@ -1,4 +1,4 @@
--- the corners go forward up to the place that the bisection found, and not from it
+-- the vertices go forward up to the index that the bisection found, and not from it
 use Rattle.std.proofs.Common.{rules, of_calls}
 use Rattle.hull_outline.proofs.Rings.{round_of, summit_of}
 use Rattle.hull_outline.proofs.rounds.summit.Goals as goal

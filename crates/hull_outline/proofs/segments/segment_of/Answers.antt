@@ -1,4 +1,4 @@
--- two points in order, and one alone, are the outline of their set
+-- two points in order, and a single one, are the polygon of their set
 use Rattle.std.proofs.Common.{◌≡◌, ℕ, ◌<◌, ◌∙◌, get_or, List, [], ◌∷◌, length, take, sym, subst, arith}
 use Rattle.lattice.specs.Plane.{Pair, IsBefore}
 use Rattle.hull_geometry.specs.Positions.{origin, point_at}
@@ -9,15 +9,15 @@ use Rattle.hull_outline.proofs.TwoPoints.{ends_few, ends_in_order, ends_outline,
 use Rattle.lattice.proofs.Tests.{passed, failed}
 use Rattle.hull_outline.proofs.segments.segment_of.Goals as goal
 
--- the ends are an outline, which is short
+-- the ends are a polygon, which is short
 short : (V : List Pair) (a b : Pair) → V ≡ ends a b → IsShortOutline V
 short V a b e = subst IsShortOutline (sym e) ((ends a b, ends_outline a b), omega (arith, ends_few a b))
 
--- what was read at a place stands there
+-- a point that was read at an index is there
 read : (V : List Pair) (i : ℕ) (x : Pair) → i < length V → x ≡ get_or V i x → x ≡ point_at V i
 read V i x l e = e ∙ get_or_free V i x origin l
 
--- both, where the first stands before the second
+-- both points are the set of the ends, if the first is before the second
 both : (V : List Pair) (x y : Pair) → length V ≡ 2 → x ≡ get_or V 0 x → y ≡ get_or V 1 y → IsBefore x y
     → V ≡ ends (point_at V 0) (point_at V 1)
 both V x y l ex ey b =
@@ -26,7 +26,7 @@ both V x y l ex ey b =
     (subst (λ (z : Pair). IsBefore z (point_at V 1)) (read V 0 x (omega (arith, l)) ex)
     (subst (IsBefore x) (read V 1 y (omega (arith, l)) ey) b)))
 
--- the first alone, where it does not
+-- the first point is the set of the ends, if it is not before the second
 alone : (V : List Pair) (x y : Pair) → length V ≡ 2 → x ≡ get_or V 0 x → y ≡ get_or V 1 y → ¬ IsBefore x y
     → ¬ IsBefore (point_at V 1) (point_at V 0) → point_at V 0 ∷ [] ≡ ends (point_at V 0) (point_at V 1)
 alone V x y l ex ey n m =

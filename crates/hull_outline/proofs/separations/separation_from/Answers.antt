@@ -1,4 +1,4 @@
--- the nearest corner or edge tells the direction
+-- the nearest vertex or edge determines the direction
 use Rattle.hull_outline.proofs.Made.{parted_is_outline}
 use Rattle.hull_outline.proofs.Separated.{from_corner, from_edge}
 use Rattle.hull_outline.proofs.separations.separation_from.Goals as goal

@@ -1,4 +1,4 @@
--- neither before nor after the last corner is at it
+-- a point neither before nor after the last vertex is equal to it
 use Rattle.hull_outline.proofs.EdgesAt.{last_touched}
 use Rattle.lattice.proofs.Tests.{failed}
 use Rattle.hull_outline.proofs.sights.look.Goals as goal

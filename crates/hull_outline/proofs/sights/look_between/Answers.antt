@@ -1,4 +1,4 @@
--- the left end of an edge is touched; behind it the sides of the lower and of the upper edge tell
+-- the left end of an edge is on the boundary; after it the sides of the lower and of the upper edge decide
 use Rattle.std.proofs.Common.{◌≡◌, ◌∙◌, to_z, of_z, pos, ◌<ℤ◌, length, arith}
 use Rattle.std.proofs.lemmas.Int.{ints}
 use mir.Syntax.{w128}

@@ -1,4 +1,4 @@
--- each word of the numerator, with what is carried
+-- each word of the numerator, with the carry
 use Rattle.hull_outline.proofs.WordsOf.{times_one}
 use Rattle.hull_outline.proofs.squares.times_word.Goals as goal
 

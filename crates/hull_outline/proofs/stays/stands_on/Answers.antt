@@ -1,4 +1,4 @@
--- the bisection found the only place of the chain at which p can be
+-- the bisection found the only index of the chain at which p can be
 use Rattle.std.proofs.Common.{◌≡◌, ◌∙◌, true, sym, subst, rules, of_calls}
 use Rattle.lattice.specs.Plane.{Pair}
 use Rattle.hull_set.specs.PointLists.{is_same_pair}

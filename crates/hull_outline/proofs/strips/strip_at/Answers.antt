@@ -1,4 +1,4 @@
--- its corners, and what is opposite
+-- the vertices of its edge, and the point opposite
 use Rattle.hull_outline.proofs.strips.strip_at.Goals as goal
 
 pub returns : goal.returns

@@ -1,4 +1,4 @@
--- the bisection found the corner up to which the edges are passed, or from which they are to come
+-- the bisection found the vertex up to which the edges are passed, or from which they are to come
 use Rattle.std.proofs.Common.{rules, of_calls}
 use Rattle.hull_outline.proofs.TangentsOf.{left_at, right_at}
 use Rattle.hull_outline.proofs.tangents.tangent_on.Goals as goal

@@ -1,4 +1,4 @@
--- where the start lies right of the edge the way comes in there, and elsewhere it misses
+-- if the start lies right of the edge the path enters there, else it misses
 use Rattle.std.proofs.Common.{pos}
 use Rattle.lattice.proofs.Numbers.{le_less, not_less}
 use Rattle.hull_outline.proofs.Casting.{missed_edge}

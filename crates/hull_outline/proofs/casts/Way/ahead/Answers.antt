@@ -1,4 +1,4 @@
--- the products fit 128 bits
+-- the products fit in 128 bits
 use Rattle.hull_outline.proofs.DifferencesTold.{difference_told}
 use Rattle.hull_outline.proofs.casts.Way.ahead.Goals as goal
 

@@ -1,4 +1,4 @@
--- where the start does not lie right of the edge the way goes out there, and elsewhere it misses
+-- if the start does not lie right of the edge the path exits there, else it misses
 use Rattle.std.proofs.Common.{◌≡◌, ◌∙◌, pos, neg_ℤ, ℤ, arith}
 use Rattle.std.proofs.lemmas.Int.{ints}
 use Rattle.lattice.proofs.Numbers.{le_less, not_less}
@@ -7,7 +7,7 @@ use Rattle.hull_outline.proofs.Leaving.{missed_out, on_back}
 use Rattle.lattice.proofs.Tests.{passed, failed}
 use Rattle.hull_outline.proofs.casts.Way.out_across.Goals as goal
 
--- a number turned twice
+-- a number negated twice is the number
 turned_twice : (x y : ℤ) → x ≡ y → x ≡ neg_ℤ (neg_ℤ y)
 turned_twice x y e = omega (arith, ints, e)
 

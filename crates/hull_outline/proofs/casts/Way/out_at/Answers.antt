@@ -1,4 +1,4 @@
--- where the corner lies not_apart the line and not behind the way goes out there, and elsewhere it misses
+-- if the vertex lies on the line and not behind the path exits there, else it misses
 use Rattle.std.proofs.Common.{◌∙◌}
 use Rattle.hull_outline.proofs.DifferencesTold.{told_within, twice, whole_told}
 use Rattle.hull_outline.proofs.Leaving.{ahead_back, farthest_back, length_back, line_back, missed_beyond, not_behind_back}

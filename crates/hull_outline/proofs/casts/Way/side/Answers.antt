@@ -1,4 +1,4 @@
--- how far a point lies to the left of the way is its side
+-- how far a point lies to the left of the path is its side
 use Rattle.std.proofs.Common.{◌≡◌, ◌∙◌, ◌-ℤ◌, sym, subst}
 use Rattle.lattice.specs.Plane.{Pair, orient, product}
 use Rattle.hull_outline.specs.Casts.{moved}

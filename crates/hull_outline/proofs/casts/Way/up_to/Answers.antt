@@ -1,4 +1,4 @@
--- where the corner lies not_apart the line and ahead the way comes in there, and elsewhere it misses
+-- if the vertex lies on the line and ahead the path enters there, else it misses
 use Rattle.std.proofs.Common.{◌≡◌, ◌∙◌, ◌-ℤ◌, ◌≤ℤ◌, ◌<ℤ◌, refl, sym, subst}
 use Rattle.lattice.specs.Plane.{Pair, product}
 use Rattle.hull_outline.specs.Casts.{moved}

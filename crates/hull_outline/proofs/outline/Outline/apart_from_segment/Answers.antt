@@ -1,4 +1,4 @@
--- the segment's normal parts a set beside its line, and the way to the nearer end any other
+-- the segment's normal separates it from a set beside its line, and the direction to the nearer end from any other
 use Rattle.std.proofs.Common.{arith, inl, inr}
 use Rattle.hull_outline.proofs.Ends.{no_corners}
 use Rattle.hull_outline.proofs.Separated.{from_right, from_left, from_start, from_end}

@@ -1,4 +1,4 @@
--- the corners are the vertex list of each of their sets
+-- the vertices are the vertex list of each of their sets
 use Rattle.std.proofs.Common.{◌≡◌, pos, List, subst}
 use Rattle.lattice.specs.Plane.{Pair}
 use Rattle.lattice.specs.Vertices.{doubled_area}

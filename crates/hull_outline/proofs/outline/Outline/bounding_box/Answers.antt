@@ -1,4 +1,4 @@
--- a set with no corners is empty
+-- a set with no vertices is empty
 use Rattle.std.proofs.Common.{arith}
 use Rattle.hull_outline.proofs.Ends.{no_corners}
 use Rattle.hull_outline.proofs.outline.Outline.bounding_box.Goals as goal

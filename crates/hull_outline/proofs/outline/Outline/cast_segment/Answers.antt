@@ -1,4 +1,4 @@
--- a segment that ends before the way comes in is apart
+-- a segment that ends before the path enters is disjoint
 use Rattle.std.proofs.Common.{arith, subst}
 use Rattle.lattice.specs.Plane.{Pair}
 use Rattle.hull_outline.specs.Casts.{IsHit, MissesRay}

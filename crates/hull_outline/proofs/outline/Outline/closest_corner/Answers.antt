@@ -1,4 +1,4 @@
--- the first corner that is not passed by
+-- the first vertex that is not passed by
 use Rattle.std.proofs.Common.{◌≡◌, ℕ, inl, inr, sym, subst, arith}
 use Rattle.std.proofs.lemmas.Bool.{cases_lt}
 use Rattle.std.specs.List.{Contains}

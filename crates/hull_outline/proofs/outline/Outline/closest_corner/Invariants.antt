@@ -1,4 +1,4 @@
--- the corners so far are passed by
+-- the vertices so far are passed by
 use Rattle.std.proofs.Common.{ℕ, ◌<◌, List}
 use Rattle.lattice.specs.Plane.{Pair}
 use Rattle.hull_outline.specs.Closest.{IsPassedBy}

@@ -1,4 +1,4 @@
--- a corner that is not covered is covered by the other set, and where all are covered so is whatever that set covers
+-- a vertex that is not covered is covered by the other set; if all are covered, so is each point that that set covers
 use Rattle.std.proofs.Common.{◌≡◌, ℕ, arith, inl, inr, refl, sym, subst}
 use Rattle.std.proofs.lemmas.Bool.{cases_lt}
 use Rattle.std.specs.List.{Contains}

@@ -1,4 +1,4 @@
--- the corners so far are covered
+-- the vertices so far are covered
 use Rattle.std.proofs.Common.{ℕ, ◌<◌, List}
 use Rattle.lattice.specs.Plane.{Pair}
 use Rattle.lattice.specs.Covers.{Covers}

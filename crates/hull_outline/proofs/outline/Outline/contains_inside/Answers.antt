@@ -1,4 +1,5 @@
--- a corner that does not lie inside is covered by the other set, and where all lie inside so does whatever that set covers
+-- a vertex that does not lie inside is covered by the other set; if all lie inside, so does each point that that set
+-- covers
 use Rattle.std.proofs.Common.{◌≡◌, ℕ, arith, inl, inr, refl, sym, subst}
 use Rattle.std.proofs.lemmas.Bool.{cases_lt}
 use Rattle.std.specs.Prelude.{IsTrue, ◌↔◌}

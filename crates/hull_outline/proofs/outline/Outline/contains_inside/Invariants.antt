@@ -1,4 +1,4 @@
--- the corners so far lie inside
+-- the vertices so far lie inside
 use Rattle.std.proofs.Common.{ℕ, ◌<◌, List}
 use Rattle.lattice.specs.Plane.{Pair}
 use Rattle.lattice.specs.Places.{IsInside}

@@ -1,4 +1,4 @@
--- what is parted is an outline
+-- a list that is split at an index is a polygon
 use Rattle.hull_outline.proofs.Made.{parted_is_outline}
 use Rattle.hull_outline.proofs.outline.Outline.corners.Goals as goal
 

@@ -1,4 +1,4 @@
--- inside and on the boundary are the two ways of being covered
+-- a covered point is inside or on the boundary
 use Rattle.std.proofs.Common.{arith, refl}
 use Rattle.hull_outline.proofs.outline.Outline.covers.Goals as goal
 

@@ -1,4 +1,4 @@
--- no corners, no points
+-- a set without vertices has no points
 use Rattle.std.proofs.Common.{arith, inl, inr}
 use Rattle.hull_outline.proofs.Ends.{no_corners}
 use Rattle.hull_outline.proofs.Witnessed.{meeting_meets}

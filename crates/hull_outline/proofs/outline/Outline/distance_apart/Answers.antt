@@ -1,4 +1,4 @@
--- of two sets that are apart one has a closest corner
+-- of two disjoint sets one has a closest vertex
 use Rattle.hull_outline.proofs.Closest.{never_all_passed}
 use Rattle.hull_outline.proofs.Made.{parted_is_outline}
 use Rattle.hull_outline.proofs.Witnessed.{apart_turned}

@@ -1,4 +1,4 @@
--- the ends are the outline of their set, which is not empty
+-- the ends are the polygon of their set, which is not empty
 use Rattle.std.proofs.Common.{◌≡◌, List, [], Option, None, Some, inl, inr, sym, ◌∙◌, subst}
 use Rattle.std.specs.Prelude.{◌⊎◌, MatchOption}
 use Rattle.lattice.specs.Plane.{Pair}
@@ -9,7 +9,7 @@ use Rattle.hull_outline.specs.declared.distance.Distance.{Distance}
 use Rattle.hull_outline.proofs.TwoPoints.{ends_outline, ends_some}
 use Rattle.hull_outline.proofs.outline.Outline.distance_to_segment.Goals as goal
 
--- of two sets, the second of which is not empty, none is nearest where the first is
+-- if the second of two sets is not empty, they have no nearest points only if the first is empty
 of_first : (r : Option Distance) (S T : List Pair) → ¬ (T ≡ [])
     → MatchOption r ((S ≡ []) ⊎ (T ≡ [])) (λ found. IsDistance S T found)
     → MatchOption r (S ≡ []) (λ found. IsDistance S T found)

@@ -1,4 +1,4 @@
--- a covered end is a point in common; else the farthest points on both sides tell
+-- a covered end is a common point; else the farthest points on both sides decide
 use Rattle.std.proofs.Common.{subst}
 use Rattle.lattice.specs.Plane.{Pair}
 use Rattle.lattice.specs.Places.{IsFarthest}

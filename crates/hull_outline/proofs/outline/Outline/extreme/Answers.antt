@@ -1,4 +1,4 @@
--- a set with no corners is empty
+-- a set with no vertices is empty
 use Rattle.std.proofs.Common.{arith, subst}
 use Rattle.lattice.specs.Plane.{Pair}
 use Rattle.hull_geometry.specs.Tangents.{IsFirstFarthest}

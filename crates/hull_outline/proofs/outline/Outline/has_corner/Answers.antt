@@ -1,4 +1,4 @@
--- a corner stands on one of the chains
+-- a vertex is on one of the chains
 use Rattle.std.proofs.Common.{◌<◌, length, arith, inl, inr}
 use Rattle.lattice.specs.declared.side.Side.TheVariants.{Lower, Upper}
 use Rattle.hull_outline.proofs.Staying.{on_either, on_one}

@@ -1,4 +1,4 @@
--- an edge that has the leftmost point of the other set not on its left divides the two
+-- an edge that does not have the leftmost point of the other set on its left divides the two
 use Rattle.std.proofs.Common.{◌≡◌, ℕ, ◌+◌, pos, ◌<ℤ◌, inl, inr, sym, subst, arith}
 use Rattle.std.proofs.lemmas.Bool.{cases_lt}
 use Rattle.lattice.specs.Plane.{Pair, orient}

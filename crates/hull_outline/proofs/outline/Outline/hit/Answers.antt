@@ -1,4 +1,4 @@
--- a start that is covered is where the way comes in, and else it comes in over the line, or along it
+-- a start that is covered is the entry; else the path enters across its line, or along it
 use Rattle.std.proofs.Common.{refl}
 use Rattle.hull_outline.specs.Rounds.{corner}
 use Rattle.lattice.specs.Covers.{IsExtreme}

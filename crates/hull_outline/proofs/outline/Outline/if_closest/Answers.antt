@@ -1,4 +1,4 @@
--- a corner is closest, or passed by
+-- a vertex is closest, or passed by
 use Rattle.std.proofs.Common.{sym, subst}
 use Rattle.lattice.specs.Plane.{Pair}
 use Rattle.lattice.specs.Places.{IsFarthest}

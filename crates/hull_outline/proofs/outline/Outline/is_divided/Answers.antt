@@ -1,4 +1,4 @@
--- an edge of this hull tells it, or one of the other
+-- the edges of this hull decide it, or those of the other
 use Rattle.hull_outline.proofs.Dividing.{divided_turned, each_left, edge_tells, others_tell}
 use Rattle.hull_outline.proofs.outline.Outline.is_divided.Goals as goal
 

@@ -1,4 +1,4 @@
--- where a farthest point is no farther than c, none is
+-- if a farthest point is no farther than c, none is
 use Rattle.std.proofs.Common.{arith}
 use Rattle.std.proofs.lemmas.Grind.{common_steps}
 use Rattle.hull_outline.proofs.Closest.{none_farther, some_farther}

@@ -1,4 +1,4 @@
--- a distance that is told is within the length or not; where none is told one of the two is empty
+-- a distance that is returned is within the length or not; if none is returned one of the two is empty
 use Rattle.std.proofs.Common.{◌≡◌, Bool, true, false, List, [], inl, inr, refl}
 use Rattle.std.specs.Prelude.{IsTrue, ◌↔◌, ◌⊎◌}
 use Rattle.lattice.specs.Plane.{Pair}
@@ -9,13 +9,13 @@ use Rattle.hull_outline.specs.declared.ranges.Length.{Length}
 use Rattle.lattice.proofs.Tests.{passed, failed}
 use Rattle.hull_outline.proofs.outline.Outline.is_within.Goals as goal
 
--- what a test of a distance tells of the two sets
+-- the result of the test of a distance, for the two sets
 told : (r : Bool) (length : Length) (S T : List Pair) (found : Distance) → IsDistance S T found
     → (IsTrue r ↔ IsNoFarther found length) → TellsWithin r length S T
 told true length S T found d h = (found, d, passed true _ refl h)
 told false length S T found d h = inr (inr (found, d, failed false _ refl h))
 
--- of two sets one is empty
+-- if one of the two sets is empty, the result is false
 empty : (S T : List Pair) → (S ≡ []) ⊎ (T ≡ []) → (length : Length) → TellsWithin false length S T
 empty S T (inl e) length = inl e
 empty S T (inr e) length = inr (inl e)

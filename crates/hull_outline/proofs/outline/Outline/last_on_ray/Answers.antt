@@ -1,4 +1,4 @@
--- the way goes out where the way back would come in
+-- the path exits where the opposite path would enter
 use Rattle.std.proofs.Common.{arith, sym, subst}
 use Rattle.lattice.specs.Covers.{IsExtreme}
 use Rattle.lattice.specs.Places.{IsFarthest}

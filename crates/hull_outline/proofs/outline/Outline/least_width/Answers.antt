@@ -1,4 +1,4 @@
--- one corner or none
+-- one vertex or none
 use Rattle.std.proofs.Common.{arith}
 use Rattle.hull_outline.proofs.LeastWidths.{one_point}
 use Rattle.hull_outline.proofs.outline.Outline.least_width.Goals as goal

@@ -1,4 +1,4 @@
--- on the boundary and outside are the two ways of not lying inside
+-- a point that does not lie inside is on the boundary or outside
 use Rattle.std.proofs.Common.{arith}
 use Rattle.hull_outline.proofs.outline.Outline.lies_inside.Goals as goal
 

@@ -1,4 +1,4 @@
--- a covered corner or an edge that meets is a meeting; where there is none the sets are apart
+-- a covered vertex or an edge that intersects gives a common point; if there is none the sets are disjoint
 use Rattle.std.proofs.Common.{◌≡◌, ℕ, ◌+◌, ◌<◌, length, inl, inr, sym, ◌∙◌, subst, arith}
 use Rattle.std.proofs.lemmas.Bool.{cases_lt}
 use Rattle.std.specs.List.{Contains}

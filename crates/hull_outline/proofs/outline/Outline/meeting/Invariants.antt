@@ -1,4 +1,4 @@
--- the edges so far are apart from the set
+-- the edges so far are disjoint from the set
 use Rattle.std.proofs.Common.{ℕ, ◌<◌, ◌+◌, List}
 use Rattle.lattice.specs.Plane.{Pair}
 use Rattle.hull_outline.specs.Meetings.{IsApart, segment}

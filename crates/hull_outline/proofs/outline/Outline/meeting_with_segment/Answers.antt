@@ -1,4 +1,4 @@
--- what is not a meeting is told apart by the segment's normal, or by whatever parts the nearer end
+-- if there is no common point, the segment's normal separates the two, or a direction that separates the nearer end
 use Rattle.hull_outline.proofs.Shields.{apart_behind, apart_beyond, parted_right, parts_turned}
 use Rattle.hull_outline.specs.Steps.{left_of}
 use Rattle.hull_outline.proofs.outline.Outline.meeting_with_segment.Goals as goal

@@ -1,4 +1,4 @@
--- no points are apart from any; what meets somewhere meets
+-- the empty set is disjoint from each set; sets with a common point intersect
 use Rattle.std.proofs.Common.{arith}
 use Rattle.hull_outline.proofs.Ends.{no_corners}
 use Rattle.hull_outline.proofs.Shields.{apart_empty}

@@ -1,4 +1,4 @@
--- what meets somewhere meets
+-- sets with a common point intersect
 use Rattle.std.proofs.Common.{arith}
 use Rattle.hull_outline.specs.Meetings.{segment}
 use Rattle.hull_outline.proofs.Ends.{no_corners}

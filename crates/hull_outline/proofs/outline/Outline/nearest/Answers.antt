@@ -1,4 +1,4 @@
--- no corners, a covered point, or one outside
+-- no vertices, a covered point, or one outside
 use Rattle.std.proofs.Common.{arith}
 use Rattle.hull_outline.proofs.Ends.{no_corners}
 use Rattle.lattice.proofs.Tests.{passed, failed}

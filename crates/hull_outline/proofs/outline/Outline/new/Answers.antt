@@ -1,4 +1,4 @@
--- what is parted is the outline of its own points
+-- a list that is split at an index is the polygon of its own points
 use Rattle.hull_outline.proofs.Made.{own_outline}
 use Rattle.hull_outline.proofs.outline.Outline.new.Goals as goal
 

@@ -1,4 +1,4 @@
--- the sight tells the place; nothing is covered by no corners
+-- the location determines the place; no vertices cover nothing
 use Rattle.std.proofs.Common.{arith, ap, length}
 use Rattle.hull_geometry.proofs.EdgesAt.{outside_nothing}
 use Rattle.hull_outline.proofs.EdgesAt.{are_ends}

@@ -1,4 +1,4 @@
--- which of the two holds the other, or neither
+-- one of the two contains the other, or neither does
 use Rattle.std.proofs.Common.{refl}
 use Rattle.lattice.proofs.Tests.{failed}
 use Rattle.hull_outline.proofs.outline.Outline.relation.Goals as goal

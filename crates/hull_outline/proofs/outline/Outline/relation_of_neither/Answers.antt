@@ -1,4 +1,4 @@
--- hulls that meet, neither of which holds the other, have two corners or more
+-- hulls that intersect, neither of which contains the other, have at least two vertices
 use Rattle.hull_outline.proofs.Dividing.{apart_tells, many_of_met, meets_tells, meets_turned}
 use Rattle.hull_outline.proofs.Made.{parted_is_outline}
 use Rattle.lattice.proofs.Tests.{passed, failed}

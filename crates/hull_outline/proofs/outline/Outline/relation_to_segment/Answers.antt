@@ -1,4 +1,4 @@
--- the ends are the outline of their set
+-- the ends are the polygon of their set
 use Rattle.std.proofs.Common.{sym, ◌∙◌, subst}
 use Rattle.hull_outline.specs.Outlines.{IsOutlineOf}
 use Rattle.hull_outline.specs.Segments.{ends}

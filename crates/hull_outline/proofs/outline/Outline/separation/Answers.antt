@@ -1,4 +1,4 @@
--- what parts the other hull from this one, turned round
+-- the reversed separation of the other hull from this one
 use Rattle.hull_outline.proofs.Witnessed.{apart_turned}
 use Rattle.hull_outline.proofs.outline.Outline.separation.Goals as goal
 

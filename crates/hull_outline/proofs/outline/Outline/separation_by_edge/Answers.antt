@@ -1,4 +1,4 @@
--- an edge with the leftmost point of the other set on its right parts them
+-- an edge with the leftmost point of the other set on its right separates them
 use Rattle.std.proofs.Common.{◌≡◌, ℕ, ◌+◌, pos, ◌≤ℤ◌, inl, inr, refl, sym, subst, arith}
 use Rattle.std.proofs.lemmas.Bool.{cases_lt}
 use Rattle.std.specs.List.{Contains}

@@ -1,4 +1,4 @@
--- what parts from the segment of one corner or two parts from them
+-- a separation from the segment of the only one or two vertices is one from the set
 use Rattle.std.proofs.Common.{◌≡◌, ◌⊎◌, [], subst}
 use Rattle.lattice.specs.Plane.{Pair}
 use Rattle.hull_outline.specs.Meetings.{Meets, segment}

@@ -1,4 +1,4 @@
--- one of two sets that are apart has an edge that parts them
+-- one of two disjoint sets has an edge that separates them
 use Rattle.hull_outline.proofs.Made.{parted_is_outline}
 use Rattle.hull_outline.proofs.Witnessed.{not_both_left}
 use Rattle.hull_outline.proofs.outline.Outline.separation_from_many.Goals as goal

@@ -1,4 +1,4 @@
--- the corners stay as a covered point comes
+-- the vertices stay when a covered point is added
 use Rattle.hull_outline.proofs.Staying.{stay_with}
 use Rattle.hull_outline.proofs.outline.Outline.stays_with.Goals as goal
 

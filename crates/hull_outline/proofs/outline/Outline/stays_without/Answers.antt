@@ -1,4 +1,4 @@
--- the corners stay as a point goes that is none of them
+-- the vertices stay when a point is removed that is not one of them
 use Rattle.std.proofs.lemmas.Bool.{not-true}
 use Rattle.hull_outline.proofs.Staying.{stay_without}
 use Rattle.lattice.proofs.Tests.{failed}

@@ -1,4 +1,4 @@
--- the tangents touch the chains that the sight tells; nothing is covered by no corners
+-- the tangents touch the chains that the location determines; no vertices cover nothing
 use Rattle.std.proofs.Common.{arith, inl, inr}
 use Rattle.hull_outline.proofs.EdgesAt.{are_ends}
 use Rattle.hull_outline.proofs.Ends.{no_corners}

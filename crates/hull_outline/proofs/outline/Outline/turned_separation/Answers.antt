@@ -1,4 +1,4 @@
--- the direction backwards, with the farthest point there
+-- the opposite direction, with the farthest point there
 use Rattle.hull_outline.proofs.Witnessed.{separation_turned}
 use Rattle.hull_outline.proofs.outline.Outline.turned_separation.Goals as goal
 

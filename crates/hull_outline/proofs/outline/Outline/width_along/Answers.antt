@@ -1,4 +1,4 @@
--- no corners, no points; else the extent of the direction
+-- a set without vertices has no points; else the extent in the direction
 use Rattle.std.proofs.Common.{pos, subst, arith}
 use Rattle.lattice.specs.Plane.{Pair}
 use Rattle.hull_outline.specs.Extents.{IsExtent}

@@ -1,4 +1,4 @@
--- the product of a short component and a component fits 64 bits
+-- the product of a short component and a component fits in 64 bits
 use Rattle.std.proofs.Common.{◌*◌, ◌^◌, lit≤, to_z, of_z}
 use lib.IntN.{ℤ, ◌*ℤ◌}
 use mir.Syntax.{w64}
