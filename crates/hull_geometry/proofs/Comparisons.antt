@@ -1,4 +1,4 @@
--- What follows from a comparison of two sides in 128 bits.
+-- The consequences of a comparison of two sides in 128 bits.
 use Rattle.std.proofs.Common.{◌≡◌, ℤ, pos, ◌<ℤ◌, ◌≤ℤ◌, arith, true, false, FitsSigned, to_z, of_z}
 use Rattle.std.specs.Prelude.{IsTrue, ◌↔◌}
 use Rattle.std.proofs.lemmas.Int.{ints}

@@ -1,4 +1,4 @@
--- Lists of points, their parts, and what holds of all pairs in order.
+-- Lists of points, their parts, and properties of all pairs in order.
 use Rattle.std.proofs.Common.{◌≡◌, ℕ, refl, ap, List, arith, zero, suc, ◌<◌, ◌≤◌, [], ◌∷◌, ◌++◌, length, get_or, take}
 use Rattle.std.proofs.Common.{◌-◌, ◌+◌, ◌∙◌, sym, drop, length-take, length-drop}
 use Rattle.std.specs.Prelude.{slice_range}
@@ -32,7 +32,7 @@ AllPairs-tail x xs s i j d lt l = s (suc i) (suc j) d (omega arith) (omega arith
 pub AllPairs-none : IsPointSet []
 AllPairs-none i j d lt l = absurd (omega arith)
 
--- what holds of all members of two lists holds of all members of both in a row
+-- a property of all members of two lists is one of all members of both in a row
 pub all_append_right : (P : Pair → Type 0) (xs ys : List Pair) → All P xs → All P ys → All P (xs ++ ys)
 all_append_right P [] ys a b = b
 all_append_right P (x ∷ xs) ys a b =

@@ -1,4 +1,4 @@
--- Which points lie on the left hand and on the right hand, as seen from a point q.
+-- The points on the left hand and on the right hand, as seen from a point q.
 use Rattle.std.specs.Prelude.{◌≡◌, ◌⊎◌, ℤ, pos, ◌<ℤ◌}
 use Rattle.lattice.specs.Plane.{Pair, orient, distance_squared, IsBefore}
 use Rattle.lattice.specs.declared.side.Side.{Side}

@@ -124,7 +124,7 @@ goes_along : (d a c : Pair) → product d c -ℤ product d a ≡ d.x *ℤ (c.x -
 unfolding product
 goes_along d a c = rw (as_pair d, as_pair a, as_pair c) (simp difference_rules (difference-eq _ _ _ _ (omega arith)))
 
--- the components of one vector by those of two others
+-- the product of two vectors, by their products and cross products with a third
 by_third : (w z u v x y : ℤ)
     → (w *ℤ w +ℤ z *ℤ z) *ℤ (x *ℤ u +ℤ y *ℤ v) -ℤ (w *ℤ u +ℤ z *ℤ v) *ℤ (x *ℤ w +ℤ y *ℤ z)
     ≡ (w *ℤ v -ℤ z *ℤ u) *ℤ (w *ℤ y -ℤ z *ℤ x)

@@ -183,8 +183,8 @@ back_first p f v = rw (as_pair p, as_pair f, as_pair v) (simp difference_rules (
 -- ---- opposite an edge
 
 -- if p and q are the only points nearest and farthest in a direction, a is the next vertex after p and b that after q,
--- and the edge from q is rotated no farther than the one from p back, then p is the first of the points farthest from
--- the edge from q
+-- and the edge from q turns no farther than the reverse of the edge from p, then p is the first of the points farthest
+-- from the edge from q
 opposite_is : (S : List Pair) (d p a q b f : Pair) → Contains S p → IsLeftOf S p a → pos 0 <ℤ product d (minus a p)
     → product d (minus b q) <ℤ pos 0 → ((t : Pair) → Contains S t → ¬ (t ≡ p) → product d p <ℤ product d t)
     → pos 0 ≤ℤ cross (minus a p) (minus b q) → (cross (minus a p) (minus b q) ≡ pos 0 → IsBefore p a)
@@ -251,8 +251,8 @@ opposite_is S d p a q b f mp left up down low orient_on tie far = elim (before_t
     in_line n = zero_opposite _ _ (back_first p f (minus a p))
         (cancel_down _ _ down (second_of_three _ _ _ whole first second (third n)))
 
--- if two vertices are a diameter, the first is opposite the edge from the second, if that is rotated no farther than
--- the one from the first back
+-- if two vertices are a diameter, and the edge from the second turns no farther than the reverse of the edge from the
+-- first, the first is opposite the edge from the second
 edge_opposite : (S V : List Pair) (i j : ℕ) → IsVertexList S V → 1 < length V → i < length V → j < length V
     → IsDiameter S (corner V j) (corner V i)
     → pos 0 ≤ℤ cross (minus (corner V (j + 1)) (corner V j)) (minus (corner V (i + 1)) (corner V i))

@@ -16,7 +16,7 @@ use Rattle.hull_outline.proofs.Ends.{ends_of, alone}
 use Rattle.hull_outline.proofs.Made.{parted_is_outline}
 use Rattle.hull_outline.proofs.Rings.{ring_of}
 
--- if all edges up to one along a chain do not end after q, and an end of the chain does, that vertex is not the last
+-- if a vertex of a chain is not after q, and the end of the chain is, the vertex is not the end
 pub start_within : (side : Side) (V : List Pair) (last start : ℕ) (q : Pair)
     → ¬ (IsAlong side q (corner V (starts_at side last))) → IsAlong side q (corner V (ends_at side V last))
     → starts_at side last ≤ start → start ≤ ends_at side V last

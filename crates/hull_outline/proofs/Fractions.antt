@@ -72,7 +72,7 @@ mixed m l k j r s p hm hl hk hj hr hs first second both = elim (le_or_lt (m *ℤ
     clash : (x y z u v : ℤ) → x <ℤ y → y ≡ z → z ≤ℤ u → v ≡ u → v ≤ℤ x → ⊥
     clash x y z u v e f g h i = omega (arith, ints)
 
--- a bound on kappa times d, by a and b times the two
+-- the difference for a sum of two numbers with the weights a and b, by the differences for the two
 expanded : (m l a b k j r s p : ℤ)
     → ((a *ℤ k +ℤ b *ℤ j) *ℤ (a *ℤ k +ℤ b *ℤ j)) *ℤ l
     -ℤ m *ℤ ((a *ℤ a) *ℤ r +ℤ ((a *ℤ b) *ℤ p +ℤ ((a *ℤ b) *ℤ p +ℤ (b *ℤ b) *ℤ s)))

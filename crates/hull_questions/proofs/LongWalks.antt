@@ -45,7 +45,7 @@ walk_there (Fork e f u w) from to h s = elim (before_told f.0 to) [
   ]
 ]
 
--- each range has the list that a walk would append to
+-- the list after the points of a range were appended, which is no shorter than before
 pub record IsLonger (t : Tree) (from to : Pair) (side : Side) (before : List Pair) : Type 0 where
   pub all : List Pair
   pub listed : IsListed t from to side before all

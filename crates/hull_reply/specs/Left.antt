@@ -1,4 +1,4 @@
--- What is true of a borrowed value after a call.
+-- The state of a borrowed value after a call.
 use base.Fml.{Fml, fex, fsep, ftrue}
 use base.Fraction.{full_share}
 use denote.RattleType.{RattleType}

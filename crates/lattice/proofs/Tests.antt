@@ -1,4 +1,4 @@
--- What follows from the result of a test.
+-- The consequences of the result of a test.
 use Rattle.std.proofs.Common.{◌≡◌, Bool, true, false}
 use Rattle.std.specs.Prelude.{◌↔◌}
 use Rattle.std.specs.Bool.{IsTrue}

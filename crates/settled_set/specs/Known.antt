@@ -1,4 +1,4 @@
--- What is known of the vertices of a set of points.
+-- The knowledge of the vertices of a set of points.
 use Rattle.std.specs.Prelude.{List}
 use Rattle.lattice.specs.Plane.{Pair}
 use Rattle.hull_outline.specs.Outlines.{IsOutlineOf}

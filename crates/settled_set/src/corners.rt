@@ -15,7 +15,7 @@ use lattice::Point;
 /// How many vertices are gathered for each question that was asked.
 const CORNERS_A_QUESTION: usize = 2;
 
-/// What is known of the vertices of a set.
+/// The knowledge of the vertices of a set.
 #[derive(Drop)]
 pub(crate) enum Corners {
     /// The vertices.

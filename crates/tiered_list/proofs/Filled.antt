@@ -1,4 +1,4 @@
--- What remains true of filled blocks when a point moves between two of them, is inserted or is removed.
+-- Facts about filled blocks when a point moves between two of them, is inserted or is removed.
 use Rattle.std.proofs.Common.{◌≡◌, ℕ, ◌+◌, ◌-◌, ◌*◌, ◌/◌, ◌%◌, ◌<◌, ◌≤◌, zero, suc, min, List, [], ◌∷◌, ◌++◌, length, get_or, arith, refl, sym, ap}
 use Rattle.std.proofs.Common.{◌∙◌, subst, append_assoc, length-append}
 use Rattle.std.proofs.Math.ListN.{set}

@@ -1,4 +1,4 @@
--- what was listed so far is a half with its bridges
+-- the entries so far are a half with its bridges
 use Rattle.bridge_search.specs.Trees.{IsBridged}
 use Rattle.bridge_search.specs.Listed.{listed_tree}
 use Rattle.bridge_search.proofs.tests.entries_of.Given as goal
