@@ -1,8 +1,8 @@
 //! The upper and the lower bridge of two halves of a hull, found by walking down their stored edges
 //! (Overmars and van Leeuwen, 1981).
+//!
 //! A [`Half`] is one point, or two stored edges and two halves of its own; the search is proved over every half that
 //! keeps its law. Nothing here allocates.
-//! keeps its law. Nothing here asks for memory.
 #![tactic(auto)]
 
 mod both;

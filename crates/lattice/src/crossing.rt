@@ -19,8 +19,8 @@ fn weighted(u: i128, p: i64, v: i128, q: i64, r: i64) -> i128
     multiplied(u, (p - r) as i128) + multiplied(v, (q - r) as i128)
 }
 
-/// Whether the point u*d + v*c, divided by u + v, is before m or is m. It does not divide: it tests the sign of u*(d -
-/// m) + v*(c - m), first in x, and in y only if that is zero.
+/// Whether the point u*d + v*c, divided by u + v, is before m or is m. It does not divide: it tests the sign of
+/// u*(d - m) + v*(c - m), first in x, and in y only if that is zero.
 /// For callers that already have the two sides of a crossing.
 pub fn weighted_at_or_before(u: i128, v: i128, c: Point, d: Point, m: Point) -> bool
     requires first { IsWithin widest_side u }

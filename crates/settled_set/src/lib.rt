@@ -4,7 +4,7 @@
 //! ([`Settled::settle`]), an array of its vertices. Most changes leave the vertices as they are, and keep the array;
 //! any other change drops it. Questions are answered from the array if it is there, and else by the set. With the
 //! array, each takes one or two bisections of adjacent points instead of one or a few paths down a tree.
-//! is one or two bisections of neighbouring points then, in the place of a way or a few down a tree.
+//!
 //! Questions take `&self` and write nothing, so any number of threads may ask one set at once, prepared or not. Only
 //! [`settle`](Settled::settle) and changes need exclusive access.
 #![tactic(auto)]

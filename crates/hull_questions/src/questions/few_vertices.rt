@@ -71,7 +71,7 @@ fn push_chain_up_to<H: Half>(
 }
 
 /// Returns the vertices of the hull of a half, as [`vertices`](crate::vertices) does, if there are at most `most`, and
-/// `None` if there are more. It visits only forks that are above at most `most` edges. Fails with `AllocError` only if
+/// `None` if there are more. It passes no more forks than those above `most` edges. Fails with `AllocError` only if
 /// `alloc` refuses memory.
 pub fn vertices_up_to<H: Half>(
     alloc: Heap,
