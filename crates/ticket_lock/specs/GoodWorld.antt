@@ -47,8 +47,8 @@ module _ {B H L : Type 0} where
     pub begins : (j : ℕ) (m : Memo H L) → HasSeen w j m → IsPrefix m.seen (K.lines w.current)
     pub own_lines : (j : ℕ) (m : Memo H L) → HasSeen w j m → own K m.seat (K.lines w.current) ≡ own K m.seat m.seen
 
-  -- how a lock ends: in a good world whose seats are just those given back, none of which has a number, with the
-  -- book b at home, and whose word 0 is t, which is the turn of b: the number that the next take would have had
+  -- how a lock ends: in a good world whose seats are exactly those that were returned, none of which has a number, with the book b in its slot. Word
+  -- 0 is t, the turn of b: the number that the next take would have had
   pub record Shut (K : Ghosts B H L) (F : Form) (opening : B) (given : List (SeatState H L)) (b : B) (t : ℕ)
       : Type 0 where
     pub world : World B H L
