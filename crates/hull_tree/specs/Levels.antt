@@ -5,7 +5,7 @@ use Rattle.hull_tree.specs.declared.node.Node.{Node}
 use Rattle.leaf_trees.specs.declared.bridge.Bridge.{Bridge}
 use Rattle.hull_tree.specs.Nodes.{tree_of}
 
--- what the forks of a level store, from left to right, where the tree itself stands on level `here`
+-- what the forks of a level store, from left to right; the tree itself is on level `here`
 unfoldable pub level_of : ℕ → ℕ → Tree → List Bridge
 level_of wanted here (Leaf x) = []
 level_of wanted here (Fork e f u w) = if here == wanted
