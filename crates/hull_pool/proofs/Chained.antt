@@ -149,7 +149,7 @@ pub count_both : (k : ℕ) (front back : List PhaseValue)
 count_both k front back = ap length (calls_of-append k front back)
     ∙ length-append (calls_of k front) (calls_of k back)
 
--- what holds of all phases holds of those in front
+-- what holds of all phases holds of the first ones
 all_front : (P : PhaseValue → Type 0) (front back : List PhaseValue) → All P (front ++ back) → All P front
 all_front P [] back all = λ k d lt. absurd (omega arith)
 all_front P (phase ∷ front) back all =
@@ -191,7 +191,7 @@ module _ {S : Type 0} {K : Ghosts S} where
             omega (arith, a, d, count_both k front back);
       }
 
-  -- the phases of a front may be run
+  -- the phases of a prefix may be run
   pub may_front : (b : BookValue S) (w : WorkersValue) (front back : List PhaseValue)
       → MayRunAll K b w (front ++ back) → MayRunAll K b w front
   may_front b w front back may = record {
