@@ -31,7 +31,7 @@ fn read(alloc: Global, text: &[u8], size: usize, failing: u64) -> Outcome {
     }
 }
 
-// Whether a text reads so in pieces of any size.
+// Whether this is the result of reading a text in pieces of any size.
 fn is_read_so(alloc: Global, text: &[u8], want: Outcome) -> bool {
     for size in [1, 2, 3, 4096] {
         if read(alloc, text, size, 0) != want {
