@@ -127,8 +127,7 @@ fn journal_of(alloc: Global, limit: u32, lines: [Line; 3]) -> Result<Option<Jour
     Ok(journal)
 }
 
-// What the checker finds of a journal whose memory was refused and whose point was then added, where the third reply is
-// this.
+// What the checker finds of a journal whose memory was refused and whose point was then added, if the third reply is this.
 fn refused_and_added(alloc: Global, third: Reply) -> Result<Option<CheckResult>, Fail> {
     let add = Call::Add(at(0, 0)?);
     let lines = [

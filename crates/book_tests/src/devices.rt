@@ -50,7 +50,7 @@ pub(super) fn device(
     }
 }
 
-/// Makes a device with this capacity behind a buffer of 4096 bytes, which fails at the call with this number.
+/// Makes a device with this capacity through a buffer of 4096 bytes, which fails at the call with this number.
 pub(super) fn in_blocks(
     rt: &impl Abort,
     alloc: Global,
@@ -173,7 +173,7 @@ fn a_piece_is_handed_on_in_one_call(rt: HostRuntime) -> Result<(), Fail> {
     Ok(())
 }
 
-// Returns the result of writing it to a device behind a buffer: the outcome and the failures, and whether the device received all of it, and by how
+// Returns the result of writing it to a device through a buffer: the outcome and the failures, and whether the device received all of it, and by how
 // many calls.
 fn said_in_blocks(blocks: BufWriter<Spout>) -> (Result<(), WriteFault>, u64, bool, u64) {
     let mut out = Counted::new(blocks);

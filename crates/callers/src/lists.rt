@@ -12,7 +12,7 @@ pub fn list_of(alloc: Heap, points: &[Point]) -> Result<TieredList, AllocError>
 {
     let mut list = TieredList::new(alloc);
     list.reserve(points.len())?;
-    // what a change moves aside: nothing stands behind its place here
+    // what a change moves aside: nothing is after its place here
     let mut spare = Vec::new(alloc);
     list.splice(0, 0, points, &mut spare);
     Ok(list)

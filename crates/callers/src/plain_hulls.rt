@@ -5,7 +5,7 @@ use heap::Heap;
 use hull_plain::{HullSet, NoMemory, PlainSet};
 use lattice::Point;
 
-/// The corners of the hull of three points, counterclockwise from the first by x and then y.
+/// The vertices of the hull of three points, counterclockwise from the first by x and then y.
 pub fn corners_of_three(alloc: Heap, points: [Point; 3]) -> Result<Vec<Point, Heap>, NoMemory>
     ensures { IfOk result (λ corners. vec_len corners ≤ 3) }
 {

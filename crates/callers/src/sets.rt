@@ -1,4 +1,4 @@
-//! A caller of `hull_set`, for any set behind its trait: `HullTree`, `BucketTree`, `PlainSet`.
+//! A caller of `hull_set`, for any set after its trait: `HullTree`, `BucketTree`, `PlainSet`.
 ghost use Rattle.std.specs.Prelude.{◌≡◌, MatchOption};
 ghost use Rattle.hull_set.specs.Replies.{Answers};
 

@@ -1,4 +1,4 @@
--- Where a player stands: with a seat, a ticket or a guard of the lock, and a ledger that counts its lines.
+-- Where a player is: with a seat, a ticket or a guard of the lock, and a ledger that counts its lines.
 use Rattle.std.specs.Prelude.{◌≡◌, ◌<◌, ℕ, Option, IfSome, box_value}
 use Rattle.hull_set.specs.declared.set.HullSet.{Ghosts}
 use Rattle.hull_book.specs.Books.{IsLawful}

@@ -86,10 +86,9 @@ fn every_way_of_three_players(rt: HostRuntime) -> Result<(), Fail> {
     Ok(())
 }
 
-/// All 15222 ways in which they can do so with one miss at most, where the third makes its first call alone. A miss
-/// gives the ticket back and touches nothing else, so what is to be seen is where it falls: before, between and behind
-/// all steps of two others, of which each takes a number again after it was served. With the sixth call there would be
-/// 204642 ways, minutes of them, in which the same falls among more steps.
+/// All 15222 ways in which they can do so with one miss at most, if the third makes its first call alone. A miss gives the ticket back and touches
+/// nothing else, so what is to be seen is where it falls: before, between and after all steps of two others, of which each takes a number again after
+/// it was served. With the sixth call there would be 204642 ways, minutes of them, in which the same falls among more steps.
 #[test]
 fn every_way_of_three_players_with_a_miss(rt: HostRuntime) -> Result<(), Fail> {
     let game = three_players(&rt, rt.alloc(), 7, 1, 1)?;
@@ -116,7 +115,7 @@ fn every_way_of_two_players_with_misses(rt: HostRuntime) -> Result<(), Fail> {
     Ok(())
 }
 
-/// All 9096 ways in which four players can make a call each with one miss at most, where two put the same point in.
+/// All 9096 ways in which four players can make a call each with one miss at most, if two put the same point in.
 #[test]
 fn every_way_of_four_players(rt: HostRuntime) -> Result<(), Fail> {
     let alloc = rt.alloc();

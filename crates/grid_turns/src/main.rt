@@ -11,7 +11,7 @@ use lattice::Point;
 use std::fmt;
 use std::process::ExitCode;
 
-/// How many points stand in a row of the grid, and how many rows it has.
+/// How many points are in a row of the grid, and how many rows it has.
 const SIDE: u32 = 256;
 
 /// How many turns a change takes at most.

@@ -49,7 +49,7 @@ fn open_again<S: HullSet + Drop>(alloc: Global, set: S, findings: &mut Findings)
     }
 }
 
-/// Opens a book over the set. Where memory is refused, the set comes back, and the next attempt opens it.
+/// Opens a book over the set. If memory is refused, the set comes back, and the next attempt opens it.
 pub fn try_open<S: HullSet + Drop>(alloc: Global, set: S) -> Result<Stage, &'static str>
     requires empty { S.held set ≡ nothing_held }
 {
@@ -86,8 +86,7 @@ pub fn serve<S: HullSet + Drop>(
     book.serve(0, call, &mut ledgers[0])
 }
 
-/// The same. Where memory is refused, the reply and the line say so, the set has as many points as
-/// before, and the next attempt is answered.
+/// The same. If memory is refused, the reply and the line say so, the set has as many points as before, and the next attempt is answered.
 fn serve_again<S: HullSet + Drop>(
     book: &mut Book<S>,
     ledgers: &mut Vec<Ledger>,

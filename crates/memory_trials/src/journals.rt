@@ -37,7 +37,7 @@ const LONG: &[u8] =
 /// The short one that leaves the same point.
 const SHORT: &[u8] = b"hullbook journal 3 first 9 limit 4 capacity 4\n9 0 add 3 4 = added\nend 1\n";
 
-/// Whether the fault tells want of memory.
+/// Whether the fault returns want of memory.
 fn is_want(fault: CompactFault) -> bool {
     match fault {
         CompactFault::Text(fault) => is_memory(fault, 4),
@@ -81,8 +81,7 @@ fn reopen_again<S: HullSet + Drop>(
     }
 }
 
-/// Opens a book that goes on with a journal of two lines. Where memory is refused, set and journal come back, and the
-/// next attempt opens it.
+/// Opens a book that goes on with a journal of two lines. If memory is refused, set and journal come back, and the next attempt opens it.
 pub fn try_reopen<S: HullSet + Drop>(alloc: Global, set: S, p: Point) -> Result<Stage, &'static str>
     requires empty { S.held set ≡ nothing_held }
 {
@@ -154,7 +153,7 @@ fn drain<S: HullSet + Drop>(
     }
 }
 
-/// Room for four lines. Where memory is refused, nothing is taken out of the book, and the next attempt has it.
+/// Room for four lines. If memory is refused, nothing is taken out of the book, and the next attempt has it.
 fn reserve<S: HullSet + Drop>(
     alloc: Global,
     book: &LongBook<S>,
@@ -191,8 +190,8 @@ fn give_up_long<S: HullSet + Drop>(
     drop(book);
 }
 
-/// Drains a book of one line by the call that lists the vertices. Where memory is refused to the room, nothing is taken
-/// out, and the next attempt has it; where it is refused to the call, the part has its line all the same.
+/// Drains a book of one line by the call that lists the vertices. If memory is refused to the room, nothing is taken out, and the next attempt has
+/// it; if it is refused to the call, the part has its line all the same.
 pub fn try_drain<S: HullSet + Drop>(alloc: Global, set: S, p: Point) -> Result<Stage, &'static str>
     requires empty { S.held set ≡ nothing_held }
 {
@@ -226,7 +225,7 @@ pub fn try_drain<S: HullSet + Drop>(alloc: Global, set: S, p: Point) -> Result<S
     findings.told(stage)
 }
 
-/// The number behind the two parts, where they are those of a legal journal.
+/// The number after the two parts, if they are those of a legal journal.
 fn judged(alloc: Global, first: &Journal, second: &Journal) -> Result<u64, ReplayFault> {
     let _limits = first.lines();
     let set = PlainSet::new(alloc, first.limit());
@@ -234,7 +233,7 @@ fn judged(alloc: Global, first: &Journal, second: &Journal) -> Result<u64, Repla
     Ok(checker.check_next(second)?.next())
 }
 
-/// Judges two parts. Where memory is refused, the next attempt begins with the first.
+/// Judges two parts. If memory is refused, the next attempt begins with the first.
 pub fn try_parts(alloc: Global) -> Result<Stage, &'static str> {
     let mut findings = Findings::new();
     let first = read_journal(alloc, &mut Counted::new(Pieces::new(FIRST, 4096)));

@@ -67,8 +67,7 @@ fn stage_of(answers: &[Answer]) -> Option<Stage> {
     }
 }
 
-/// Runs a script of two phases. Where the second is refused memory, the first ran whole, nothing of the second did, and
-/// the book serves on.
+/// Runs a script of two phases. If the second is refused memory, the first ran whole, nothing of the second did, and the book serves on.
 pub fn try_later<R: Threads + Wait + Sync, S: HullSet + Drop + Send + Sync>(
     rt: &R,
     alloc: Global,

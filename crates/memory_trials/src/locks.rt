@@ -9,8 +9,7 @@ use hull_set::HullSet;
 use std::alloc::Global;
 use ticket_lock::{OpenFault, TicketLock};
 
-/// Opens a lock with three seats round a book, and closes it. Where memory is refused, the book comes back, and the
-/// next attempt opens the lock.
+/// Opens a lock with three seats round a book, and closes it. If memory is refused, the book comes back, and the next attempt opens the lock.
 pub fn try_lock<S: HullSet + Drop>(alloc: Global, set: S) -> Result<Stage, &'static str>
     requires empty { S.held set ≡ nothing_held }
 {

@@ -1,13 +1,11 @@
-//! Tries what answers want of memory, and looks at what stands where it was refused.
+//! Tries what answers want of memory, and looks at what is where it was refused.
 //!
-//! `memory_trials NAME..` makes each of the named trials, all of them without a name, and writes a line for each: its
-//! name, and the stage in which memory was refused (`whole` where none was that it needs), or `wrong:` and what did not
-//! hold. The status is 0 where nothing was wrong, 1 where something was, and 4 where the words could not be read for
-//! want of memory. Nothing is refused unless something outside the program does it:
+//! `memory_trials NAME..` makes each of the named trials, all of them without a name, and writes a line for each: its name, and the stage in which
+//! memory was refused (`whole` where none was that it needs), or `wrong:` and what did not hold. The status is 0 where nothing was wrong, 1 where
+//! something was, and 4 where the words could not be read for want of memory. Nothing is refused unless something outside the program does it:
 //! `tests/memory/run.sh` refuses each request for memory in turn, below the C library.
 //!
-//! After a refusal a trial looks at what its function gives back or leaves, and then makes a second attempt, which has
-//! to succeed.
+//! After a refusal a trial looks at what its function gives back or leaves, and then makes a second attempt, which has to succeed.
 #![tactic(auto)]
 
 mod books;

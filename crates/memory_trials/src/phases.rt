@@ -49,8 +49,7 @@ fn stage_of(answers: &[Answer], zero: Point, one: Point) -> Option<Stage> {
     }
 }
 
-/// Reserves the room for the answers of a script. Where memory is refused, the ledgers come back with their counts, and
-/// the next attempt has the room.
+/// Reserves the room for the answers of a script. If memory is refused, the ledgers come back with their counts, and the next attempt has the room.
 pub fn try_workers<S: HullSet + Drop>(alloc: Global, set: S) -> Result<Stage, &'static str>
     requires empty { S.held set ≡ nothing_held }
 {
@@ -132,7 +131,7 @@ pub fn prepared<S: HullSet + Drop>(
     }
 }
 
-/// Runs the script whole. Where the set-up is refused memory, nothing of it ran.
+/// Runs the script whole. If the set-up is refused memory, nothing of it ran.
 pub fn try_phases<R: Threads + Wait + Sync, S: HullSet + Drop + Send + Sync>(
     rt: &R,
     alloc: Global,
@@ -168,7 +167,7 @@ pub fn try_phases<R: Threads + Wait + Sync, S: HullSet + Drop + Send + Sync>(
     }
 }
 
-/// Runs the phase. Where its set-up is refused memory, nothing of it ran, and the next attempt runs it.
+/// Runs the phase. If its set-up is refused memory, nothing of it ran, and the next attempt runs it.
 fn run_again<R: Threads + Wait + Sync, S: HullSet + Drop + Send + Sync>(
     rt: &R,
     alloc: Global,

@@ -26,8 +26,8 @@ fn are_corners(points: &[Point], count: u32) -> bool {
     true
 }
 
-/// Whether the set has just the first `count` such points: it tells their number, and its vertices are these. Where
-/// memory for the list is refused, the second attempt has it.
+/// Whether the set has just the first `count` such points: it returns their number, and its vertices are these. If memory for the list is refused,
+/// the second attempt has it.
 fn has_corners<S: HullSet>(set: &S, count: u32) -> bool {
     let vertices = match set.vertices() {
         Ok(vertices) => Ok(vertices),
@@ -39,7 +39,7 @@ fn has_corners<S: HullSet>(set: &S, count: u32) -> bool {
     }
 }
 
-/// Puts a point in. Where memory is refused, the set has the points that it had, and the next attempt puts it in.
+/// Puts a point in. If memory is refused, the set has the points that it had, and the next attempt puts it in.
 fn put<S: HullSet>(set: &mut S, k: u32, p: Point, findings: &mut Findings) -> Stage {
     match set.add(p) {
         AddReply::Added => Stage::Whole,

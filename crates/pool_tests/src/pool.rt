@@ -42,7 +42,7 @@ fn at(rt: &impl Abort, x: i64, y: i64) -> Point {
     }
 }
 
-// An open book over an empty set, and its ledgers. Where memory is refused, the second attempt has it.
+// An open book over an empty set, and its ledgers. If memory is refused, the second attempt has it.
 fn opened(
     rt: &impl Abort,
     alloc: Global,
@@ -68,7 +68,7 @@ fn opened(
     }
 }
 
-// A book and workers that may run the script. Where memory is refused, the second attempt has it.
+// A book and workers that may run the script. If memory is refused, the second attempt has it.
 #[tactic(auto, using(hull_pool::proofs::Fronts::few_each))]
 fn ready(
     rt: &impl Abort,
@@ -167,7 +167,7 @@ fn mark_of(journal: &Journal, place: usize) -> Option<(u64, u8)> {
     }
 }
 
-// Three workers put a corner each into the set, and then the first asks for the vertices.
+// Three workers put a vertex each into the set, and then the first asks for the vertices.
 fn three_corners(rt: &impl Abort, alloc: Global) -> Result<Script, AllocError> {
     let adds = [
         (0, Call::Add(at(rt, 0, 0))),
@@ -190,7 +190,7 @@ fn are_of_corners(answers: &[Vec<Answer>], corners: &[Point]) -> bool {
     }
 }
 
-/// A question behind a join is answered of all points that were put in before it.
+/// A question after a join is answered of all points that were put in before it.
 #[test]
 fn three_workers(rt: HostRuntime) -> Result<(), Fail> {
     let corners = [at(&rt, 0, 0), at(&rt, 4, 0), at(&rt, 0, 4)];
@@ -351,8 +351,7 @@ fn wrapping_numbers(rt: HostRuntime) -> Result<(), Fail> {
     Ok(())
 }
 
-// How many answers are that no point is there, and how many that the journal is full. No worker has a reply behind one
-// of those.
+// How many answers are that no point is there, and how many that the journal is full. No worker has a reply after one of those.
 fn counted_and_full(answers: &[Vec<Answer>]) -> Option<(u32, u32)> {
     let (mut counted, mut full) = (0u32, 0u32);
     for own in answers {
@@ -381,9 +380,8 @@ fn six_counts(alloc: Global) -> Result<Script, AllocError> {
     two_phases(alloc, 3, &calls, &[])
 }
 
-/// Three workers race for four lines whose numbers pass the greatest one, 100 times: the numbers are the two greatest
-/// and then 0 and 1, four answers are that no point is there and two that the journal is full, and no worker has a
-/// reply behind one of those.
+/// Three workers race for four lines whose numbers pass the greatest one, 100 times: the numbers are the two greatest and then 0 and 1, four answers
+/// are that no point is there and two that the journal is full, and no worker has a reply after one of those.
 #[test]
 fn six_calls_for_four_lines_across_the_wrap(rt: HostRuntime) -> Result<(), Fail> {
     let script = six_counts(rt.alloc())?;

@@ -3,7 +3,7 @@ use hull_set::{AddReply, HullSet};
 use hull_tree::HullTree;
 use lattice::Point;
 
-/// A set that tells the turns of its changes.
+/// A set that returns the turns of its changes.
 pub trait CountedSet: HullSet + Drop {
     /// Holds `p` once more: whether it is new, and how many turns the searches of bridges took.
     fn add_counted(&mut self, p: Point) -> (bool, u32);

@@ -358,7 +358,7 @@ fn each_failing_write_of_the_example_journal_leaves_a_beginning(rt: HostRuntime)
     assert!(rt; (failing, refusing) == (Some(true), Some(true)));
 }
 
-// Whether a journal is written completely behind a buffer.
+// Whether a journal is written completely through a buffer.
 fn is_sent_in_blocks(journal: &Journal, blocks: BufWriter<Spout>) -> bool {
     let mut out = Counted::new(blocks);
     let outcome = write_journal(journal, &mut out);

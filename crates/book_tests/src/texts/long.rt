@@ -98,7 +98,7 @@ fn a_list_of_5000_points_is_read_and_written_back(rt: HostRuntime) {
     assert!(rt; are_back == [true; 3]);
 }
 
-// Returns whether a text is read and written behind a buffer that has capacity for the whole of it, and how often the device is called then.
+// Returns whether a text is read and written through a buffer that has capacity for the whole of it, and how often the device is called then.
 fn calls_behind_a_block(alloc: Global, text: &[u8], blocks: BufWriter<Spout>) -> Option<u64> {
     let Ok(journal) = read_journal(alloc, &mut Counted::new(Pieces::new(text, 1048576))) else {
         return None;
@@ -131,6 +131,6 @@ fn a_wide_device_is_called_once_a_piece(rt: HostRuntime) {
     assert!(rt; length > 49152 && length < 65536);
     // the header is written in 13 pieces, the line in 11 and its points in 4 each, and the end line in 4
     assert!(rt; passed == Some((true, Ok(()), (true, length, 20028, 0), 2)));
-    // behind a buffer for the whole text the device is called once
+    // through a buffer for the whole text the device is called once
     assert!(rt; in_one == Some(1));
 }

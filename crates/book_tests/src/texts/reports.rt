@@ -205,7 +205,7 @@ fn each_failing_write_of_the_example_report_leaves_a_beginning(
     Ok(())
 }
 
-// Whether a report fits and is written completely behind a buffer.
+// Whether a report fits and is written completely through a buffer.
 fn is_sent_in_blocks(report: &Report<'_>, blocks: BufWriter<Spout>) -> bool {
     if report_fits(report) {
         let mut out = Counted::new(blocks);

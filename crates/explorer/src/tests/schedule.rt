@@ -120,7 +120,7 @@ fn nth_bit(bits: u64, before: u8) -> Option<usize> {
     }
 }
 
-// Notes a number behind those that were noted.
+// Notes a number after those that were noted.
 fn note(rt: &impl Abort, numbers: &mut Vec<u8>, number: u8) {
     let Ok(()) = numbers.push(number) else {
         panic!(rt; "there is memory for the notes")

@@ -127,9 +127,8 @@ fn two_flags_by_run_phases(rt: HostRuntime) -> Result<(), Fail> {
     Ok(())
 }
 
-/// The gate stands round each call: a worker that waits at it until the other's call has ended is the second in the
-/// journal, whichever of them it is, 20 times each. A body that opens the gate before a call too late, or after it too
-/// soon, fails here.
+/// The gate is round each call: a worker that waits at it until the other's call has ended is the second in the journal, whichever of them it is, 20
+/// times each. A body that opens the gate before a call too late, or after it too soon, fails here.
 #[test]
 fn gate_round_each_call(rt: HostRuntime) -> Result<(), Fail> {
     let script = two_counts(rt.alloc())?;

@@ -59,7 +59,7 @@ fn told_of_parabola(rt: &impl Abort, answers: &[Vec<Answer>]) -> bool {
     }
 }
 
-// Whether all lines behind the 64th are the first worker's.
+// Whether all lines after the 64th are the first worker's.
 fn asks_last(lines: &[Line]) -> bool {
     let mut all = true;
     for (k, line) in lines.iter().enumerate() {
@@ -68,8 +68,8 @@ fn asks_last(lines: &[Line]) -> bool {
     all
 }
 
-/// 64 workers race to put a point of a parabola each into the set, 100 times: each time all 64 are its corners, the
-/// doubled area is 83328, and the numbers run on without a gap.
+/// 64 workers race to put a point of a parabola each into the set, 100 times: each time all 64 are its vertices, the doubled area is 83328, and the
+/// numbers run on without a gap.
 #[test]
 fn sixty_four_workers_on_a_parabola(rt: HostRuntime) -> Result<(), Fail> {
     let script = sixty_four_points(&rt, rt.alloc())?;
@@ -100,7 +100,7 @@ fn sixty_four_workers_meet(rt: HostRuntime) -> Result<(), Fail> {
     Ok(())
 }
 
-/// One of two workers looks at its gate for the flag that the other raises behind its call.
+/// One of two workers looks at its gate for the flag that the other raises after its call.
 #[derive(Drop)]
 struct Flag {
     looker: u8,
@@ -148,8 +148,8 @@ fn added_and_counted(lines: &[Line], p: Point) -> bool {
     added && matches!(count.reply, Reply::PointCount(1)) && count.call == Call::Count
 }
 
-// Runs the script once, in which the looker counts behind the other's call: whether the looker saw the flag and the
-// point was added and then counted, the sum of the ledgers, and the numbers and seats of the two lines.
+// Runs the script once, in which the looker counts after the other's call: whether the looker saw the flag and the point was added and then counted,
+// the sum of the ledgers, and the numbers and seats of the two lines.
 fn looks_once<R: Threads + Wait + Abort + Sync>(
     rt: &R,
     alloc: Global,
@@ -170,8 +170,8 @@ fn looks_once<R: Threads + Wait + Abort + Sync>(
     (seen, end.sum, marks)
 }
 
-/// Two flags: a worker whose gate looks for the flag that the other raises behind its call sees it, whichever of the
-/// two it is, 100 times each. A body that runs the workers one after another fails one of the two.
+/// Two flags: a worker whose gate looks for the flag that the other raises after its call sees it, whichever of the two it is, 100 times each. A body
+/// that runs the workers one after another fails one of the two.
 #[test]
 fn workers_one_after_another(rt: HostRuntime) -> Result<(), Fail> {
     let p = at(&rt, 5, 5);

@@ -1,4 +1,4 @@
-//! Two seats on a book whose lines are let go, which has room for one and is never full; and the whole flow of two seats.
+//! Two seats on a book whose lines are let go, which has space for one and is never full; and the whole flow of two seats.
 ghost use Rattle.std.specs.Prelude.{◌≡◌, ◌+◌, ◌<◌, [], All, vec_len, vec_capacity};
 ghost use Rattle.ticket_lock.specs.Tokens.{IsSeatOf, opening_book, seat_seen};
 ghost use Rattle.hull_book.specs.Kinds.{drained};

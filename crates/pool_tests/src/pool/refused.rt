@@ -48,7 +48,7 @@ impl Gate for Calls {
     }
 }
 
-// The script of three corners. Where memory is refused, the second attempt has it.
+// The script of three vertices. If memory is refused, the second attempt has it.
 fn corners(rt: &impl Abort, alloc: Global) -> Result<Script, AllocError> {
     match three_corners(rt, alloc) {
         Ok(script) => Ok(script),
@@ -56,8 +56,7 @@ fn corners(rt: &impl Abort, alloc: Global) -> Result<Script, AllocError> {
     }
 }
 
-// Runs the phase. Where it is refused, the book has no line more and its turn is the same, no call was begun, and the
-// phase runs at the second attempt.
+// Runs the phase. If it is refused, the book has no line more and its turn is the same, no call was begun, and the phase runs at the second attempt.
 fn runs_again<R: Threads + Wait + Abort + Sync>(
     rt: &R,
     alloc: Global,
@@ -113,7 +112,7 @@ fn runs_first<R: Threads + Wait + Abort + Sync>(
     }
 }
 
-// Whether the journal is legal. Where the checker is refused memory, the second attempt has it.
+// Whether the journal is legal. If the checker is refused memory, the second attempt has it.
 fn is_legal(alloc: Global, journal: &Journal) -> bool {
     check(alloc, journal) == CheckResult::Legal || check(alloc, journal) == CheckResult::Legal
 }
