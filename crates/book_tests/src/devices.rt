@@ -8,7 +8,7 @@ use std::test::Fail;
 use text_io::testing::{Pieces, Spout};
 use text_io::*;
 
-/// What a device received: whether it is a prefix of the expected text, how many bytes, by how many calls, and how many of them failed.
+/// The bytes that a device received: whether they are a prefix of the expected text, how many, by how many calls, and how many of these failed.
 pub(super) type Got = (bool, usize, u64, u64);
 
 pub(super) fn got(out: &Counted<Spout>, want: &[u8]) -> Got {

@@ -328,7 +328,7 @@ leaf_in_place p b c v change f h u = record {
   closed = subst (λ (z : BucketValue). IsClosedOver p change.sides z.points) (sym f) u.closed;
 }
 
--- p came to a bucket, or went from it
+-- p was added to a bucket, or removed from it
 changed_leaf : (put : Bool) (p : Pair) (b c : Box BucketValue _) (v : BucketValue) (change : Changed) → c.value ≡ v
     → IsBucket v → HasChangedIn put p b.value v change → HasChanged put p (Leaf b) (Leaf c) change
 changed_leaf true p b c v change f h d = record {

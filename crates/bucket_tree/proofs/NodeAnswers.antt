@@ -1,4 +1,4 @@
--- What the vertices below a node are answered, its points are answered.
+-- The answers of the vertices below a node are those of its points.
 use Rattle.std.proofs.Common.{inl, inr, List}
 use Rattle.std.specs.Prelude.{Option, Some, None}
 use Rattle.lattice.specs.Plane.{Pair}

@@ -11,7 +11,7 @@ level_of wanted here (Fork' height i first_right left right last_left upper lowe
     else level_of wanted (here + 1) left ++ level_of wanted (here + 1) right
 level_of wanted here Gap = []
 
--- what the forks of a level of a whole tree store
+-- the bridges that the forks of a level of a whole tree store
 abbrev pub bridges_at : ℕ → Option Node → List Bridge
 bridges_at level None = []
 bridges_at level (Some n) = level_of level 0 n

@@ -16,7 +16,7 @@ use crate::renewal::{Changed, first_after, last_after, renew_edges};
 use hull_buckets::{Bucket, buckets_are_sound};
 use lattice::{Point, before};
 
-/// Which point of a tree is added or removed without moving a subtree.
+/// A change that adds or removes a point of a tree without moving a subtree.
 trait InPlace {
     // whether one is added
     ghost puts: { Bool };

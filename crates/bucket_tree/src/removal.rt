@@ -24,7 +24,7 @@ const MERGED: usize = 48;
 /// point may have been a vertex of the hull of all points that were below the node.
 #[derive(Drop)]
 pub struct Removed {
-    /// What is left.
+    /// The rest of the tree.
     pub rest: Option<Node>,
     /// The turns of the searches for bridges.
     pub turns: u32,

@@ -7,7 +7,7 @@ use hull_set::Call;
 use std::alloc::{AllocError, Global};
 use std::marker::Model;
 
-/// What the workers do between two barriers: a list of calls for each of them.
+/// The calls between two barriers: a list for each worker.
 #[derive(Debug, Drop)]
 pub struct Phase {
     /// A list of calls for each worker.

@@ -1,4 +1,4 @@
--- What a bucket is after a point came or went.
+-- The value of a bucket after a point was added or removed.
 use Rattle.std.proofs.lemmas.Grind.{common_steps}
 use Rattle.std.proofs.Common.{◌≡◌, ℕ, ◌+◌, ◌-◌, ◌<◌, ◌≤◌, ◌⊎◌, inl, inr, sym, ap, ◌∙◌, subst, arith, refl, Err, zero}
 use Rattle.std.proofs.Common.{suc}
@@ -26,7 +26,7 @@ use Rattle.hull_buckets.proofs.Around.{take_front, drop_behind, others_set, take
 
 -- ---- lists
 
--- a point put in at its index is one of a set
+-- a point inserted at its index makes a set
 pub insert_is : (S : List Pair) (p : Pair) (i : ℕ) → IsPointSet S → IsPositionOf S p (Err i)
     → insert S i p ≡ with_point p S
 insert_is S p i s at =

@@ -39,7 +39,7 @@ last_two_at S mask front h k there above l e fthere fabove m =
 pub front_of : (front : List Pair) (b : Pair) → take (length (front ++ b ∷ []) - 1) (front ++ b ∷ []) ≡ front
 front_of front b = grind (arith, common_steps, length-append, take-append-le, all_taken)
 
--- a list that ends with a and b, of which b does not lie outwards of the segment from a to c
+-- a list that ends with a and b, of which b is not outwards of the segment from a to c
 pub ends_inwards : (side : Side) (chain front : List Pair) (a b c : Pair) → chain ≡ front ++ a ∷ b ∷ []
     → orient_on side a b c ≤ℤ pos 0 → EndsInwards side chain c
 ends_inwards side chain front a b c e h = record {
@@ -57,7 +57,7 @@ pub convex_on : (side : Side) (chain front : List Pair) (a b c : Pair) → chain
     → pos 0 <ℤ orient_on side a b c → IsConvex side chain → IsConvex side (chain ++ c ∷ [])
 convex_on side chain front a b c e h t = grind (arith, common_steps, append_twice, convex_join)
 
--- ---- what goes from the end
+-- ---- the vertices that are removed from the end
 
 -- what is left of what is left of a list is left of it
 pub thinned_twice : (side : Side) (xs ys zs : List Pair) → IsThinned side xs ys → IsThinned side ys zs

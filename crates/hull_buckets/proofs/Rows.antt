@@ -32,7 +32,7 @@ module _ {X : Type 0} where
   moved_down (x ∷ xs) (suc place) n (suc count) e l =
       ap (λ (z : List X). x ∷ z) (moved_down xs place n count (omega (arith, e)) (omega (arith, l)))
 
-  -- a value put in
+  -- a value inserted
   pub put : (old mid : List X) (place count : ℕ) (item : X) → mid ≡ copy_within old place count (place + 1)
       → place ≤ count → count < length old → take (count + 1) (slice_set mid place item) ≡ insert (take count old)
       place item

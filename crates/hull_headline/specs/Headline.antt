@@ -93,12 +93,12 @@ StoresBridgesOf tree points = IsWellBuiltRoot tree.root × (points_of_root tree.
 abbrev pub StoresBridgesInBuckets : buckets.LimitedTree → List Pair → Type 0
 StoresBridgesInBuckets tree points = roots.IsWellBuiltRoot tree.root × (roots.points_of_root tree.root ≡ points)
 
--- What the book's set stores is sound, as the set defines it.
+-- The data that the book's set stores is sound, as the set defines it.
 abbrev pub IsOfSoundSet : {S : Type 0} → hull_set.Ghosts S → BookValue S → Type 0
 IsOfSoundSet set book = set.sound book.set
 
 module _ {S : Type 0} (stores : S → List Pair → Type 0) where
-  -- What a set stores is that of the live points: of those that the journal's calls left.
+  -- The data that a set stores is that of the live points: of those that the journal's calls left.
   abbrev pub StoresThatOfLivePoints : BookValue S → Type 0
   StoresThatOfLivePoints book = stores book.set (live book.lines)
 

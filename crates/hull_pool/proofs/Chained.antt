@@ -166,7 +166,7 @@ module _ {S : Type 0} {K : Ghosts S} where
   run_none : (b : BookValue S) (w : WorkersValue) → MayRunAll K b w [] → HasRunAll K b w [] b w
   run_none b w may = grind (arith, common_steps, not_begun, append-nil)
 
-  -- what some phases and the phases after them come to
+  -- the result of some phases and of the phases after them
   run_on : (b m c : BookValue S) (w x v : WorkersValue) (front back : List PhaseValue)
       → HasRunAll K b w front m x → HasRunAll K m x back c v → HasRunAll K b w (front ++ back) c v
   run_on b m c w x v front back one rest =
@@ -218,7 +218,7 @@ module _ {S : Type 0} {K : Ghosts S} where
             omega (arith, a, d, count_both k front back);
       }
 
-  -- what phases come to that were run one after the other
+  -- the result of phases that were run one after the other
   pub run_all : (b : BookValue S) (w : WorkersValue) (phases : List PhaseValue) (c : BookValue S) (v : WorkersValue)
       → MayRunAll K b w phases → HasRunPhases K b w phases c v → HasRunAll K b w phases c v
   run_all b w [] c v may chain =

@@ -18,7 +18,7 @@ module _ {B H L : Type 0} (plain : List L → List Line) where
   abbrev Counts : Seat B H L → LedgerValue → Type 0
   Counts s l = IsLedgerOf (seat_number s) (plain (seat_seen s)) l
 
-  -- in the place of each ledger is the seat whose lines it counts
+  -- at the index of each ledger is the seat whose lines it counts
   seat_at : (ss : List (Seat B H L)) (ls : List LedgerValue) → AllZip Counts ss ls → (k : ℕ) (d : LedgerValue)
       → k < length ls → (s : Seat B H L) × (slice_get ss k ≡ Some s) × Counts s (slice_index_or ls k d)
   seat_at [] [] z k d lt = absurd (omega arith)

@@ -19,7 +19,7 @@ use Rattle.hull_pool.specs.Work.{HasWorked, lines_of, capacity_of, workers_of}
 use Rattle.hull_pool.proofs.Called.{count-lines_of}
 use Rattle.hull_set.specs.declared.set.HullSet.{Ghosts}
 
--- a worker's lines are as many more as it was served
+-- a worker has as many lines more as it was served
 count_grown : (k cap done : ℕ) (calls : List Call) (before lines : List Line) (old new : List Answer)
     (h : HasWorked k cap done calls before lines old new) → count_of k lines ≡ count_of k before + length h.served
 count_grown k cap done calls before lines old new h =

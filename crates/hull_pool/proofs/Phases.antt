@@ -31,7 +31,7 @@ use base.Growing.{prefix_trans}
 use Rattle.hull_pool.proofs.Called.{same_count}
 use Rattle.hull_set.specs.declared.set.HullSet.{Ghosts}
 
--- a seat of a lock round a book on the heap
+-- a seat of a lock around a book on the heap
 abbrev pub BookSeat : Type 0 → Type 0
 BookSeat S = Seat (Boxed S) BookHead Line
 
@@ -61,7 +61,7 @@ vec_room : (v : AnswerVec) (n : ℕ) → n ≤ vec_capacity v - length v.items �
 vec_room v n h = omega (arith, v.ok.0, v.ok.1)
 
 module _ {S : Type 0} where
-  -- what holds of the ledgers, the jobs and the space of the workers from j on
+  -- what is true of the ledgers, the jobs and the capacities of the workers from j on
   pub record Fits (b : BookValue S) (phase : PhaseValue) (j : ℕ) (vs : List AnswerVec)
       (ls : List LedgerValue) : Type 0 where
     pub ledgers : (i : ℕ) (d : LedgerValue) → i < length ls → IsLedger b (i + j) (slice_index_or ls i d)
@@ -112,7 +112,7 @@ module _ {S : Type 0} where
       (All-tail (IsSeatOf book_head lock) s ss own) (All-tail (λ t. seat_seen t ≡ b.lines) s ss seen)
       (fits_rest b phase j v vs l ls f))
 
-  -- what came of the worker n: its part of the new journal, its ledger, and the same memory for its answers
+  -- the result of the worker n: its share of the new journal, its ledger, and the same memory for its answers
   pub record Outcome (b c : BookValue S) (phase : PhaseValue) (n : ℕ) (v w : AnswerVec) (l : LedgerValue) : Type 0 where
     pub worked : HasWorked n (capacity_of b) (length (job phase n)) (job phase n) b.lines c.lines v.items w.items
     pub ledger : IsLedgerOf n c.lines l
@@ -134,7 +134,7 @@ worked_on n cap done calls before seen lines old new begins own h = grind (arith
     longer_by xs ys p = omega (arith, length-append xs p.0, ap length p.1)
 
 module _ {S : Type 0} where
-  -- what came of one worker
+  -- the result of one worker
   outcome : (lock : TicketLock (Boxed S) BookHead Line) (b c : BookValue S) (phase : PhaseValue) (n : ℕ)
       (s t : BookSeat S) (v w : AnswerVec) (l m : LedgerValue) → seat_number s ≡ n → IsSeenIn c t
       → HasRun lock b phase (worker_of s v l) (worker_of t w m) → Outcome b c phase n v w m
@@ -251,7 +251,7 @@ module _ {S : Type 0} {K : Ghosts S} where
   }
 
 module _ {S : Type 0} where
-  -- what came of the worker k, and if its answers and its ledger are
+  -- the result of the worker k, and the indices of its answers and its ledger
   pub record CameOut (b c : BookValue S) (phase : PhaseValue) (vs ws : List AnswerVec) (ms : List LedgerValue)
       (k : ℕ) : Type 0 where
     pub old : AnswerVec

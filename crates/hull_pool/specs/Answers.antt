@@ -14,7 +14,7 @@ pub record WorkersValue : Type 0 where
   pub answers : List AnswersValue
   pub ledgers : List LedgerValue
 
--- what a vector of answers shows
+-- the value of a vector of answers
 abbrev pub shown : {A : Type 0} → Vec Answer A → AnswersValue
 shown v = record { answers = v.items; room = vec_capacity v - length v.items }
 

@@ -38,7 +38,7 @@ pub struct PhaseEnd<S: HullSet + Drop> {
     pub ended: Result<(), PoolFault>,
 }
 
-/// What a phase needs besides its workers: a lock around the book, its seats, and storage for a worker set.
+/// The requirements of a phase besides its workers: a lock around the book, its seats, and storage for a worker set.
 struct SetUp<S: HullSet + Drop> {
     lock: BookLock<S>,
     seats: Vec<BookSeat<S>>,

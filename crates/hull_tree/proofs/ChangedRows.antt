@@ -1,4 +1,4 @@
--- What a change makes of a set, and of two lists in a row.
+-- The effect of a change on a set, and on two concatenated lists.
 use Rattle.std.proofs.Common.{◌≡◌, refl, List, [], ◌∷◌, ◌++◌}
 use Rattle.std.specs.List.{All, Contains}
 use Rattle.lattice.specs.Covers.{IsPointSet, with_point, without_point}
@@ -18,7 +18,7 @@ pub record IsChange (f : Pair → List Pair → List Pair) : Type 0 where
 pub added : IsChange with_point
 added = record { left = with_left; right = with_right; ordered = ordered_with }
 
--- or taken
+-- or removed
 pub taken : IsChange without_point
 taken = record { left = without_left; right = without_right; ordered = ordered_without }
 

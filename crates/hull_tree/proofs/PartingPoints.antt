@@ -147,7 +147,7 @@ pub fork_of : (t : Tree) (p : Pair) → On t p → ¬ (t ≡ Leaf p) → IsFork 
 fork_of (Leaf x) p i n = absurd (n (ap Leaf (sym i)))
 fork_of (Fork e f u w) p i n = tt
 
--- p, before the first point of r, is taken from l, which m is then
+-- p, before the first point of r, is removed from l, which is m afterwards
 pub parted_drop_left : (l r m s t : Node) (p last first end start : Pair) → IsPartedAt l r last first → IsBefore p first
     → IsWellBuilt m → points_below m ≡ without_point p (points_below l) → s ≡ m → t ≡ r → end ≡ last_of (tree_of m)
     → start ≡ first → IsPartedAt s t end start
@@ -157,14 +157,14 @@ parted_drop_left l r m s t p last first end start k b h e es et i j = rw (es, et
   starts_right = k.starts_right;
 }
 
--- so it is taken from both in a row
+-- so it is removed from both in a row
 pub points_drop_left : (l r m s t : Node) (p last first : Pair) → IsPartedAt l r last first → IsBefore p first
     → points_below m ≡ without_point p (points_below l) → s ≡ m → t ≡ r
     → points_below s ++ points_below t ≡ without_point p (points_below l ++ points_below r)
 points_drop_left l r m s t p last first k b e es et =
     rw (es, et, e) (sym (change_left taken l r p k.row (subst (IsBefore p) k.starts_right b)))
 
--- any other is taken from r
+-- any other is removed from r
 pub parted_drop_right : (l r m s t : Node) (p last first end start : Pair) → IsPartedAt l r last first
     → ¬ IsBefore p first → IsWellBuilt m → points_below m ≡ without_point p (points_below r) → s ≡ l → t ≡ m
     → end ≡ last → start ≡ first_of (tree_of m) → IsPartedAt s t end start
@@ -174,7 +174,7 @@ parted_drop_right l r m s t p last first end start k b h e es et i j = rw (es, e
   starts_right = refl;
 }
 
--- so it is taken from both in a row
+-- so it is removed from both in a row
 pub points_drop_right : (l r m s t : Node) (p last first : Pair) → IsPartedAt l r last first → ¬ IsBefore p first
     → points_below m ≡ without_point p (points_below r) → s ≡ l → t ≡ m
     → points_below s ++ points_below t ≡ without_point p (points_below l ++ points_below r)
@@ -209,7 +209,7 @@ rest_right n s h p o e c d =
       times = λ q. omega (arith, o.times q, leaf_once (left_half h) p e a q);
     }
 
--- else p is all of the right half, and the left one is the rest
+-- otherwise p is all of the right half, and the left one is the rest
 rest_left : (n s : Node) (h : Halves) (p : Pair) → IsOver n h → tree_of (right_half h) ≡ Leaf p → times_below n p ≡ 1
     → s ≡ left_half h → IsRest n s p
 rest_left n s h p o e c d =

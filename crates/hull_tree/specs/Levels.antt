@@ -12,7 +12,7 @@ level_of wanted here (Fork e f u w) = if here == wanted
     then record { level = wanted; upper = e; lower = f } ∷ []
     else level_of wanted (here + 1) u ++ level_of wanted (here + 1) w
 
--- what the forks of a level of a whole tree store
+-- the bridges that the forks of a level of a whole tree store
 abbrev pub bridges_at : ℕ → Option Node → List Bridge
 bridges_at level None = []
 bridges_at level (Some n) = level_of level 0 (tree_of n)

@@ -1,11 +1,11 @@
-//! What a fork stores of its two halves.
+//! The data of its two halves that a fork stores.
 ghost use Rattle.std.specs.Prelude.{◌≡◌, ◌≤◌};
 ghost use Rattle.hull_tree.specs.Nodes.{keeping};
 
 use super::node::Node;
 use lattice::Point;
 
-/// What a fork stores of its two halves, and how many turns the searches for its bridges took.
+/// The data of its two halves that a fork stores, and how many turns the searches for its bridges took.
 #[derive(Clone, Copy)]
 pub(crate) struct Found {
     pub(crate) upper: (Point, Point),

@@ -100,7 +100,7 @@ merged_is_added h ps held added es t a e f g =
 
 -- ---- one by one
 
--- adding to a point of the set leaves no multiplicity below the count of that point alone
+-- adding to a point of the set leaves no multiplicity below the count of only that point
 once_few : (h : Held) (p q : Pair) → 1 ≤ h.times p → once p q ≤ h.times q
 once_few h p q l = grind (arith, common_steps, same_or_other, once, once_same, once_other)
 

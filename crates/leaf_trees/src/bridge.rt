@@ -1,7 +1,7 @@
-//! What a fork shows of itself.
+//! The bridges that a fork shows.
 use lattice::Point;
 
-/// What a fork of the tree stores: its bridges, each from its end in the left half to its end in the right one.
+/// The stored bridges of a fork of the tree, each from its end in the left half to its end in the right one.
 #[derive(Clone, Copy, PartialEq, Eq, Debug)]
 pub struct Bridge {
     /// The number of forks above this one.

@@ -15,7 +15,7 @@ use std::alloc::Global;
 use std::sync::Wait;
 use std::thread::Threads;
 
-/// What the worker does.
+/// The calls of the worker.
 const SCRIPT: &[u8] = b"0 add 0 0\n0 add 1 1\njoin\n0 count\n";
 
 /// Tests what a refused phase left: those before it ran completely and nothing of it did, and the book continues.

@@ -19,7 +19,7 @@ use std::thread::Threads;
 use text_io::Counted;
 use text_io::testing::Pieces;
 
-/// What the worker does.
+/// The calls of the worker.
 const SCRIPT: &[u8] = b"0 add 0 0\n0 add 1 1\n0 vertices\n0 count\n";
 
 /// Returns the script of this text; `None` if memory is refused to its reader.

@@ -13,7 +13,7 @@ const LIMIT: u32 = 1048576;
 /// The points and directions of the questions have coordinates of at most this.
 const REACH: i64 = 3;
 
-/// What was found of these two numbers is true.
+/// The result for these two numbers is true.
 fn assert_at(rt: &impl Abort, truth: bool, x: i64, y: i64) {
     assert!(rt; truth, "at {x} {y}");
 }

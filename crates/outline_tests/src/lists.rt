@@ -70,7 +70,7 @@ fn lies_left(list: &[Point], i: usize) -> bool {
     }
 }
 
-// Each vertex turns left, and the first comes first, but the list goes round twice.
+// Each vertex turns left, and the first is first, but the list goes around twice.
 #[test]
 fn a_list_that_winds_twice(rt: HostRuntime) -> Result<(), Fail> {
     let list = points(

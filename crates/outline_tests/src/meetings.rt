@@ -126,7 +126,7 @@ fn slow_crosses(points: &[Point], a: Point, b: Point) -> bool {
     false
 }
 
-/// What was found of these points is true.
+/// The result for these points is true.
 pub(crate) fn assert_of(rt: &impl Abort, truth: bool, points: &[Point]) {
     assert!(rt; truth, "{points:?}");
 }
@@ -143,7 +143,7 @@ fn assert_parts(rt: &impl Abort, points: &[Point], others: &[Point], found: Sepa
     assert_of(rt, points.contains(&found.farthest), points);
 }
 
-/// The polygon of vertices that are one.
+/// Returns the polygon of the vertices of a set.
 pub(crate) fn outline_of<'a>(rt: &impl Abort, corners: &'a [Point]) -> Outline<'a> {
     match Outline::new(corners) {
         Some(outline) => outline,
@@ -517,7 +517,7 @@ pub(crate) fn small_sets(
     Ok(sets)
 }
 
-/// What shows that two sets intersect does show it: a point of both, or a crossing of two edges.
+/// The witness that two sets intersect is right: a point of both, or a crossing of two edges.
 fn assert_meeting(rt: &impl Abort, one: &[Point], other: &[Point], meeting: Meeting) {
     match meeting {
         Meeting::OfOther(t) => {

@@ -177,7 +177,7 @@ fn removes_the_diagonal(rt: &impl Abort, set: &mut PlainSet) -> bool {
     all
 }
 
-/// The points of a grid come row by row, so that many of them are vertices when they come; then vertices leave.
+/// The points of a grid are added row by row, so that many of them are vertices when they are added; then vertices are removed.
 #[test]
 fn corners_come_and_go(rt: HostRuntime) {
     let (corner, inner) = (at(&rt, 0, 0), at(&rt, 15, 15));

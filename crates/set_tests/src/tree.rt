@@ -1,4 +1,4 @@
-//! What a tree lets a caller borrow, its limits by their numbers, and memory that is refused. The comparison with the plain set is in
+//! The borrowed nodes of a tree, its limits by their numbers, and memory that is refused. The comparison with the plain set is in
 //! `tree/beside_plain.rt`; the worked examples are cases of tests/cli, which both trees run.
 mod beside_plain;
 mod both;
@@ -78,7 +78,7 @@ fn rising_order(rt: HostRuntime) {
     assert!(rt; count == 1024 && left == (0, true));
 }
 
-/// What a caller borrows from a node: its point, the point's multiplicity, its upper and its lower bridge, and whether it has halves.
+/// A node as a caller sees it: its point, the point's multiplicity, its upper and its lower bridge, and whether it has halves.
 type Lent = (
     Option<Point>,
     Option<u32>,
@@ -97,7 +97,7 @@ fn lent_by(node: &Node) -> Lent {
     )
 }
 
-/// What a caller borrows from the root, and the points of its two halves.
+/// Returns the root as a caller sees it, and the points of its two halves.
 fn root_of(tree: &HullTree) -> Option<(Lent, Option<Point>, Option<Point>)> {
     let root = tree.root()?;
     match root.halves() {

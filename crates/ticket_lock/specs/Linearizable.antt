@@ -60,7 +60,7 @@ module _ {B H L : Type 0} (K : Ghosts B H L) where
     pub room_grew : (k i r j a s p : ℕ) (l : L) (f : FoundFull b es k i r) (c : Call b es j a s p l) → r < s
         → K.capacity f.full.0 < K.capacity c.ends.0
 
-  -- the events es, which ended in the world u of a lock that was opened round the book b, are linearizable
+  -- the events es, which ended in the world u of a lock that was opened around the book b, are linearizable
   abbrev pub HasLinearized : B → List (Event B) → World B H L → Type 0
   HasLinearized b es u = K.lawful u.current × IsSequentialHistory b es (K.lines u.current)
 

@@ -89,8 +89,7 @@ module _ {H L : Type 0} where
   abbrev pub nobody : SeatState H L
   nobody = Keeper []
 
-  -- A keeper is cut: it becomes the first of its seats, so that each seat is at the place of its number, and a new keeper
-  -- has the others
+  -- A keeper is cut: it becomes the first of its seats, so that the index of each seat is its number, and a new keeper has the others
   abbrev pub left_of : SeatState H L → SeatState H L
   left_of (Keeper (m ∷ ms)) = Idle m
   left_of v = v
@@ -137,7 +136,7 @@ module _ {B H L : Type 0} where
     pub good : Good K F n opening (world_of s next serving home current) queue
     pub shelved : s.homes ≡ shelf home current
 
-  -- what a seat with the view v finds that enters with the number t
+  -- the book that a seat with the view v finds when it enters with the number t
   pub record Found (K : Ghosts B H L) (v : SeatState H L) (t : ℕ) (b : B) : Type 0 where
     pub lawful : K.lawful b
     pub head : heads_of v ≡ K.head b ∷ []

@@ -1,4 +1,4 @@
--- What a caller knows of a lock, and of its seats, tickets and guards.
+-- A lock, and its seats, tickets and guards, as a caller sees them.
 use Rattle.std.specs.Prelude.{◌≡◌, ℕ, List, [], ◌∷◌, slice_get, Some}
 use mathlib.Core.List.{IsPrefix}
 use Rattle.ticket_lock.specs.declared.chronicle.Chronicle.{Ghosts}
@@ -17,7 +17,7 @@ module _ {B H L : Type 0} where
   abbrev pub seat_count : TicketLock B H L → ℕ
   seat_count lock = lock.seats
 
-  -- the book as it was when the lock was opened round it
+  -- the book as it was when the lock was opened around it
   abbrev pub opening_book : TicketLock B H L → B
   opening_book lock = lock.board.shared.key.book.value
 
@@ -104,9 +104,8 @@ module _ {B H L : Type 0} {K : Ghosts B H L} where
   IfNotYet (NotYet t) P = P t
 
 module _ {B H L : Type 0} where
-  -- what the seat k finds that had seen the lines `seen` and enters with the number t: a lawful book with the head at
-  -- opening, whose turn is t, and whose journal begins with what the seat has seen and holds in its name just the
-  -- lines that it has seen in its name
+  -- the book that the seat k finds when it had seen the lines `seen` and enters with the number t: a lawful book with the head at opening, whose turn
+  -- is t, and whose journal begins with what the seat has seen and contains in its name exactly the lines that it has seen in its name
   pub record Finds (K : Ghosts B H L) (head : H) (k : ℕ) (seen : List L) (t : ℕ) (b : B) : Type 0 where
     pub lawful : K.lawful b
     pub same_head : K.head b ≡ head

@@ -40,9 +40,9 @@ pub fn resting_tables_are_good<B: Chronicle>()
     ensures { RestingTablesAreGood B.Chronicle partitioned_form }
 {}
 
-/// What `TicketLock::take`, `TicketLock::look` and `Guard::hand_on` do to the lock's table if it satisfies its rule: each is one event, and no other,
-/// from the world that the table shows before to one that it shows after. A take is the event take; a look is enter if its load found the number,
-/// otherwise miss; a hand on is the event hand on.
+/// The steps of `TicketLock::take`, `TicketLock::look` and `Guard::hand_on` on the lock's table, if it satisfies its rule: each is one event, and no
+/// other, from the world that the table shows before to one that it shows after. A take is the event take; a look is enter if its load found the
+/// number, otherwise miss; a hand on is the event hand on.
 pub fn steps_are_events<B: Chronicle>()
     ensures takes { TakesAreEvents B.Chronicle partitioned_form }
     ensures looks { LooksAreEvents B.Chronicle partitioned_form }

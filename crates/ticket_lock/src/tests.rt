@@ -231,7 +231,7 @@ fn sixty_four_seats_serve(rt: HostRuntime) -> Result<(), Fail> {
     Ok(())
 }
 
-// One call by a lock round a roll on the heap.
+// Makes one call by a lock around a roll on the heap.
 fn boxed_serves(
     rt: &impl Abort,
     lock: &TicketLock<Box<Roll>>,

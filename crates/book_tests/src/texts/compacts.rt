@@ -17,7 +17,7 @@ use text_io::testing::{Pieces, Spout};
 const LONG: &[u8] =
     b"hullbook journal 3 first 18446744073709551614 limit 3 capacity 16\n18446744073709551614 0 add 5 5 = added\n18446744073709551615 1 add -1 3 = added\n0 0 add 5 5 = again 2\n1 1 add 7 7 = added\n2 0 add 9 9 = toomany\n3 0 remove 7 7 = removed\n4 1 add 5 5 = again 3\n5 0 remove 5 5 = left 2\n6 0 add -1 -4 = nomemory\n7 0 add -1 -4 = added\n8 1 count = count 3\nend 11\n";
 
-/// What it leaves.
+/// Its compacted text.
 const SHORT: &[u8] =
     b"hullbook journal 3 first 9 limit 3 capacity 16\n9 0 add -1 -4 = added\n10 0 add -1 3 = added\n11 0 add 5 5 = added\n12 0 add 5 5 = again 2\nend 4\n";
 
@@ -169,7 +169,7 @@ fn thousands_of_additions_come_in_order(rt: HostRuntime) -> Result<(), Fail> {
     Ok(())
 }
 
-/// What is written is read again, and leaves the same.
+/// The written text is read again, and leaves the same.
 #[test]
 fn a_short_journal_is_made_short_again(rt: HostRuntime) -> Result<(), Fail> {
     let journal = match read_journal(rt.alloc(), &mut Counted::new(Pieces::new(SHORT, 7))) {

@@ -14,7 +14,7 @@ use text_io::testing::{Pieces, Spout};
 pub const EXAMPLE: &[u8] =
     b"hullbook journal 3 first 0 limit 8 capacity 8\n0 0 add 0 0 = added\n1 0 add 4 0 = added\n2 0 add 2 3 = added\n3 0 add 2 1 = added\n4 0 remove 2 3 = removed\n5 0 vertices = list 3 0 0 4 0 2 1\n6 0 area = area 4\nend 7\n";
 
-// What a journal reads as: how many lines, or its fault.
+// The result of reading a journal: how many lines, or its fault.
 type Outcome = Result<usize, TextFault>;
 
 // A fault by its number and its line.

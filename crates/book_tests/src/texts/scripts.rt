@@ -6,7 +6,7 @@ use std::alloc::Global;
 use std::test::Fail;
 use text_io::testing::Pieces;
 
-// What a script reads as: its workers, phases and calls, or its fault.
+// The result of reading a script: its workers, phases and calls, or its fault.
 #[derive(Clone, Copy, Debug, PartialEq)]
 enum Outcome {
     Script(u8, usize, usize),

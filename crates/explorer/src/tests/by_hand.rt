@@ -64,7 +64,7 @@ fn a_full_book_hands_on(rt: HostRuntime) -> Result<(), Fail> {
     Ok(())
 }
 
-// Once.
+// Does so once.
 fn full_book(rt: &impl Abort, alloc: Global) -> Result<(), AllocError> {
     let zero = Vec::from_array(alloc, [Call::Count, Call::Count])?;
     let one = Vec::from_array(alloc, [Call::Count])?;

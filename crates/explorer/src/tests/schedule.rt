@@ -21,8 +21,7 @@ use ticket_lock::TicketLock;
 /// How many steps a schedule has at most.
 const STEPS: u32 = 4096;
 
-/// What is tried: the calls of each player, the first number, the journal's capacity, and how often looks may
-/// miss.
+/// The game: the calls of each player, the first number, the journal's capacity, and how often looks may miss.
 #[derive(Drop)]
 pub(super) struct Game {
     pub(super) calls: Vec<Vec<Call>>,

@@ -86,14 +86,14 @@ fn all_work<R: Threads + Wait + Sync>(
     );
 }
 
-/// What is left of a worker whose seat went back.
+/// The rest of a worker whose seat was returned.
 #[derive(Drop)]
 struct Tally {
     number: u8,
     signed: u64,
 }
 
-// The seats of workers that have done, and their tallies.
+// The seats of workers that are done, and their tallies.
 fn part(
     lock: &TicketLock<Roll>,
     mut workers: Vec<Worker>,

@@ -1,4 +1,4 @@
--- the point comes to one of two parts in a row
+-- the point is added to one of two subtrees in a row
 use Rattle.std.proofs.Common.{◌∙◌, true, false, ap, subst, sym, arith, List, length, length-append}
 use Rattle.std.specs.List.{Contains}
 use Rattle.std.proofs.lemmas.List.Elements.{Contains-append_right}

@@ -1,4 +1,4 @@
--- the point goes from one of two parts in a row
+-- the point is removed from one of two subtrees in a row
 use Rattle.std.proofs.Common.{◌∙◌, true, false, ap, subst, arith, List, length, length-append, sym}
 use Rattle.std.specs.Prelude.{IfSome}
 use Rattle.lattice.specs.Plane.{Pair}
