@@ -9,7 +9,7 @@ use hull_set::Call;
 use std::sync::Wait;
 use ticket_lock::{Guard, Seat, TicketLock};
 
-/// The lock around a book on the heap, which is cheap to hand on.
+/// The lock round a book on the heap, which is cheap to hand on.
 pub type BookLock<S> = TicketLock<Box<Book<S>>>;
 
 /// A seat of that lock.
