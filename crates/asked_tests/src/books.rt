@@ -1,4 +1,4 @@
-//! Books, journals, ledgers and the checker, by values.
+//! Books, journals, ledgers and the checker, with known values.
 ghost use Rattle.std.specs.Prelude.{◌≡◌, ◌≤◌, ◌<◌, ◌⊎◌};
 ghost use Rattle.hull_plain.specs.Sets.{plain_set};
 ghost use Rattle.hull_book.specs.Books.{IsLawful};
@@ -14,7 +14,7 @@ use std::alloc::{AllocError, Global};
 use std::process::Abort;
 use std::test::Fail;
 
-// An open book over an empty plain set. If memory is refused, the set comes back and serves at the second attempt.
+// Opens a book over an empty plain set. If memory is refused, the set is returned and is used for the second attempt.
 fn opened(
     rt: &impl Abort,
     alloc: Global,
@@ -101,7 +101,7 @@ fn absent_removal(rt: HostRuntime) -> Result<(), Fail> {
     Ok(())
 }
 
-// Opens a book that takes so many lines. Whether it was refused for that, and the set came back empty.
+// Opens a book with this capacity. Returns whether it was refused for that, and the set was returned empty.
 fn is_refused(alloc: Global, capacity: u32) -> bool
     requires { (capacity ≡ 0) ⊎ (16777216 < capacity) }
 {
@@ -127,8 +127,7 @@ fn journal_of(alloc: Global, limit: u32, lines: [Line; 3]) -> Result<Option<Jour
     Ok(journal)
 }
 
-// What the checker finds of a journal whose memory was refused and whose point was then added, where the third reply is
-// this.
+// Returns the checker's verdict on a journal whose memory was refused and whose point was then added, if the third reply is this.
 fn refused_and_added(alloc: Global, third: Reply) -> Result<Option<CheckResult>, Fail> {
     let add = Call::Add(at(0, 0)?);
     let lines = [
@@ -165,7 +164,7 @@ fn wrong_first_number(rt: HostRuntime) -> Result<(), Fail> {
     Ok(())
 }
 
-/// A script and its phase are made of their parts and give them back.
+/// You make a script and its phase from their parts, and can read these again.
 #[test]
 fn parts_of_a_script(rt: HostRuntime) -> Result<(), Fail> {
     let calls: Vec<Call> = Vec::from_array(rt.alloc(), [Call::Count])?;
@@ -183,7 +182,7 @@ fn parts_of_a_script(rt: HostRuntime) -> Result<(), Fail> {
     Ok(())
 }
 
-/// A report is a struct of what its text is of.
+/// A report is a struct of what its text contains.
 pub(super) fn report_of<'a>(
     script: &'a Script,
     answers: &'a [Vec<Result<Reply, JournalFull>>],

@@ -7,8 +7,8 @@ use lattice::{Point, before};
 use std::process::Abort;
 use std::test::Fail;
 
-// The upper bridge of two halves, with and without the number of turns, and the lower one; `None` if the one half does
-// not end before the other begins.
+// Returns the upper bridge of two halves, with and without the number of turns, and the lower one; `None` if the one half does not end before the
+// other begins.
 fn found<H: Half>(u: H, w: H) -> Option<((Point, Point), ((Point, Point), u32), (Point, Point))> {
     if before(u.last(), w.first()) {
         let upper: (Point, Point) = upper_bridge(u, w);
@@ -20,7 +20,7 @@ fn found<H: Half>(u: H, w: H) -> Option<((Point, Point), ((Point, Point), u32), 
     }
 }
 
-// A half after a turn by 180 degrees: its edge is the lower one turned, its first point the last one turned.
+// Whether a half after a rotation by 180 degrees has the lower edge rotated, and as its first point the last one rotated.
 fn is_turned<H: Half>(half: H) -> bool {
     let turned: Turned<H> = Turned::new(half);
     let (edge, lower): (Option<(Point, Point)>, Option<(Point, Point)>) = (
@@ -37,7 +37,7 @@ fn is_turned<H: Half>(half: H) -> bool {
     same_edge && same_first && turned.last() == half.first().turned() && turned.height() == height
 }
 
-// The bridges of the two halves of a half with edges; `None` for one point.
+// Returns the bridges of the two halves of a half with edges; `None` for one point.
 fn found_below<H: Half>(
     half: H,
 ) -> Option<((Point, Point), ((Point, Point), u32), (Point, Point))> {

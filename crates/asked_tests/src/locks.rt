@@ -1,4 +1,4 @@
-//! The ticket lock round a book, step by step.
+//! The ticket lock around a book, step by step.
 ghost use Rattle.std.specs.Prelude.{◌≡◌, ◌≤◌, ◌<◌, ◌+◌, [], All, IfOk, vec_len, vec_capacity};
 ghost use Rattle.hull_plain.specs.Sets.{plain_set};
 ghost use Rattle.hull_book.specs.Books.{IsLawful};
@@ -57,7 +57,7 @@ fn waits(rt: &impl Abort, lock: &TicketLock<Roll>, ticket: Ticket<Roll>) -> Tick
     }
 }
 
-// A lock round a roll of two seats. If memory is refused, the roll comes back as it was.
+// Opens a lock around a roll of two seats. If memory is refused, the roll is returned unchanged.
 fn opened(
     rt: &impl Abort,
     roll: Roll,

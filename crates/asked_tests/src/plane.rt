@@ -55,7 +55,7 @@ fn comparisons(rt: HostRuntime) -> Result<(), Fail> {
     Ok(())
 }
 
-// Whether the lines ab and cd cross before m or at m; `None` if the four points are not as the question wants them.
+// Whether the lines ab and cd cross before m or at m; `None` if the four points do not satisfy the conditions of the question.
 fn crossing(a: Point, b: Point, c: Point, d: Point, m: Point) -> Option<bool> {
     if before(a, b) && before(b, c) && before(c, d) && orient(a, b, c) < 0 && orient(b, c, d) < 0 {
         let found: bool = crossing_at_or_before(a, b, c, d, m);

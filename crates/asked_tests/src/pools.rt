@@ -30,7 +30,7 @@ struct Flags {
     one_met: AtomicBool,
 }
 
-// Raises the own flag and looks for the other.
+// Raises its own flag and looks for the other.
 fn meet(own: &AtomicBool, other: &AtomicBool, met: &AtomicBool) {
     own.store(true, Ordering::SeqCst);
     for _ in 0..LOOKS {
@@ -152,7 +152,7 @@ fn by_phases<R: Threads + Wait + Abort + Sync, G: Gate>(
     ended(rt, alloc, end)
 }
 
-/// Both workers are at work at once: each sees the other's flag before its call.
+/// Both workers run at once: each sees the other's flag before its call.
 #[test]
 fn two_flags(rt: HostRuntime) -> Result<(), Fail> {
     let script = two_counts(rt.alloc())?;

@@ -9,7 +9,7 @@ use std::alloc::Global;
 use std::process::Abort;
 use std::test::Fail;
 
-/// Adds points in their order. Whether each of them was new and was added.
+/// Adds points in their order. Returns whether each of them was new and was added.
 pub(super) fn adds<S: HullSet>(set: &mut S, points: &[(i64, i64)]) -> Result<bool, Fail> {
     let mut all = true;
     for (x, y) in points {
@@ -30,13 +30,13 @@ pub(super) fn has_vertices<S: HullSet>(set: &S, wanted: &[(i64, i64)]) -> Result
     Ok(same)
 }
 
-// Where the point lies.
+// Returns the location of the point.
 fn place_of<S: HullSet>(set: &S, x: i64, y: i64) -> Result<Place, Fail> {
     let place: Place = set.place(at(x, y)?);
     Ok(place)
 }
 
-// The point that lies farthest.
+// Returns the farthest point.
 fn farthest<S: HullSet>(set: &S, dx: i64, dy: i64) -> Result<Option<(i64, i64)>, Fail> {
     let found: Option<Point> = set.extreme(toward(dx, dy)?);
     Ok(found.map(|p| (p.x(), p.y())))
@@ -211,7 +211,7 @@ fn rows_of_the_tree(rt: HostRuntime) -> Result<(), Fail> {
     Ok(())
 }
 
-// Adds a second point. If memory for it is refused, the set is as it was, and the next attempt has it.
+// Adds a second point. If memory for it is refused, the set is unchanged, and the next attempt adds it.
 fn second_point<S: HullSet>(rt: &impl Abort, set: &mut S) -> Result<(), Fail> {
     let p = at(1, 1)?;
     if set.add(p) == AddReply::NoMemory {

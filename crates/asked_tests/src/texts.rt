@@ -22,7 +22,7 @@ const MISTAKEN: &str =
 const CUT: &str =
     "hullbook journal 1 first 0 limit 8 capacity 8\n0 0 add 0 0 = added\n1 0 add 4 0 = added\n2 0 add 2 3 = added\n3 0 add 2 1 = added\n4 0 remove 2 3 = removed\n5 0 vertices = list 3 0 0 4 0 2 1\n6 0 area = area 4\nend 7";
 
-// What the checker finds of the journal that is read from the text, or the fault.
+// Returns the checker's verdict on the journal that is read from the text, or the fault.
 fn judged(alloc: Global, text: &str) -> Result<CheckResult, TextFault> {
     let mut source = Counted::new(Pieces::new(text.as_bytes(), 7));
     let journal: Result<Journal, TextFault> = read_journal(alloc, &mut source);
@@ -76,7 +76,7 @@ fn failures<R: Source, W: Sink>(source: &R, sink: &W) -> (u64, u64) {
     (reads, writes)
 }
 
-// The journal of the text, written and upgraded: whether both are this text.
+// Writes and upgrades the journal of the text. Returns whether both are this text.
 fn written(alloc: Global, text: &str, wanted: &str) -> Result<(bool, bool), Fail> {
     let mut source = Counted::new(Pieces::new(text.as_bytes(), 7));
     let Ok(journal) = read_journal(alloc, &mut source) else {

@@ -1,4 +1,4 @@
-//! The parts that a tree lends, and the counts of its changes.
+//! The nodes that a caller borrows from a tree, and the counts of its changes.
 use crate::plane::{at, toward};
 use crate::sets::adds;
 use hull_plain::{AddReply, RemoveReply};

@@ -1,4 +1,4 @@
-//! Books and journals by values, and memory that is refused.
+//! Books and journals with known values, and memory that is refused.
 ghost use Rattle.std.specs.Prelude.{◌≡◌, ◌≤◌, ◌<◌};
 ghost use Rattle.hull_set.specs.Held.{nothing_held};
 ghost use Rattle.hull_plain.specs.Sets.{plain_set};
@@ -20,7 +20,7 @@ fn at(x: i64, y: i64) -> Result<Point, Fail> {
     Ok(Point::new(x, y)?)
 }
 
-// An open book over an empty set. Where memory is refused, the set comes back and serves at the second attempt.
+// Opens a book over an empty set. If memory is refused, the set is returned and is used for the second attempt.
 fn opened(
     rt: &impl Abort,
     set: PlainSet,
@@ -105,7 +105,7 @@ fn capacity_out_of_range(rt: HostRuntime) -> Result<(), Fail> {
     Ok(())
 }
 
-// A book of so many lines for so many workers is opened where there is memory.
+// A book of this many lines for this many workers is opened if there is memory.
 #[test]
 fn opens_for_all_seats(rt: HostRuntime) -> Result<(), Fail> {
     for (capacity, workers) in [(1, 64), (65536, 1)] {
@@ -120,7 +120,7 @@ fn opens_for_all_seats(rt: HostRuntime) -> Result<(), Fail> {
     Ok(())
 }
 
-// The journal of these lines with the first number 0, which goes by the rules.
+// Returns the journal of these lines with the first number 0, under the rules.
 fn journal_of<const N: usize>(
     alloc: Global,
     limit: u32,
@@ -150,7 +150,7 @@ fn stored_refusal(rt: HostRuntime) -> Result<(), Fail> {
     Ok(())
 }
 
-// A journal of a set is judged by the rules of a set: a point that was added twice is gone when it was removed once.
+// A journal of a set is judged by the rules of a set: a point that was added twice is not in the set after it was removed once.
 #[test]
 fn each_journal_by_its_own_rules(rt: HostRuntime) -> Result<(), Fail> {
     let p = at(5, 5)?;
@@ -220,7 +220,7 @@ fn a_wrong_multiplicity(rt: HostRuntime) -> Result<(), Fail> {
     Ok(())
 }
 
-// A journal takes the replies of its rules alone, with numbers that a multiplicity may be.
+// A journal accepts only replies of its rules, with numbers that a multiplicity may be.
 #[test]
 fn replies_of_the_rules(rt: HostRuntime) -> Result<(), Fail> {
     let add = Call::Add(at(1, 2)?);
@@ -251,7 +251,7 @@ fn wrong_first_number(rt: HostRuntime) -> Result<(), Fail> {
     Ok(())
 }
 
-// Serves the calls of the lines by their seats, each of which is answered as its line says.
+// Serves the calls of the lines by their seats; the reply of each is that of its line.
 fn serve_lines(
     rt: &impl Abort,
     book: &mut Book<PlainSet>,
@@ -272,7 +272,7 @@ fn serve_lines(
     }
 }
 
-// The journal of a book with one seat that served the calls of the lines, and no other.
+// Returns the journal of a book with one seat that served the calls of the lines, and no other.
 fn played(rt: &impl Abort, alloc: Global, first: u64, limit: u32, lines: &[Line]) -> Journal
     requires { (1 ≤ limit) × (limit ≤ 4) }
 {
@@ -322,7 +322,7 @@ fn journal_limits(rt: HostRuntime) -> Result<(), Fail> {
     Ok(())
 }
 
-// The corners of a small square, one of them twice for a while.
+// The vertices of a small square, one of them with multiplicity two for a while.
 fn square_changes() -> Result<[(Call, Reply); 7], Fail> {
     let last = at(2, 0)?;
     Ok([
@@ -377,8 +377,7 @@ fn every_call_once(rt: HostRuntime) -> Result<(), Fail> {
     Ok(())
 }
 
-// Puts the point in and asks for the vertices. Where memory is refused, the reply says so, the set is as it was,
-// and the second attempt is answered.
+// Adds the point and asks for the vertices. If memory is refused, the reply is that, the set is as it was, and the second attempt succeeds.
 fn serve_again(rt: &impl Abort, book: &mut Book<PlainSet>, ledgers: &mut Vec<Ledger>, p: Point)
     requires lawful { IsLawful plain_set book.old }
     requires ledgers { AreLedgers book.old ledgers.old.items }
@@ -403,7 +402,7 @@ fn serve_again(rt: &impl Abort, book: &mut Book<PlainSet>, ledgers: &mut Vec<Led
     }
 }
 
-// The journal of a book that served one point and its vertices: of two lines, and one more where memory was refused.
+// Returns the journal of a book that served one point and its vertices: of two lines, and one more if memory was refused.
 fn refused_once(rt: &impl Abort, alloc: Global, p: Point) -> Journal {
     let set = PlainSet::new(alloc, 4);
     let (mut book, mut ledgers) = opened(rt, set, alloc, 7, 4, 1);
@@ -420,7 +419,7 @@ fn refused_once(rt: &impl Abort, alloc: Global, p: Point) -> Journal {
     journal
 }
 
-// `rt try --test --fail-alloc N` at N = 1 and 2 refuses the room for the lines, and the ledgers.
+// `rt try --test --fail-alloc N` at N = 1 and 2 refuses the storage for the lines, and the ledgers.
 #[test]
 fn refused_memory_open(rt: HostRuntime) -> Result<(), Fail> {
     let set = PlainSet::new(rt.alloc(), 4);
@@ -435,7 +434,7 @@ fn refused_memory_open(rt: HostRuntime) -> Result<(), Fail> {
     Ok(())
 }
 
-// The same at N = 1 to 8: also the room for the new point, for the vertices, and for their copy in the journal.
+// The same at N = 1 to 8: also the storage for the new point, for the vertices, and for their copy in the journal.
 #[test]
 fn refused_memory_serve(rt: HostRuntime) -> Result<(), Fail> {
     let journal = refused_once(&rt, rt.alloc(), at(3, 4)?);
@@ -443,7 +442,7 @@ fn refused_memory_serve(rt: HostRuntime) -> Result<(), Fail> {
     Ok(())
 }
 
-// The same for the checker, which finds nothing out where its own set or list is refused memory.
+// The same for the checker, which returns no verdict if its own set or list is refused memory.
 #[test]
 fn refused_memory_check(rt: HostRuntime) -> Result<(), Fail> {
     let journal = refused_once(&rt, rt.alloc(), at(3, 4)?);

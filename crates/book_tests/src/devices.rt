@@ -1,4 +1,4 @@
-//! Devices over bytes in memory, and what the writers and readers of texts count of them.
+//! Devices over bytes in memory, and what the writers and readers of texts count about them.
 ghost use Rattle.std.specs.Prelude.{◌<◌, ◌-◌, ◌^◌};
 
 use std::alloc::Global;
@@ -8,8 +8,7 @@ use std::test::Fail;
 use text_io::testing::{Pieces, Spout};
 use text_io::*;
 
-/// What a device got: whether it is a beginning of the text that was wanted, how many bytes, by how many calls, and how
-/// many of them failed.
+/// The bytes that a device received: whether they are a prefix of the expected text, how many, by how many calls, and how many of these failed.
 pub(super) type Got = (bool, usize, u64, u64);
 
 pub(super) fn got(out: &Counted<Spout>, want: &[u8]) -> Got {
@@ -23,20 +22,20 @@ pub(super) fn got(out: &Counted<Spout>, want: &[u8]) -> Got {
     )
 }
 
-/// Whether a device got the whole text, and no call failed.
+/// Whether a device received the whole text, and no call failed.
 pub(super) fn is_whole(got: Got, want: &[u8]) -> bool {
     let (begins, length, _, failures) = got;
     begins && length == want.len() && failures == 0
 }
 
-/// Whether a device got a beginning of the text up to this call, which alone failed.
+/// Whether a device received a prefix of the text up to this call, which was the only one to fail.
 pub(super) fn is_cut(got: Got, call: u64) -> bool {
     let (begins, _, calls, failures) = got;
     begins && calls == call && failures == 1
 }
 
-/// A device with this room, which takes pieces of this size, and at the call with this number fails or takes nothing;
-/// no call has the number 0.
+/// Makes a device with this capacity, which takes pieces of this size, and at the call with this number fails or takes nothing; no call has the
+/// number 0.
 pub(super) fn device(
     alloc: Global,
     room: usize,
@@ -51,7 +50,7 @@ pub(super) fn device(
     }
 }
 
-/// A device with this room behind blocks of 4096 bytes, which fails at the call with this number.
+/// Makes a device with this capacity through a buffer of 4096 bytes, which fails at the call with this number.
 pub(super) fn in_blocks(
     rt: &impl Abort,
     alloc: Global,
@@ -67,7 +66,7 @@ pub(super) fn in_blocks(
     }
 }
 
-// Says a text of several pieces and numbers.
+// Writes a text of several pieces and numbers.
 fn say<W: Sink>(out: &mut W) -> Result<(), WriteFault>
     requires { W.failed out.old < 2 ^ 64 - 1 }
 {
@@ -81,7 +80,7 @@ fn say<W: Sink>(out: &mut W) -> Result<(), WriteFault>
 
 const SAID: &[u8] = b"count 18446744073709551615 at -1048576\n";
 
-// What comes of saying it to a device, which has counted no failure before.
+// Returns the result of writing it to a device, which has counted no failure before.
 fn said(device: Spout) -> Option<(Result<(), WriteFault>, Got)> {
     let mut out = Counted::new(device);
     if out.failures() > 0 {
@@ -91,7 +90,7 @@ fn said(device: Spout) -> Option<(Result<(), WriteFault>, Got)> {
     Some((outcome, got(&out, SAID)))
 }
 
-// The same of a device that is made for it.
+// Does the same for a new device.
 fn said_to(
     alloc: Global,
     room: usize,
@@ -113,7 +112,7 @@ fn a_text_is_written_whole_in_pieces_of_any_size(rt: HostRuntime) {
     }
 }
 
-// Whether what is said is cut short at this call.
+// Whether the text is cut short at this call.
 fn is_cut_short(alloc: Global, call: u64, refuses: bool) -> bool {
     match said_to(alloc, 64, 3, call, refuses) {
         Some((outcome, got)) => outcome == Err(WriteFault) && is_cut(got, call),
@@ -141,7 +140,7 @@ fn a_full_device_takes_nothing(rt: HostRuntime) -> Result<(), Fail> {
     Ok(())
 }
 
-// What one write takes, where it does not fail, and how many failures and calls are counted behind it.
+// Returns how much one write takes, if it does not fail, and how many failures and calls are counted after it.
 fn wrote(out: &mut Counted<Spout>, piece: &[u8]) -> (Option<usize>, u64, u64) {
     let taken = out.write(piece).ok();
     (taken, out.failures(), out.get_ref().calls())
@@ -157,14 +156,14 @@ fn an_empty_piece_taken_by_no_byte_is_no_failure(rt: HostRuntime) -> Result<(), 
     Ok(())
 }
 
-// A writer that hands on a byte at a call meets its contract; here the device takes each piece at once.
+// A writer that passes one byte at a call meets its contract; here the device takes each piece at once.
 #[test]
 fn a_wide_device_is_called_once_a_piece(rt: HostRuntime) {
     let found = said_to(rt.alloc(), 64, 4096, 0, false);
     assert!(rt; found == Some((Ok(()), (true, SAID.len(), 5, 0))));
 }
 
-// A count that hands on a part of each piece meets its contract; here the device takes a piece at once.
+// A count that passes only a part of each piece meets its contract; here the device takes a piece at once.
 #[test]
 fn a_piece_is_handed_on_in_one_call(rt: HostRuntime) -> Result<(), Fail> {
     let mut out = Counted::new(Spout::new(rt.alloc(), 64, 4096)?);
@@ -174,8 +173,8 @@ fn a_piece_is_handed_on_in_one_call(rt: HostRuntime) -> Result<(), Fail> {
     Ok(())
 }
 
-// What comes of saying it to a device behind blocks: the outcome and the failures, and whether the device got all of
-// it, and by how many calls.
+// Returns the result of writing it to a device through a buffer: the outcome and the failures, and whether the device received all of it, and by how
+// many calls.
 fn said_in_blocks(blocks: BufWriter<Spout>) -> (Result<(), WriteFault>, u64, bool, u64) {
     let mut out = Counted::new(blocks);
     let outcome = say(&mut out);
@@ -205,7 +204,7 @@ fn numbers_of_every_width_are_printed(rt: HostRuntime) -> Result<(), Fail> {
     Ok(())
 }
 
-// How many bytes a read gives, or nothing where it fails, and how many failures are counted behind it.
+// Returns how many bytes a read returns, or nothing if it fails, and how many failures are counted after it.
 fn read_some(reader: &mut Counted<Pieces<'_>>, bytes: &mut [u8; 4]) -> (Option<usize>, u64) {
     let given = reader.read_counted(bytes).ok();
     (given, reader.failures())

@@ -1,7 +1,6 @@
-//! Tests of books, of their texts and pictures, of devices, and of replies in numbers, over what these crates show
-//! everybody.
+//! Tests of books, of their texts and pictures, of devices, and of replies in numbers, over the public surface of these crates.
 //!
-//! They stand in a crate of their own, so that the crates that they try are proved once.
+//! They are in a crate of their own, so that the crates under test are proved once.
 #![tactic(auto)]
 
 #[cfg(test)]

@@ -1,4 +1,4 @@
-//! A book that is full answers no call but questions that ask for no line, and goes on once it is drained.
+//! A book that is full refuses all calls except questions that need no line, and continues after it is drained.
 ghost use Rattle.std.specs.Prelude.{◌≡◌, ◌≤◌, length};
 ghost use Rattle.hull_plain.specs.Sets.{plain_set};
 ghost use Rattle.hull_book.specs.Answers.{HasRoom};
@@ -13,7 +13,7 @@ use std::alloc::Global;
 use std::process::Abort;
 use std::test::Fail;
 
-// A book of one seat that holds this many lines at most, and the seat's ledger.
+// Opens a book of one seat that has at most this many lines, and the seat's ledger.
 fn opened(rt: &impl Abort, alloc: Global, capacity: u32) -> (LongBook<PlainSet>, Vec<Ledger>)
     ensures lawful { IsLawful plain_set (whole result.0) }
     ensures ledgers { AreLedgers (whole result.0) result.1.items }
@@ -29,7 +29,7 @@ fn opened(rt: &impl Abort, alloc: Global, capacity: u32) -> (LongBook<PlainSet>,
     }
 }
 
-// Has a call of the only seat served.
+// Serves a call of the only seat.
 fn serve(
     book: &mut LongBook<PlainSet>,
     ledgers: &mut Vec<Ledger>,
@@ -68,12 +68,12 @@ fn sum_of(book: &LongBook<PlainSet>, ledgers: Vec<Ledger>) -> u64
     gather(book, ledgers)
 }
 
-// How many lines are held, the number of the next one, and the turn.
+// Returns how many lines the book has, the number of the next one, and the turn.
 fn marks_of(book: &LongBook<PlainSet>) -> (u32, u64, u64) {
     (book.held(), book.line_number(), book.turn())
 }
 
-// The part that was taken out and the reply, which is the number of points.
+// Returns the segment that was taken out and the reply, which is the number of points.
 fn drained_of(rt: &impl Abort, drained: LongAnswer) -> (Reply, Journal) {
     let Ok((reply, part)) = drained else {
         panic!(rt; "a line is spare for a drain")

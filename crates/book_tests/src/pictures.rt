@@ -1,4 +1,4 @@
-//! Pictures of small journals, byte for byte, and how a drawing ends where a device fails.
+//! Pictures of small journals, byte for byte, and how a drawing ends if a device fails.
 mod films;
 
 ghost use Rattle.std.specs.Prelude.{◌<◌, ◌^◌};
@@ -11,7 +11,7 @@ use std::test::Fail;
 use text_io::Counted;
 use text_io::testing::{Pieces, Spout};
 
-/// A triangle, one of whose corners is held twice.
+/// A triangle, one of whose vertices has multiplicity two.
 const TRIANGLE: &str =
     "hullbook journal 3 first 0 limit 4 capacity 9\n0 0 add 0 0 = added\n1 0 add 4 0 = added\n2 0 add 2 3 = added\n3 0 add 2 3 = again 2\nend 4\n";
 
@@ -25,7 +25,7 @@ const ALL: DrawOptions = DrawOptions {
     size: 200,
 };
 
-// What each picture begins with.
+// The beginning of each picture.
 const HEAD: &str =
     "<svg xmlns='http://www.w3.org/2000/svg' width='264' height='384'>\n<rect width='100%' height='100%' fill='#fff'/>\n<style>text{font:14px sans-serif;fill:#222}path,polygon{fill:none;vector-effect:non-scaling-stroke;stroke-linecap:round;stroke-linejoin:round}.h{fill:#dbe9f6;stroke:#1f5f99;stroke-width:2}.p{stroke:#6b7a89;stroke-width:5}.c{stroke:#1f5f99;stroke-width:9}.u{stroke:#c0392b}.l{stroke:#1e8449}.v0{stroke-width:6}.v1{stroke-width:4.5}.v2{stroke-width:3}.v3{stroke-width:2}.t{font-size:12px;fill:#a33;paint-order:stroke;stroke:#fff;stroke-width:3px}.w{fill:#c00}</style>\n";
 
@@ -47,7 +47,7 @@ const WRONG_DRAWN: &str =
 const BRIDGES_DRAWN: &str =
     "<svg x='32' y='32' overflow='visible' width='200' height='200' viewBox='0 0 4 4'>\n<polygon class='h' points='0,3 4,3 2,0 '/>\n<path class='p' d='M0 3h0M2 0h0M4 3h0'/>\n<path class='u v0' d='M2 0L4 3'/>\n<path class='l v0' d='M0 3L4 3'/>\n<path class='u v1' d='M0 3L2 0'/>\n<path class='l v1' d='M0 3L2 0'/>\n<path class='c' d='M0 3h0M4 3h0M2 0h0'/>\n</svg>\n<text class='t' x='139' y='26'>2</text>\n<text x='32' y='276'>points 3 (limit 4)</text>\n<text x='32' y='298'>doubled area 12</text>\n<text x='32' y='320'>x 0 to 4, y 0 to 3</text>\n<text x='32' y='342'>calls 4</text>\n<text x='32' y='364'>bridges of 8 levels: <tspan fill='#c0392b'>upper</tspan>, <tspan fill='#1e8449'>lower</tspan></text>\n</svg>\n";
 
-// Whether the picture of the journal is this behind its head.
+// Whether the picture of the journal is this after its head.
 fn draws(alloc: Global, journal: &str, options: &DrawOptions, wanted: &str) -> Result<bool, Fail>
     requires { options.now.size < 2 ^ 20 }
 {

@@ -1,4 +1,4 @@
-//! Books that go on with a journal, and the seats and workers that they need.
+//! Books that continue a journal, and the seats and workers that they need.
 ghost use Rattle.std.specs.Prelude.{◌≡◌, ◌≤◌, ◌<◌, IfOk};
 ghost use Rattle.std.specs.List.{All};
 ghost use Rattle.hull_plain.specs.Sets.{plain_set};
@@ -22,7 +22,7 @@ fn journal_of<const N: usize>(alloc: Global, lines: [Line; N]) -> Result<Journal
     Ok(Journal::new(u64::MAX, 4, 4, lines, Rules::Counted).ok_or("a limit")?)
 }
 
-// A journal of three lines by seats 0 and 2, whose numbers go past the greatest.
+// Returns a journal of three lines by seats 0 and 2, whose numbers wrap past the greatest.
 fn journal(alloc: Global) -> Result<Journal, Fail> {
     let p = Point::new(5, 5)?;
     let lines = [
@@ -33,7 +33,7 @@ fn journal(alloc: Global) -> Result<Journal, Fail> {
     journal_of(alloc, lines)
 }
 
-// A plain set that holds what a journal left, and the journal, by three workers.
+// Returns a plain set with the points that a journal left, and the journal, by three workers.
 fn replayed(alloc: Global, journal: Journal) -> Result<(PlainSet, Journal), Fail>
     ensures { IfOk result (λ x. IsGoneOnFrom plain_set x.0 3 x.1) }
 {
@@ -65,7 +65,7 @@ fn serve_at(
     book.serve(seat, call, &mut ledgers[usize::from(seat)])
 }
 
-/// The lines of the journal stand before the new ones, which have the next numbers, and the ledgers count both.
+/// The lines of the journal are before the new ones, which have the next numbers, and the ledgers count both.
 #[test]
 fn a_book_goes_on_where_its_journal_ends(rt: HostRuntime) -> Result<(), Fail> {
     let p = Point::new(5, 5)?;
@@ -96,8 +96,7 @@ fn a_book_goes_on_where_its_journal_ends(rt: HostRuntime) -> Result<(), Fail> {
     Ok(())
 }
 
-// How a book of this capacity is refused, the number of points of its set then, and the lines and the capacity of its
-// journal.
+// Returns how a book of this capacity is refused, the number of points of its set then, and the lines and the capacity of its journal.
 fn refusal(
     rt: &impl Abort,
     alloc: Global,
@@ -115,7 +114,7 @@ fn refusal(
     }
 }
 
-/// Set and journal come back where the capacity is refused.
+/// Set and journal are returned if the capacity is refused.
 #[test]
 fn a_capacity_that_is_not_enough_is_refused(rt: HostRuntime) -> Result<(), Fail> {
     for capacity in [0, 2, CAPACITY_LIMIT + 1] {

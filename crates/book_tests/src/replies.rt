@@ -38,7 +38,7 @@ const CODES_OF_CALLS: [(Code, u32); 22] = [
     (Code::UnknownKind, 22),
 ];
 
-/// The codes of desks and seats, by the numbers of the header.
+/// The codes of shared hulls and seats, by the numbers of the header.
 const CODES_OF_DESKS: [(Code, u32); 20] = [
     (Code::Open, 32),
     (Code::OutOfLimits, 33),

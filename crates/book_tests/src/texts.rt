@@ -5,8 +5,8 @@ mod reports;
 mod scripts;
 mod upgrades;
 
-// The line of a text that its reader has in hand after so many calls that gave a byte each, or found the end: behind
-// the end it is the line after the last, whether or not a newline ends that one.
+// Returns the line of a text at which its reader is after this many calls that each returned a byte, or found the end: at the end it is the line
+// after the last, whether or not a newline ends that one.
 fn line_in_hand(text: &[u8], calls: u64) -> u32 {
     let mut line = 1u32;
     if calls > text.len() as u64 && !text.ends_with(b"\n") {

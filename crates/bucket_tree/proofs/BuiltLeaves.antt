@@ -8,7 +8,7 @@ use Rattle.hull_buckets.proofs.RunBridges.{run_bridged, some_corner, all_within,
 use Rattle.bucket_tree.specs.declared.node.Node.{Leaf}
 use Rattle.bucket_tree.specs.Nodes.{tree_of_bucket, IsWellBuilt}
 
--- the corners of a bucket are a half that keeps its law
+-- the vertices of a bucket are a half that keeps its law
 bucket_bridged : (b : BucketValue) → IsBucket b → IsBridged (tree_of_bucket b)
 bucket_bridged b k = run_bridged (width_of (all_of b)) b (all_of b) k (some_corner b k)
     (mask_fits (all_of b) _ (all_within b k) k.few) (all_within b k) (all_corners b) (omega arith)

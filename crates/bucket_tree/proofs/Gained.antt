@@ -1,4 +1,4 @@
--- A point that comes to one of two nodes in a row.
+-- A point that is added to one of two nodes in a row.
 use Rattle.std.proofs.lemmas.Grind.{common_steps}
 use Rattle.std.proofs.Common.{◌≡◌, ℕ, ◌+◌, ◌<◌, true, false, Bool, refl, sym, ap, ◌∙◌, subst, List, [], ◌∷◌, ◌++◌}
 use Rattle.std.proofs.Common.{length, arith}
@@ -23,7 +23,7 @@ use Rattle.bucket_tree.proofs.Rows.{counted_row}
 
 -- ---- lists
 
--- what stands before the first of the second list stands before all of it
+-- what is before the first of the second list is before all of it
 pub all_after : (p : Pair) (xs ys : List Pair) → IsPointSet (xs ++ ys) → IsBefore p (first_of ys)
     → All (IsBefore p) ys
 all_after p xs [] s b = λ k d l. absurd (omega (arith, l))
@@ -31,7 +31,7 @@ all_after p xs (y ∷ ys) s b = All-cons (IsBefore p) y ys b
     (All-weaker (IsBefore y) (IsBefore p) (λ t c. before_trans p y t b c) ys
     (AllPairs-head y ys (set_right xs (y ∷ ys) s)))
 
--- what does not stands after all of the first
+-- what is not is after all of the first
 pub all_before : (p : Pair) (xs ys : List Pair) → IsPointSet (xs ++ ys) → 0 < length ys → ¬ IsBefore p (first_of ys)
     → All (λ t. IsBefore t p) xs
 all_before p xs [] s l n = absurd (omega (arith, l))
@@ -64,7 +64,7 @@ held_row n l r q h e f = grind (arith, common_steps, counted, times_below, point
 
 -- ---- by the words of the code
 
--- a point read in the first place
+-- a point read at the first index
 pub read_first : (S T : List Pair) (x : Pair) → S ≡ T → 0 < length T → x ≡ get_or S 0 x → first_of T ≡ x
 read_first S T x e l f = get_or_free T 0 _ x l ∙ ap (λ z. get_or z 0 x) (sym e) ∙ sym f
 
@@ -80,14 +80,14 @@ passed b f e = f e
 pub failed : {A : Type 0} (b : Bool) → (A → IsTrue b) → b ≡ false → ¬ A
 failed b f e a = true_is_no_false (sym (f a) ∙ e)
 
--- ---- a bucket that was parted
+-- ---- a bucket that was split
 
 -- the points of both its parts are its own
 parts_points : (b whole first second f g : BucketValue) → whole ≡ b → whole.points ≡ first.points ++ second.points
     → f ≡ first → g ≡ second → f.points ++ g.points ≡ b.points
 parts_points b whole first second f g e h u v = grind (arith, common_steps)
 
--- and so is how often each is held
+-- and so are their multiplicities
 parts_times : (b whole first second f g : BucketValue) → whole ≡ b → whole.times ≡ first.times ++ second.times
     → f ≡ first → g ≡ second → f.times ++ g.times ≡ b.times
 parts_times b whole first second f g e h u v = grind (arith, common_steps)
@@ -99,7 +99,7 @@ pub parts_gain : (b whole first second f g : BucketValue) (P : List Pair) (p : P
 parts_gain b whole first second f g P p e h u v k =
     k ∙ ap (with_point p) (parts_points b whole first second f g e h u v)
 
--- and hold what it held, and the point once more
+-- and have the multiplicities of the bucket, and the point once more
 pub parts_held : (b whole first second f g : BucketValue) (n : ℕ) (p q : Pair) → whole ≡ b
     → whole.points ≡ first.points ++ second.points → whole.times ≡ first.times ++ second.times → f ≡ first → g ≡ second
     → n ≡ counted (f.points ++ g.points) (f.times ++ g.times) q + once p q → n ≡ counted b.points b.times q + once p q

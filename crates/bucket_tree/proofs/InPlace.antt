@@ -71,18 +71,18 @@ pub fork_built : (h : ℕ) (f : Box Below _) → IsRenewed f.value
     → h ≡ max (forks_above f.value.left) (forks_above f.value.right) + 1 → IsWellBuilt (Fork h f)
 fork_built h f r near e = grind (arith, common_steps, corners_in_row)
 
--- it is as high as before, where its parts are
+-- it is as high as before, if its parts are
 pub built_again : (n : Node) (h : ℕ) (f : Below) (b : Box Below _) → IsApart n h f → IsRenewed b.value
     → forks_above b.value.left ≡ forks_above f.left → forks_above b.value.right ≡ forks_above f.right
     → IsWellBuilt (Fork h b) × (forks_above (Fork h b) ≡ forks_above n)
 built_again n h f b a r u v = grind (arith, common_steps, fork_built)
 
--- the bridge below is that of a fork whose upper edge alone is another
+-- the bridge below is that of a fork of which only the upper edge differs
 pub lower_moved : (f g : Below) → IsSameBut Upper f g → IsBridgeBetween Lower f.left f.right f.lower
     → IsBridgeBetween Lower g.left g.right g.lower
 lower_moved f g s b = grind (arith, common_steps)
 
--- ---- one part: the left one where the word is true, and else the right one
+-- ---- one subtree: the left one if the word is true, otherwise the right one
 
 -- the fork with another one in its place
 abbrev pub with_part : Bool → Below → Node → Below
@@ -100,7 +100,7 @@ pub record IsForkAt (left : Bool) (p : Pair) (n : Node) (h : ℕ) (f : Below) : 
   pub apart : IsApart n h f
   pub at : IsAt left p n f.left f.right
 
--- by the fork as it is read at two places
+-- by the fork as it is read at two indices
 pub fork_at : (left : Bool) (p : Pair) (n : Node) (h : ℕ) (b : Box Below _) (f g : Below) → n ≡ Fork h b → f ≡ b.value
     → g ≡ b.value → IsWellBuilt n → BelongsTo left p g.first_right → IsForkAt left p n h f
 fork_at left p n h b f g e v w built here =
@@ -111,7 +111,7 @@ fork_at left p n h b f g e v w built here =
           (ap (λ (z : Below). z.first_right) (w ∙ sym v) ∙ a.first) here;
     }
 
--- p is held in the fork as often as in the part
+-- the multiplicity of p in the fork is that in the subtree
 pub same_below : (left : Bool) (p : Pair) (n : Node) (h : ℕ) (f : Below) → IsForkAt left p n h f
     → times_at n p ≡ times_at (cond left f.left f.right) p
 same_below left p n h f i = same_at left p n f.left f.right i.at
@@ -160,7 +160,7 @@ pub changed_in_place : (put : Bool) (p : Pair) (n m : Node) (change : Changed) �
 changed_in_place true p n m change d = d.in_place
 changed_in_place false p n m change d = d.in_place
 
--- a fork has room for the change, by its part
+-- a fork has capacity for the change, by its subtree
 room_by : (left put : Bool) (p : Pair) (n : Node) (h : ℕ) (f : Below) (k : Node) (below : Changed)
     → IsForkAt left p n h f → HasChanged put p (cond left f.left f.right) k below
     → AreFewFor put (length (points_below n)) → HasRoomFor (kind_of put) p (points_below n)
@@ -168,21 +168,21 @@ room_by left true p n h f k below i d few =
     (absent_below (Some n) n p refl i.apart.built (same_below left p n h f i ∙ d.absent), few)
 room_by left false p n h f k below i d few = few
 
--- where the part is as high as it was both are
+-- if the subtree is as high as it was both are
 heights_with : (left : Bool) (f : Below) (k : Node) → forks_above k ≡ forks_above (cond left f.left f.right)
     → (forks_above (cond left k f.left) ≡ forks_above f.left)
     × (forks_above (cond left f.right k) ≡ forks_above f.right)
 heights_with true f k e = (e, refl)
 heights_with false f k e = (refl, e)
 
--- a fork that is behind two parts is behind with these in it
+-- a fork that is stale over two subtrees is stale with these in it
 pub over_parts : (p : Pair) (sides : Open) (l r : Node) (f : Below) → IsBehind p sides l r f
     → IsBehind p sides l r (with_part false (with_part true f l) r)
 over_parts p sides l r f h =
     let g = with_part false (with_part true f l) r in
     behind_as p sides l r f g h.closed h.clear (same_edges f g refl refl) h.last h.first
 
--- the edges of a fork whose part changed at p are behind
+-- the edges of a fork whose subtree changed at p are stale
 edges_with : (left put : Bool) (p : Pair) (f : Below) (k : Node) (sides : Open) → AreInRow f.left f.right
     → ((side : Side) → IsBridgeBetween side f.left f.right (edge_on side f))
     → Alters (kind_of put) p (cond left f.left f.right) k
@@ -241,7 +241,7 @@ pub among_with : (left : Bool) (l r k : Node) (t : Pair) → Contains (points_be
 among_with true l r k t i = Contains-append_left (points_below k) (points_below r) t i
 among_with false l r k t i = Contains-append_right (points_below l) (points_below k) t i
 
--- renewed it has changed in place as the part
+-- renewed it has changed in place as the subtree
 module _ (left : Bool) (p : Pair) (n : Node) (h : ℕ) (f : Below) (k : Node) (below above : Changed) (g : Box Below _)
     (i : IsForkAt left p n h f) (part : IsInPlace p (cond left f.left f.right) k below)
     (r : IsRenewedAfter p below (with_part left f k) g.value above) where
@@ -304,7 +304,7 @@ changed_with left put p n h f g k below above b i d few low e r = go put d alter
 
 -- ---- a bucket
 
--- a bucket that stays as it was, and how often it holds p
+-- a bucket that stays as it was, and the multiplicity of p in it
 module _ (p : Pair) (n : Node) (b : Box BucketValue _) (w v : BucketValue) (r : Result Changed ℕ) (e : n ≡ Leaf b)
     (d : w ≡ b.value) where
   pub leaf_same : IfErr r (λ _. v ≡ w) → IfErr r (λ _. Leaf (with_value b v) ≡ n)
@@ -328,7 +328,7 @@ leaf_in_place p b c v change f h u = record {
   closed = subst (λ (z : BucketValue). IsClosedOver p change.sides z.points) (sym f) u.closed;
 }
 
--- p came to a bucket, or went from it
+-- p was added to a bucket, or removed from it
 changed_leaf : (put : Bool) (p : Pair) (b c : Box BucketValue _) (v : BucketValue) (change : Changed) → c.value ≡ v
     → IsBucket v → HasChangedIn put p b.value v change → HasChanged put p (Leaf b) (Leaf c) change
 changed_leaf true p b c v change f h d = record {

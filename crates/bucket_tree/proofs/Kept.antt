@@ -1,4 +1,4 @@
--- Bridges that stand as their sets change at one point.
+-- Bridges that stay valid when their sets change at one point.
 use Rattle.std.proofs.Common.{◌≡◌, ◌∙◌, ◌⊎◌, ℕ, ◌<◌, false, Bool, refl, sym, subst, inl, inr, List, ◌++◌, length}
 use Rattle.std.proofs.Common.{Box}
 use Rattle.std.specs.List.{Contains}
@@ -31,30 +31,30 @@ use Rattle.bucket_tree.specs.declared.node.Node.{Node}
 use Rattle.bucket_tree.specs.declared.node.Node as node
 use Rattle.bucket_tree.specs.declared.renewal.Open.{Open}
 
--- T has the points of S but for p, which may have come or gone
+-- T has the points of S except for p, which may have been added or removed
 pub record DiffersAt (p : Pair) (S T : List Pair) : Type 0 where
   pub had : (t : Pair) → Contains T t → Contains S t ⊎ (t ≡ p)
   pub has : (t : Pair) → Contains S t → ¬ (t ≡ p) → Contains T t
 
--- nothing came or went
+-- no point was added or removed
 pub differs_not : (p : Pair) (S : List Pair) → DiffersAt p S S
 differs_not p S = record { had = λ t i. inl i; has = λ t i n. i }
 
--- p came
+-- p was added
 pub differs_with : (p : Pair) (S : List Pair) → IsPointSet S → DiffersAt p S (with_point p S)
 differs_with p S s = record {
   had = λ t i. elim (((with_point_law S p s).1 t).0 i) [ inl e ↦ inr e | inr k ↦ inl k ];
   has = λ t i n. ((with_point_law S p s).1 t).1 (inr i);
 }
 
--- p went
+-- p was removed
 pub differs_without : (p : Pair) (S : List Pair) → IsPointSet S → DiffersAt p S (without_point p S)
 differs_without p S s = record {
   had = λ t i. inl (((without_point_law S p s).1 t).0 i).0;
   has = λ t i n. ((without_point_law S p s).1 t).1 (i, n);
 }
 
--- a bridge of which p is clear stands
+-- a bridge of which p is clear stays valid
 pub still : (side : Side) (p : Pair) (l r m n : List Pair) (e : Pair × Pair)
     → IsBridge side (Contains l) (Contains r) e.0 e.1 → DiffersAt p l m → DiffersAt p r n → IsClearOf side e p
     → IsBridge side (Contains m) (Contains n) e.0 e.1
@@ -64,7 +64,7 @@ still side p l r m n e b d f c =
     (λ t i. elim (d.had t i) [ inl k ↦ inl k | inr q ↦ inr (subst (IsInnerToEdge side e.0 e.1) (sym q) c.2) ])
     (λ t i. elim (f.had t i) [ inl k ↦ inl k | inr q ↦ inr (subst (IsInnerToEdge side e.0 e.1) (sym q) c.2) ])
 
--- what stands under an edge is clear of it
+-- what is under an edge is clear of it
 pub clear_covered : (side : Side) (p : Pair) (e : Pair × Pair) → IsInwards side e.0 e.1 p → IsClearOf side e p
 clear_covered side p e k =
     let uv : IsBefore e.0 e.1 = before_trans e.0 p e.1 k.0 k.1 in (
@@ -73,7 +73,7 @@ clear_covered side p e k =
       under_is_inner side e.0 e.1 e.0 e.1 p uv k (start_inner side e.0 e.1 uv) (end_inner side e.0 e.1 uv),
     )
 
--- a set without a point that stands under two others is a fringe of it
+-- a set without a point that is under two others is a candidate list of it
 fringe_without : (side : Side) (S : List Pair) (u a b : Pair) → Contains S a → Contains S b → IsInwards side a b u
     → IsFringe side (WithoutPoint u (Contains S)) (Contains S)
 fringe_without side S u a b i j k = record {
@@ -90,7 +90,7 @@ fringe_without side S u a b i j k = record {
   ];
 }
 
--- all of a set is a fringe of it
+-- all of a set is a candidate list of it
 all_fringe : (side : Side) (S : List Pair) → IsFringe side (Contains S) (Contains S)
 all_fringe side S = record { among = λ t h. h; under = λ t h. inl h }
 
@@ -118,7 +118,7 @@ covering side p S T d c = (c.0, c.1, first, second, c.4)
     second : Contains S c.1
     second = elim (d.had c.1 c.3) [ inl k ↦ k | inr q ↦ absurd (after_apart c.1 p c.4.1 q) ]
 
--- where p is covered in the first of two lists in a row, their bridge is clear of it
+-- if p is covered in the first of two concatenated lists, their bridge is clear of it
 pub clear_left : (side : Side) (p : Pair) (l r m : List Pair) (e : Pair × Pair) → IsPointSet (l ++ r)
     → IsBridge side (Contains l) (Contains r) e.0 e.1 → DiffersAt p l m → IsCovered side p m → IsClearOf side e p
 clear_left side p l r m e s b d c =
@@ -147,7 +147,7 @@ pub same_edges : (f g : Fork) → g.lower ≡ f.lower → g.upper ≡ f.upper �
 same_edges f g l u Lower = l
 same_edges f g l u Upper = u
 
--- a fork whose edges are those of another is behind as that
+-- a fork whose edges are those of another is stale like that one
 pub edges_as : (p : Pair) (sides : Open) (l r : Node) (f g : Fork)
     → ((side : Side) → is_open side sides ≡ false → IsBridgeBetween side l r (edge_on side f))
     → ((side : Side) → IsClearOf side (edge_on side f) p → IsBridgeBetween side l r (edge_on side f))
@@ -171,13 +171,13 @@ behind_as p sides l r f g closed clear same last first =
 
 -- ---- sides
 
--- both sides are closed over p where each is
+-- both chains are unaffected by p if each is
 pub closing : (p : Pair) (S : List Pair) (sides : Open) → (sides.lower ≡ false → IsCovered Lower p S)
     → (sides.upper ≡ false → IsCovered Upper p S) → IsClosedOver p sides S
 closing p S sides l u Lower e = l e
 closing p S sides l u Upper e = u e
 
--- what covers p without it covers it still where it goes
+-- what covers p without it still covers it after it was removed
 pub closed_without : (p : Pair) (S : List Pair) (sides : Open) → IsPointSet S → IsClosedOver p sides S
     → IsClosedOver p sides (without_point p S)
 closed_without p S sides s c side e =
@@ -189,14 +189,14 @@ closed_without p S sides s c side e =
       k.4,
     )
 
--- a fork closes a side that was closed, or on which its points cover p
+-- a fork makes a chain unaffected that was already, or on which its points cover p
 pub closes_by : (p : Pair) (before after : Open) (S : List Pair)
     → (after.lower ≡ false → (before.lower ≡ false) ⊎ IsCovered Lower p S)
     → (after.upper ≡ false → (before.upper ≡ false) ⊎ IsCovered Upper p S) → ClosesBy p before after S
 closes_by p before after S l u Lower e = l e
 closes_by p before after S l u Upper e = u e
 
--- what stands under an edge of two parts is covered by their points
+-- what is under an edge of two parts is covered by their points
 pub covered_by : (side : Side) (p : Pair) (l r : Node) (e : Pair × Pair) → IsInwards side e.0 e.1 p
     → (IsClearOf side e p → IsBridgeBetween side l r e) → IsCovered side p (points_below l ++ points_below r)
 covered_by side p l r e k b =
@@ -208,7 +208,7 @@ covered_by side p l r e k b =
       k,
     )
 
--- the same by a fork that is one change behind
+-- the same by a fork that is one change stale
 pub covered_at : (side : Side) (p : Pair) (l r : Node) (sides : Open) (f : Fork) → IsBehind p sides l r f
     → (n : Bool) → (n ≡ false) ⊎ IsInwards side (edge_on side f).0 (edge_on side f).1 p
     → (n ≡ false) ⊎ IsCovered side p (points_below l ++ points_below r)
@@ -257,7 +257,7 @@ stored_apart n h f l r g e w a b c d side =
     same Lower = c
     same Upper = d
 
--- the bridge of all points below two nodes in a row is that of their corners
+-- the bridge of all points below two nodes in a row is that of their vertices
 pub of_corners : (side : Side) (l r : Node) (e : Pair × Pair) → AreInRow l r → IsBridgeBetween side l r e
     → IsBridge side (On (tree_of l)) (On (tree_of r)) e.0 e.1
 of_corners side l r e w b = (of_fringes side (On (tree_of l)) (Contains (points_below l)) (On (tree_of r))
@@ -267,7 +267,7 @@ of_corners side l r e w b = (of_fringes side (On (tree_of l)) (Contains (points_
 
 -- ---- the ends of a part
 
--- the last point stays where p stands before it
+-- the last point stays if p is before it
 last_stays : (p : Pair) (S T : List Pair) → IsPointSet S → IsPointSet T → 0 < length S → 0 < length T
     → DiffersAt p S T → IsBefore p (last_of S) → last_of S ≡ last_of T
 last_stays p S T s t l m d b =
@@ -282,7 +282,7 @@ last_stays p S T s t l m d b =
       ])
     ]
 
--- the first point stays where p stands behind it
+-- the first point stays if p is after it
 first_stays : (p : Pair) (S T : List Pair) → IsPointSet S → IsPointSet T → 0 < length S → 0 < length T
     → DiffersAt p S T → IsBefore (first_of S) p → first_of S ≡ first_of T
 first_stays p S T s t l m d b =
@@ -297,7 +297,7 @@ first_stays p S T s t l m d b =
       ])
     ]
 
--- so a part that changed keeps the point at the parting
+-- so a part that changed keeps the point at the split
 pub last_kept : (p : Pair) (n m : Node) (x : Pair) → IsWellBuilt n → IsWellBuilt m
     → DiffersAt p (points_below n) (points_below m) → x ≡ last_of (points_below n) → IsBefore p x
     → x ≡ last_of (points_below m)

@@ -1,4 +1,4 @@
--- Points with how often each is held, as one list and as two.
+-- Points with their multiplicities, as one list and as two.
 use Rattle.std.proofs.lemmas.Grind.{common_steps}
 use Rattle.std.proofs.Common.{◌≡◌, ℕ, zero, suc, ◌+◌, refl, sym, ap, ◌∙◌, subst, List, [], ◌∷◌, ◌++◌}
 use Rattle.std.proofs.Common.{length, take, drop, arith, get_or, ◌<◌, append_assoc}
@@ -20,7 +20,7 @@ paired_length [] T e = refl
 paired_length (p ∷ ps) [] e = absurd (omega (arith, e))
 paired_length (p ∷ ps) (t ∷ ts) e = let r = paired_length ps ts (omega (arith, e)) in omega (arith, r)
 
--- two lists in a row
+-- two concatenated lists
 pub paired_row : (S U : List Pair) (T V : List ℕ) → length T ≡ length S
     → paired (S ++ U) (T ++ V) ≡ paired S T ++ paired U V
 paired_row [] U [] V e = refl
@@ -35,7 +35,7 @@ paired_take (suc n) [] T = refl
 paired_take (suc n) (p ∷ ps) [] = refl
 paired_take (suc n) (p ∷ ps) (t ∷ ts) = ap (λ (z : List (Pair × ℕ)). (p, t) ∷ z) (paired_take n ps ts)
 
--- and those behind them
+-- and those after them
 pub paired_drop : (n : ℕ) (S : List Pair) (T : List ℕ) → length T ≡ length S
     → paired (drop n S) (drop n T) ≡ drop n (paired S T)
 paired_drop zero S T e = refl
@@ -44,7 +44,7 @@ paired_drop (suc n) [] (t ∷ ts) e = refl
 paired_drop (suc n) (p ∷ ps) [] e = absurd (omega (arith, e))
 paired_drop (suc n) (p ∷ ps) (t ∷ ts) e = paired_drop n ps ts (omega (arith, e))
 
--- the one at a place
+-- the one at an index
 pub paired_get : (S : List Pair) (T : List ℕ) (i : ℕ) (p : Pair) (d : Pair × ℕ) → i < length S → length T ≡ length S
     → get_or (paired S T) i d ≡ (get_or S i p, get_or T i 0)
 paired_get [] T i p d l e = absurd (omega (arith, l))
@@ -63,7 +63,7 @@ paired_step S T i p n l e f g =
     ∙ ap (λ (z : Pair × ℕ). paired (take i S) (take i T) ++ z ∷ [])
     (paired_get S T i p (p, n) l e ∙ (λ k. (sym f k, sym g k)))
 
--- with one more pushed behind those that were there
+-- with one more pushed after those that were there
 pub paired_more : (S : List Pair) (T : List ℕ) (i : ℕ) (p : Pair) (n : ℕ) (old now : List (Pair × ℕ)) → i < length S
     → length T ≡ length S → p ≡ get_or S i p → n ≡ get_or T i 0 → now ≡ old ++ paired (take i S) (take i T)
     → now ++ (p, n) ∷ [] ≡ old ++ paired (take (i + 1) S) (take (i + 1) T)
@@ -75,7 +75,7 @@ paired_points [] T e = refl
 paired_points (p ∷ ps) [] e = absurd (omega (arith, e))
 paired_points (p ∷ ps) (t ∷ ts) e = ap (λ (z : List Pair). p ∷ z) (paired_points ps ts (omega (arith, e)))
 
--- what they hold
+-- the set that they list
 pub paired_times : (S : List Pair) (T : List ℕ) (q : Pair) → times_listed (paired S T) q ≡ counted S T q
 paired_times [] T q = refl
 paired_times (p ∷ ps) [] q = refl
@@ -83,7 +83,7 @@ paired_times (p ∷ ps) (t ∷ ts) q =
     sum_by-cons (λ (e : Pair × ℕ). several e.1 e.0 q) (p, t) (paired ps ts)
     ∙ ap (λ (n : ℕ). several t p q + n) (paired_times ps ts q)
 
--- each as often as a point may be
+-- each with a multiplicity that a point may have
 pub paired_held : (S : List Pair) (T : List ℕ) → All IsMultiplicity T
     → All (λ (e : Pair × ℕ). IsMultiplicity e.1) (paired S T)
 paired_held [] T a = λ k d l. absurd (omega (arith, l))
@@ -101,7 +101,7 @@ pub numbers_length : (es : List (Pair × ℕ)) → length (numbers_listed es) �
 numbers_length [] = refl
 numbers_length (e ∷ es) = let r = numbers_length es in omega (arith, r)
 
--- the numbers of entries are as often as a point may be
+-- the numbers of entries are multiplicities that a point may have
 pub numbers_held : (es : List (Pair × ℕ)) → All (λ (e : Pair × ℕ). IsMultiplicity e.1) es
     → All IsMultiplicity (numbers_listed es)
 numbers_held [] a = λ k d l. absurd (omega (arith, l))
@@ -109,7 +109,7 @@ numbers_held (e ∷ es) a = All-cons IsMultiplicity e.1 (numbers_listed es)
     (All-head (λ (e : Pair × ℕ). IsMultiplicity e.1) e es a)
     (numbers_held es (All-tail (λ (e : Pair × ℕ). IsMultiplicity e.1) e es a))
 
--- ---- points in order, each held so often
+-- ---- points in order, each with its multiplicity
 
 module _ (S : List Pair) (T : List ℕ) (s : IsPointSet S) (e : length T ≡ length S) (a : All IsMultiplicity T) where
   -- they are entries
@@ -119,7 +119,7 @@ module _ (S : List Pair) (T : List ℕ) (s : IsPointSet S) (e : length T ≡ len
     held = paired_held S T a;
   }
 
-  -- which hold what the two lists do
+  -- which list the same set as the two lists
   pub paired_hold : (f : Pair → ℕ) → ((q : Pair) → f q ≡ counted S T q)
       → held_listed (paired S T) ≡ record { points = S; times = f }
   paired_hold f g = same_held (points_listed (paired S T)) S (λ q. times_listed (paired S T) q) f (paired_points S T e)

@@ -1,4 +1,4 @@
--- What the parts of a node list.
+-- The lists of the subtrees of a node.
 use Rattle.std.proofs.Common.{◌≡◌, ℕ, zero, suc, ◌+◌, ◌-◌, ◌<◌, ◌≤◌, max, min, refl, sym, ap, ◌∙◌, subst, List, [], ◌∷◌}
 use Rattle.std.proofs.Common.{◌++◌, length, take, drop, arith, inl, inr, Ok, Err, Box, append_assoc}
 use Rattle.std.proofs.lemmas.List.{length-append, length-drop}
@@ -41,7 +41,7 @@ pub both_parts : (s : Pair) (m : ℕ) (n l r : Node) (old : List (Pair × ℕ)) 
 both_parts s m n l r old h =
     grind (arith, common_steps, take_more, entries_from, entries_below, append_assoc, from_append)
 
--- a part whose last point stands before the start lists nothing from there
+-- a part whose last point is before the start lists nothing from there
 none_below : (s : Pair) (n : Node) → IsWellBuilt n → IsBefore (last_of (points_below n)) s
     → entries_from s (entries_below n) ≡ []
 none_below s n w b =
@@ -52,7 +52,7 @@ none_below s n w b =
       | inr k ↦ before_trans t (last_of (points_below n)) s k b
     ])))
 
--- so the right part's alone are the whole's where the left part stands before the start
+-- so those of the whole are those of the right subtree if the left subtree is before the start
 pub right_alone : (s : Pair) (m : ℕ) (n l r : Node) (old : List (Pair × ℕ)) → HasParts n l r → IsWellBuilt l
     → IsBefore (last_of (points_below l)) s
     → take m (old ++ entries_from s (entries_below r)) ≡ take m (old ++ entries_from s (entries_below n))
@@ -60,7 +60,7 @@ right_alone s m n l r old h w b = grind (arith, common_steps, entries_from, from
 
 -- ---- a bucket
 
--- where no point stands before the start, all are listed
+-- if no point is before the start, all are listed
 all_from : (s : Pair) (S : List Pair) (T : List ℕ) → All (λ t. ¬ IsBefore t s) S
     → entries_from s (paired S T) ≡ paired S T
 all_from s [] T a = refl
@@ -69,7 +69,7 @@ all_from s (x ∷ xs) (t ∷ ts) a =
     rw (is_before-false x s (All-head (λ t. ¬ IsBefore t s) x xs a))
     (ap (λ (z : List (Pair × ℕ)). (x, t) ∷ z) (all_from s xs ts (All-tail (λ t. ¬ IsBefore t s) x xs a)))
 
--- those from a place on, before which all stand before the start and behind which none does
+-- those from an index on, if all before it are before the start and none after it is
 from_place : (s : Pair) (i : ℕ) (S : List Pair) (T : List ℕ) → All (λ t. IsBefore t s) (take i S)
     → All (λ t. ¬ IsBefore t s) (drop i S) → entries_from s (paired S T) ≡ drop i (paired S T)
 from_place s zero S T a b = all_from s S T b
@@ -79,7 +79,7 @@ from_place s (suc i) (x ∷ xs) (t ∷ ts) a b =
     rw (is_before-true x s (All-head (λ t. IsBefore t s) x (take i xs) a))
     (from_place s i xs ts (All-tail (λ t. IsBefore t s) x (take i xs) a) b)
 
--- behind a point that does not stand before the start none does
+-- no point after one that is not before the start is before the start
 none_behind : (s : Pair) (i : ℕ) (S : List Pair) → IsPointSet S → (i < length S → ¬ IsBefore (point_at S i) s)
     → All (λ t. ¬ IsBefore t s) (drop i S)
 none_behind s zero [] h n = λ k d l. absurd (omega (arith, l))
@@ -89,7 +89,7 @@ none_behind s zero (x ∷ xs) h n = All-cons (λ t. ¬ IsBefore t s) x xs (n (om
 none_behind s (suc i) [] h n = λ k d l. absurd (omega (arith, l))
 none_behind s (suc i) (x ∷ xs) h n = none_behind s i xs (AllPairs-tail x xs h) (λ l. n (omega (arith, l)))
 
--- the place of the start, or where it would stand
+-- the index of the start, or the index at which it would be
 pub from_position : (s : Pair) (S : List Pair) (T : List ℕ) (i : ℕ) → IsPointSet S → IsPositionOf S s (Ok i)
     → entries_from s (paired S T) ≡ drop i (paired S T)
 from_position s S T i h at = from_place s i S T at.2
@@ -100,13 +100,13 @@ pub from_gap : (s : Pair) (S : List Pair) (T : List ℕ) (i : ℕ) → IsPositio
 from_gap s S T i at = from_place s i S T at.1 (All-weaker (IsBefore s) (λ t. ¬ IsBefore t s) (λ t c. before_not s t c)
     (drop i S) at.2)
 
--- so many of those behind what was there, as many as there is room for
+-- as many of those after what was there as there is capacity for
 first_behind : {A : Type 0} (m n : ℕ) (old xs : List A) → m ≡ length old + n → take m (old ++ xs) ≡ old ++ take n xs
 first_behind m n [] xs e = let f : m ≡ n = omega (arith, e) in ap (λ (k : ℕ). take k xs) f
 first_behind zero n (x ∷ old) xs e = absurd (omega (arith, e))
 first_behind (suc m) n (x ∷ old) xs e = ap (λ z. x ∷ z) (first_behind m n old xs (omega (arith, e)))
 
--- what a bucket lists from a place on, until there are so many
+-- what a bucket lists from an index on, until there are enough
 pub bucket_from : (S : List Pair) (T : List ℕ) (f count m : ℕ) (old : List (Pair × ℕ)) → length T ≡ length S
     → f ≤ length S → count ≡ min (length S - f) (m - length old) → length old ≤ m
     → old ++ paired (take (f + count - f) (drop f S)) (take (f + count - f) (drop f T))

@@ -1,4 +1,4 @@
--- A point that goes from one of two nodes in a row.
+-- A point that is removed from one of two nodes in a row.
 use Rattle.std.proofs.lemmas.Grind.{common_steps}
 use Rattle.std.proofs.Common.{◌≡◌, ◌⊎◌, ℕ, zero, suc, ◌+◌, ◌≤◌, ◌<◌, refl, sym, ap, ◌∙◌, subst, List, []}
 use Rattle.std.proofs.Common.{◌∷◌}
@@ -27,7 +27,7 @@ use Rattle.bucket_tree.specs.Nodes.{AreNear, IsHeightOver}
 pub without_only : (p : Pair) → without_point p (p ∷ []) ≡ []
 without_only p = rw (is_before-false p p (before_irrefl p)) refl
 
--- a point that is not there is not held
+-- the multiplicity of a point that is not there is 0
 pub counted_none : (S : List Pair) (T : List ℕ) (p : Pair) → All (λ t. ¬ (t ≡ p)) S → counted S T p ≡ 0
 counted_none [] T p a = refl
 counted_none (x ∷ xs) [] p a = refl
@@ -36,7 +36,7 @@ counted_none (x ∷ xs) (t ∷ ts) p a =
     let r = counted_none xs ts p (All-tail (λ z. ¬ (z ≡ p)) x xs a) in
     rw (same_false x p n) (omega (arith, r))
 
--- what a list holds is what it holds without the entry at a place, and that
+-- the multiplicities of a list are those without the entry at an index, and that entry's
 pub counted_remove : (S : List Pair) (T : List ℕ) (i : ℕ) (q : Pair) → length T ≡ length S → i < length S
     → counted S T q ≡ counted (remove S i) (remove T i) q + several (get_or T i 0) (point_at S i) q
 counted_remove [] T i q e l = absurd (omega (arith, l))
@@ -47,15 +47,15 @@ counted_remove (x ∷ xs) (t ∷ ts) (suc i) q e l =
 
 -- ---- a bucket
 
--- a point is the same as itself, and so held as often as it is said to be
+-- the multiplicity of a point is the one that its entry has
 several_same : (t : ℕ) (p : Pair) → several t p p ≡ t
 several_same t p = rw (same_true p) refl
 
--- a point that has no place is not among them
+-- a point that has no index is not among them
 pub no_place : (S : List Pair) (i : ℕ) (p : Pair) → IsPositionOf S p (Err i) → ¬ Contains S p
 no_place S i p at m = absent_between p (take i S) (drop i S) at.1 at.2 (subst (λ z. Contains z p) (cut S i at.0) m)
 
--- and not held
+-- and its multiplicity is 0
 pub count_none : (S : List Pair) (T : List ℕ) (i : ℕ) (p : Pair) → IsPositionOf S p (Err i) → counted S T p ≡ 0
 count_none S T i p at =
     counted_none S T p (all_of (λ t. ¬ (t ≡ p)) S (λ t m e. no_place S i p at (subst (Contains S) e m)))
@@ -63,14 +63,14 @@ count_none S T i p at =
 pub not_held : (S : List Pair) (T : List ℕ) (i : ℕ) (p : Pair) → IsPositionOf S p (Err i) → ¬ (counted S T p ≡ 1)
 not_held S T i p at h = omega (arith, count_none S T i p at, h)
 
--- a bucket's points and counts, of which p has the place i and is held once
+-- a bucket's points and counts, of which p has the index i and has multiplicity one
 module _ (S : List Pair) (T : List ℕ) (i : ℕ) (p : Pair) (s : IsPointSet S) (e : length T ≡ length S)
     (at : IsPositionOf S p (Ok i)) (h : counted S T p ≡ 1) where
   -- the points without it
   rest_points : remove S i ≡ without_point p S
   rest_points = removed S i ∙ taken_away S i s at.0 ∙ ap (λ z. without_point z S) (at.1 origin)
 
-  -- the count at its place is 1
+  -- the count at its index is 1
   one_there : get_or T i 0 ≡ 1
   one_there =
       let z : counted (remove S i) (remove T i) p ≡ 0 =
@@ -81,14 +81,14 @@ module _ (S : List Pair) (T : List ℕ) (i : ℕ) (p : Pair) (s : IsPointSet S) 
       ap (λ y. several (get_or T i 0) y p) (at.1 origin) ∙ several_same (get_or T i 0) p in
       omega (arith, h, counted_remove S T i p e at.0, z, v)
 
-  -- what is held without it
+  -- the multiplicities without it
   pub held_without : (q : Pair) → counted S T q ≡ counted (without_point p S) (remove T i) q + once p q
   held_without q = counted_remove S T i q e at.0
       ∙ ap (λ y. counted y (remove T i) q + several (get_or T i 0) (point_at S i) q) rest_points
       ∙ ap (λ y. counted (without_point p S) (remove T i) q + several y (point_at S i) q) one_there
       ∙ ap (λ y. counted (without_point p S) (remove T i) q + several 1 y q) (at.1 origin)
 
-  -- where it is the only one
+  -- if it is the only one
   pub only_point : length S ≡ 1 → S ≡ p ∷ []
   only_point l = alone S l (i, at.0, at.1 p)
     where
@@ -112,7 +112,7 @@ pub lower_right : (a l r h n : ℕ) → a ≤ r → r ≤ a + 1 → AreNear l r 
     → (h ≤ n) × (n ≤ h + 1)
 lower_right a l r h n u v w e k = grind (arith, common_steps, cases_lt)
 
--- or that are one bucket, where the fork over both was the only one
+-- or that are one bucket, if the fork over both was the only one
 pub settled_left : (a l r h n m : ℕ) → a ≤ l → l ≤ a + 1 → AreNear l r → n ≡ max l r + 1 → m ≡ n
     → IsHeightOver a r h ⊎ ((m ≡ 1) × (h ≡ 0)) → (h ≤ n) × (n ≤ h + 1)
 settled_left a l r h n m u v w e f (inl k) = lower_left a l r h n u v w e k
@@ -125,7 +125,7 @@ settled_right a l r h n m u v w e f (inr k) = (omega (arith, k.0, k.1, f), omega
 
 -- ---- finding
 
--- a point at a place is held as often as the count there says
+-- the multiplicity of a point at an index is the count there
 pub count_at : (S : List Pair) (T : List ℕ) (i : ℕ) (p : Pair) → IsPointSet S → length T ≡ length S
     → IsPositionOf S p (Ok i) → counted S T p ≡ get_or T i 0
 count_at S T i p s e at =

@@ -17,7 +17,7 @@ pub one_fork : (n l a b : ℕ) → l + 1 ≤ n → a ≤ most_turns l → b ≤ 
 one_fork zero l a b h u v = absurd (omega (arith, h))
 one_fork (suc m) l a b h u v = omega (arith, u, v, monotone l m (omega (arith, h)))
 
--- a tree that is no higher than 28 forks takes so many
+-- a tree that is no higher than 28 forks takes at most this many
 of_28 : most_turns 28 ≡ 6912
 of_28 = refl
 

@@ -1,4 +1,4 @@
--- What the corners below a node are answered, its points are answered.
+-- The answers of the vertices below a node are those of its points.
 use Rattle.std.proofs.Common.{inl, inr, List}
 use Rattle.std.specs.Prelude.{Option, Some, None}
 use Rattle.lattice.specs.Plane.{Pair}
@@ -11,7 +11,7 @@ use Rattle.hull_set.specs.Replies.{LiesAt, AnswersTangents, reply_to_tangents}
 use Rattle.hull_set.specs.declared.set.Place.{Place}
 use Rattle.hull_set.specs.declared.set.Place.TheVariants.{Inside, On, Outside}
 
--- where a point lies
+-- the location of a point
 pub lies_for : (F S : List Pair) (q : Pair) (place : Place) → AnswersFor F S → LiesAt F q place → LiesAt S q place
 lies_for F S q Inside a h = ((a.covers q).0 h.0, λ o. h.1 ((a.outer q).1 o))
 lies_for F S q On a h = ((a.covers q).0 h.0, (a.outer q).0 h.1)

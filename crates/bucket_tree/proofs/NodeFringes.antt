@@ -1,4 +1,4 @@
--- The corners below a node are a fringe of its points on both sides: what they answer, all points answer.
+-- The vertices below a node are a candidate list of its points on both sides: what they answer, all points answer.
 use Rattle.std.proofs.Common.{arith}
 use Rattle.std.proofs.lemmas.Grind.{common_steps}
 use Rattle.std.proofs.Common.{◌⊎◌, inl, inr, ◌++◌}
@@ -16,12 +16,12 @@ use Rattle.hull_buckets.proofs.RunBridges.{corners_fringe}
 use Rattle.bucket_tree.specs.declared.node.Node.{Node, Leaf, Fork', Gap}
 use Rattle.bucket_tree.specs.Nodes.{tree_of, points_below, HasBuckets, IsWellBuilt}
 
--- a fringe of what is meant by the same sets
+-- a candidate list of what is meant by the same sets
 same_fringe : (side : Side) (l k m n : Pair → Type 0) → IsFringe side l m → ((t : Pair) → l t → k t)
     → ((t : Pair) → k t → l t) → ((t : Pair) → m t → n t) → ((t : Pair) → n t → m t) → IsFringe side k n
 same_fringe side l k m n f lk kl mn nm = grind (arith, common_steps)
 
--- the corners below a node are a fringe of its points
+-- the vertices below a node are a candidate list of its points
 pub node_fringe : (side : Side) (n : Node) → HasBuckets n → IsFringe side (On (tree_of n)) (Contains (points_below n))
 node_fringe side (Leaf b) h = corners_fringe side b.value h
 node_fringe side (Fork' height i first_right left right last_left upper lower) h =

@@ -26,7 +26,7 @@ some_below (Fork' height i first_right left right last_left upper lower) h =
     omega (arith, length-append (points_below left) (points_below right), some_below left h.0)
 some_below Gap h = absurd h
 
--- where all below a node are buckets, no gap is left
+-- if all below a node are buckets, no gap is left
 pub whole : (n : Node) → HasBuckets n → IsWhole n
 whole (Leaf b) h = tt
 whole (Fork' height i first_right left right last_left upper lower) h = (whole left h.0, whole right h.1)

@@ -1,4 +1,4 @@
--- Two nodes in a row, by their corners.
+-- Two nodes in a row, by their vertices.
 use Rattle.std.proofs.Common.{◌≡◌, ℕ, ◌≤◌, ◌+◌, List, ◌++◌, sym, ap, ◌∙◌, subst, arith, Box}
 use Rattle.lattice.specs.Bridges.{IsAllBefore}
 use Rattle.lattice.specs.declared.side.Side.TheVariants.{Lower}
@@ -13,12 +13,12 @@ use Rattle.bucket_tree.specs.declared.node.Node.{Node, Leaf, Fork', Fork, Gap}
 use Rattle.bucket_tree.specs.Nodes.{tree_of, points_below, forks_above, HasBuckets, IsWellBuilt, AreInRow}
 use Rattle.bucket_tree.proofs.NodeFringes.{node_fringe}
 
--- all corners of the one stand before all of the other
+-- all vertices of the one are before all of the other
 pub corners_in_row : (l r : Node) → AreInRow l r → IsAllBefore (On (tree_of l)) (On (tree_of r))
 corners_in_row l r w p q i j = set_apart (points_below l) (points_below r) p q w.in_order
     ((node_fringe Lower l w.left_built.buckets).among p i) ((node_fringe Lower r w.right_built.buckets).among q j)
 
--- the corners' half is at most 6 higher than the tree of forks
+-- the vertices' half is at most 6 higher than the tree of forks
 pub corners_low : (n : Node) → HasBuckets n → height_of (tree_of n) ≤ forks_above n + 6
 corners_low (Leaf b) h = bucket_low b.value h
 corners_low (Fork' height i first_right left right last_left upper lower) h =
@@ -37,13 +37,13 @@ pub back : (xs ys us vs : List Pair) → IsPointSet (xs ++ ys) → xs ≡ us ++ 
 back xs ys us vs h e = set_right us (vs ++ ys)
     (subst IsPointSet (append_twice us vs ys) (subst (λ z. IsPointSet (z ++ ys)) e h))
 
--- the second of two with what stands behind them
+-- the second of two with what is after them
 pub with_back : (xs ys us vs s : List Pair) → IsPointSet (xs ++ ys) → xs ≡ us ++ vs → s ≡ vs ++ ys
     → IsPointSet (us ++ s)
 with_back xs ys us vs s h e f = subst (λ z. IsPointSet (us ++ z)) (sym f)
     (subst IsPointSet (append_twice us vs ys) (subst (λ z. IsPointSet (z ++ ys)) e h))
 
--- the first of two with what stands before them
+-- the first of two with what is before them
 pub with_front : (xs ys us vs s : List Pair) → IsPointSet (xs ++ ys) → ys ≡ us ++ vs → s ≡ xs ++ us
     → IsPointSet (s ++ vs)
 with_front xs ys us vs s h e f = subst (λ z. IsPointSet (z ++ vs)) (sym f)
@@ -55,7 +55,7 @@ regrouped xs ys us vs s e f = ap (λ z. us ++ z) f ∙ sym (append_twice us vs y
 
 -- ---- halves
 
--- the halves of a fork stand in a row
+-- the halves of a fork are in a row
 pub halves_row : (n : Node) (h : ℕ) (f : Box Below _) → n ≡ Fork h f → IsWellBuilt n
     → AreInRow f.value.left f.value.right
 halves_row n h f e w =
@@ -78,6 +78,6 @@ halves_row n h f e w =
       in_order = b.ordered;
     }
 
--- two well-built nodes whose points stand in a row
+-- two well-built nodes whose points are in a row
 pub in_row : (l r : Node) → IsWellBuilt l → IsWellBuilt r → IsPointSet (points_below l ++ points_below r) → AreInRow l r
 in_row l r bl br o = record { left_built = bl; right_built = br; in_order = o }

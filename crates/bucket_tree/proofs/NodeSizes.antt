@@ -1,4 +1,4 @@
--- The corners below a node are no more than its points.
+-- The vertices below a node are no more than its points.
 use Rattle.std.proofs.Common.{◌<◌, ◌≤◌, length, arith}
 use Rattle.std.specs.List.{Contains}
 use Rattle.lattice.specs.declared.side.Side.TheVariants.{Lower}
@@ -17,7 +17,7 @@ pub height_size : (t : Tree) → height_of t < size_of t
 height_size (Leaf x) = omega arith
 height_size (Fork e f u w) = omega (arith, height_size u, height_size w)
 
--- the corners below a node are no more than its points
+-- the vertices below a node are no more than its points
 pub few_corners : (n : Node) → IsWellBuilt n → size_of (tree_of n) ≤ length (points_below n)
 few_corners n w =
     let m = distinct_few (points_of (tree_of n)) (points_below n)

@@ -1,5 +1,4 @@
--- A point that comes to one of two parts in a row, or goes from it: the first one where the word is true, and else the
--- second.
+-- A point that is added to one of two subtrees in a row, or removed from it: the first one if the word is true, otherwise the second.
 use Rattle.std.proofs.Common.{◌≡◌, ◌∙◌, ℕ, ◌+◌, ◌≤◌, ◌<◌, max, Bool, true, false, cond, refl, sym, ap, subst, arith}
 use Rattle.std.proofs.Common.{List, ◌++◌, length, Box, None, Some}
 use Rattle.std.specs.List.{Contains}
@@ -52,13 +51,13 @@ altered_set (Comes false) p S s = ordered_with p S s
 altered_set (Comes true) p S s = s
 altered_set Goes p S s = ordered_without p S s
 
--- and differ at p alone
+-- and differ only at p
 altered_differs : (kind : Kind) (p : Pair) (S : List Pair) → IsPointSet S → DiffersAt p S (altered kind p S)
 altered_differs (Comes false) p S s = differs_with p S s
 altered_differs (Comes true) p S s = differs_not p S
 altered_differs Goes p S s = differs_without p S s
 
--- a set has room for the change
+-- a set has capacity for the change
 abbrev pub HasRoomFor : Kind → Pair → List Pair → Type 0
 HasRoomFor (Comes refused) p S = ¬ Contains S p × (length S < POINT_LIMIT)
 HasRoomFor Goes p S = length S ≤ POINT_LIMIT
@@ -69,7 +68,7 @@ altered_few (Comes false) p S h = omega (arith, h.1, with_length p S h.0)
 altered_few (Comes true) p S h = omega (arith, h.1)
 altered_few Goes p S h = omega (arith, h, without_short p S)
 
--- what is held beside a change is counted before and after it
+-- multiplicities that the change does not concern are the same before and after it
 counted_beside : (kind : Kind) (p q : Pair) (a b c before after : ℕ) → IsCounted kind p q a b → before ≡ a + c
     → after ≡ b + c → IsCounted kind p q before after
 counted_beside (Comes false) p q a b c before after h e f = omega (arith, h, e, f)
@@ -78,7 +77,7 @@ counted_beside Goes p q a b c before after h e f = omega (arith, h, e, f)
 
 -- ---- nodes
 
--- a changed node differs at p alone
+-- a changed node differs only at p
 pub differs : (kind : Kind) (p : Pair) (n m : Node) → IsPointSet (points_below n) → Alters kind p n m
     → DiffersAt p (points_below n) (points_below m)
 differs kind p n m s h =
@@ -91,14 +90,14 @@ pub record IsAt (left : Bool) (p : Pair) (n l r : Node) : Type 0 where
   pub times : times_below n ≡ times_below l ++ times_below r
   pub here : BelongsTo left p (first_of (points_below r))
 
--- by the first point of the second part, as it is kept
+-- by the first point of the second subtree, as it is stored
 pub at : (left : Bool) (p : Pair) (n l r : Node) (first : Pair) → AreInRow l r
     → points_below n ≡ points_below l ++ points_below r → times_below n ≡ times_below l ++ times_below r
     → first ≡ first_of (points_below r) → BelongsTo left p first → IsAt left p n l r
 at left p n l r first row points times e b =
     record { row = row; points = points; times = times; here = subst (BelongsTo left p) e b }
 
--- p is held in the node as often as in that part
+-- the multiplicity of p in the node is that in the subtree
 pub same_at : (left : Bool) (p : Pair) (n l r : Node) → IsAt left p n l r → times_at n p ≡ times_at (cond left l r) p
 same_at true p n l r i =
     let z = counted_none (points_below r) (times_below r) p
@@ -165,7 +164,7 @@ alters_with left kind p n l r m whole i w e f h =
         (omega (arith, held_row n l r q i.row.left_built.buckets i.points i.times))
         (omega (arith, held_row whole l m q i.row.left_built.buckets e f))
 
--- where the part has lost its only point the other one has lost it
+-- if the subtree has lost its only point, the other one is the rest
 pub lost_with_none : (left : Bool) (p : Pair) (n l r : Node) → IsAt left p n l r → HasLost p (cond left l r) None
     → forks_above n ≡ max (forks_above l) (forks_above r) + 1 → HasLost p n (Some (cond left r l))
 lost_with_none true p n l r i h high = (
@@ -187,7 +186,7 @@ lost_with_none false p n l r i h high = (
   (omega (arith, high, h.2), omega (arith, high, h.2)),
 )
 
--- a fork holds a point in the half where it stands
+-- a fork has a point in the half in which it is
 pub count_in : (left : Bool) (n : Node) (h : ℕ) (f : Box Below _) (p : Pair) → n ≡ Fork h f → IsWellBuilt n
     → BelongsTo left p f.value.first_right → times_at n p ≡ times_at (cond left f.value.left f.value.right) p
 count_in left n h f p e w b = same_at left p n f.value.left f.value.right
@@ -196,7 +195,7 @@ count_in left n h f p e w b = same_at left p n f.value.left f.value.right
 
 -- ---- bridges
 
--- a bridge of which p is clear stands, where one part changed at p
+-- a bridge of which p is clear stays valid, if one subtree changed at p
 pub stands_with : (left : Bool) (side : Side) (p : Pair) (l r m : Node) (e : Pair × Pair) → IsBridgeBetween side l r e
     → DiffersAt p (points_below (cond left l r)) (points_below m) → IsClearOf side e p
     → IsBridgeBetween side (cond left m l) (cond left r m) e
@@ -206,7 +205,7 @@ stands_with false side p l r m e b d z =
     still side p (points_below l) (points_below r) (points_below l) (points_below m)
     e b (differs_not p (points_below l)) d z
 
--- where p is covered in that part, the bridge is clear of it
+-- if p is covered in that subtree, the bridge is clear of it
 clear_with : (left : Bool) (side : Side) (p : Pair) (l r m : Node) (e : Pair × Pair) → AreInRow l r
     → IsBridgeBetween side l r e → DiffersAt p (points_below (cond left l r)) (points_below m)
     → IsCovered side p (points_below m) → IsClearOf side e p
@@ -214,7 +213,7 @@ clear_with true side p l r m e row = clear_left side p (points_below l) (points_
 clear_with false side p l r m e row =
     clear_right side p (points_below l) (points_below r) (points_below m) e row.in_order
 
--- and it stands where nothing changed
+-- and it stays valid if nothing changed
 same_with : (left : Bool) (side : Side) (l r m : Node) (e : Pair × Pair)
     → points_below m ≡ points_below (cond left l r) → IsBridgeBetween side l r e
     → IsBridgeBetween side (cond left m l) (cond left r m) e
@@ -228,7 +227,7 @@ abbrev pub is_refused : Kind → Bool
 is_refused (Comes refused) = refused
 is_refused Goes = false
 
--- so on a side that is closed the bridge stands
+-- so on an unaffected chain the bridge stays valid
 pub closed_with : (left : Bool) (kind : Kind) (p : Pair) (l r m : Node) (sides : Open) (f : Below) → AreInRow l r
     → ((side : Side) → IsBridgeBetween side l r (edge_on side f)) → Alters kind p (cond left l r) m
     → DiffersAt p (points_below (cond left l r)) (points_below m)

@@ -1,4 +1,4 @@
--- A point that is held more or less often.
+-- A point whose multiplicity changes.
 use Rattle.std.proofs.Common.{Bool, true, false, cond, ◌≡◌, ℕ, zero, suc, ◌+◌, ◌<◌, refl, sym, ap, ◌∙◌, subst, List, []}
 use Rattle.std.proofs.Common.{◌∷◌}
 use Rattle.std.proofs.Common.{◌++◌}
@@ -32,7 +32,7 @@ use Rattle.bucket_tree.proofs.NodeRows.{halves_row}
 
 -- ---- a bucket
 
--- with another count at a place
+-- with another count at an index
 counted_set : (S : List Pair) (T : List ℕ) (i n : ℕ) (q : Pair) → length T ≡ length S → i < length S
     → counted S (slice_set T i n) q ≡ counted (remove S i) (remove T i) q + several n (point_at S i) q
 counted_set [] T i n q e l = absurd (omega (arith, l))
@@ -41,7 +41,7 @@ counted_set (x ∷ xs) (t ∷ ts) zero n q e l = omega arith
 counted_set (x ∷ xs) (t ∷ ts) (suc i) n q e l =
     let r = counted_set xs ts i n q (omega (arith, e)) (omega (arith, l)) in omega (arith, r)
 
--- only the point there is held more or less often
+-- only the multiplicity of the point there changes
 pub counted_over : (S P : List Pair) (T U : List ℕ) (i n : ℕ) (p q : Pair) → IsPointSet S → length T ≡ length S
     → IsPositionOf S p (Ok i) → P ≡ S → U ≡ slice_set T i n
     → counted P U q + several (counted S T p) p q ≡ counted S T q + several n p q
@@ -53,7 +53,7 @@ counted_over S P T U i n p q s e at f g =
     let k = ap (λ z. several z p q) (count_at S T i p s e at) in
     omega (arith, a, b, c, d, k)
 
--- the half of a bucket does not say how often points are held
+-- the half of a bucket does not depend on the multiplicities
 same_to : (a b : BucketValue) → a.points ≡ b.points → ((side : Side) → mask_on side a ≡ mask_on side b) → (n run : ℕ)
     → tree_to n a run ≡ tree_to n b run
 same_to a b p m zero run = ap (λ z. LeafTree (point_at z (lowest_of run))) p

@@ -1,4 +1,4 @@
--- What a tree with a limit keeps, and that a change keeps it.
+-- The invariant of a tree with a limit, and that a change preserves it.
 use Rattle.std.proofs.lemmas.Grind.{common_steps}
 use Rattle.std.proofs.Common.{◌≡◌, ℕ, ◌+◌, ◌-◌, ◌<◌, ◌≤◌, ap, refl, sym, ◌∙◌, List, [], length, arith, Some, None}
 use Rattle.std.proofs.Common.{subst}
@@ -28,7 +28,7 @@ use Rattle.std.proofs.lemmas.Map.Entries.{length-keys_of}
 use Rattle.bucket_tree.proofs.NodePoints.{some_below}
 use Rattle.bucket_tree.proofs.NodeHeights.{no_higher}
 
--- each point below a node is held as often as a point may be
+-- each point below a node has a multiplicity that a point may have
 pub multiplicities : (n : Node) → HasBuckets n → All IsMultiplicity (times_below n)
 multiplicities (Leaf b) h = h.held
 multiplicities (Fork' height i first_right left right last_left upper lower) h =
@@ -100,7 +100,7 @@ pub low_root : (root : Option Node) (n : Node) (count limit : ℕ) → IsLimited
     → forks_above n ≤ 28
 low_root root n count limit h e = (sound (Some n) count limit (limited_root root n count limit h e)).low
 
--- a point that is held once goes
+-- a point that has multiplicity one goes
 pub lost_limited : (n : Node) (rest : Option Node) (p : Pair) (count limit : ℕ) → IsLimited (Some n) count limit
     → times_at n p ≡ 1 → HasLost p n rest → IsLimited rest (count - 1) limit
 lost_limited n None p count limit h t l =
@@ -110,7 +110,7 @@ lost_limited n (Some m) p count limit h t l =
     limited_without n (Some m) p count limit h l.0 l.1
     (live (held_by (Some n)) 0 p 1 (root_held (Some n) h.built) (sym t) (omega arith))
 
--- a point that is held never is none of those below the root
+-- a point of multiplicity 0 is none of those below the root
 pub absent_below : (root : Option Node) (n : Node) (p : Pair) → root ≡ Some n → IsWellBuilt n → times_of_root root p ≡ 0
     → ¬ Contains (points_below n) p
 absent_below root n p e w z =

@@ -1,4 +1,4 @@
--- A point that comes to one of two lists in a row.
+-- A point that is added to one of two concatenated lists.
 use Rattle.std.proofs.Common.{refl, ◌≡◌, ℕ, zero, suc, ◌+◌, ◌≤◌, sym, ap, ◌∙◌, List, [], ◌∷◌, ◌++◌, length}
 use Rattle.std.proofs.Common.{arith}
 use Rattle.std.specs.List.{insert}
@@ -36,7 +36,7 @@ counted_put S P T U i p q s e at f g =
     ap (λ z. counted z U q) (f ∙ sym (insert_is S p i s at)) ∙ ap (λ z. counted (insert S i p) z q) g
     ∙ counted_insert S T i 1 p q e at.0
 
--- a point that is put in at a place stands there
+-- a point that is inserted at an index is there
 pub inserted_there : (S : List Pair) (p : Pair) (i : ℕ) → i ≤ length S → point_at (insert S i p) i ≡ p
 inserted_there S p zero l = refl
 inserted_there [] p (suc i) l = absurd (omega (arith, l))

@@ -7,7 +7,7 @@ use Rattle.lattice.specs.Plane.{Pair, IsBefore}
 use Rattle.hull_geometry.specs.Positions.{origin, point_at, first_of, last_of}
 use Rattle.hull_geometry.proofs.PointLists.{get_or_free}
 
--- a point of a set is its last, or stands before it
+-- a point of a set is its last, or is before it
 pub by_last : (S : List Pair) (t : Pair) → IsPointSet S → Contains S t → (t ≡ last_of S) ⊎ IsBefore t (last_of S)
 by_last S t s (i, l, e) = elim (cases_lt i (length S - 1)) [
   | inl k ↦ inr (subst (λ z. IsBefore z (last_of S)) (get_or_free S i origin t l ∙ e)
@@ -16,7 +16,7 @@ by_last S t s (i, l, e) = elim (cases_lt i (length S - 1)) [
       inl (sym e ∙ get_or_free S i t origin l ∙ ap (point_at S) j)
 ]
 
--- or its first, or stands behind it
+-- or its first, or is after it
 pub by_first : (S : List Pair) (t : Pair) → IsPointSet S → Contains S t → (t ≡ first_of S) ⊎ IsBefore (first_of S) t
 by_first S t s (zero, l, e) = inl (sym e ∙ get_or_free S 0 t origin l)
 by_first S t s (suc i, l, e) = inr (subst (IsBefore (first_of S)) (get_or_free S (suc i) origin t l ∙ e)

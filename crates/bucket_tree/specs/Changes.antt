@@ -1,4 +1,4 @@
--- What a change at one point leaves of the bridges above it.
+-- The effect of a change at one point on the bridges above it.
 use Rattle.std.specs.Prelude.{◌≡◌, ◌⊎◌, Bool, false, List}
 use Rattle.std.specs.List.{Contains}
 use Rattle.lattice.specs.Bridges.{IsBridge}
@@ -17,12 +17,12 @@ use Rattle.bucket_tree.specs.declared.renewal.Standing.{Standing}
 use Rattle.bucket_tree.specs.declared.renewal.Standing.TheVariants.{Covered, Clear, Touching}
 use Rattle.bucket_tree.specs.Nodes.{tree_of, points_below, AreInRow}
 
--- whether a side is open: whether the change may matter there to what is above
+-- whether a chain is affected: whether the change may matter on that side to the forks above
 abbrev pub is_open : Side → Open → Bool
 is_open Lower sides = sides.lower
 is_open Upper sides = sides.upper
 
--- where a side is closed, the point stands under an edge of the others
+-- if a chain is unaffected, the point is under an edge of the others
 abbrev pub IsClosedOver : Pair → Open → List Pair → Type 0
 IsClosedOver p sides S = (side : Side) → is_open side sides ≡ false → IsCovered side p S
 
@@ -39,45 +39,45 @@ IsBridgeBetween side l r e = IsBridge side (Contains (points_below l)) (Contains
 abbrev pub IsClearOf : Side → Pair × Pair → Pair → Type 0
 IsClearOf side e p = ¬ (e.0 ≡ p) × ¬ (e.1 ≡ p) × IsInnerToEdge side e.0 e.1 p
 
--- what was told of a point and an edge
+-- the meaning of each position of a point relative to an edge
 abbrev pub TellsOf : Side → Pair × Pair → Pair → Standing → Type 0
 TellsOf side e p Covered = IsInwards side e.0 e.1 p
 TellsOf side e p Clear = IsClearOf side e p
 TellsOf side e p Touching = Unit {0}
 
--- a fork over two parts, of which one changed at p since its edges were stored: it keeps the points at the parting; an edge is
--- the bridge still where its side is closed, and where p is clear of it
+-- a stale fork: a fork over two subtrees, of which one changed at p since its edges were stored. It stores the points at the split; an edge is still
+-- the bridge if its chain is unaffected or if p is clear of it
 pub record IsBehind (p : Pair) (sides : Open) (l r : Node) (f : Fork) : Type 0 where
   pub last : f.last_left ≡ last_of (points_below l)
   pub first : f.first_right ≡ first_of (points_below r)
   pub closed : (side : Side) → is_open side sides ≡ false → IsBridgeBetween side l r (edge_on side f)
   pub clear : (side : Side) → IsClearOf side (edge_on side f) p → IsBridgeBetween side l r (edge_on side f)
 
--- the sides that are closed after a look at a fork are those that were, or those on which its points cover p
+-- the chains that are unaffected after a fork was compared are those that were, or those on which its points cover p
 abbrev pub ClosesBy : Pair → Open → Open → List Pair → Type 0
 ClosesBy p before after S =
     (side : Side) → is_open side after ≡ false → (is_open side before ≡ false) ⊎ IsCovered side p S
 
--- the edges that a fork stores are bridges but where a change at p may have altered them (as `IsBehind` says)
+-- the edges that a fork stores are bridges unless a change at p may have altered them (as `IsBehind` says)
 pub record HasEdgesBehind (p : Pair) (sides : Open) (f : Fork) : Type 0 where
   pub closed : (side : Side) → is_open side sides ≡ false → IsBridgeBetween side f.left f.right (edge_on side f)
   pub clear : (side : Side) → IsClearOf side (edge_on side f) p → IsBridgeBetween side f.left f.right (edge_on side f)
 
--- a fork whose left part changed at p since its edges and the last point there were stored
+-- a fork whose left subtree changed at p since its edges and the last point there were stored
 pub record IsBehindLeft (p : Pair) (sides : Open) (f : Fork) : Type 0 where
   pub row : AreInRow f.left f.right
   pub edges : HasEdgesBehind p sides f
   pub first : f.first_right ≡ first_of (points_below f.right)
   pub kept : IsBefore p f.last_left → f.last_left ≡ last_of (points_below f.left)
 
--- a fork whose right part did
+-- a fork whose right subtree changed in the same way
 pub record IsBehindRight (p : Pair) (sides : Open) (f : Fork) : Type 0 where
   pub row : AreInRow f.left f.right
   pub edges : HasEdgesBehind p sides f
   pub last : f.last_left ≡ last_of (points_below f.left)
   pub kept : IsBefore f.first_right p → f.first_right ≡ first_of (points_below f.right)
 
--- a fork whose edges are the bridges of its two parts' corners, and which keeps the points at the parting
+-- a fork whose edges are the bridges of the vertices of its two subtrees, and which stores the points at the split
 pub record IsRenewed (f : Fork) : Type 0 where
   pub row : AreInRow f.left f.right
   pub upper : IsBridge Upper (On (tree_of f.left)) (On (tree_of f.right)) f.upper.0 f.upper.1
@@ -90,7 +90,7 @@ abbrev pub opposite : Side → Side
 opposite Lower = Upper
 opposite Upper = Lower
 
--- two forks that are the same but for their edges on a side
+-- two forks that are equal except for their edges on a side
 pub record IsSameBut (side : Side) (f g : Fork) : Type 0 where
   pub left : g.left ≡ f.left
   pub right : g.right ≡ f.right

@@ -1,4 +1,4 @@
--- How often points are held, and what a point that comes makes of it.
+-- The multiplicities of points, and the effect of a change on them.
 use Rattle.std.specs.Prelude.{◌≡◌, ℕ, ◌+◌, ◌≤◌, Bool, true, false, List, [], ◌∷◌, Option, None, Some}
 use Rattle.lattice.specs.Covers.{with_point, without_point}
 use Rattle.lattice.specs.Plane.{Pair}
@@ -9,39 +9,39 @@ use Rattle.leaf_trees.specs.Entries.{several}
 use Rattle.bucket_tree.specs.declared.node.Node.{Node}
 use Rattle.bucket_tree.specs.Nodes.{tree_of, points_below, times_below, forks_above, IsWellBuilt}
 
--- how often a point is held, by points and how often each of them is
+-- the multiplicity of a point, from points and their multiplicities
 abbrev pub counted : List Pair → List ℕ → Pair → ℕ
 counted [] times q = 0
 counted (p ∷ ps) [] q = 0
 counted (p ∷ ps) (t ∷ ts) q = several t p q + counted ps ts q
 
--- how often a point is held below a node
+-- the multiplicity of a point below a node
 abbrev pub times_at : Node → Pair → ℕ
 times_at n q = counted (points_below n) (times_below n) q
 
--- what a change at a point is: it comes, and where it is refused nothing changes; or it goes
+-- the kind of a change at a point: it is added, and if it is refused nothing changes; or it is removed
 pub data Kind : Type 0 where
   Comes : Bool → Kind
   Goes : Kind
 
--- what it makes of the points
+-- the points after the change
 abbrev pub altered : Kind → Pair → List Pair → List Pair
 altered (Comes false) p S = with_point p S
 altered (Comes true) p S = S
 altered Goes p S = without_point p S
 
--- how often a point q is held before it and after it
+-- the multiplicities of a point q before the change and after it
 abbrev pub IsCounted : Kind → Pair → Pair → ℕ → ℕ → Type 0
 IsCounted (Comes false) p q before after = after ≡ before + once p q
 IsCounted (Comes true) p q before after = after ≡ before
 IsCounted Goes p q before after = before ≡ after + once p q
 
--- a node became another by it
+-- the change turns one node into another
 abbrev pub Alters : Kind → Pair → Node → Node → Type 0
 Alters kind p n m = (points_below m ≡ altered kind p (points_below n))
     × ((q : Pair) → IsCounted kind p q (times_at n q) (times_at m q))
 
--- p came to the points, or none did where it was refused
+-- p was added to the points, or none was if it was refused
 abbrev pub HasGained : Bool → Pair → Node → Node → Type 0
 HasGained refused = Alters (Comes refused)
 
@@ -49,20 +49,20 @@ HasGained refused = Alters (Comes refused)
 abbrev pub IsNoMuchHigher : Node → Node → Type 0
 IsNoMuchHigher n m = (forks_above n ≤ forks_above m) × (forks_above m ≤ forks_above n + 1)
 
--- p, held once, went from the points; where it was the only one, nothing is left of a bucket
+-- p, of multiplicity one, was removed from the points; if it was the only one, nothing is left of a bucket
 abbrev pub HasLost : Pair → Node → Option Node → Type 0
 HasLost p n None = (points_below n ≡ p ∷ []) × ((q : Pair) → times_at n q ≡ once p q) × (forks_above n ≡ 0)
 HasLost p n (Some m) =
     IsWellBuilt m × (points_below m ≡ without_point p (points_below n))
     × ((q : Pair) → times_at n q ≡ times_at m q + once p q) × IsNoMuchHigher m n
 
--- two buckets with the same points and corners
+-- two buckets with the same points and vertices
 pub record IsSameButTimes (old new : BucketValue) : Type 0 where
   pub bucket : IsBucket new
   pub points : new.points ≡ old.points
   pub corners : (side : Side) → mask_on side new ≡ mask_on side old
 
--- p, which is there, is held so many times, and nothing else is another
+-- p, which is there, has the multiplicity `times`, and nothing else differs
 pub record IsRecounted (times : ℕ) (p : Pair) (n m : Node) : Type 0 where
   pub built : IsWellBuilt m
   pub same_tree : tree_of m ≡ tree_of n

@@ -1,4 +1,4 @@
--- What a change in place comes to: no part moves.
+-- A change in place: no subtree moves.
 use Rattle.std.specs.Prelude.{◌≡◌, ◌≤◌, ◌<◌, ◌+◌, ◌*◌, ◌++◌, ℕ, Some, Bool, true, false, length, max}
 use Rattle.lattice.specs.Covers.{with_point, without_point}
 use Rattle.lattice.specs.Plane.{Pair}
@@ -14,73 +14,73 @@ use Rattle.bucket_tree.specs.Counts.{counted, times_at, HasGained, HasLost}
 use Rattle.bucket_tree.specs.Nodes.{points_below, forks_above, IsWellBuilt}
 use Rattle.bucket_tree.specs.Turns.{most_turns}
 
--- a well-built node became one that is as high, in no more turns than a change takes; where a side is closed, p stands
--- under an edge of the points that are there now
+-- a well-built node became one of the same height, in no more turns than a change takes; if a chain is unaffected, p is under an edge of the points
+-- that are there now
 pub record IsInPlace (p : Pair) (n m : Node) (change : Changed) : Type 0 where
   pub built : IsWellBuilt m
   pub height : forks_above m ≡ forks_above n
   pub turns : change.turns ≤ most_turns (forks_above n)
   pub closed : IsClosedOver p change.sides (points_below m)
 
--- p, which was not there, came to the points below a node
+-- p, which was not there, was added to the points below a node
 pub record HasPutIn (p : Pair) (n m : Node) (change : Changed) : Type 0 where
   pub absent : times_at n p ≡ 0
   pub in_place : IsInPlace p n m change
   pub gained : HasGained false p n m
 
--- p, held once, went from them, and others stay
+-- p, of multiplicity one, was removed from them, and others stay
 pub record HasTakenOut (p : Pair) (n m : Node) (change : Changed) : Type 0 where
   pub once : times_at n p ≡ 1
   pub in_place : IsInPlace p n m change
   pub lost : HasLost p n (Some m)
 
--- p came to the points, or went from them
+-- p was added to the points, or removed from them
 abbrev pub HasChanged : Bool → Pair → Node → Node → Changed → Type 0
 HasChanged true = HasPutIn
 HasChanged false = HasTakenOut
 
--- so many points are few enough for that
+-- a number of points that is small enough for the change
 abbrev pub AreFewFor : Bool → ℕ → Type 0
 AreFewFor true n = n < POINT_LIMIT
 AreFewFor false n = n ≤ POINT_LIMIT
 
--- a bucket changed with no search; where a side is closed, p stands under an edge of the points that are there now
+-- a bucket changed without a search; if a chain is unaffected, p is under an edge of the points that are there now
 pub record IsUnsearched (p : Pair) (new : BucketValue) (change : Changed) : Type 0 where
   pub closed : IsClosedOver p change.sides new.points
   pub turns : change.turns ≡ 0
 
--- p, which was not there, came to a bucket
+-- p, which was not there, was added to a bucket
 pub record HasPutInto (p : Pair) (old new : BucketValue) (change : Changed) : Type 0 where
   pub absent : counted old.points old.times p ≡ 0
   pub points : new.points ≡ with_point p old.points
   pub times : (q : Pair) → counted new.points new.times q ≡ counted old.points old.times q + once p q
   pub unsearched : IsUnsearched p new change
 
--- p, held once, went from a bucket
+-- p, of multiplicity one, was removed from a bucket
 pub record HasTakenFrom (p : Pair) (old new : BucketValue) (change : Changed) : Type 0 where
   pub held : counted old.points old.times p ≡ 1
   pub points : new.points ≡ without_point p old.points
   pub times : (q : Pair) → counted old.points old.times q ≡ counted new.points new.times q + once p q
   pub unsearched : IsUnsearched p new change
 
--- the one or the other
+-- one of the two
 abbrev pub HasChangedIn : Bool → Pair → BucketValue → BucketValue → Changed → Type 0
 HasChangedIn true = HasPutInto
 HasChangedIn false = HasTakenFrom
 
--- a fork of which one part, the left one or else the right one, changed at p since its edges were stored
+-- a fork of which one subtree, the left one or else the right one, changed at p since its edges were stored
 abbrev pub IsBehindPart : Bool → Pair → Open → Fork → Type 0
 IsBehindPart true = IsBehindLeft
 IsBehindPart false = IsBehindRight
 
--- it is to be renewed, and can be
+-- the fork has to be renewed, and can be
 pub record IsToRenew (left : Bool) (p : Pair) (below : Changed) (f : Fork) : Type 0 where
   pub behind : IsBehindPart left p below.sides f
   pub few : length (points_below f.left ++ points_below f.right) ≤ POINT_LIMIT
   pub low : max (forks_above f.left) (forks_above f.right) ≤ 28
   pub turns : below.turns ≤ 6912
 
--- it became g, with its parts where they were; its searches are added to those below
+-- it became g, with its subtrees in their places; its searches are added to those below
 pub record IsRenewedAfter (p : Pair) (below : Changed) (f g : Fork) (above : Changed) : Type 0 where
   pub renewed : IsRenewed g
   pub left : g.left ≡ f.left

@@ -3,7 +3,7 @@ use Rattle.std.specs.Prelude.{◌==◌, ◌+◌, ℕ, List, [], ◌∷◌, ◌++
 use Rattle.leaf_trees.specs.declared.bridge.Bridge.{Bridge}
 use Rattle.bucket_tree.specs.declared.node.Node.{Node, Leaf, Fork', Gap}
 
--- what the forks of a level store, from left to right, where the node itself stands on level `here`; a bucket has none
+-- what the forks of a level store, from left to right; the node itself is on level `here`; a bucket stores none
 unfoldable pub level_of : ℕ → ℕ → Node → List Bridge
 level_of wanted here (Leaf b) = []
 level_of wanted here (Fork' height i first_right left right last_left upper lower) = if here == wanted
@@ -11,7 +11,7 @@ level_of wanted here (Fork' height i first_right left right last_left upper lowe
     else level_of wanted (here + 1) left ++ level_of wanted (here + 1) right
 level_of wanted here Gap = []
 
--- what the forks of a level of a whole tree store
+-- the bridges that the forks of a level of a whole tree store
 abbrev pub bridges_at : ℕ → Option Node → List Bridge
 bridges_at level None = []
 bridges_at level (Some n) = level_of level 0 n

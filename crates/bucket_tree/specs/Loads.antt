@@ -1,4 +1,4 @@
--- What a tree is built of at once: points in order, each with how often it is held.
+-- The input from which a tree is built at once: points in order, each with its multiplicity.
 use Rattle.std.specs.Prelude.{◌≡◌, ℕ, ◌≤◌, ◌*◌, ◌^◌, List, length}
 use Rattle.std.specs.List.{All}
 use Rattle.lattice.specs.Covers.{IsPointSet}
@@ -7,7 +7,7 @@ use Rattle.hull_buckets.specs.Buckets.{IsMultiplicity}
 use Rattle.hull_buckets.specs.declared.TheConstants.{ROOM}
 use Rattle.hull_set.specs.declared.TheConstants.{POINT_LIMIT}
 
--- points in order, no more than a set may have, each held as often as a point may be
+-- points in order, no more than a set may have, each with a multiplicity that a point may have
 pub record AreParts (points : List Pair) (times : List ℕ) : Type 0 where
   pub some : 1 ≤ length points
   pub few : length points ≤ POINT_LIMIT
@@ -15,7 +15,7 @@ pub record AreParts (points : List Pair) (times : List ℕ) : Type 0 where
   pub counted : length times ≡ length points
   pub held : All IsMultiplicity times
 
--- they fill a tree with so many forks above each bucket
+-- they fill a tree with this many forks above each bucket
 pub record IsLoad (points : List Pair) (times : List ℕ) (forks : ℕ) : Type 0 where
   pub parts : AreParts points times
   pub enough : 2 ^ forks ≤ length points

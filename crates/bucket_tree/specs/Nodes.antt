@@ -1,5 +1,5 @@
--- The finite tree that a node is, over the corners of its buckets, and what makes it well built (Overmars and van
--- Leeuwen, 1981; Adelson-Velsky and Landis, 1962).
+-- The finite tree that a node represents, over the vertices of its buckets, and the conditions of being well built (Overmars and van Leeuwen, 1981;
+-- Adelson-Velsky and Landis, 1962).
 use Rattle.std.specs.Prelude.{◌≡◌, ℕ, ◌+◌, ◌≤◌, max, List, [], ◌++◌}
 use Rattle.lattice.specs.Covers.{IsPointSet}
 use Rattle.lattice.specs.Plane.{Pair}
@@ -10,11 +10,11 @@ use Rattle.hull_geometry.specs.Positions.{origin, first_of, last_of}
 use Rattle.bucket_tree.specs.declared.node.Node.{Node, Leaf, Fork', Gap}
 use Rattle.bucket_tree.specs.declared.node.Fork.{Fork}
 
--- the half of a hull that a bucket's corners are
+-- the half of a hull that a bucket's vertices are
 abbrev pub tree_of_bucket : BucketValue → Tree
 tree_of_bucket b = tree_of_run b (all_of b)
 
--- the half of a hull that a node is: of its buckets the corners
+-- the half of a hull that a node is: of its buckets only the vertices
 abbrev pub tree_of : Node → Tree
 tree_of (Leaf b) = tree_of_bucket b.value
 tree_of (Fork' height i first_right left right last_left upper lower) =
@@ -31,31 +31,31 @@ points_below (Leaf b) = b.value.points
 points_below (Fork' height i first_right left right last_left upper lower) = points_below left ++ points_below right
 points_below Gap = []
 
--- how often each of them is held
+-- the multiplicity of each of them
 abbrev pub times_below : Node → List ℕ
 times_below (Leaf b) = b.value.times
 times_below (Fork' height i first_right left right last_left upper lower) = times_below left ++ times_below right
 times_below Gap = []
 
--- how many forks stand above the deepest bucket below a node
+-- the height of a node: the number of forks above its deepest bucket
 abbrev pub forks_above : Node → ℕ
 forks_above (Leaf b) = 0
 forks_above (Fork' height i first_right left right last_left upper lower) = max (forks_above left) (forks_above right)
     + 1
 forks_above Gap = 0
 
--- neither number is more than one above the other
+-- the numbers differ by at most one
 abbrev pub AreNear : ℕ → ℕ → Type 0
 AreNear m n = (m ≤ n + 1) × (n ≤ m + 1)
 
--- at each fork the two halves are as high, or one is one higher
+-- the heights of the two halves of each fork differ by at most one
 abbrev pub IsBalanced : Node → Type 0
 IsBalanced (Leaf b) = Unit {0}
 IsBalanced (Fork' height i first_right left right last_left upper lower) =
     AreNear (forks_above left) (forks_above right) × IsBalanced left × IsBalanced right
 IsBalanced Gap = Unit {0}
 
--- each fork keeps its height, the last point of its left half and the first one of its right half
+-- each fork stores its height, the last point of its left half and the first one of its right half
 abbrev pub IsLabelled : Node → Type 0
 IsLabelled (Leaf b) = Unit {0}
 IsLabelled (Fork' height i first_right left right last_left upper lower) =
@@ -63,7 +63,7 @@ IsLabelled (Fork' height i first_right left right last_left upper lower) =
     × (height ≡ max (forks_above left) (forks_above right) + 1) × IsLabelled left × IsLabelled right
 IsLabelled Gap = Unit {0}
 
--- each bucket below a node is one, and no gap is left
+-- each bucket below a node is well formed, and no gap is left
 abbrev pub HasBuckets : Node → Type 0
 HasBuckets (Leaf b) = IsBucket b.value
 HasBuckets (Fork' height i first_right left right last_left upper lower) = HasBuckets left × HasBuckets right
@@ -79,8 +79,8 @@ IsWhole Gap = ⊥
 abbrev pub AreWhole : Fork → Type 0
 AreWhole f = IsWhole f.left × IsWhole f.right
 
--- all is as it should be: the points stand in order, the edges that each fork stores are the bridges of its halves, it
--- is balanced, and it keeps its height and the points at its parting
+-- a well-built node: the points are in order, the edges that each fork stores are the bridges of its halves, it is balanced, and it stores its height
+-- and the points at its split
 pub record IsWellBuilt (n : Node) : Type 0 where
   pub ordered : IsPointSet (points_below n)
   pub bridged : IsBridged (tree_of n)
@@ -94,7 +94,6 @@ pub record AreInRow (l r : Node) : Type 0 where
   pub right_built : IsWellBuilt r
   pub in_order : IsPointSet (points_below l ++ points_below r)
 
--- the height h of a node that is made of two of heights l and r: that of the fork over them, or one less where they
--- differ by two
+-- the height h of a node that is made of two of heights l and r: that of the fork over them, or one less if they differ by two
 abbrev pub IsHeightOver : ℕ → ℕ → ℕ → Type 0
 IsHeightOver l r h = (max l r ≤ h) × (h ≤ max l r + 1) × (AreNear l r → h ≡ max l r + 1)

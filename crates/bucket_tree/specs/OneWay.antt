@@ -1,4 +1,4 @@
--- A node is whole in one way: what a ghost field asks.
+-- The proof that a node is whole is unique, as a ghost field requires.
 use Rattle.bucket_tree.specs.declared.node.Fork.{Fork}
 use Rattle.bucket_tree.specs.declared.node.Node.{Node, Leaf, Fork', Gap}
 use Rattle.bucket_tree.specs.Nodes.{IsWhole, AreWhole}
@@ -12,7 +12,7 @@ IsWhole-prop (Fork' height i first_right left right last_left upper lower) =
     hlevel (k, l)
 IsWhole-prop Gap = λ x y. absurd x
 
--- and so has that none is left below a fork
+-- and so has the statement that none is left below a fork
 pub AreWhole-prop : (f : Fork) → IsProp (AreWhole f)
 AreWhole-prop f =
     let k : IsProp (IsWhole f.left) = IsWhole-prop f.left in

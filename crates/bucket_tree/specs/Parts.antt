@@ -1,4 +1,4 @@
--- The half of a hull that a lent part is.
+-- The half of a hull that a borrowed subtree is.
 use Rattle.std.specs.Prelude.{◌≤◌}
 use Rattle.bridge_search.specs.Trees.{Tree, IsBridged, height_of, highest}
 use Rattle.hull_buckets.specs.Runs.{tree_of_run}
@@ -6,7 +6,7 @@ use Rattle.bucket_tree.specs.declared.part.Part.{Part}
 use Rattle.bucket_tree.specs.declared.part.Part.TheVariants as part
 use Rattle.bucket_tree.specs.Nodes.{tree_at}
 
--- the half that a lent part is
+-- the half that a borrowed subtree is
 abbrev pub part_tree : Part → Tree
 part_tree (part.Fork f) = tree_at f.fork.now
 part_tree (part.Run r) = tree_of_run r.bucket.now r.mask

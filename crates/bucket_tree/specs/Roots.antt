@@ -11,12 +11,12 @@ abbrev pub points_of_root : Option Node → List Pair
 points_of_root None = []
 points_of_root (Some n) = points_below n
 
--- how often each point is held
+-- the multiplicity of each point
 abbrev pub times_of_root : Option Node → Pair → ℕ
 times_of_root None = λ q. 0
 times_of_root (Some n) = times_at n
 
--- what it holds
+-- the set that it contains
 abbrev pub held_by : Option Node → Held
 held_by root = record { points = points_of_root root; times = times_of_root root }
 
@@ -25,7 +25,7 @@ abbrev pub IsWellBuiltRoot : Option Node → Type 0
 IsWellBuiltRoot None = Unit {0}
 IsWellBuiltRoot (Some n) = IsWellBuilt n
 
--- how many forks stand above its deepest bucket; of nothing 0
+-- its height: the number of forks above its deepest bucket; for nothing 0
 abbrev pub forks_of_root : Option Node → ℕ
 forks_of_root None = 0
 forks_of_root (Some n) = forks_above n

@@ -6,7 +6,7 @@ ghost use Rattle.bucket_tree.specs.Nodes.{IsWellBuilt};
 use crate::node::Node;
 use lattice::{Point, before};
 
-/// How often a point is held below a node: 0 where it is not there. One comparison at each fork.
+/// Returns the multiplicity of a point below a node, 0 if it is not there. One comparison at each fork.
 pub fn times_of(node: &Node, p: Point) -> u16
     requires { IsWellBuilt node.now }
     ensures { result ≡ times_at node.now p }

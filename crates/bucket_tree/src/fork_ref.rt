@@ -1,4 +1,4 @@
-//! Lent forks.
+//! Borrowed forks.
 ghost use Rattle.std.specs.Prelude.{◌≤◌};
 ghost use Rattle.bridge_search.specs.OneWay.{IsBridged-prop};
 ghost use Rattle.bridge_search.specs.Trees.{IsBridged, height_of, highest};
@@ -7,7 +7,7 @@ ghost use Rattle.bucket_tree.specs.OneWay.{AreWhole-prop};
 
 use crate::node::Fork;
 
-/// A lent fork whose edges are the bridges of its halves.
+/// A borrowed fork whose edges are the bridges of its halves.
 #[derive(Clone, Copy)]
 pub struct ForkRef<'a> {
     pub(crate) fork: &'a Fork,

@@ -1,5 +1,5 @@
-//! Changes that move no part of a tree: a bucket with room takes a point, or one of several loses one. Most changes are
-//! such; they go down once, and write only what they alter. What is no such change tells how often the point is held.
+//! Changes that move no subtree: a bucket with capacity left takes a point, or one with several points loses one. Most changes are of this kind; they
+//! go down once, and write only what they alter. If a change is not of this kind, the multiplicity of the point is returned instead.
 ghost use Rattle.std.specs.Prelude.{◌≡◌, ◌≤◌, ◌<◌, Bool, true, false, IfOk, IfErr, length};
 ghost use Rattle.hull_buckets.specs.Buckets.{IsBucket};
 ghost use Rattle.hull_set.specs.declared.TheConstants.{POINT_LIMIT};
@@ -16,24 +16,23 @@ use crate::renewal::{Changed, first_after, last_after, renew_edges};
 use hull_buckets::{Bucket, buckets_are_sound};
 use lattice::{Point, before};
 
-/// Which point of a tree comes or goes with no part moved.
+/// A change that adds or removes a point of a tree without moving a subtree.
 trait InPlace {
-    // whether one comes
+    // whether one is added
     ghost puts: { Bool };
 
-    /// Changes a bucket that can take the change. Else it stays as it was, and how often the point is held there is
-    /// told.
+    /// Changes a bucket if it can take the change. Otherwise leaves it unchanged, and returns the multiplicity of the point there.
     fn change(bucket: &mut Bucket, p: Point) -> Result<Changed, u16>
         ensures same { IfErr result (λ _. bucket.new ≡ bucket.old) }
         ensures told { IfErr result (λ times. times ≡ counted bucket.old.points bucket.old.times p) }
         ensures bucket { IsBucket bucket.new }
         ensures change { IfOk result (HasChangedIn puts p bucket.old bucket.new) };
 
-    /// Whether buckets are to be merged where a point below this node goes.
+    /// Whether buckets have to be merged if a point below this node is removed.
     fn merges(node: &Node) -> bool;
 }
 
-/// A new point comes, held once, where its bucket has room.
+/// Adds a new point, with multiplicity one, if its bucket has capacity for it.
 struct Coming;
 
 impl InPlace for Coming {
@@ -59,7 +58,7 @@ impl InPlace for Coming {
     }
 }
 
-/// A point that is held once goes, where its bucket has others.
+/// Removes a point of multiplicity one, if its bucket has others.
 struct Going;
 
 impl InPlace for Going {
@@ -89,7 +88,7 @@ impl InPlace for Going {
     }
 }
 
-/// Renews a fork whose left part changed at a point.
+/// Renews a fork whose left subtree changed at a point.
 fn after_left(fork: &mut Fork, p: Point, below: Changed) -> Changed
     requires { IsToRenew true p below fork.old }
     ensures { IsRenewedAfter p below fork.old fork.new result }
@@ -102,7 +101,7 @@ fn after_left(fork: &mut Fork, p: Point, below: Changed) -> Changed
     }
 }
 
-/// Renews a fork whose right part changed at a point.
+/// Renews a fork whose right subtree changed at a point.
 fn after_right(fork: &mut Fork, p: Point, below: Changed) -> Changed
     requires { IsToRenew false p below fork.old }
     ensures { IsRenewedAfter p below fork.old fork.new result }
@@ -115,8 +114,8 @@ fn after_right(fork: &mut Fork, p: Point, below: Changed) -> Changed
     }
 }
 
-/// Changes the bucket below a node that a point belongs to, and renews the forks above it, where no part has to move.
-/// Else all stays as it was, and how often the point is held there is told.
+/// Changes the bucket below a node that a point belongs to, and renews the forks above it, if no subtree has to move. Otherwise leaves all unchanged,
+/// and returns the multiplicity of the point there.
 fn change_in_place<C: InPlace>(node: &mut Node, p: Point) -> Result<Changed, u16>
     requires built { IsWellBuilt node.old }
     requires few { AreFewFor C.puts (length (points_below node.old)) }
@@ -147,8 +146,8 @@ fn change_in_place<C: InPlace>(node: &mut Node, p: Point) -> Result<Changed, u16
     }
 }
 
-/// Puts a new point below a node, held once, where the bucket that it belongs to has room. Else all stays as it was,
-/// and how often the point is held there is told.
+/// Adds a new point below a node, with multiplicity one, if the bucket that it belongs to has capacity left. Otherwise leaves all unchanged, and
+/// returns the multiplicity of the point there.
 #[inline(always)]
 pub fn put_in_place(node: &mut Node, p: Point) -> Result<Changed, u16>
     requires built { IsWellBuilt node.old }
@@ -161,8 +160,8 @@ pub fn put_in_place(node: &mut Node, p: Point) -> Result<Changed, u16>
     change_in_place::<Coming>(node, p)
 }
 
-/// Takes a point that is held once out of what is below a node, where its bucket has others and is not to be merged
-/// with the one beside it. Else all stays as it was, and how often the point is held there is told.
+/// Removes a point of multiplicity one from below a node, if its bucket has others and must not be merged with its neighbour. Otherwise leaves all
+/// unchanged, and returns the multiplicity of the point there.
 #[inline(always)]
 pub fn take_in_place(node: &mut Node, p: Point) -> Result<Changed, u16>
     requires built { IsWellBuilt node.old }

@@ -1,4 +1,4 @@
-//! Putting points in.
+//! Adding points.
 ghost use Rattle.std.specs.Prelude.{◌≡◌, ◌<◌, ◌≤◌, ◌+◌, ◌++◌, true, false, Err, length};
 ghost use Rattle.std.specs.List.{Contains};
 ghost use Rattle.lattice.specs.Covers.{IsPointSet, with_point};
@@ -20,20 +20,20 @@ use heap::Heap;
 use hull_buckets::{Bucket, buckets_are_sound};
 use lattice::{Point, Side, before};
 
-/// What putting a point in made: the node, whether memory was refused for it, and how many turns the searches took.
+/// The result of adding a point: the node, whether memory was refused for it, and how many turns the searches took.
 #[derive(Drop)]
 pub struct Inserted {
-    /// The node, with the point; where memory was refused, with the points that it had.
+    /// The node, with the point; if memory was refused, with the points that it had.
     pub node: Node,
     /// Whether memory was refused.
     pub refused: bool,
     /// The turns of the searches for bridges.
     pub turns: u32,
-    /// The sides on which the point may be a corner of the hull of all that are below the node.
+    /// The chains on which the point may be a vertex of the hull of all points below the node.
     pub sides: Open,
 }
 
-/// The sides on which the point at a place of a bucket is a corner.
+/// Returns the sides on which the point at an index of a bucket is a vertex.
 pub(crate) fn open_at(bucket: &Bucket, place: usize, p: Point) -> Open
     requires within { place < length bucket.now.points }
     requires there { point_at bucket.now.points place ≡ p }
@@ -45,7 +45,7 @@ pub(crate) fn open_at(bucket: &Bucket, place: usize, p: Point) -> Open
     }
 }
 
-/// Puts a new point into a bucket with room, at its place, held once, and tells the sides on which it is a corner there.
+/// Inserts a new point at its index into a bucket with capacity left, with multiplicity one, and returns the sides on which it is a vertex there.
 pub(crate) fn put_at(bucket: &mut Bucket, place: usize, p: Point) -> Open
     requires position { IsPositionOf bucket.old.points p (Err place) }
     requires room { length bucket.old.points < ROOM }
@@ -59,7 +59,7 @@ pub(crate) fn put_at(bucket: &mut Bucket, place: usize, p: Point) -> Open
     open_at(bucket, place, p)
 }
 
-/// Puts a new point into a bucket with room, held once, and tells the sides on which it is a corner there.
+/// Inserts a new point into a bucket with capacity left, with multiplicity one, and returns the sides on which it is a vertex there.
 fn put(bucket: &mut Bucket, p: Point) -> Open
     requires absent { ¬ Contains bucket.old.points p }
     requires room { length bucket.old.points < ROOM }
@@ -74,7 +74,7 @@ fn put(bucket: &mut Bucket, p: Point) -> Open
     put_at(bucket, place, p)
 }
 
-/// Puts a new point into one of two leaves in a row, which both have room.
+/// Inserts a new point into one of two leaves in a row, which both have capacity left.
 fn put_in_either(first: &mut Bucket, second: &mut Bucket, p: Point)
     requires ordered { IsPointSet (first.old.points ++ second.old.points) }
     requires absent { ¬ Contains (first.old.points ++ second.old.points) p }
@@ -94,7 +94,7 @@ fn put_in_either(first: &mut Bucket, second: &mut Bucket, p: Point)
     let _ = put(second, p);
 }
 
-/// A bucket with room and a new point, and the sides on which that is a corner.
+/// Returns a bucket that had capacity left with a new point, and the sides on which that is a vertex.
 fn grown(mut bucket: Box<Bucket, Heap>, p: Point) -> (Node, Open)
     requires absent { ¬ Contains bucket.value.points p }
     requires room { length bucket.value.points < ROOM }
@@ -108,7 +108,7 @@ fn grown(mut bucket: Box<Bucket, Heap>, p: Point) -> (Node, Open)
     (Node::Leaf(bucket), sides)
 }
 
-/// A bucket as it was, since memory was refused.
+/// Returns a bucket unchanged, since memory was refused.
 fn unchanged(bucket: Box<Bucket, Heap>) -> Inserted
     ensures node { result.node ≡ Leaf bucket }
     ensures refused { result.refused ≡ true }
@@ -125,7 +125,7 @@ fn unchanged(bucket: Box<Bucket, Heap>) -> Inserted
     }
 }
 
-/// Puts a new point into a bucket below a fork that is to be made of it where it is full.
+/// Inserts a new point into a bucket; if the bucket is full, makes a fork of it first.
 fn insert_leaf(alloc: Heap, mut bucket: Box<Bucket, Heap>, p: Point) -> Inserted
     requires built { IsWellBuilt (Leaf bucket) }
     requires absent { ¬ Contains bucket.value.points p }
@@ -166,7 +166,7 @@ fn insert_leaf(alloc: Heap, mut bucket: Box<Bucket, Heap>, p: Point) -> Inserted
     }
 }
 
-/// The bucket that a node is.
+/// Returns the bucket that a node is.
 pub(crate) fn bucket_of(node: Node) -> Box<Bucket, Heap>
     requires built { IsWellBuilt node }
     requires leaf { forks_above node ≡ 0 }
@@ -178,7 +178,7 @@ pub(crate) fn bucket_of(node: Node) -> Box<Bucket, Heap>
     bucket
 }
 
-/// Puts a new point below a node.
+/// Adds a new point below a node.
 pub fn insert(alloc: Heap, node: Node, p: Point) -> Inserted
     requires built { IsWellBuilt node }
     requires absent { ¬ Contains (points_below node) p }

@@ -1,4 +1,4 @@
-//! Forks over two parts, and what keeps the tree balanced.
+//! Making forks over two subtrees, and keeping the tree balanced.
 ghost use Rattle.std.specs.Prelude.{◌≡◌, ◌<◌, ◌≤◌, ◌+◌, ◌*◌, ◌++◌, max, length};
 ghost use Rattle.lattice.specs.Bridges.{IsAllBefore, IsBridge, IsUpperBridge, IsLowerBridge};
 ghost use Rattle.bridge_search.specs.Trees.{On};
@@ -17,7 +17,7 @@ use heap::Heap;
 use lattice::{Point, Side};
 use std::mem;
 
-/// The upper and the lower bridge between two parts, and the turns of the searches for them.
+/// Searches the upper and the lower bridge between two subtrees. Returns them and the turns of the searches.
 fn search(left: &Node, right: &Node) -> ((Point, Point), (Point, Point), u32)
     requires row { AreInRow left.now right.now }
     requires few { length (points_below left.now ++ points_below right.now) ≤ POINT_LIMIT }
@@ -35,7 +35,7 @@ fn search(left: &Node, right: &Node) -> ((Point, Point), (Point, Point), u32)
     (upper, lower, upper_turns + lower_turns)
 }
 
-/// The bridge on a side between two parts, and the turns of the search for it.
+/// Searches the bridge on a side between two subtrees. Returns it and the turns of the search.
 pub(crate) fn search_one(side: Side, left: &Node, right: &Node) -> ((Point, Point), u32)
     requires row { AreInRow left.now right.now }
     requires few { length (points_below left.now ++ points_below right.now) ≤ POINT_LIMIT }
@@ -51,7 +51,7 @@ pub(crate) fn search_one(side: Side, left: &Node, right: &Node) -> ((Point, Poin
     }
 }
 
-/// A fork over two parts, in a box that is there, and how many turns the searches for its bridges took.
+/// Makes a fork over two subtrees, in an existing box. Returns it and how many turns the searches for its bridges took.
 pub(crate) fn join(left: Node, right: Node, mut place: Box<Fork, Heap>) -> (Node, u32)
     requires row { AreInRow left right }
     requires few { length (points_below left ++ points_below right) ≤ POINT_LIMIT }
@@ -77,7 +77,7 @@ pub(crate) fn join(left: Node, right: Node, mut place: Box<Fork, Heap>) -> (Node
     (Node::Fork(height, place), turns)
 }
 
-/// A fork taken apart: its halves, and its box.
+/// Separates a fork into its halves and its box.
 pub(crate) fn take_apart(node: Node) -> (Node, Node, Box<Fork, Heap>)
     requires built { IsWellBuilt node }
     requires fork { 0 < forks_above node }
@@ -98,8 +98,8 @@ pub(crate) fn take_apart(node: Node) -> (Node, Node, Box<Fork, Heap>)
     (left, right, fork)
 }
 
-/// The fork over two parts of which the left one is two higher, after a rotation to the right, double where that leans to
-/// the right.
+/// Makes the fork over two subtrees of which the left one is two higher, after a rotation to the right, which is double if that one leans to the
+/// right.
 pub(crate) fn rotate_right(left: Node, right: Node, place: Box<Fork, Heap>) -> (Node, u32)
     requires row { AreInRow left right }
     requires few { length (points_below left ++ points_below right) ≤ POINT_LIMIT }
@@ -124,8 +124,8 @@ pub(crate) fn rotate_right(left: Node, right: Node, place: Box<Fork, Heap>) -> (
     (whole, turns + first_turns + second_turns)
 }
 
-/// The fork over two parts of which the right one is two higher, after a rotation to the left, double where that leans to
-/// the left.
+/// Makes the fork over two subtrees of which the right one is two higher, after a rotation to the left, which is double if that one leans to the
+/// left.
 pub(crate) fn rotate_left(left: Node, right: Node, place: Box<Fork, Heap>) -> (Node, u32)
     requires row { AreInRow left right }
     requires few { length (points_below left ++ points_below right) ≤ POINT_LIMIT }

@@ -1,9 +1,9 @@
-//! A tree of forks over buckets of lattice points: a leaf tree whose leaves are [`Bucket`](hull_buckets::Bucket)s of up to 64
-//! points, and whose forks keep the bridges of their two halves (Overmars and van Leeuwen, 1981).
+//! A tree of forks over buckets of lattice points: a leaf tree whose leaves are [`Bucket`](hull_buckets::Bucket)s of up to 64 points, and whose forks
+//! store the bridges of their two halves (Overmars and van Leeuwen, 1981).
 //!
-//! A bridge of two halves is that of their corners, so a [`Part`] of the tree, which searches and questions go down, has the
-//! corners of its buckets alone; what these answer about a hull, all points below a [`Node`] answer. A point that comes or
-//! goes mends one bucket and searches the bridges of the forks above it. [`BucketTree`] is the set of points that stands on it.
+//! A bridge of two halves is that of their vertices, so a [`Part`] of the tree, which searches and questions go down, has only the vertices of its
+//! buckets; their answer about a hull is the answer of all points below a [`Node`]. Adding or removing a point repairs one bucket and searches the
+//! bridges of the forks above it. [`BucketTree`] is the set of points built on it.
 #![tactic(auto)]
 
 mod find;

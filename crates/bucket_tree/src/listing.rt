@@ -1,4 +1,4 @@
-//! What is below a node, listed.
+//! Listing the points and bridges below a node.
 ghost use Rattle.std.specs.Prelude.{◌≡◌, ◌≤◌, ◌+◌, ◌++◌, length, take, drop, vec_len, vec_capacity, OnOk};
 ghost use Rattle.leaf_trees.specs.Stretches.{entries_from};
 ghost use Rattle.bucket_tree.specs.Nodes.{points_below, HasBuckets, IsWellBuilt};
@@ -12,7 +12,7 @@ use lattice::{Point, before};
 use leaf_trees::Bridge;
 use std::alloc::AllocError;
 
-/// Appends points, each with the number beside it, to entries with room for them.
+/// Appends points, each with its number, to entries with capacity for them.
 fn push_all(points: &[Point], times: &[u16], entries: &mut Vec<(Point, u32), Heap>)
     requires counted { length times.now ≡ length points.now }
     requires room { vec_len entries.old + length points.now ≤ vec_capacity entries.old }
@@ -24,7 +24,7 @@ fn push_all(points: &[Point], times: &[u16], entries: &mut Vec<(Point, u32), Hea
     }
 }
 
-/// Appends the points below a node in order, each with how often it is held, to entries with room for them.
+/// Appends the points below a node in order, each with its multiplicity, to entries with capacity for them.
 pub(crate) fn push_entries(node: &Node, entries: &mut Vec<(Point, u32), Heap>)
     requires buckets { HasBuckets node.now }
     requires room { vec_len entries.old + length (points_below node.now) ≤ vec_capacity entries.old }
@@ -41,7 +41,7 @@ pub(crate) fn push_entries(node: &Node, entries: &mut Vec<(Point, u32), Heap>)
     }
 }
 
-/// The place of the first point of a bucket that does not stand before `start`, or their number.
+/// Returns the index of the first point of a bucket that is not before `start`, or the number of its points.
 fn first_from(bucket: &Bucket, start: Point) -> usize
     ensures within { result ≤ length bucket.now.points }
     ensures from { entries_from start (paired bucket.now.points bucket.now.times)
@@ -54,8 +54,7 @@ fn first_from(bucket: &Bucket, start: Point) -> usize
     }
 }
 
-/// Appends the points of a bucket that do not stand before `start`, in order, each with how often it is held, until there
-/// are `most` entries.
+/// Appends the points of a bucket that are not before `start`, in order, each with its multiplicity, until there are `most` entries.
 fn push_bucket_from(
     bucket: &Bucket,
     start: Point,
@@ -79,8 +78,8 @@ fn push_bucket_from(
     );
 }
 
-/// Appends the points below a node that do not stand before `start`, in order, each with how often it is held, until
-/// there are `most` entries. Halves that end before `start` are passed by.
+/// Appends the points below a node that are not before `start`, in order, each with its multiplicity, until there are `most` entries. Halves that end
+/// before `start` are skipped.
 pub(crate) fn push_from(
     node: &Node,
     start: Point,
@@ -108,7 +107,7 @@ pub(crate) fn push_from(
     }
 }
 
-/// Puts what the forks of a level store behind what is there, from left to right; the node stands on level `here`.
+/// Appends what the forks of a level store, from left to right; the node is on level `here`.
 #[tactic(auto, unfolding(crate::specs::Levels::level_of))]
 pub(crate) fn push_level(
     node: &Node,

@@ -13,7 +13,7 @@ use hull_buckets::{Bucket, ROOM, buckets_are_sound};
 use lattice::Point;
 use std::alloc::AllocError;
 
-/// The box of a fork that is not made yet.
+/// Allocates the box of a fork that is made later.
 pub(crate) fn blank(alloc: Heap, point: Point) -> Result<Box<Fork, Heap>, AllocError> {
     let fork = Fork {
         first_right: point,
@@ -26,7 +26,7 @@ pub(crate) fn blank(alloc: Heap, point: Point) -> Result<Box<Fork, Heap>, AllocE
     Ok(Box::new(alloc, fork)?)
 }
 
-/// One bucket of points in order, each held so often.
+/// Makes one bucket of points in order, each with its multiplicity.
 fn leaf(alloc: Heap, points: &[Point], times: &[u16]) -> Result<Node, AllocError>
     requires { IsLoad points.now times.now 0 }
     ensures built { IfOk result IsWellBuilt }
@@ -39,8 +39,7 @@ fn leaf(alloc: Heap, points: &[Point], times: &[u16]) -> Result<Node, AllocError
     Ok(Node::Leaf(Box::new(alloc, bucket)?))
 }
 
-/// The tree of points in order, each held so often, with this many forks above each bucket. An `Err` comes only where
-/// `alloc` refuses memory.
+/// Makes the tree of points in order, each with its multiplicity, with this many forks above each bucket. Fails only if `alloc` refuses memory.
 fn build(alloc: Heap, points: &[Point], times: &[u16], forks: u16) -> Result<Node, AllocError>
     requires { IsLoad points.now times.now forks }
     ensures built { IfOk result IsWellBuilt }
@@ -60,7 +59,7 @@ fn build(alloc: Heap, points: &[Point], times: &[u16], forks: u16) -> Result<Nod
     Ok(join(left, right, place).0)
 }
 
-/// The tree of points in order, each held so often: as low as can be. An `Err` comes only where `alloc` refuses memory.
+/// Makes the tree of points in order, each with its multiplicity, with the least possible height. Fails only if `alloc` refuses memory.
 pub fn from_parts(alloc: Heap, points: &[Point], times: &[u16]) -> Result<Node, AllocError>
     requires { AreParts points.now times.now }
     ensures built { IfOk result IsWellBuilt }
@@ -76,7 +75,7 @@ pub fn from_parts(alloc: Heap, points: &[Point], times: &[u16]) -> Result<Node, 
     build(alloc, points, times, forks)
 }
 
-/// The points of entries, and the numbers beside them.
+/// Returns the points of entries, and their multiplicities.
 fn parted(
     alloc: Heap,
     entries: &[(Point, u32)],
@@ -94,7 +93,7 @@ fn parted(
     Ok((points, times))
 }
 
-/// The tree of points in order, each with how often it is held. An `Err` comes only where `alloc` refuses memory.
+/// Makes the tree of points in order, each with its multiplicity. Fails only if `alloc` refuses memory.
 pub(crate) fn from_entries(alloc: Heap, entries: &[(Point, u32)]) -> Result<Node, AllocError>
     requires entries { AreEntries entries.now }
     requires some { 1 ≤ length entries.now }
@@ -107,7 +106,7 @@ pub(crate) fn from_entries(alloc: Heap, entries: &[(Point, u32)]) -> Result<Node
     from_parts(alloc, &points, &times)
 }
 
-/// The tree of one point, held once.
+/// Makes the tree of one point, with multiplicity one.
 pub(crate) fn first_leaf(alloc: Heap, p: Point) -> Result<Node, AllocError>
     ensures built { IfOk result IsWellBuilt }
     ensures points { IfOk result (λ n. points_below n ≡ p ∷ []) }

@@ -8,22 +8,21 @@ use heap::Heap;
 use hull_buckets::Bucket;
 use lattice::{Point, Side};
 
-/// A part of the tree: a bucket, or a fork over two parts with its height.
+/// A subtree: a bucket, or a fork over two subtrees with its height.
 ///
-/// The height stands beside the pointer, so that a fork is balanced without a look at what is below its halves.
+/// The height is stored next to the pointer, so that a fork is balanced without reading what is below its halves.
 #[cycle(node)]
 #[derive(Drop)]
 pub enum Node {
     /// A bucket.
     Leaf(Box<Bucket, Heap>),
-    /// A fork, and how many forks stand above the deepest bucket below it, itself counted.
+    /// A fork and its height: the number of forks on the longest path to a bucket, this one included.
     Fork(u16, Box<Fork, Heap>),
-    /// Nothing: it stands where a node was taken out, while the fork there is made anew.
+    /// Nothing: it is in the place from which a node was taken out, while the fork there is rebuilt.
     Gap,
 }
 
-/// The two halves of a fork, all of the left one before all of the right one, the two points at their parting, and their
-/// bridges.
+/// The two halves of a fork, all points of the left one before all of the right one, the two points at their split, and their bridges.
 #[cycle(node)]
 #[derive(Drop)]
 pub struct Fork {
@@ -36,7 +35,7 @@ pub struct Fork {
 }
 
 impl Fork {
-    /// The edge on a side.
+    /// Returns the edge on a side.
     pub(crate) fn edge(&self, side: Side) -> &(Point, Point)
         ensures { result.now ≡ edge_on side self.now }
     {
@@ -46,7 +45,7 @@ impl Fork {
         }
     }
 
-    /// Makes an edge the one on a side.
+    /// Replaces the edge on a side.
     pub(crate) fn set_edge(&mut self, side: Side, edge: (Point, Point))
         ensures same { IsSameBut side self.old self.new }
         ensures edge { edge_on side self.new ≡ edge }
@@ -58,7 +57,7 @@ impl Fork {
     }
 }
 
-/// The first point below a node: one step a level.
+/// Returns the first point below a node: one step a level.
 pub(crate) fn first_of(node: &Node) -> Point
     requires { HasBuckets node.now }
     ensures { result ≡ first_in (points_below node.now) }
@@ -70,7 +69,7 @@ pub(crate) fn first_of(node: &Node) -> Point
     }
 }
 
-/// The last point below a node: one step a level.
+/// Returns the last point below a node: one step a level.
 pub(crate) fn last_of(node: &Node) -> Point
     requires { HasBuckets node.now }
     ensures { result ≡ last_in (points_below node.now) }
@@ -85,7 +84,7 @@ pub(crate) fn last_of(node: &Node) -> Point
     }
 }
 
-/// How many forks stand above the deepest bucket below a node.
+/// Returns the height of a node: the number of forks above its deepest bucket.
 pub(crate) fn height_of(node: &Node) -> u16
     requires { IsLabelled node.now }
     ensures { result ≡ forks_above node.now }

@@ -1,4 +1,4 @@
-//! Lent parts of the tree, as halves of a hull.
+//! Borrowed subtrees, as halves of a hull.
 ghost use Rattle.std.specs.Prelude.{◌≡◌, ◌≤◌};
 ghost use Rattle.lattice.specs.Plane as plane;
 ghost use Rattle.lattice.specs.Plane.{IsWithin, widest_side};
@@ -13,18 +13,18 @@ use bridge_search::Half;
 use hull_buckets::Run;
 use lattice::{Point, orient};
 
-/// A lent part of the tree: a fork, or neighbouring corners of a bucket. It is the half of a hull that searches and
-/// questions go down, over corners alone.
+/// A borrowed subtree: a fork, or neighbouring vertices of a bucket. It is the half of a hull that searches and questions go down, over vertices
+/// only.
 #[derive(Clone, Copy)]
 pub enum Part<'a> {
     /// A fork.
     Fork(ForkRef<'a>),
-    /// Neighbouring corners of a bucket.
+    /// Neighbouring vertices of a bucket.
     Run(Run<'a>),
 }
 
 impl<'a> Part<'a> {
-    /// The half that a node is.
+    /// Returns a node as a half.
     pub fn new(node: &'a Node) -> Part<'a>
         requires whole { IsWhole node.now }
         requires bridged { IsBridged (tree_of node.now) }
@@ -39,7 +39,7 @@ impl<'a> Part<'a> {
     }
 }
 
-/// The first corner below a node: one step a level.
+/// Returns the first vertex below a node: one step a level.
 fn first_corner(node: &Node) -> Point
     requires { IsWhole node.now }
     ensures { result ≡ first_in (tree_of node.now) }
@@ -51,7 +51,7 @@ fn first_corner(node: &Node) -> Point
     }
 }
 
-/// The last corner below a node: one step a level.
+/// Returns the last vertex below a node: one step a level.
 fn last_corner(node: &Node) -> Point
     requires { IsWhole node.now }
     ensures { result ≡ last_in (tree_of node.now) }
@@ -63,7 +63,7 @@ fn last_corner(node: &Node) -> Point
     }
 }
 
-/// How many forks stand above the deepest corner below a node, those of its buckets' runs among them.
+/// Returns the number of forks above the deepest vertex below a node, those of its buckets' slices included.
 fn corner_height(node: &Node) -> u32
     requires whole { IsWhole node.now }
     requires low { height_in (tree_of node.now) ≤ highest }

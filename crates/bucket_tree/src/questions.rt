@@ -1,4 +1,4 @@
-//! Questions about the hull of all points below a node, which go down its corners alone.
+//! Questions about the hull of all points below a node, which go down its vertices only.
 ghost use Rattle.std.specs.Prelude.{◌<◌, ◌≤◌, length, vec_len, IfOk, pos};
 ghost use Rattle.bridge_search.specs.Leaves.{points_of};
 ghost use Rattle.bridge_search.specs.Trees.{height_of, size_of};
@@ -16,13 +16,13 @@ use hull_set::Place;
 use lattice::{Direction, Point};
 use std::alloc::AllocError;
 
-/// The corners below a node answer each question about the hull of all points below it.
+/// The vertices below a node answer each question about the hull of all points below it.
 pub fn corners_answer(node: &Node)
     requires { IsWellBuilt node.now }
     ensures { AnswersFor (points_of (tree_of node.now)) (points_below node.now) }
 {}
 
-/// The corners below a node are no more than its points, and a half that is not too high.
+/// The vertices below a node are no more than its points, and the half of them is not too high.
 pub fn corners_are_few(node: &Node)
     requires { IsWellBuilt node.now }
     ensures whole { IsWhole node.now }
@@ -30,7 +30,7 @@ pub fn corners_are_few(node: &Node)
     ensures low { height_of (tree_of node.now) < length (points_below node.now) }
 {}
 
-/// The first, by x and then y, of the points below a node that lie farthest in the direction `d`.
+/// Returns the first, by x and then y, of the points below a node that are farthest in the direction `d`.
 pub fn extreme(node: &Node, d: Direction) -> Point
     requires built { IsWellBuilt node.now }
     requires few { length (points_below node.now) ≤ POINT_LIMIT }
@@ -41,7 +41,7 @@ pub fn extreme(node: &Node, d: Direction) -> Point
     hull_questions::extreme(Part::new(node), d)
 }
 
-/// Where `q` lies, seen from the points below a node.
+/// Returns where `q` is, relative to the hull of the points below a node.
 pub fn place(node: &Node, q: Point) -> Place
     requires built { IsWellBuilt node.now }
     requires few { length (points_below node.now) ≤ POINT_LIMIT }
@@ -52,7 +52,7 @@ pub fn place(node: &Node, q: Point) -> Place
     hull_questions::place(Part::new(node), q)
 }
 
-/// The left and the right tangent point seen from `q`, or nothing where the points below a node cover it.
+/// Returns the left and the right tangent point as seen from `q`, or nothing if the hull of the points below a node contains it.
 pub fn tangents(node: &Node, q: Point) -> Option<(Point, Point)>
     requires built { IsWellBuilt node.now }
     requires few { length (points_below node.now) ≤ POINT_LIMIT }
@@ -63,8 +63,8 @@ pub fn tangents(node: &Node, q: Point) -> Option<(Point, Point)>
     hull_questions::tangents(Part::new(node), q)
 }
 
-/// The vertices of the hull of the points below a node, counterclockwise from the first; no more than there are points. An
-/// `Err` comes only where `alloc` refuses memory.
+/// Returns the vertices of the hull of the points below a node, counterclockwise from the first; no more than there are points. Fails only if `alloc`
+/// refuses memory.
 pub fn vertices(alloc: Heap, node: &Node) -> Result<Vec<Point, Heap>, AllocError>
     requires built { IsWellBuilt node.now }
     requires few { length (points_below node.now) ≤ POINT_LIMIT }
@@ -76,7 +76,7 @@ pub fn vertices(alloc: Heap, node: &Node) -> Result<Vec<Point, Heap>, AllocError
     hull_questions::vertices(alloc, Part::new(node))
 }
 
-/// The doubled area of the hull of the points below a node.
+/// Returns the doubled area of the hull of the points below a node.
 pub fn area2(node: &Node) -> u128
     requires built { IsWellBuilt node.now }
     requires few { length (points_below node.now) ≤ POINT_LIMIT }

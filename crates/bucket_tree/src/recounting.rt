@@ -1,4 +1,4 @@
-//! Holding points more or less often.
+//! Changing multiplicities.
 ghost use Rattle.std.specs.Prelude.{◌≡◌, ◌≤◌, ◌+◌};
 ghost use Rattle.hull_buckets.specs.Buckets.{IsMultiplicity};
 ghost use Rattle.bucket_tree.specs.Counts.{counted, times_at, IsSameButTimes, IsRecounted};
@@ -9,7 +9,7 @@ use crate::node::Node;
 use hull_buckets::{Bucket, buckets_are_sound};
 use lattice::{Point, before};
 
-/// Makes a point of a bucket one that is held so often.
+/// Sets the multiplicity of a point of a bucket.
 fn recount_leaf(bucket: &mut Bucket, p: Point, times: u16)
     requires live { 1 ≤ counted bucket.old.points bucket.old.times p }
     requires held { IsMultiplicity times }
@@ -26,7 +26,7 @@ fn recount_leaf(bucket: &mut Bucket, p: Point, times: u16)
     buckets_are_sound(bucket);
 }
 
-/// Makes a point below a node one that is held so often. No bridge is another for that.
+/// Sets the multiplicity of a point below a node. This changes no bridge.
 pub fn recount(node: &mut Node, p: Point, times: u16)
     requires built { IsWellBuilt node.old }
     requires live { 1 ≤ times_at node.old p }

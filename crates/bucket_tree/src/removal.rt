@@ -1,4 +1,4 @@
-//! Taking points out.
+//! Removing points.
 ghost use Rattle.std.specs.Prelude.{◌≡◌, ◌≤◌, ◌+◌, ◌*◌, ◌++◌, ◌⊎◌, true, false, Some, IfSome, max, length};
 ghost use Rattle.hull_geometry.specs.Monotone.{IsInwards};
 ghost use Rattle.hull_set.specs.declared.TheConstants.{POINT_LIMIT};
@@ -20,19 +20,19 @@ use lattice::{Point, Side, before};
 /// Two buckets with no more points than this become one when one of them loses a point.
 const MERGED: usize = 48;
 
-/// What taking a point out left: the node, or nothing where the point was the only one; how many turns the searches took; and
-/// the sides on which the point may have been a corner of the hull of all that were below the node.
+/// The result of removing a point: the node, or nothing if the point was the only one; how many turns the searches took; and the chains on which the
+/// point may have been a vertex of the hull of all points that were below the node.
 #[derive(Drop)]
 pub struct Removed {
-    /// What is left.
+    /// The rest of the tree.
     pub rest: Option<Node>,
     /// The turns of the searches for bridges.
     pub turns: u32,
-    /// The sides on which the point may have been a corner.
+    /// The chains on which the point may have been a vertex.
     pub sides: Open,
 }
 
-/// Takes a point that is held once out of a bucket: nothing is left where it was the only one.
+/// Removes a point of multiplicity one from a bucket: nothing is left if it was the only one.
 fn remove_leaf(mut bucket: Box<Bucket, Heap>, p: Point) -> Removed
     requires built { IsWellBuilt (Leaf bucket) }
     requires held { times_at (Leaf bucket) p ≡ 1 }
@@ -60,7 +60,7 @@ fn remove_leaf(mut bucket: Box<Bucket, Heap>, p: Point) -> Removed
     }
 }
 
-/// Whether two parts are buckets with few points together.
+/// Whether two subtrees are buckets with few points together.
 pub(crate) fn are_few(left: &Node, right: &Node) -> bool
     ensures { result ≡ true → (forks_above left.now ≡ 0) × (forks_above right.now ≡ 0)
         × (length (points_below left.now) + length (points_below right.now) ≤ 48) }
@@ -73,7 +73,7 @@ pub(crate) fn are_few(left: &Node, right: &Node) -> bool
     }
 }
 
-/// Whether a side is open above a fork of which a point went, by the edge that is stored there.
+/// Whether a chain stays affected above a fork of which a point was removed, by the edge that is stored there.
 fn stays_open(side: Side, edge: &(Point, Point), p: Point, at_issue: bool) -> bool
     ensures { result ≡ false → (at_issue ≡ false) ⊎ IsInwards side edge.now.0 edge.now.1 p }
 {
@@ -87,7 +87,7 @@ fn stays_open(side: Side, edge: &(Point, Point), p: Point, at_issue: bool) -> bo
     }
 }
 
-/// One bucket of the points of two, from one of which a point went. What the edges of the fork over them tell is asked first.
+/// Merges two buckets, from one of which a point was removed, into one. The edges of the fork over them are compared first.
 fn merge(left: Node, right: Node, place: Box<Fork, Heap>, p: Point, sides: Open) -> Renewed
     requires row { AreInRow left right }
     requires left { forks_above left ≡ 0 }
@@ -115,8 +115,8 @@ fn merge(left: Node, right: Node, place: Box<Fork, Heap>, p: Point, sides: Open)
     }
 }
 
-/// What a fork of a height becomes whose one part lost a point: two buckets with few points are merged where it was the only
-/// fork above them, and else the tree over both parts is balanced.
+/// Repairs a fork of a given height whose one subtree lost a point: if it was the only fork above two buckets with few points, merges them; otherwise
+/// balances the tree over both subtrees.
 fn settle(
     left: Node,
     right: Node,
@@ -145,7 +145,7 @@ fn settle(
     balance(left, right, place, p, sides)
 }
 
-/// What is left where one part of a fork lost its only point: the other part.
+/// Returns what is left if one subtree of a fork lost its only point: the other subtree.
 fn other_part(part: Node, turns: u32) -> Removed
     ensures rest { result.rest ≡ Some part }
     ensures turns { result.turns ≡ turns }
@@ -161,7 +161,7 @@ fn other_part(part: Node, turns: u32) -> Removed
     }
 }
 
-/// Takes a point that is held once out of what is below a node. Asks for no memory.
+/// Removes a point of multiplicity one from below a node. Allocates no memory.
 pub fn remove(node: Node, p: Point) -> Removed
     requires built { IsWellBuilt node }
     requires held { times_at node p ≡ 1 }

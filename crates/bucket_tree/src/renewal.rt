@@ -1,4 +1,4 @@
-//! The forks above a point that came or went: a bridge that the change cannot have altered is kept.
+//! The forks above a point that was added or removed: a bridge that the change cannot have altered is kept.
 ghost use Rattle.std.specs.Prelude.{◌≡◌, ◌≤◌, ◌+◌, ◌*◌, ◌++◌, ◌⊎◌, ◌↔◌, IsTrue, true, false, max, length};
 ghost use Rattle.std.specs.Prelude.{pos, ◌≤ℤ◌, ◌<ℤ◌};
 ghost use Rattle.lattice.specs.Orientations as orientations;
@@ -18,17 +18,17 @@ use crate::node::{Fork, Node, first_of, height_of, last_of};
 use heap::Heap;
 use lattice::{Point, Side, before, orient_on};
 
-/// The sides on which a point that came or went may matter to the bridges above: it does not where it stands under an edge of
-/// two points that stay.
+/// The chains that are affected by a point that was added or removed, that is, on which it may matter to the bridges above: it does not if it is
+/// under an edge of two points that stay.
 #[derive(Clone, Copy)]
 pub struct Open {
-    /// Whether it may matter below.
+    /// Whether the lower chain is affected.
     pub lower: bool,
-    /// Whether it may matter above.
+    /// Whether the upper chain is affected.
     pub upper: bool,
 }
 
-/// What a fork became.
+/// The fork after a change.
 #[derive(Drop)]
 pub(crate) struct Renewed {
     pub(crate) node: Node,
@@ -36,7 +36,7 @@ pub(crate) struct Renewed {
     pub(crate) sides: Open,
 }
 
-/// How a point stands to an edge.
+/// The position of a point relative to an edge.
 #[derive(Clone, Copy)]
 pub(crate) enum Standing {
     /// Strictly between its ends, and inwards of it.
@@ -47,21 +47,21 @@ pub(crate) enum Standing {
     Touching,
 }
 
-/// Whether a point does not lie outwards of the line of an edge.
+/// Whether a point is not outwards of the line of an edge.
 fn is_inner(side: Side, edge: &(Point, Point), p: Point) -> bool
     ensures { IsTrue result ↔ (pos 0 ≤ℤ orientations.orient_on side edge.now.0 edge.now.1 p) }
 {
     orient_on(side, edge.0, edge.1, p) >= 0
 }
 
-/// Whether a point lies inwards of the line of an edge.
+/// Whether a point is inwards of the line of an edge.
 fn is_inwards(side: Side, edge: &(Point, Point), p: Point) -> bool
     ensures { IsTrue result ↔ (pos 0 <ℤ orientations.orient_on side edge.now.0 edge.now.1 p) }
 {
     orient_on(side, edge.0, edge.1, p) > 0
 }
 
-/// How a point stands to an edge on a side.
+/// Returns the position of a point relative to an edge on a side.
 pub(crate) fn how_stands(side: Side, edge: &(Point, Point), p: Point) -> Standing
     ensures { TellsOf side edge.now p result }
 {
@@ -77,17 +77,17 @@ pub(crate) fn how_stands(side: Side, edge: &(Point, Point), p: Point) -> Standin
     Standing::Touching
 }
 
-/// What a change below a node came to there.
+/// The result of a change below a node.
 #[derive(Clone, Copy)]
 pub struct Changed {
     /// The turns of the searches for bridges.
     pub turns: u32,
-    /// The sides on which the point may be, or have been, a corner of the hull of all that are below the node.
+    /// The chains on which the point may be, or may have been, a vertex of the hull of all points below the node.
     pub sides: Open,
 }
 
-/// Renews the edge of a fork on an open side, of which one part changed at a point: it is searched where it may not stand. How
-/// many turns the search took, and whether the side is still open.
+/// Renews the edge of a fork on an affected chain after one subtree changed at a point: searches it if it may not be a bridge any more. Returns how
+/// many turns the search took, and whether the chain is still affected.
 #[inline(never)]
 fn renew_open_edge(side: Side, fork: &mut Fork, p: Point) -> (u32, bool)
     requires row { AreInRow fork.old.left fork.old.right }
@@ -112,7 +112,7 @@ fn renew_open_edge(side: Side, fork: &mut Fork, p: Point) -> (u32, bool)
     }
 }
 
-/// Renews the edge of a fork on a side, as [`renew_open_edge`]; a closed side is not looked at.
+/// Renews the edge of a fork on a side, as [`renew_open_edge`]; an unaffected chain is skipped.
 #[inline(always)]
 fn renew_edge(side: Side, fork: &mut Fork, p: Point, at_issue: bool) -> (u32, bool)
     requires row { AreInRow fork.old.left fork.old.right }
@@ -133,7 +133,7 @@ fn renew_edge(side: Side, fork: &mut Fork, p: Point, at_issue: bool) -> (u32, bo
     renew_open_edge(side, fork, p)
 }
 
-/// Renews the edges of a fork of which one part changed at a point: each open side is looked at, and no other.
+/// Renews the edges of a fork on the affected chains, after one subtree changed at a point.
 #[inline(always)]
 pub(crate) fn renew_edges(fork: &mut Fork, p: Point, sides: Open) -> Changed
     requires row { AreInRow fork.old.left fork.old.right }
@@ -154,7 +154,7 @@ pub(crate) fn renew_edges(fork: &mut Fork, p: Point, sides: Open) -> Changed
     }
 }
 
-/// A fork over two parts whose heights differ by one at most, of which one changed at a point since its edges were stored.
+/// Makes a fork over two subtrees whose heights differ by at most one, of which one changed at a point after its edges were stored.
 fn renew(left: Node, right: Node, mut place: Box<Fork, Heap>, p: Point, sides: Open) -> Renewed
     requires row { AreInRow left right }
     requires few { length (points_below left ++ points_below right) ≤ POINT_LIMIT }
@@ -179,8 +179,8 @@ fn renew(left: Node, right: Node, mut place: Box<Fork, Heap>, p: Point, sides: O
     }
 }
 
-/// A balanced tree over two parts whose heights differ by two at most, of which one changed at a point since the edges of
-/// the fork over them were stored. The forks that a rotation makes are searched.
+/// Makes a balanced tree over two subtrees whose heights differ by at most two, of which one changed at a point after the edges of the fork over them
+/// were stored. The forks that a rotation makes are searched.
 pub(crate) fn balance(
     left: Node,
     right: Node,
@@ -213,7 +213,7 @@ pub(crate) fn balance(
     }
 }
 
-/// The last point below a part that changed at a point: the one that was kept where the change came before it.
+/// Returns the last point below a subtree that changed at a point: the one that was stored if the change was before it.
 pub(crate) fn last_after(node: &Node, kept: Point, p: Point) -> Point
     requires buckets { HasBuckets node.now }
     requires kept { IsBefore p kept → kept ≡ last_in (points_below node.now) }
@@ -222,7 +222,7 @@ pub(crate) fn last_after(node: &Node, kept: Point, p: Point) -> Point
     if before(p, kept) { kept } else { last_of(node) }
 }
 
-/// The first point below a part that changed at a point: the one that was kept where the change came behind it.
+/// Returns the first point below a subtree that changed at a point: the one that was stored if the change was after it.
 pub(crate) fn first_after(node: &Node, kept: Point, p: Point) -> Point
     requires buckets { HasBuckets node.now }
     requires kept { IsBefore kept p → kept ≡ first_in (points_below node.now) }

@@ -29,12 +29,11 @@ use lattice::{Direction, Point};
 use leaf_trees::{Bridge, Listed};
 use std::marker::Model;
 
-/// A set of points as a balanced tree of forks over buckets of up to 64 points: a point takes 32 to 48 bytes, and most changes
-/// search no bridge.
+/// A set of points as a balanced tree of forks over buckets of up to 64 points: a point takes 32 to 48 bytes, and most changes search no bridge.
 ///
-/// A point that comes or goes mends its bucket, and the bridges of those forks above it which it is not covered below. A
-/// point that is held more than once and comes or goes changes one number. Each question goes down the stored bridges.
-/// `add`, `vertices`, the entries and `extend` ask for memory: `add` for the first point and where a bucket is full.
+/// Adding or removing a point repairs its bucket, and the bridges of those forks above it whose edges do not cover it. A change of the multiplicity
+/// of a point that stays changes one number. Each question goes down the stored bridges. `add`, `vertices`, the entries and `extend` allocate memory:
+/// `add` only for the first point and if a bucket is full.
 #[derive(Drop)]
 pub struct BucketTree {
     root: Option<Node>,
@@ -58,7 +57,7 @@ impl Model for BucketTree {
 }
 
 impl BucketTree {
-    /// The empty set, which takes `limit` points at most. Asks for no memory; what asks for some later asks `alloc`.
+    /// Makes the empty set, which takes at most `limit` points. Allocates no memory; later calls allocate from `alloc`.
     pub fn new(alloc: Heap, limit: u32) -> BucketTree
         requires low { 1 ≤ limit }
         requires high { limit ≤ POINT_LIMIT }
@@ -72,8 +71,8 @@ impl BucketTree {
         }
     }
 
-    /// The bridges that the forks of a level store, from left to right; the root stands on level 0, and the corners of a
-    /// bucket are none. `NoMemory` comes only for some points.
+    /// Returns the bridges that the forks of a level store, from left to right; the root is on level 0, and the vertices of a bucket are none. Fails
+    /// with `NoMemory` only if the set has points.
     pub fn bridges_at(&self, level: u32) -> Result<Vec<Bridge, Heap>, NoMemory>
         ensures bridges { IfOk result (λ bridges. bridges.items ≡ bridges_at level self.now.root) }
         ensures refused { IfErr result (λ _. self.now.root ≢ None) }
@@ -85,7 +84,7 @@ impl BucketTree {
         Ok(bridges)
     }
 
-    /// How often a point is held.
+    /// Returns the multiplicity of a point.
     fn times(&self, p: Point) -> u32
         ensures times { result ≡ times_of_root self.now.root p }
         ensures few { result ≤ MULTIPLICITY_LIMIT }
@@ -104,7 +103,7 @@ impl BucketTree {
         self.count >= self.limit
     }
 
-    /// Makes a point that is held one that is held so often.
+    /// Sets the multiplicity of a point of the set.
     fn set_times(&mut self, p: Point, times: u32)
         requires live { 1 ≤ times_of_root self.old.root p }
         requires held { IsMultiplicity times }
@@ -119,8 +118,8 @@ impl BucketTree {
         recount(root, p, times as u16);
     }
 
-    /// Puts a new point in where its bucket has room, and tells how many turns the searches took. Else all is as it was, and how
-    /// often the point is held is told.
+    /// Adds a new point if its bucket has capacity left, and returns how many turns the searches took. Otherwise leaves all unchanged, and returns
+    /// the multiplicity of the point.
     fn put_where_room(&mut self, p: Point) -> Result<u32, u32>
         requires room { length (points_of_root self.old.root) < self.old.limit }
         ensures absent { IfOk result (λ _. times_of_root self.old.root p ≡ 0) }
@@ -143,8 +142,8 @@ impl BucketTree {
         }
     }
 
-    /// Puts a new point in, where there is room for it: the first one, or one whose bucket is to be parted. Tells whether memory
-    /// was refused, which leaves all as it was, and how many turns the searches took.
+    /// Adds a new point, for which the set has capacity: the first one, or one whose bucket has to be split. Returns whether memory was refused,
+    /// which leaves all unchanged, and how many turns the searches took.
     fn put_in(&mut self, p: Point) -> (bool, u32)
         requires absent { times_of_root self.old.root p ≡ 0 }
         requires room { length (points_of_root self.old.root) < self.old.limit }
@@ -170,8 +169,8 @@ impl BucketTree {
         (false, change.turns)
     }
 
-    /// Takes a point that is held once out where no part has to move, and tells how many turns the searches took. Else all is as
-    /// it was, and how often the point is held is told.
+    /// Removes a point of multiplicity one if no subtree has to move, and returns how many turns the searches took. Otherwise leaves all unchanged,
+    /// and returns the multiplicity of the point.
     fn take_where_others(&mut self, p: Point) -> Result<u32, u32>
         ensures once { IfOk result (λ _. times_of_root self.old.root p ≡ 1) }
         ensures without { IfOk result (λ _. held_by self.new.root ≡ with_none p (held_by self.old.root)) }
@@ -193,7 +192,7 @@ impl BucketTree {
         }
     }
 
-    /// Takes a point out that is held once, and tells how many turns the searches took.
+    /// Removes a point of multiplicity one, and returns how many turns the searches took.
     fn take_out(&mut self, p: Point) -> u32
         requires { times_of_root self.old.root p ≡ 1 }
         ensures without { held_by self.new.root ≡ with_none p (held_by self.old.root) }
@@ -209,7 +208,7 @@ impl BucketTree {
         removed.turns
     }
 
-    /// Holds a point that is held so many times once more; a point that is not held has no room.
+    /// Raises the multiplicity `times` of a point by one; a point that is not in the set finds it full.
     fn count_up(&mut self, p: Point, times: u32) -> AddReply
         requires told { times ≡ times_of_root self.old.root p }
         requires few { times ≤ MULTIPLICITY_LIMIT }
@@ -226,7 +225,7 @@ impl BucketTree {
         AddReply::Again(times + 1)
     }
 
-    /// Holds `p` once more; [`add_counted`](BucketTree::add_counted) tells more.
+    /// Adds `p` once; see [`add_counted`](BucketTree::add_counted).
     fn hold_more(&mut self, p: Point) -> (AddReply, u32)
         ensures reply { Answers Rules.Counted (held_by self.old.root) self.old.limit (Call.Add p)
             (reply_to_add result.0) }
@@ -256,7 +255,7 @@ impl BucketTree {
         }
     }
 
-    /// Holds `p` once less; [`remove_counted`](BucketTree::remove_counted) tells more.
+    /// Removes `p` once; see [`remove_counted`](BucketTree::remove_counted).
     fn hold_less(&mut self, p: Point) -> (RemoveReply, u32)
         ensures reply { Answers Rules.Counted (held_by self.old.root) self.old.limit (Call.Remove p)
             (reply_to_remove result.0) }
@@ -281,10 +280,9 @@ impl BucketTree {
         (RemoveReply::Removed, self.take_out(p))
     }
 
-    /// Holds `p` once more, as [`add`](HullSet::add), and tells how many turns the searches of bridges took: at most
-    /// 10,000, since no tree is higher than 28 forks, a change searches six bridges a level at most, and a search takes as
-    /// many turns as both halves are high; mostly none. An addition that puts no point in and was not refused memory takes
-    /// none.
+    /// Adds `p` once, as [`add`](HullSet::add), and also returns how many turns the searches of bridges took: at most 10,000, since no tree is higher
+    /// than 28 forks, a change searches at most six bridges a level, and a search takes as many turns as the sum of both halves' heights; mostly
+    /// none. An addition that inserts no point and was not refused memory takes none.
     pub fn add_counted(&mut self, p: Point) -> (AddReply, u32)
         ensures reply { Answers Rules.Counted (held_by self.old.root) self.old.limit (Call.Add p)
             (reply_to_add result.0) }
@@ -300,9 +298,9 @@ impl BucketTree {
         answer
     }
 
-    /// Holds `p` once less, as [`remove`](HullSet::remove), and tells how many turns the searches of bridges took: at
-    /// most 10,000, for the reason given at [`add_counted`](BucketTree::add_counted), and mostly none. A removal that takes
-    /// no point out takes none.
+    /// Removes `p` once, as [`remove`](HullSet::remove), and also returns how many turns the searches of bridges took: at most 10,000, for the reason
+    /// given at [`add_counted`](BucketTree::add_counted), and mostly none. A removal after which the point is still in the set, or that finds none,
+    /// takes none.
     pub fn remove_counted(&mut self, p: Point) -> (RemoveReply, u32)
         ensures reply { Answers Rules.Counted (held_by self.old.root) self.old.limit (Call.Remove p)
             (reply_to_remove result.0) }
@@ -324,8 +322,8 @@ impl HullSet for BucketTree {
 
     ghost bound = { λ t. t.limit };
 
-    // well built: each stored bridge is that of all points below it, each bucket's masks tell its two chains; the points in
-    // order; at most 28 forks high
+    // well built: each stored bridge is that of all points below it, each bucket's masks are its two chains; the points are in order; at most 28
+    // forks high
     ghost sound = { λ t. IsSound t.root };
 
     fn limit(&self) -> u32 {
@@ -386,7 +384,7 @@ impl HullSet for BucketTree {
 }
 
 impl Listed for BucketTree {
-    // building anew is faster from a quarter on
+    // building a new tree is faster from a quarter on
     const SHARE: usize = 4;
 
     ghost SHARE = { 4 };
@@ -432,9 +430,9 @@ impl Listed for BucketTree {
     ghost some_share = { Prim.omega arith };
 }
 
-/// The law of a tree: whatever calls came before, each stored bridge is that of all points below it, each bucket's masks
-/// tell its two chains, the points stand in order, and the tree is at most 28 forks high. (A tree of height h has at least
-/// as many buckets as the Fibonacci number F(h + 2), and F(31) is above the greatest limit.)
+/// The law of a tree: after any calls, each stored bridge is that of all points below it, each bucket's masks are its two chains, the points are in
+/// order, and the tree is at most 28 forks high. (A tree of height h has at least as many buckets as the Fibonacci number F(h + 2), and F(31) is
+/// above the greatest limit.)
 pub fn bucket_trees_are_sound(tree: &BucketTree)
     ensures { IsSound tree.now.root }
 {

@@ -3,7 +3,7 @@ ghost use Rattle.std.specs.Prelude.{◌<◌, ◌^◌, ◌-◌};
 
 use text_io::{Done, Sink, flush_after, number_after, put, put_after};
 
-/// Writes a line with a count, and hands it on; behind the first failure nothing more goes out.
+/// Writes a line with a count, and flushes it; after the first failure nothing more is written.
 pub fn write_count<W: Sink>(out: &mut W, count: u64) -> Done
     requires { W.failed out.old < 2 ^ 64 - 1 }
 {

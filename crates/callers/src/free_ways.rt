@@ -7,8 +7,8 @@ use hull_outline::{Outline, is_outline};
 use hull_set::POINT_LIMIT;
 use lattice::Point;
 
-/// Whether the straight way from `a` to `b` meets a hull, by the list of its corners; `None` where a list of no more points
-/// than a hull may have is no such list.
+/// Whether the straight path from `a` to `b` intersects a hull, by the list of its vertices; `None` if the list, of no more points than a hull may
+/// have, is not a convex polygon.
 pub fn meets_way(corners: &[Point], a: Point, b: Point) -> Option<bool>
     ensures { MatchOption result (length corners.now ≤ POINT_LIMIT → ¬ IsOutline corners.now)
         (λ meets. HoldsOfSetsOf corners.now (λ S. TellsMeeting meets S (segment a b))) }

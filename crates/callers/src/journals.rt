@@ -6,8 +6,8 @@ ghost use Rattle.hull_book.specs.Ledgers.{IsLedger};
 use hull_book::{Book, Call, JournalFull, Ledger, Reply};
 use hull_set::HullSet;
 
-/// Has a call of seat 0 served, which becomes the next line of the journal, and asks the set for its count beside that. Book
-/// and ledgers come from `Book::open`; in the end `gather` takes the ledgers, and `into_journal` ends the book.
+/// Serves a call of seat 0, which becomes the next line of the journal, and asks the set for its count, without a line. `Book::open` returns the book
+/// and the ledgers; at the end `gather` takes the ledgers, and `into_journal` ends the book.
 pub fn serve_and_count<S: HullSet + Drop>(
     book: &mut Book<S>,
     ledger: &mut Ledger,

@@ -3,8 +3,8 @@ ghost use Rattle.published_views.specs.Views.{IsOfHall, IsToldOf};
 
 use published_views::{Hall, Told, Truth, View};
 
-/// The newest view of what is published, or the one that the caller has where none can be taken. It waits for nobody, and
-/// what either shows stays as it is for as long as it is held.
+/// Returns the newest snapshot that is published, or the one that the caller has if none can be taken. It never waits, and each snapshot stays the
+/// same for as long as the caller has it.
 pub fn latest_view<T: Truth>(hall: &Hall<T>, held: View<T>, told: &mut Told) -> View<T>
     requires told { IsToldOf hall.now told.old }
     requires held { IsOfHall hall.now held }

@@ -1,4 +1,4 @@
-//! What a caller of each library writes first, proved: the page `CALLING.md` beside a crate shows its file of these.
+//! The first code that a caller of each library writes, proved: the page `CALLING.md` of a crate shows its file of these.
 //!
 //! Each file is for the crate that its first line names.
 #![tactic(auto)]

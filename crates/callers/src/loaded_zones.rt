@@ -10,7 +10,7 @@ use hull_tree::HullTree;
 use lattice::Point;
 use leaf_trees::{Listed, LoadFault};
 
-/// Where `p` lies, seen from the hull of points in any order.
+/// Returns where `p` is, relative to the hull of points in any order.
 pub fn place_among(alloc: Heap, points: &[Point], p: Point) -> Result<Place, LoadFault>
     ensures { IfOk result (λ place. Answers Rules.Counted (held_after_adds nothing_held points.now) POINT_LIMIT
         (Call.Place p) (Reply.Lies place)) }

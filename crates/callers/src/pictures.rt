@@ -5,7 +5,7 @@ use heap::Heap;
 use hull_draw::{DrawFault, DrawOptions, draw};
 use text_io::{Sink, Source};
 
-/// Draws what a journal leaves, with the bridges that its tree stores, 640 points wide.
+/// Draws the set that a journal leaves, with the bridges that its tree stores, 640 points wide.
 pub fn draw_tree<I: Source, O: Sink>(
     alloc: Heap,
     journal: &mut I,

@@ -5,12 +5,12 @@ use heap::Heap;
 use hull_plain::{HullSet, NoMemory, PlainSet};
 use lattice::Point;
 
-/// The corners of the hull of three points, counterclockwise from the first by x and then y.
+/// Returns the vertices of the hull of three points, counterclockwise from the first by x and then y.
 pub fn corners_of_three(alloc: Heap, points: [Point; 3]) -> Result<Vec<Point, Heap>, NoMemory>
     ensures { IfOk result (λ corners. vec_len corners ≤ 3) }
 {
     let mut set = PlainSet::new(alloc, 3);
-    // `Added`, or `Again` where two of them are one, or `NoMemory`
+    // `Added`, or `Again` if two of them are one, or `NoMemory`
     let _first = set.add(points[0]);
     let _second = set.add(points[1]);
     let _third = set.add(points[2]);

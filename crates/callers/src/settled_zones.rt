@@ -8,11 +8,11 @@ use hull_set::{Call, HullSet, Place, Reply, Rules};
 use lattice::Point;
 use settled_set::Settled;
 
-/// Where `q` lies, seen from a zone that is asked far more often than it changes.
+/// Returns where `q` is, relative to a zone that is asked far more often than it changes.
 pub fn place_often(zone: &mut Settled<BucketTree>, q: Point) -> Place
     ensures same { zone.new ≡ zone.old }
     ensures place { Answers Rules.Counted (held_by zone.new.root) zone.new.limit (Call.Place q) (Reply.Lies result) }
 {
-    zone.settle(); // counts the question; after some, all answers come from the corners in an array
+    zone.settle(); // counts the question; after some, all answers come from the vertices in an array
     zone.place(q)
 }

@@ -4,7 +4,7 @@ ghost use Rattle.lattice.specs.Plane.{IsCoordinate, orient};
 
 use lattice::{Point, orient};
 
-/// The point of two coordinates that came from outside; `None` where one is out of range.
+/// Returns the point of two coordinates from outside; `None` if one is out of range.
 pub fn point_at(x: i64, y: i64) -> Option<Point>
     ensures { MatchOption result (¬ (IsCoordinate x × IsCoordinate y)) (λ _. IsCoordinate x × IsCoordinate y) }
 {
@@ -14,7 +14,7 @@ pub fn point_at(x: i64, y: i64) -> Option<Point>
     }
 }
 
-/// Whether a way over three points bends left at the second.
+/// Whether a path over three points bends left at the second.
 pub fn lies_left(a: Point, b: Point, c: Point) -> bool
     ensures { IsTrue result ↔ (pos 0 <ℤ orient a b c) }
 {

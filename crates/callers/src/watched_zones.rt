@@ -7,7 +7,7 @@ use bucket_tree::BucketTree;
 use hull_set::{AddReply, Call, HullSet, Rules};
 use lattice::{Direction, Point};
 
-/// Holds a point once more, and tells which point lies farthest in a direction from then on.
+/// Adds a point once, and returns which point is farthest in a direction from then on.
 pub fn add_and_look(hull: &mut BucketTree, p: Point, d: Direction) -> (AddReply, Option<Point>)
     ensures effect { held_by hull.new.root ≡ after (held_by hull.old.root) (Call.Add p) (reply_to_add result.0) }
     ensures farthest { Answers Rules.Counted (held_by hull.new.root) hull.new.limit (Call.Extreme d)

@@ -1,4 +1,4 @@
--- What a seat finds at its entry: its ledger counts its lines among those of the book.
+-- The book that a seat finds at its entry: its ledger counts its lines among those of the book.
 use Rattle.std.proofs.Common.{◌≡◌, ℕ, List, sym, subst, ◌∙◌}
 use Rattle.hull_book.specs.declared.line.Line.{Line}
 use Rattle.hull_book.specs.Ledgers.{LedgerValue, IsLedgerOf}

@@ -1,4 +1,4 @@
--- Where a player stands: with a seat, a ticket or a guard of the lock, and a ledger that counts its lines.
+-- The state of a player: a seat, a ticket or a guard of the lock, and a ledger that counts its lines.
 use Rattle.std.specs.Prelude.{◌≡◌, ◌<◌, ℕ, Option, IfSome, box_value}
 use Rattle.hull_set.specs.declared.set.HullSet.{Ghosts}
 use Rattle.hull_book.specs.Books.{IsLawful}
@@ -41,7 +41,7 @@ module _ {S : Type 0} (lock : TicketLock (Boxed S) BookHead Line) (k : ℕ) (led
     pub seen : guard_seen g ≡ (box_value (guard_book g)).lines
     pub counts : IsLedgerOf k (guard_seen g) ledger
 
-  -- what the player has is of the lock and the seat k, and its ledger counts what that has seen
+  -- what the player has is of the lock and the seat k, and its ledger counts its lines among those that it has seen
   pub record IsPlaced (K : Ghosts S) {C : chronicle.Ghosts (Boxed S) BookHead Line}
       (seat : Option (Seat (Boxed S) BookHead Line)) (ticket : Option (Ticket (Boxed S) BookHead Line C))
       (guard : Option (Guard (Boxed S) BookHead Line)) : Type 0 where

@@ -1,4 +1,4 @@
-//! Schedules over a book of the leaf tree, all of them for small scripts, and many by chance for larger ones.
+//! Schedules over a book of the leaf tree, all of them for small scripts, and many random ones for larger scripts.
 ghost use Rattle.std.specs.Prelude.{◌≤◌};
 
 mod by_hand;
@@ -30,7 +30,7 @@ fn at(rt: &impl Abort, x: i64, y: i64) -> Point {
     }
 }
 
-// How many ways there are to play the game. Each is played and judged.
+// Plays and judges each way to play the game. Returns how many there are.
 fn try_each_way(rt: &impl Abort, alloc: Global, game: &Game, workers: u8) -> u32
     requires { (1 ≤ workers) × (workers ≤ 64) }
 {
@@ -46,7 +46,7 @@ fn try_each_way(rt: &impl Abort, alloc: Global, game: &Game, workers: u8) -> u32
     panic!(rt; "there are more ways than were thought")
 }
 
-// Plays and judges the game so often, as chance has it.
+// Plays and judges the game this often, with random choices.
 fn try_by_chance(rt: &impl Abort, alloc: Global, game: &Game, workers: u8, seed: u64, times: u32)
     requires { (1 ≤ workers) × (workers ≤ 64) }
 {
@@ -57,8 +57,8 @@ fn try_by_chance(rt: &impl Abort, alloc: Global, game: &Game, workers: u8, seed:
     }
 }
 
-// Three players with two calls each, or the third with its first alone: points that come and go, and questions about
-// all of them.
+// Returns a game of three players with two calls each, or the third with only its first: points that are added and removed, and questions about all
+// of them.
 fn three_players(
     rt: &impl Abort,
     alloc: Global,
@@ -86,10 +86,9 @@ fn every_way_of_three_players(rt: HostRuntime) -> Result<(), Fail> {
     Ok(())
 }
 
-/// All 15222 ways in which they can do so with one miss at most, where the third makes its first call alone. A miss
-/// gives the ticket back and touches nothing else, so what is to be seen is where it falls: before, between and behind
-/// all steps of two others, of which each takes a number again after it was served. With the sixth call there would be
-/// 204642 ways, minutes of them, in which the same falls among more steps.
+/// All 15222 ways in which they can do so with at most one miss, if the third makes only its first call. A miss returns the ticket and touches
+/// nothing else, so only its position matters: before, between and after all steps of two others, each of which takes a number again after it was
+/// served. With the sixth call there would be 204642 ways, which take minutes, with the same positions among more steps.
 #[test]
 fn every_way_of_three_players_with_a_miss(rt: HostRuntime) -> Result<(), Fail> {
     let game = three_players(&rt, rt.alloc(), 7, 1, 1)?;
@@ -116,7 +115,7 @@ fn every_way_of_two_players_with_misses(rt: HostRuntime) -> Result<(), Fail> {
     Ok(())
 }
 
-/// All 9096 ways in which four players can make a call each with one miss at most, where two put the same point in.
+/// All 9096 ways in which four players can make a call each with at most one miss, if two add the same point.
 #[test]
 fn every_way_of_four_players(rt: HostRuntime) -> Result<(), Fail> {
     let alloc = rt.alloc();

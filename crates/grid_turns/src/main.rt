@@ -11,13 +11,13 @@ use lattice::Point;
 use std::fmt;
 use std::process::ExitCode;
 
-/// How many points stand in a row of the grid, and how many rows it has.
+/// How many points are in a row of the grid, and how many rows it has.
 const SIDE: u32 = 256;
 
-/// How many turns a change takes at most.
+/// The greatest number of turns of a change.
 const BOUND: u32 = 10000;
 
-/// What changes took.
+/// The turns of several changes.
 #[derive(Clone, Copy)]
 struct Turns {
     changes: u32,
@@ -26,7 +26,7 @@ struct Turns {
 }
 
 impl Turns {
-    /// Of no change.
+    /// Makes the count of no change.
     fn new() -> Turns {
         Turns {
             changes: 0,
@@ -35,7 +35,7 @@ impl Turns {
         }
     }
 
-    /// With one change more, which took so many turns.
+    /// Counts one more change, which took this many turns.
     fn count(&mut self, turns: u32) {
         self.changes = self.changes.saturating_add(1);
         if turns > BOUND {
@@ -55,12 +55,12 @@ impl fmt::Display for Turns {
     }
 }
 
-/// The point of the grid with this number.
+/// Returns the point of the grid with this number.
 fn grid_point(number: u32) -> Option<Point> {
     Point::new(i64::from(number % SIDE), i64::from(number / SIDE)).ok()
 }
 
-/// Adds all points of the grid: what the additions of new points took.
+/// Adds all points of the grid. Returns the turns of the additions of new points.
 fn add_grid(tree: &mut HullTree) -> Turns {
     let mut turns = Turns::new();
     for number in 0..SIDE * SIDE {
@@ -73,7 +73,7 @@ fn add_grid(tree: &mut HullTree) -> Turns {
     turns
 }
 
-/// Removes all points of the grid: what the removals of live points took.
+/// Removes all points of the grid. Returns the turns of the removals of points of the set.
 fn remove_grid(tree: &mut HullTree) -> Turns {
     let mut turns = Turns::new();
     for number in 0..SIDE * SIDE {

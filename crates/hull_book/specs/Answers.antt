@@ -1,4 +1,4 @@
--- What calls were answered.
+-- The results of calls.
 use Rattle.std.specs.Prelude.{◌≡◌, ◌≤◌, ℕ, Bool, false, true, List, map, Vec, Option, Some, None, Result, Ok, Err}
 use Rattle.hull_set.specs.declared.reply.Reply.{Reply}
 use Rattle.hull_book.specs.Journals.{JournalValue}
@@ -14,27 +14,27 @@ Answer = Result Reply JournalFull
 abbrev pub answers_in : {A : Type 0} → List (Vec Answer A) → List (List Answer)
 answers_in vectors = map (λ v. v.items) vectors
 
--- whether a call takes the lines out that are held, or lets them go
+-- whether a call takes the book's lines out, or discards them
 abbrev pub drains : Then → Bool
 drains Keep = false
 drains LetGo = true
 drains (TakeOut room) = true
 
--- where lines are taken out, there is room for so many
+-- if lines are taken out, there is storage for at least this many
 abbrev pub HasRoom : Then → ℕ → Type 0
 HasRoom (TakeOut room) n = n ≤ room
 HasRoom _ n = Unit {0}
 
--- where lines are taken out, this is handed out, and else nothing
+-- if lines are taken out, this is returned, otherwise nothing
 abbrev pub HandsOut : {A : Type 0} → Then → A → Option A → Type 0
 HandsOut (TakeOut room) part out = out ≡ Some part
 HandsOut _ part out = out ≡ None
 
--- on a book that may be drained: a reply and the part, if lines were taken out, or what was to become of them
+-- on a book that may be drained: a reply and the segment, if lines were taken out, or what should have become of them
 abbrev pub LongAnswer : Type 0
 LongAnswer = Result (Reply × Option JournalValue) Then
 
--- the answer to the call alone
+-- only the result of the call itself
 abbrev pub answer_of : LongAnswer → Answer
 answer_of (Ok (reply, part)) = Ok reply
 answer_of (Err then) = Err (record {})

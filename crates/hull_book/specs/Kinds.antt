@@ -1,4 +1,4 @@
--- Kinds of books on the heap that a lock keeps: those that hold all their lines, and those that may be drained.
+-- Kinds of books on the heap that a lock protects: those that keep all their lines, and those that may be drained.
 use Rattle.std.specs.Prelude.{List, Box, box_value}
 use Rattle.std.specs.Global.{Global}
 use Rattle.hull_set.specs.declared.set.HullSet.{Ghosts}
@@ -11,8 +11,8 @@ use Rattle.hull_book.specs.declared.head.BookHead.{BookHead}
 use Rattle.hull_book.specs.declared.line.Line.{Line}
 use Rattle.hull_book.specs.declared.marked_line.MarkedLine.{MarkedLine}
 
--- what is said of a kind of books: what the lock knows of one, the book of all lines that it ever journalled, and those
--- lines, where the lock knows more of each
+-- the ghosts of a kind of books: what the lock knows of one, the book of all lines that it ever journaled, and those lines, if the lock knows more of
+-- each
 pub record Kind (S B H L : Type 0) : Type 1 where
   pub says : lock.Ghosts B H L
   pub whole : B → BookValue S
@@ -35,7 +35,7 @@ kind_of book whole plain = record {
   plain = plain;
 }
 
--- books that hold all their lines
+-- books that keep all their lines
 abbrev pub kept : {S : Type 0} → Ghosts S → Kind S (Box (BookValue S) Global) BookHead Line
 kept K = kind_of (says_book K) (λ b. b) (λ lines. lines)
 

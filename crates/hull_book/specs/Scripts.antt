@@ -26,19 +26,18 @@ calls_in jobs = sum_by (λ calls. length calls) jobs
 abbrev pub calls_in_all : List PhaseValue → ℕ
 calls_in_all phases = sum_by calls_in phases
 
--- the limits of a script: one to 64 workers, a list of calls a worker in each phase, and no more calls than a text has
--- lines
+-- the limits of a script: one to 64 workers, a list of calls for each worker in each phase, and no more calls than a text has lines
 pub record IsScript (workers : ℕ) (phases : List PhaseValue) : Type 0 where
   pub workers_low : 1 ≤ workers
   pub workers_high : workers ≤ SEAT_LIMIT
   pub jobs : All (λ phase. length phase ≡ workers) phases
   pub calls : calls_in_all phases ≤ TEXT_LINE_LIMIT
 
--- the calls of a phase, with an empty list for each worker more
+-- the calls of a phase, with an empty list for each further worker
 abbrev pub with_idle : ℕ → PhaseValue → PhaseValue
 with_idle workers phase = phase ++ replicate (workers - length phase) []
 
--- the same calls for so many workers, where that is more: those who come have no calls
+-- the same calls for this many workers, if that is more: the new ones have no calls
 abbrev pub widened : ℕ → ScriptValue → ScriptValue
 widened workers script =
     record { workers = max script.workers workers; phases = map (with_idle (max script.workers workers)) script.phases }

@@ -5,7 +5,7 @@ ghost use Rattle.hull_book.specs.Ledgers.{AreAllLedgers, sum_of_counts};
 use super::journalled::Journalled;
 use super::ledger::Ledger;
 
-/// The sum of the counts of the ledgers, which it lets go.
+/// Returns the sum of the counts of the ledgers, and drops them.
 fn sum_of(mut ledgers: Vec<Ledger>) -> u64
     requires { sum_of_counts ledgers.items < 2 ^ 64 }
     ensures { result ≡ sum_of_counts ledgers.items }
@@ -19,8 +19,7 @@ fn sum_of(mut ledgers: Vec<Ledger>) -> u64
     sum
 }
 
-/// The sum of the counts of all ledgers of a book, in whatever order they come: the length of its whole journal, those
-/// lines counted that were taken out.
+/// Returns the sum of the counts of all ledgers of a book, in any order: the length of its whole journal, including the lines that were taken out.
 pub fn gather<B: Journalled>(book: &B, ledgers: Vec<Ledger>) -> u64
     requires lawful { IsLawful B.Set.HullSet (B.whole book.now) }
     requires ledgers { AreAllLedgers (B.whole book.now) ledgers.items }

@@ -7,19 +7,19 @@ use hull_set::Reply;
 #[derive(Clone, Copy, PartialEq, Eq, Debug)]
 pub struct JournalFull;
 
-/// What a call of a worker was answered.
+/// The result of a call of a worker.
 pub type Answer = Result<Reply, JournalFull>;
 
-/// What a call on a book that may be drained was answered: the reply and the part, if lines were taken out; or what was
-/// to become of them, the room with it, where it was not served.
+/// The result of a call on a book that may be drained: the reply and the segment, if lines were taken out; or, if it was not served, the `Then` that
+/// was passed, with its storage.
 pub type LongAnswer = Result<(Reply, Option<Journal>), Then>;
 
-/// What a run of a script came to, lent for its text.
+/// The result of running a script, borrowed for its text.
 #[derive(Clone, Copy, Debug)]
 pub struct Report<'a> {
     /// The script that was run.
     pub script: &'a Script,
-    /// The answers of each worker, to its calls in the order of the script.
+    /// The results of each worker's calls, in the order of the script.
     pub answers: &'a [Vec<Answer>],
     /// The count of each worker's ledger.
     pub ledgers: &'a [u32],

@@ -7,7 +7,7 @@ use hull_set::Call;
 use std::alloc::{AllocError, Global};
 use std::marker::Model;
 
-/// What the workers do between two meetings: a list of calls for each of them.
+/// The calls between two barriers: a list for each worker.
 #[derive(Debug, Drop)]
 pub struct Phase {
     /// A list of calls for each worker.
@@ -25,14 +25,14 @@ impl Model for Phase {
 }
 
 impl Phase {
-    /// The phase of these lists of calls, one a worker.
+    /// Makes the phase of these lists of calls, one for each worker.
     pub fn new(jobs: Vec<Vec<Call>>) -> Phase
         ensures { result ≡ lists_of jobs.items }
     {
         Phase { jobs }
     }
 
-    /// Gives the phase an empty list of calls for each worker more, up to so many.
+    /// Gives the phase an empty list of calls for each further worker, up to this many.
     fn widen(&mut self, alloc: Global, workers: u8) -> Result<(), AllocError>
         ensures { OnOk result (self.new ≡ with_idle workers self.old) }
     {
@@ -42,14 +42,14 @@ impl Phase {
         Ok(())
     }
 
-    /// How many lists of calls the phase has.
+    /// Returns how many lists of calls the phase has.
     pub fn workers(&self) -> usize
         ensures { result ≡ length self.now }
     {
         self.jobs.len()
     }
 
-    /// The calls of a worker in their order.
+    /// Returns the calls of a worker in their order.
     pub fn calls(&self, worker: u8) -> &[Call]
         requires { worker < length self.now }
         ensures { result.now ≡ slice_index_or self.now worker [] }
@@ -59,8 +59,8 @@ impl Phase {
     }
 }
 
-/// Phases of calls for a number of workers: one to [`SEAT_LIMIT`](crate::SEAT_LIMIT) workers, a list of calls a worker
-/// in each phase, and at most [`TEXT_LINE_LIMIT`](crate::TEXT_LINE_LIMIT) calls in all.
+/// Phases of calls for a number of workers: one to [`SEAT_LIMIT`](crate::SEAT_LIMIT) workers, a list of calls for each worker in each phase, and at
+/// most [`TEXT_LINE_LIMIT`](crate::TEXT_LINE_LIMIT) calls in all.
 #[derive(Debug, Drop)]
 pub struct Script {
     /// How many workers the script has, from 1 to 64.
@@ -80,7 +80,7 @@ impl Model for Script {
 }
 
 impl Script {
-    /// The script of these phases.
+    /// Makes the script of these phases.
     pub fn new(workers: u8, phases: Vec<Phase>) -> Script
         requires { IsScript workers phases.items }
         ensures { result ≡ record { workers = workers; phases = phases.items } }
@@ -88,8 +88,7 @@ impl Script {
         Script { workers, phases }
     }
 
-    /// The same calls for so many workers, where that is more: those who come have no calls. Refused memory lets the
-    /// script go.
+    /// Returns the same calls for this many workers, if that is more: the new ones have no calls. If memory is refused, the script is dropped.
     pub fn widened(self, alloc: Global, workers: u8) -> Result<Script, AllocError>
         requires { workers ≤ SEAT_LIMIT }
         ensures { IfOk result (λ script. script ≡ widened workers self) }
@@ -108,7 +107,7 @@ impl Script {
         })
     }
 
-    /// How many workers the script has, from 1 to 64.
+    /// Returns how many workers the script has, from 1 to 64.
     pub fn workers(&self) -> u8
         ensures workers { result ≡ self.now.workers }
         ensures limits { IsScript self.now.workers self.now.phases }
@@ -116,7 +115,7 @@ impl Script {
         self.workers
     }
 
-    /// The phases in their order.
+    /// Returns the phases in their order.
     pub fn phases(&self) -> &[Phase]
         ensures phases { result.now ≡ self.now.phases }
         ensures limits { IsScript self.now.workers self.now.phases }

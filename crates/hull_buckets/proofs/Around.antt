@@ -1,4 +1,4 @@
--- A list around one of its places, and a point beside the corners before it and behind it.
+-- A list around one of its indices, and a point next to the vertices before it and after it.
 use Rattle.std.proofs.lemmas.Grind.{common_steps}
 use Rattle.std.proofs.Common.{◌≡◌, ℕ, pos, ◌≤ℤ◌, ◌+◌, ◌-◌, ◌<◌, sym, ap, ◌∙◌, subst, arith, inl, inr, ◌⊎◌, Err}
 use Rattle.std.proofs.Common.{List, [], ◌∷◌, ◌++◌, length, take, drop, length-append, refl, zero, suc}
@@ -20,7 +20,7 @@ use Rattle.hull_geometry.proofs.PointSets.{set_apart, set_right, same_set}
 use Rattle.hull_geometry.proofs.SetLaws.{members_with, members_without, ordered_with, ordered_without}
 use Rattle.hull_buckets.specs.Masks.{without_place}
 
--- ---- a list around a place
+-- ---- a list around an index
 
 -- the first of two lists
 pub take_front : (xs ys : List Pair) → take (length xs) (xs ++ ys) ≡ xs
@@ -32,11 +32,11 @@ pub drop_front : (xs ys : List Pair) → drop (length xs) (xs ++ ys) ≡ ys
 drop_front [] ys = refl
 drop_front (x ∷ xs) ys = drop_front xs ys
 
--- the points before a place, the one there, and those behind it
+-- the points before an index, the one there, and those after it
 pub around : (S : List Pair) (k : ℕ) → k < length S → S ≡ take k S ++ point_at S k ∷ drop (k + 1) S
 around S k l = cut S k (omega (arith, l)) ∙ ap (λ (z : List Pair). take k S ++ z) (drop_more S k origin l)
 
--- where they are in order, so are the others
+-- if they are in order, so are the others
 pub others_set : (S : List Pair) (k : ℕ) → IsPointSet S → k < length S → IsPointSet (without_place k S)
 others_set S k s l = set_less (take k S) (point_at S k) (drop (k + 1) S) (subst IsPointSet (around S k l) s)
 
@@ -76,7 +76,7 @@ put_back S k s l =
       | inr n ↦ behind t n
     ]
 
--- what stands behind the point behind the first of two lists
+-- what is after the point after the first of two lists
 pub drop_behind : (xs : List Pair) (p : Pair) (ys : List Pair) → drop (length xs + 1) (xs ++ p ∷ ys) ≡ ys
 drop_behind xs p ys =
     let e : length xs + 1 ≡ length (xs ++ p ∷ []) = let n = length-append xs (p ∷ []) in omega (arith, n) in
@@ -126,7 +126,7 @@ taken_away S k s l =
 
 -- ---- positions
 
--- a point between two lists would stand behind the first
+-- a point between two lists would be after the first
 pub between_lists : (xs ys : List Pair) (p : Pair) → ((t : Pair) → Contains xs t → IsBefore t p)
     → ((t : Pair) → Contains ys t → IsBefore p t) → IsPositionOf (xs ++ ys) p (Err (length xs))
 between_lists xs ys p f g = (
@@ -135,14 +135,14 @@ between_lists xs ys p f g = (
   subst (All (IsBefore p)) (sym (drop_front xs ys)) (all_of (IsBefore p) ys g),
 )
 
--- what stands before the point at a place stands before it in the order
+-- what is before the point at an index is before it in the order
 pub before_place : (S : List Pair) (k : ℕ) (t : Pair) → IsPointSet S → k < length S → Contains (take k S) t
     → IsBefore t (point_at S k)
 before_place S k t s l m =
     set_apart (take k S) (point_at S k ∷ drop (k + 1) S) t (point_at S k) (subst IsPointSet (around S k l) s) m
     (0, omega arith, refl)
 
--- and what stands behind it, after it
+-- and what is after it, after it
 pub behind_place : (S : List Pair) (k : ℕ) (t : Pair) → IsPointSet S → k < length S → Contains (drop (k + 1) S) t
     → IsBefore (point_at S k) t
 behind_place S k t s l m =
@@ -152,7 +152,7 @@ behind_place S k t s l m =
 
 -- ---- over an edge
 
--- the point behind the first ones
+-- the point after the first ones
 point_behind : (xs : List Pair) (b : Pair) (rest : List Pair) → point_at (xs ++ b ∷ rest) (length xs) ≡ b
 point_behind [] b rest = refl
 point_behind (x ∷ xs) b rest = point_behind xs b rest
@@ -162,8 +162,7 @@ point_before : (front : List Pair) (a b : Pair) (rest : List Pair)
     → point_at ((front ++ a ∷ []) ++ b ∷ rest) (length (front ++ a ∷ []) - 1) ≡ a
 point_before front a b rest = grind (arith, common_steps, length-append, append_twice, point_behind)
 
--- a point stands over the edge between the last of the first ones and the first of the others where it is not outwards
--- of it
+-- a point is over the edge between the last of the first ones and the first of the others if it is not outwards of it
 pub over_told : (side : Side) (left right front rest : List Pair) (a b p : Pair) → left ≡ front ++ a ∷ []
     → right ≡ b ∷ rest → (orient_on side a p b ≤ℤ pos 0) ↔ IsOverEdge side (left ++ right) (length left) p
 over_told side left right front rest a b p e f =
@@ -192,13 +191,13 @@ over_told side left right front rest a b p e f =
     back k = subst (λ (z : Pair). orient_on side z p b ≤ℤ pos 0) before
         (subst (λ (z : Pair). orient_on side (point_at chain (length (front ++ a ∷ []) - 1)) p z ≤ℤ pos 0) behind k.2)
 
--- no corner before it
+-- no vertex before it
 pub none_before : (side : Side) (left right : List Pair) (p : Pair) → left ≡ []
     → ¬ (IsOverEdge side (left ++ right) (length left) p)
 none_before side left right p e k = let n : length left ≡ 0 = ap (λ (z : List Pair). length z) e in
     let s = k.0 in omega (arith, n, s)
 
--- none behind it
+-- none after it
 pub none_behind : (side : Side) (left right : List Pair) (p : Pair) → right ≡ []
     → ¬ (IsOverEdge side (left ++ right) (length left) p)
 none_behind side left right p e k = grind (arith, common_steps, length-append)

@@ -1,4 +1,4 @@
--- What a bucket is after a point came or went.
+-- The value of a bucket after a point was added or removed.
 use Rattle.std.proofs.lemmas.Grind.{common_steps}
 use Rattle.std.proofs.Common.{◌≡◌, ℕ, ◌+◌, ◌-◌, ◌<◌, ◌≤◌, ◌⊎◌, inl, inr, sym, ap, ◌∙◌, subst, arith, refl, Err, zero}
 use Rattle.std.proofs.Common.{suc}
@@ -26,7 +26,7 @@ use Rattle.hull_buckets.proofs.Around.{take_front, drop_behind, others_set, take
 
 -- ---- lists
 
--- a point put in at its place is one of a set
+-- a point inserted at its index makes a set
 pub insert_is : (S : List Pair) (p : Pair) (i : ℕ) → IsPointSet S → IsPositionOf S p (Err i)
     → insert S i p ≡ with_point p S
 insert_is S p i s at =
@@ -65,7 +65,7 @@ insert_undone S p i l =
     ∙ ap (λ (k : ℕ). take i S ++ drop (k + 1) (insert S i p)) (sym n)
     ∙ ap (λ (z : List Pair). take i S ++ z) (drop_behind (take i S) p (drop i S)) ∙ sym (cut S i l)
 
--- a value of a list taken out, by its place
+-- a value removed from a list at its index
 pub removed : (S : List Pair) (i : ℕ) → remove S i ≡ without_place i S
 removed S i = let e : suc i ≡ i + 1 = omega arith in ap (λ (k : ℕ). take i S ++ drop k S) e
 
@@ -83,7 +83,7 @@ pub made : (P : List Pair) (T : List ℕ) (lower upper : ℕ) → 0 < length P �
     → IsBucket (record { points = P; times = T; lower = lower; upper = upper })
 made P T lower upper some few s counted held m n = grind (arith, common_steps, some, on_both)
 
--- how often one point is held changed
+-- the multiplicity of one point changed
 pub held_anew : (b : BucketValue) (T : List ℕ) (i times : ℕ) → IsBucket b → IsMultiplicity times
     → T ≡ slice_set b.times i times
     → IsBucket (record { points = b.points; times = T; lower = b.lower; upper = b.upper })
@@ -176,7 +176,7 @@ module _ {X : Type 0} where
   first_of_first (suc m) (suc n) [] l = refl
   first_of_first (suc m) (suc n) (x ∷ xs) l = ap (λ (z : List X). x ∷ z) (first_of_first m n xs (omega (arith, l)))
 
-  -- all that stand from a place on
+  -- all that are from an index on
   pub all_from : (m : ℕ) (xs : List X) → take (length xs - m) (drop m xs) ≡ drop m xs
   all_from m xs = let n = length-drop m xs in
       ap (λ (k : ℕ). take k (drop m xs)) (sym n) ∙ whole (drop m xs)
@@ -185,13 +185,13 @@ module _ {X : Type 0} where
       whole [] = refl
       whole (y ∷ ys) = ap (λ (z : List X). y ∷ z) (whole ys)
 
--- the points of a bucket and those behind it are in order
+-- the points of a bucket and those after it are in order
 pub merged_set : (a : BucketValue) (more P : List Pair) → IsBucket a → IsPointSet more
     → IsAllBefore (Contains a.points) (Contains more) → P ≡ a.points ++ more → IsPointSet P
 merged_set a more P k s order e =
     subst IsPointSet (sym e) (set_append a.points more k.ordered s (λ t u m n. order t u m n))
 
--- a bucket and points behind it
+-- a bucket and points after it
 pub merged : (a : BucketValue) (more P : List Pair) (more_times T : List ℕ) (lower upper : ℕ) → IsBucket a
     → IsPointSet more → length more_times ≡ length more → All IsMultiplicity more_times
     → IsAllBefore (Contains a.points) (Contains more) → length a.points + length more ≤ ROOM

@@ -1,4 +1,4 @@
--- A point of a bucket that is no corner on a side stands inwards of a segment between two that are.
+-- A point of a bucket that is no vertex on a side is inwards of a segment between two that are.
 use Rattle.std.proofs.Common.{◌≡◌, ℕ, ◌<◌, List, length, inl, inr}
 use Rattle.std.specs.Int.{bit_at}
 use Rattle.lattice.specs.Covers.{IsPointSet}
@@ -11,7 +11,7 @@ use Rattle.hull_buckets.specs.Buckets.{IsMaskOf, IsCovered}
 use Rattle.hull_buckets.specs.Masks.{at_places}
 use Rattle.hull_buckets.proofs.RunBridges.{on_chain}
 
--- a point whose place the mask of a side has not is covered there
+-- a point whose index the mask of a side has not is covered there
 pub covered : (side : Side) (S : List Pair) (mask i : ℕ) → IsPointSet S → IsMaskOf side S mask → i < length S
     → ¬ (bit_at mask i ≡ 1) → IsCovered side (point_at S i) S
 covered side S mask i s m l n =

@@ -1,4 +1,4 @@
--- The last corners of a chain, by the highest places of its mask.
+-- The last vertices of a chain, by the highest indices of its mask.
 use Rattle.std.proofs.lemmas.Grind.{common_steps}
 use Rattle.std.proofs.Common.{◌≡◌, ℕ, pos, ◌≤ℤ◌, ◌<ℤ◌, ◌+◌, ◌-◌, ◌^◌, ◌<◌, ◌≤◌, sym, ap, ◌∙◌, subst, arith}
 use Rattle.std.proofs.Common.{List, [], ◌∷◌, ◌++◌, length, take, length-append}
@@ -16,14 +16,14 @@ use Rattle.hull_buckets.specs.Masks.{at_places}
 use Rattle.hull_buckets.proofs.Places.{pushed}
 use Rattle.hull_buckets.proofs.Words.{below_top}
 
--- ---- by places
+-- ---- by indices
 
--- a chain without its last corner, and that one
+-- a chain without its last vertex, and that one
 pub last_at : (S : List Pair) (mask h : ℕ) → 2 ^ h ≤ mask → mask < 2 ^ (h + 1) → h < length S
     → at_places mask S ≡ at_places (mask - 2 ^ h) S ++ point_at S h ∷ []
 last_at S mask h there above l = grind (arith, common_steps, at_places, pushed, below_top)
 
--- a chain without its last two corners, and these
+-- a chain without its last two vertices, and these
 pub last_two_at : (S : List Pair) (mask front h k : ℕ) → 2 ^ h ≤ mask → mask < 2 ^ (h + 1) → h < length S
     → front ≡ mask - 2 ^ h → 2 ^ k ≤ front → front < 2 ^ (k + 1) → k < length S
     → at_places mask S ≡ at_places (front - 2 ^ k) S ++ point_at S k ∷ point_at S h ∷ []
@@ -39,7 +39,7 @@ last_two_at S mask front h k there above l e fthere fabove m =
 pub front_of : (front : List Pair) (b : Pair) → take (length (front ++ b ∷ []) - 1) (front ++ b ∷ []) ≡ front
 front_of front b = grind (arith, common_steps, length-append, take-append-le, all_taken)
 
--- a list that ends with a and b, of which b does not lie outwards of the segment from a to c
+-- a list that ends with a and b, of which b is not outwards of the segment from a to c
 pub ends_inwards : (side : Side) (chain front : List Pair) (a b c : Pair) → chain ≡ front ++ a ∷ b ∷ []
     → orient_on side a b c ≤ℤ pos 0 → EndsInwards side chain c
 ends_inwards side chain front a b c e h = record {
@@ -52,12 +52,12 @@ ends_inwards side chain front a b c e h = record {
   inwards = h;
 }
 
--- where b lies outwards of it, the chain bends on to c
+-- if b is outwards of it, the chain bends on to c
 pub convex_on : (side : Side) (chain front : List Pair) (a b c : Pair) → chain ≡ front ++ a ∷ b ∷ []
     → pos 0 <ℤ orient_on side a b c → IsConvex side chain → IsConvex side (chain ++ c ∷ [])
 convex_on side chain front a b c e h t = grind (arith, common_steps, append_twice, convex_join)
 
--- ---- what goes from the end
+-- ---- the vertices that are removed from the end
 
 -- what is left of what is left of a list is left of it
 pub thinned_twice : (side : Side) (xs ys zs : List Pair) → IsThinned side xs ys → IsThinned side ys zs

@@ -1,4 +1,4 @@
--- The lowest and the highest place of a mask, and its places up to their middle and behind it.
+-- The lowest and the highest index of a mask, and its indices up to their middle and after it.
 use Rattle.std.proofs.lemmas.Grind.{common_steps}
 use Rattle.std.proofs.Common.{◌≡◌, ℕ, suc, ◌+◌, ◌-◌, ◌*◌, ◌/◌, ◌%◌, ◌^◌, ◌<◌, ◌≤◌, sym, ap, ◌∙◌, subst, arith, w64}
 use Rattle.std.proofs.Common.{inl, inr}
@@ -12,9 +12,9 @@ use Rattle.hull_buckets.specs.Masks.{lowest_of, highest_of}
 use Rattle.hull_buckets.specs.Runs.{width_of, parting_of, left_run, right_run}
 use Rattle.hull_buckets.proofs.Words.{one_more, none_below, top_before, lowest_from, power_le}
 
--- ---- the lowest and the highest place
+-- ---- the lowest and the highest index
 
--- up to its lowest bit a number has that bit alone
+-- up to its lowest bit a number has only that bit
 pub up_to_lowest : (n : ℕ) → 0 < n → n < 2 ^ 64 → n % 2 ^ (lowest_of n + 1) ≡ 2 ^ lowest_of n
 up_to_lowest n some fits =
     let b = bit_at-trailing_zeros w64 n some fits in
@@ -40,14 +40,14 @@ highest_above n some fits =
     let e : suc t.0 ≡ highest_of n + 1 = omega (arith, t.1) in
     subst (λ (k : ℕ). n < 2 ^ k) e t.3
 
--- where a number has a bit and none below, that is its lowest
+-- if a number has a bit and none below, that is its lowest
 pub lowest_is : (n k : ℕ) → 0 < n → n < 2 ^ 64 → n % 2 ^ (k + 1) ≡ 2 ^ k → n % 2 ^ k ≡ 0 → lowest_of n ≡ k
 lowest_is n k some fits there none =
     let a = lowest_from n k (lowest_of n) none (up_to_lowest n some fits) in
     let b = lowest_from n (lowest_of n) k (none_before n some fits) there in
     omega (arith, a, b)
 
--- where it has a bit and none above, that is its highest
+-- if it has a bit and none above, that is its highest
 pub highest_is : (n k : ℕ) → 0 < n → n < 2 ^ 64 → 2 ^ k ≤ n → n < 2 ^ (k + 1) → highest_of n ≡ k
 highest_is n k some fits there above =
     let a = top_before n k (highest_of n + 1) there (highest_above n some fits) in
@@ -62,7 +62,7 @@ lowest_to_highest n some fits =
     let t = top_before n (lowest_of n) (highest_of n + 1) (omega (arith, s, e)) (highest_above n some fits) in
     omega (arith, t)
 
--- a bit that is set stands from the lowest to the highest
+-- a bit that is set is from the lowest to the highest
 pub bit_from : (n i : ℕ) → 0 < n → n < 2 ^ 64 → bit_at n i ≡ 1 → lowest_of n ≤ i
 bit_from n i some fits e = elim (cases_lt i (lowest_of n)) [
   | inl l ↦ absurd (let z = (bit_at-trailing_zeros w64 n some fits).2 i l in omega (arith, e, z))
@@ -104,7 +104,7 @@ highest_set n some fits = one (bit_at n (highest_of n)) (bit_at-lt n (highest_of
 
 -- ---- the two halves
 
--- what is left below a place, below a lower one
+-- what is left below an index, below a lower one
 mod_twice : (n j k : ℕ) → j ≤ k → n % 2 ^ k % 2 ^ j ≡ n % 2 ^ j
 mod_twice n j k l =
     let d : k ≡ k - j + j = omega (arith, l) in
@@ -113,7 +113,7 @@ mod_twice n j k l =
     ∙ mod_low (n / 2 ^ j % 2 ^ (k - j)) j (n % 2 ^ j) (mod_below n (2 ^ j) (pow_pos j))
 
 module _ (run : ℕ) (some : 0 < run) (fits : run < 2 ^ 64) (wide : lowest_of run < highest_of run) where
-  -- the parting stands behind the lowest place and not behind the highest
+  -- the split is after the lowest index and not after the highest
   pub parting_low : lowest_of run + 1 ≤ parting_of run
   parting_low = omega (arith, wide)
 
@@ -167,7 +167,7 @@ module _ (run : ℕ) (some : 0 < run) (fits : run < 2 ^ 64) (wide : lowest_of ru
         | inr m ↦ absurd (let n = mul-le b p a p m (omega arith) in omega (arith, l, n))
       ]
 
-      -- a multiple of the parting's power below the power of the highest place leaves room for the left half
+      -- a multiple of the split's power below the power of the highest index has capacity for the left half
       lowered : (q : ℕ) → q * 2 ^ parting_of run < 2 ^ highest_of run
           → q * 2 ^ parting_of run + 2 ^ parting_of run ≤ 2 ^ highest_of run
       lowered q l =
@@ -208,7 +208,7 @@ module _ (run : ℕ) (some : 0 < run) (fits : run < 2 ^ 64) (wide : lowest_of ru
 
   -- ---- bits
 
-  -- a place of the left half is one of the run, before the parting
+  -- an index of the left half is one of the slice, before the split
   pub left_bit : (i : ℕ) → bit_at (left_run run) i ≡ 1 → (i < parting_of run) × (bit_at run i ≡ 1)
   left_bit i e = elim (cases_lt i (parting_of run)) [
     | inl l ↦ (l, sym (low i l) ∙ e)
@@ -223,7 +223,7 @@ module _ (run : ℕ) (some : 0 < run) (fits : run < 2 ^ 64) (wide : lowest_of ru
   left_bit_of i l e = sym (bit_at_cat_low (run / 2 ^ parting_of run) (parting_of run) (left_run run) i l)
       ∙ ap (λ (n : ℕ). bit_at n i) (shr_split run (parting_of run)) ∙ e
 
-  -- a place of the right half is one of the run, from the parting on
+  -- an index of the right half is one of the slice, from the split on
   pub right_bit : (i : ℕ) → bit_at (right_run run) i ≡ 1 → (parting_of run ≤ i) × (bit_at run i ≡ 1)
   right_bit i e = grind (arith, common_steps, cases_lt, parting_of, high, none)
     where

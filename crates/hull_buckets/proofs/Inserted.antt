@@ -1,4 +1,4 @@
--- The chain of points of which the one at a place came new, by the masks of the corners before it and behind it.
+-- The chain of points of which the one at an index is new, by the masks of the vertices before it and after it.
 use Rattle.std.proofs.Common.{◌≡◌, ℕ, ◌+◌, ◌*◌, ◌%◌, ◌/◌, ◌^◌, ◌<◌, sym, ap, ◌∙◌, subst, arith, Err}
 use Rattle.std.proofs.Common.{List, [], ◌∷◌, ◌++◌, length, take, drop}
 use Rattle.std.proofs.lemmas.List.{length-take-le}
@@ -19,9 +19,9 @@ use Rattle.hull_buckets.proofs.Around.{before_place, behind_place}
 use Rattle.hull_buckets.proofs.Places.{parted, low_at, high_at, at_among, together}
 use Rattle.hull_buckets.proofs.Words.{divided, next_power, sum_within, power_le}
 
--- ---- masks around a place
+-- ---- masks around an index
 
--- the points of the others at the places of a mask are those of the list where the places from k on are moved up
+-- the points of the others at the indices of a mask are those of the list if the indices from k on are moved up
 pub with_gap : (S : List Pair) (mask k : ℕ) → k < length S
     → at_places mask (without_place k S)
     ≡ at_places (mask % 2 ^ k) S ++ at_places (mask / 2 ^ k * 2 ^ (k + 1)) S
@@ -39,7 +39,7 @@ with_gap S mask k l =
       l,
     ))))
 
--- what is moved up by one place stays below the next power
+-- what is moved up by one index stays below the next power
 pub moved_within : (mask k n : ℕ) → mask < 2 ^ n → mask / 2 ^ k * 2 ^ (k + 1) < 2 ^ (n + 1)
 moved_within mask k n l =
     let s = shr_split mask k in
@@ -55,11 +55,11 @@ moved_within mask k n l =
 
 module _ (side : Side) (S : List Pair) (old k : ℕ) (ordered : IsPointSet S) (l : k < length S)
     (mask : IsMaskOf side (without_place k S) old) where
-  -- the corners before the point
+  -- the vertices before the point
   abbrev left : List Pair
   left = at_places (old % 2 ^ k) S
 
-  -- and those behind it
+  -- and those after it
   abbrev right : List Pair
   right = at_places (old / 2 ^ k * 2 ^ (k + 1)) S
 
@@ -67,7 +67,7 @@ module _ (side : Side) (S : List Pair) (old k : ℕ) (ordered : IsPointSet S) (l
   pub old_chain : IsChainOf side (without_place k S) (left ++ right)
   old_chain = subst (IsChainOf side (without_place k S)) (with_gap S old k l) mask.chain
 
-  -- the masks are apart
+  -- all indices of the one mask are before all of the other
   pub are_apart : AreApart (old % 2 ^ k) (old / 2 ^ k * 2 ^ (k + 1))
   are_apart = (k, mod_below old (2 ^ k) (pow_pos k), divided (old / 2 ^ k * 2 ^ (k + 1)) k (k + 1) (omega arith) none)
     where
@@ -75,7 +75,7 @@ module _ (side : Side) (S : List Pair) (old k : ℕ) (ordered : IsPointSet S) (l
       none = let z : old / 2 ^ k * 2 ^ (k + 1) ≡ old / 2 ^ k * 2 ^ (k + 1) + 0 = omega arith in
           ap (λ (n : ℕ). n % 2 ^ (k + 1)) z ∙ mod_low (old / 2 ^ k) (k + 1) 0 (pow_pos (k + 1))
 
-  -- there is none behind it up to its own place
+  -- there is none after it up to its own index
   pub high_behind : (old / 2 ^ k * 2 ^ (k + 1)) % 2 ^ (k + 1) ≡ 0
   high_behind = let z : old / 2 ^ k * 2 ^ (k + 1) ≡ old / 2 ^ k * 2 ^ (k + 1) + 0 = omega arith in
       ap (λ (n : ℕ). n % 2 ^ (k + 1)) z ∙ mod_low (old / 2 ^ k) (k + 1) 0 (pow_pos (k + 1))
@@ -96,7 +96,7 @@ module _ (side : Side) (S : List Pair) (old k : ℕ) (ordered : IsPointSet S) (l
   pub right_convex : IsConvex side right
   right_convex = convex_right side left right old_chain.strict.convex
 
-  -- where the point would stand in the old chain
+  -- where the point would be in the old chain
   pub position : IsPositionOf (left ++ right) (point_at S k) (Err (length left))
   position = between_lists left right (point_at S k)
       (λ t m. before_place S k t ordered l (at_among (old % 2 ^ k) (take k S) t
@@ -105,7 +105,7 @@ module _ (side : Side) (S : List Pair) (old k : ℕ) (ordered : IsPointSet S) (l
       (λ t m. behind_place S k t ordered l (at_among (old / 2 ^ k) (drop (k + 1) S) t
       (subst (λ (z : List Pair). Contains z t) (high_at S (k + 1) (old / 2 ^ k) (omega (arith, l))) m)))
 
-  -- where the point stands over an edge of the old chain, that one stays
+  -- if the point is over an edge of the old chain, that edge stays
   pub stays : IsOverEdge side (left ++ right) (length left) (point_at S k)
       → IsMaskOf side S (old % 2 ^ k + old / 2 ^ k * 2 ^ (k + 1))
   stays over = record {
@@ -116,7 +116,7 @@ module _ (side : Side) (S : List Pair) (old k : ℕ) (ordered : IsPointSet S) (l
         (put_in_same side (without_place k S) (left ++ right) (point_at S k) (length left) position over old_chain));
   }
 
-  -- else the pass goes over the corners before it, the point, and those behind it
+  -- otherwise the pass goes over the vertices before it, the point, and those after it
   pub comes : (front new : ℕ) → ¬ (IsOverEdge side (left ++ right) (length left) (point_at S k))
       → IsPassed side (left ++ point_at S k ∷ []) (at_places front S)
       → IsPassed side (at_places front S ++ right) (at_places new S) → new < 2 ^ length S → IsMaskOf side S new
@@ -133,7 +133,7 @@ module _ (side : Side) (S : List Pair) (old k : ℕ) (ordered : IsPointSet S) (l
         (passed_through side (left ++ point_at S k ∷ []) (at_places front S) right (at_places new S) h q))) old_chain);
   }
 
--- what is known of the masks of the corners before a point and behind it
+-- what is known of the masks of the vertices before a point and after it
 pub record AreBeside (side : Side) (S : List Pair) (k low high : ℕ) : Type 0 where
   pub apart : AreApart low high
   pub low_within : low < 2 ^ length S

@@ -1,4 +1,4 @@
--- The chain of points by corners at both ends: those that stay where a list is cut, or loses a point.
+-- The chain of points by vertices at both ends: those that stay if a list is cut, or loses a point.
 use Rattle.std.proofs.Common.{◌≡◌, ℕ, ◌+◌, ◌-◌, ◌*◌, ◌%◌, ◌/◌, ◌^◌, ◌<◌, ◌≤◌, ◌⊎◌, inl, inr, sym, ap, ◌∙◌, subst, arith, refl, zero, suc}
 use Rattle.std.proofs.Common.{List, [], ◌∷◌, ◌++◌, length, take, drop, length-append}
 use Rattle.std.proofs.lemmas.List.{length-take-le}
@@ -26,7 +26,7 @@ use Rattle.hull_buckets.proofs.Places.{at_among, first_at, none_at, parted, ther
 
 -- ---- inner to lists in a row
 
--- all points of a set in order stand before its last one, but that
+-- all points of a set in order but the last are before it
 before_end : (xs : List Pair) (d u : Pair) → IsPointSet xs → EndsWith d xs → Contains xs u → (u ≡ d) ⊎ IsBefore u d
 before_end xs d u s e m =
     let w = ends_cut d xs e in
@@ -40,7 +40,7 @@ first_or_later : (y : Pair) (rest : List Pair) (u : Pair) → Contains (y ∷ re
 first_or_later y rest u (zero, l, e) = inl (sym e)
 first_or_later y rest u (suc i, l, e) = inr (i, omega (arith, l), e)
 
--- what is inner to two lists in a row is inner to one, or stands between them
+-- what is inner to two concatenated lists is inner to one, or between them
 pub inner_of_two : (side : Side) (xs ys : List Pair) (t : Pair) → IsPointSet (xs ++ ys) → IsInner side (xs ++ ys) t
     → IsInner side xs t ⊎ (IsInner side ys t ⊎ IsAmid xs ys t)
 inner_of_two side xs [] t s k = inl (subst (λ (z : List Pair). IsInner side z t) (sym (append_none xs)) k)
@@ -62,7 +62,7 @@ inner_of_two side xs (y ∷ rest) t s k = elim (inner_cut side xs y rest t k) [
   | inr (inr i) ↦ inr (inl i)
 ]
 
--- nothing is inner to points that all stand behind it
+-- nothing is inner to points that are all after it
 behind_from : (side : Side) (a : Pair) (xs : List Pair) (t : Pair) → IsInnerFrom side a xs t → IsBefore t a
     → All (IsBefore t) xs → ⊥
 behind_from side a [] t k b h = elim k [ ]
@@ -79,7 +79,7 @@ none_behind side (x ∷ xs) t (inl e) h =
 none_behind side (x ∷ xs) t (inr k) h =
     behind_from side x xs t k (All-head (IsBefore t) x xs h) (All-tail (IsBefore t) x xs h)
 
--- nor to points that all stand before it
+-- nor to points that are all before it
 ahead_from : (side : Side) (a : Pair) (xs : List Pair) (t : Pair) → IsInnerFrom side a xs t
     → All (λ u. IsBefore u t) xs → ⊥
 ahead_from side a [] t k h = elim k [ ]
@@ -94,7 +94,7 @@ none_ahead side (x ∷ xs) t (inl e) h =
     before_irrefl x (subst (IsBefore x) e (All-head (λ u. IsBefore u t) x xs h))
 none_ahead side (x ∷ xs) t (inr k) h = ahead_from side x xs t k (All-tail (λ u. IsBefore u t) x xs h)
 
--- ---- the places between
+-- ---- the indices between
 
 -- a power without a lower one is a multiple of that
 pub gap_apart : (start end : ℕ) → start ≤ end → (2 ^ end - 2 ^ start) % 2 ^ start ≡ 0
@@ -110,8 +110,7 @@ gap_apart start end o =
     less zero b l = elim l [ ]
     less (suc a) b l = grind arith
 
--- a point of the list that stands after all that one mask has and before all that another has is at a place between
--- them
+-- a point of the list that is after all points of one mask and before all of another is at an index between them
 pub all_between : (T : List Pair) (low high mask : ℕ) (t : Pair) → IsPointSet T → IsGap low high (length T) mask
     → high < 2 ^ length T → Contains T t → All (λ u. IsBefore u t) (at_places low T)
     → All (IsBefore t) (at_places high T)
@@ -184,7 +183,7 @@ all_between T low high mask t s g hw (i, l, e) after before =
 
 -- ---- the chain
 
--- the pass over the points between, and on over the corners behind, leaves the chain of all
+-- the pass over the points between, and on over the vertices after, leaves the chain of all
 pub joined_is : (side : Side) (T : List Pair) (low high middle front new : ℕ) → IsPointSet T → AreEnds side T low high
     → IsGap low high (length T) middle → IsPassed side (at_places low T ++ at_places middle T) (at_places front T)
     → IsPassed side (at_places front T ++ at_places high T) (at_places new T) → new < 2 ^ length T → IsMaskOf side T new
@@ -214,9 +213,9 @@ joined_is side T low high middle front new s e g h q within =
 
 -- ---- a list that is cut
 
--- points in order and the mask of their chain, cut at a place
+-- points in order and the mask of their chain, cut at an index
 module _ (side : Side) (S : List Pair) (old k : ℕ) (s : IsPointSet S) (l : k < length S) (mask : IsMaskOf side S old) where
-  -- the corners before it, and those from it on
+  -- the vertices before it, and those from it on
   abbrev left : List Pair
   left = at_places (old % 2 ^ k) (take k S)
 
@@ -247,7 +246,7 @@ module _ (side : Side) (S : List Pair) (old k : ℕ) (s : IsPointSet S) (l : k <
   no_place : (m : ℕ) → 0 % 2 ^ m ≡ 0
   no_place m = let z : 0 ≡ 0 * 2 ^ m + 0 = omega arith in ap (λ (n : ℕ). n % 2 ^ m) z ∙ mod_low 0 m 0 (pow_pos m)
 
-  -- the corners before it are the ends of the points before it
+  -- the vertices before it are the ends of the points before it
   pub ends_before : AreEnds side (take k S) (old % 2 ^ k) 0
   ends_before = record {
     apart = (k, mod_below old (2 ^ k) (pow_pos k), no_place k);

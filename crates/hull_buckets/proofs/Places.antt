@@ -1,4 +1,4 @@
--- The points of a list at the places of a mask.
+-- The points of a list at the indices of a mask.
 use Rattle.std.proofs.lemmas.Grind.{common_steps}
 use Rattle.std.proofs.Common.{◌≡◌, ℕ, zero, suc, ◌+◌, ◌-◌, ◌*◌, ◌/◌, ◌%◌, ◌^◌, ◌<◌, ◌≤◌, refl, sym, ap, ◌∙◌, subst}
 use Rattle.std.proofs.Common.{arith, List, [], ◌∷◌, ◌++◌, length, take, drop, get_or, inl, inr}
@@ -19,7 +19,7 @@ use Rattle.hull_buckets.proofs.Words.{twice, without_lowest}
 
 -- ---- parts
 
--- no place, no points
+-- no index, no points
 pub none_at : (S : List Pair) → at_places 0 S ≡ []
 none_at [] = refl
 none_at (x ∷ xs) = none_at xs
@@ -40,7 +40,7 @@ shifted high k low =
     mul_assoc : (a b : ℕ) → a * (b * 2) ≡ a * b * 2
     mul_assoc a b = omega arith
 
--- a mask of two parts takes from the first places what its low part has, and what its high part has from the others
+-- a mask of two parts takes from the first indices what its low part has, and what its high part has from the others
 pub parted : (xs ys : List Pair) (high low : ℕ) → low < 2 ^ length xs
     → at_places (high * 2 ^ length xs + low) (xs ++ ys) ≡ at_places low xs ++ at_places high ys
 parted [] ys high low l = ap (λ (m : ℕ). at_places m ys) (omega (arith, l))
@@ -58,7 +58,7 @@ parted (x ∷ xs) ys high low l =
     kept_append zero us vs = refl
     kept_append (suc n) us vs = refl
 
--- the same of a list that is cut at a place
+-- the same of a list that is cut at an index
 pub cut_at_place : (S : List Pair) (k high low : ℕ) → k ≤ length S → low < 2 ^ k
     → at_places (high * 2 ^ k + low) S ≡ at_places low (take k S) ++ at_places high (drop k S)
 cut_at_place S k high low l b =
@@ -67,7 +67,7 @@ cut_at_place S k high low l b =
     ∙ ap (λ (j : ℕ). at_places (high * 2 ^ j + low) (take k S ++ drop k S)) (sym n)
     ∙ parted (take k S) (drop k S) high low (subst (λ (j : ℕ). low < 2 ^ j) (sym n) b)
 
--- a mask that has only places before one
+-- a mask that has only indices before one
 pub low_at : (S : List Pair) (k low : ℕ) → k ≤ length S → low < 2 ^ k → at_places low S ≡ at_places low (take k S)
 low_at S k low l b =
     let e : low ≡ 0 * 2 ^ k + low = omega arith in
@@ -82,12 +82,12 @@ high_at S k high l =
     ap (λ (m : ℕ). at_places m S) e ∙ cut_at_place S k high 0 l (pow_pos k)
     ∙ ap (λ (z : List Pair). z ++ at_places high (drop k S)) (none_at (take k S))
 
--- two masks, all places of the one before all of the other
+-- two masks, all indices of the one before all of the other
 pub joined : (S : List Pair) (k high low : ℕ) → k ≤ length S → low < 2 ^ k
     → at_places (high * 2 ^ k + low) S ≡ at_places low S ++ at_places (high * 2 ^ k) S
 joined S k high low l b = grind (arith, common_steps, cut_at_place, high, low, at_places, low_at, high_at)
 
--- the mask of one place
+-- the mask of one index
 pub one_at : (S : List Pair) (k : ℕ) → k < length S → at_places (2 ^ k) S ≡ point_at S k ∷ []
 one_at S k l =
     let e : 2 ^ k ≡ 1 * 2 ^ k = omega arith in
@@ -95,7 +95,7 @@ one_at S k l =
     ∙ ap (at_places 1) (drop_more S k origin l)
     ∙ ap (λ (z : List Pair). point_at S k ∷ z) (none_at (drop (k + 1) S))
 
--- one more place behind all others
+-- one more index after all others
 pub pushed : (S : List Pair) (mask k : ℕ) → mask < 2 ^ k → k < length S
     → at_places (mask + 2 ^ k) S ≡ at_places mask S ++ point_at S k ∷ []
 pushed S mask k b l =
@@ -105,7 +105,7 @@ pushed S mask k b l =
     ∙ ap (λ (m : ℕ). at_places mask S ++ at_places m S) f
     ∙ ap (λ (z : List Pair). at_places mask S ++ z) (one_at S k l)
 
--- all places
+-- all indices
 pub all_at : (S : List Pair) → at_places (2 ^ length S - 1) S ≡ S
 all_at [] = refl
 all_at (x ∷ xs) =
@@ -118,7 +118,7 @@ all_at (x ∷ xs) =
 
 -- ---- members
 
--- what is at the places is in the list
+-- what is at the indices is in the list
 pub at_among : (mask : ℕ) (S : List Pair) (t : Pair) → Contains (at_places mask S) t → Contains S t
 at_among mask [] t m = m
 at_among mask (x ∷ xs) t m = go (mask % 2) (at_places (mask / 2) xs) (at_among (mask / 2) xs t) m
@@ -129,7 +129,7 @@ at_among mask (x ∷ xs) t m = go (mask % 2) (at_places (mask / 2) xs) (at_among
     go (suc n) kept h (zero, l, e) = (0, omega arith, e)
     go (suc n) kept h (suc k, l, e) = later x t xs (h (k, omega (arith, l), e))
 
--- points of a set at some places are a set
+-- points of a set at some indices are a set
 pub set_at : (mask : ℕ) (S : List Pair) → IsPointSet S → IsPointSet (at_places mask S)
 set_at mask [] s = s
 set_at mask (x ∷ xs) s = go (mask % 2) (set_at (mask / 2) xs (AllPairs-tail x xs s))
@@ -140,11 +140,11 @@ set_at mask (x ∷ xs) s = go (mask % 2) (set_at (mask / 2) xs (AllPairs-tail x 
         (all_of (IsBefore x) (at_places (mask / 2) xs)
         (λ t m. All-contains (IsBefore x) xs t (AllPairs-head x xs s) (at_among (mask / 2) xs t m))) r
 
--- the point that was read at a place
+-- the point that was read at an index
 pub read_at : (S : List Pair) (i : ℕ) (p : Pair) → i < length S → p ≡ get_or S i p → p ≡ point_at S i
 read_at S i p l e = e ∙ get_or_free S i p origin l
 
--- the first of the points at the places of a mask, and the others
+-- the first of the points at the indices of a mask, and the others
 pub first_at : (S : List Pair) (mask place : ℕ) → mask % 2 ^ (place + 1) ≡ 2 ^ place → place < length S
     → at_places mask S ≡ point_at S place ∷ at_places (mask - 2 ^ place) S
 first_at S mask place f l =
@@ -154,7 +154,7 @@ first_at S mask place f l =
     ∙ ap (λ (z : List Pair). z ++ at_places (w.0 * 2 ^ (place + 1)) S) (one_at S place l)
     ∙ ap (λ (m : ℕ). point_at S place ∷ at_places m S) (sym w.1)
 
--- two masks, all places of the one before all of the other, as one
+-- two masks, all indices of the one before all of the other, as one
 pub together : (S : List Pair) (low high : ℕ) → AreApart low high → high < 2 ^ length S → low < 2 ^ length S
     → at_places (low + high) S ≡ at_places low S ++ at_places high S
 together S low high (k, l, e) within lwithin = elim (cases_lt (length S) k) [
@@ -183,7 +183,7 @@ together S low high (k, l, e) within lwithin = elim (cases_lt (length S) k) [
 
 -- ---- bits
 
--- the point at a place whose bit is set
+-- the point at an index whose bit is set
 pub there_at : (mask : ℕ) (S : List Pair) (i : ℕ) → i < length S → bit_at mask i ≡ 1
     → Contains (at_places mask S) (point_at S i)
 there_at mask [] i l e = absurd (omega (arith, l))
@@ -200,11 +200,11 @@ there_at mask (x ∷ xs) (suc i) l e =
     go zero m = m
     go (suc n) m = later x (point_at xs i) (at_places (mask / 2) xs) m
 
--- a place of the list at which a point stands, with its bit
+-- an index of the list at which a point is, with its bit
 abbrev pub PlaceOf : ℕ → List Pair → Pair → Type 0
 PlaceOf mask S t = (i : ℕ) × (i < length S) × (bit_at mask i ≡ 1) × (t ≡ point_at S i)
 
--- each point at the places of a mask stands at one
+-- each point at the indices of a mask is at one
 pub place_of : (mask : ℕ) (S : List Pair) (t : Pair) → Contains (at_places mask S) t → PlaceOf mask S t
 place_of mask [] t m = absurd (omega (arith, m.1))
 place_of mask (x ∷ xs) t m = go (mask % 2) (bit_at_lowest mask) (place_of (mask / 2) xs t) m

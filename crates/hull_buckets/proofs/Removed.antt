@@ -1,4 +1,4 @@
--- The chain of points of which one has gone, by the masks of the corners before it and behind it.
+-- The chain of points after one was removed, by the masks of the vertices before it and after it.
 use Rattle.std.proofs.Common.{◌≡◌, ℕ, ◌+◌, ◌*◌, ◌%◌, ◌/◌, ◌^◌, ◌<◌, sym, ap, ◌∙◌, subst, arith, ◌⊎◌, inl, inr}
 use Rattle.std.proofs.Common.{List, [], ◌∷◌, ◌++◌, length, take, drop, zero, suc}
 use Rattle.std.proofs.lemmas.List.{length-take-le}
@@ -24,9 +24,9 @@ use Rattle.hull_buckets.proofs.Around.{between_lists, before_place, behind_place
 use Rattle.hull_buckets.proofs.Places.{parted, none_at, at_among, together}
 use Rattle.hull_buckets.proofs.Words.{next_power, sum_within, power_le}
 
--- ---- masks around a place
+-- ---- masks around an index
 
--- what stands before the place, of the others
+-- what is before the index, of the others
 pub low_left : (S : List Pair) (mask k : ℕ) → k < length S
     → at_places (mask % 2 ^ k) (without_place k S) ≡ at_places (mask % 2 ^ k) (take k S)
 low_left S mask k l =
@@ -38,7 +38,7 @@ low_left S mask k l =
     ∙ ap (λ (z : List Pair). at_places (mask % 2 ^ k) (take k S) ++ z) (none_at (drop (k + 1) S))
     ∙ sym (append_none (at_places (mask % 2 ^ k) (take k S)))
 
--- and behind it
+-- and after it
 pub high_left : (S : List Pair) (high k : ℕ) → k < length S
     → at_places (high * 2 ^ k) (without_place k S) ≡ at_places high (drop (k + 1) S)
 high_left S high k l =
@@ -49,8 +49,8 @@ high_left S high k l =
     ∙ parted (take k S) (drop (k + 1) S) high 0 (pow_pos (length (take k S)))
     ∙ ap (λ (z : List Pair). z ++ at_places high (drop (k + 1) S)) (none_at (take k S))
 
--- the points at the places of a mask are those of the others before the place, the one there if its bit is set, and
--- those of the others behind it, whose places are moved down
+-- the points at the indices of a mask are those of the others before the index, the one there if its bit is set, and those of the others after it,
+-- whose indices are moved down
 pub with_place : (S : List Pair) (mask k : ℕ) → k < length S
     → at_places mask S ≡ at_places (mask % 2 ^ k) (without_place k S)
     ++ kept_before (mask / 2 ^ k % 2) (point_at S k) (at_places (mask / 2 ^ (k + 1) * 2 ^ k) (without_place k S))
@@ -89,20 +89,20 @@ module _ (side : Side) (S : List Pair) (old k : ℕ) (ordered : IsPointSet S) (l
   abbrev rest : List Pair
   rest = without_place k S
 
-  -- the corners before the point
+  -- the vertices before the point
   abbrev left : List Pair
   left = at_places (old % 2 ^ k) rest
 
-  -- and those behind it
+  -- and those after it
   abbrev right : List Pair
   right = at_places (old / 2 ^ (k + 1) * 2 ^ k) rest
 
-  -- there is none behind it before its place
+  -- there is none after it before its index
   pub high_from : (old / 2 ^ (k + 1) * 2 ^ k) % 2 ^ k ≡ 0
   high_from = let z : old / 2 ^ (k + 1) * 2 ^ k ≡ old / 2 ^ (k + 1) * 2 ^ k + 0 = omega arith in
       ap (λ (n : ℕ). n % 2 ^ k) z ∙ mod_low (old / 2 ^ (k + 1)) k 0 (pow_pos k)
 
-  -- the masks are apart
+  -- all indices of the one mask are before all of the other
   pub are_apart : AreApart (old % 2 ^ k) (old / 2 ^ (k + 1) * 2 ^ k)
   are_apart = (k, mod_below old (2 ^ k) (pow_pos k), high_from)
 
@@ -116,7 +116,7 @@ module _ (side : Side) (S : List Pair) (old k : ℕ) (ordered : IsPointSet S) (l
   high_within = moved_down_within old k (length rest) (subst (λ (n : ℕ). old < 2 ^ n) (sym (others_count S k l))
       mask.within)
 
-  -- the corners before the point stand before it
+  -- the vertices before the point are before it
   before_it : (t : Pair) → Contains left t → IsBefore t (point_at S k)
   before_it t m = before_place S k t ordered l
       (at_among (old % 2 ^ k) (take k S) t (subst (λ (z : List Pair). Contains z t) (low_left S old k l) m))
@@ -142,7 +142,7 @@ module _ (side : Side) (S : List Pair) (old k : ℕ) (ordered : IsPointSet S) (l
       go zero h = h
       go (suc n) h = convex_right side (point_at S k ∷ []) right h
 
-  -- where the point was no corner, the chain stays
+  -- if the point was no vertex, the chain stays
   pub stays : old / 2 ^ k % 2 ≡ 0 → IsMaskOf side rest (old % 2 ^ k + old / 2 ^ (k + 1) * 2 ^ k)
   stays none = record {
     within = sum_within (old % 2 ^ k) (old / 2 ^ (k + 1) * 2 ^ k) (length rest) are_apart low_within high_within;
@@ -153,7 +153,7 @@ module _ (side : Side) (S : List Pair) (old k : ℕ) (ordered : IsPointSet S) (l
         (subst (λ (n : ℕ). IsChainOf side S (left ++ kept_before n (point_at S k) right)) none old_chain));
   }
 
-  -- else the corners before it and behind it are the ends of the others
+  -- otherwise the vertices before it and after it are the ends of the others
   pub ends : old / 2 ^ k % 2 ≡ 1 → AreEnds side rest (old % 2 ^ k) (old / 2 ^ (k + 1) * 2 ^ k)
   ends one = record {
     apart = are_apart;
@@ -189,7 +189,7 @@ module _ (side : Side) (S : List Pair) (old k : ℕ) (ordered : IsPointSet S) (l
         | inr (inr a) ↦ inr (inr (a.0, All-tail (IsBefore t) (point_at S k) right a.1))
       ]
 
--- what is known of the masks of the corners before a point that went and behind it
+-- what is known of the masks of the vertices before a removed point and after it
 pub record AreLeft (side : Side) (T : List Pair) (old k low high : ℕ) : Type 0 where
   pub ordered : IsPointSet T
   pub apart : AreApart low high

@@ -5,13 +5,13 @@ use Rattle.std.proofs.Common.{List, [], ◌∷◌, ◌++◌, length, take, drop,
 use Rattle.std.specs.List.{insert, remove, copy_within}
 
 module _ {X : Type 0} where
-  -- the first of a list, and of these with more behind them
+  -- the first of a list, and of these with more after them
   pub first_again : (n : ℕ) (xs ys : List X) → n ≤ length xs → take n (take n xs ++ ys) ≡ take n xs
   first_again zero xs ys l = refl
   first_again (suc n) [] ys l = absurd (omega (arith, l))
   first_again (suc n) (x ∷ xs) ys l = ap (λ (z : List X). x ∷ z) (first_again n xs ys (omega (arith, l)))
 
-  -- those from a place on have moved up, and a value is put there
+  -- those from an index on have moved up, and a value is put there
   moved_up : (old : List X) (place n count : ℕ) (item : X) → place + n ≡ count → count < length old
       → take (suc count) (slice_set (take (suc place) old ++ take n (drop place old) ++ drop (suc count) old) place
       item)
@@ -22,7 +22,7 @@ module _ {X : Type 0} where
   moved_up (x ∷ xs) (suc place) n (suc count) item e l =
       ap (λ (z : List X). x ∷ z) (moved_up xs place n count item (omega (arith, e)) (omega (arith, l)))
 
-  -- those behind a place have moved down
+  -- those after an index have moved down
   moved_down : (old : List X) (place n count : ℕ) → place + n ≡ count → count < length old
       → take count (take place old ++ take n (drop (suc place) old) ++ drop count old)
       ≡ remove (take (suc count) old) place
@@ -32,7 +32,7 @@ module _ {X : Type 0} where
   moved_down (x ∷ xs) (suc place) n (suc count) e l =
       ap (λ (z : List X). x ∷ z) (moved_down xs place n count (omega (arith, e)) (omega (arith, l)))
 
-  -- a value put in
+  -- a value inserted
   pub put : (old mid : List X) (place count : ℕ) (item : X) → mid ≡ copy_within old place count (place + 1)
       → place ≤ count → count < length old → take (count + 1) (slice_set mid place item) ≡ insert (take count old)
       place item
@@ -48,7 +48,7 @@ module _ {X : Type 0} where
       ++ drop (suc count) old) place item)) a
       ∙ moved_up old place (count - place) count item (omega (arith, o)) l
 
-  -- a value taken out
+  -- a value removed
   pub taken : (old mid : List X) (place count : ℕ) → mid ≡ copy_within old (place + 1) count place → place < count
       → count ≤ length old → take (count - 1) mid ≡ remove (take count old) place
   taken old mid place zero e o l = absurd (omega (arith, o))

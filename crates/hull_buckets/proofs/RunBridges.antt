@@ -1,4 +1,4 @@
--- The edges between the halves of a run are their bridges.
+-- The edges between the halves of a slice are their bridges.
 use Rattle.std.proofs.lemmas.Grind.{common_steps}
 use Rattle.std.proofs.Common.{◌≡◌, ℕ, zero, suc, ◌^◌, ◌<◌, ◌≤◌, ◌⊎◌, inl, inr, sym, ap, ◌∙◌, subst, arith, refl}
 use Rattle.std.proofs.Common.{List, [], ◌∷◌, length, max, Some, None}
@@ -37,7 +37,7 @@ use Rattle.hull_buckets.proofs.Words.{top_before}
 
 -- ---- bits of two masks
 
--- a place of both is one of what they have in common
+-- an index of both is one of what they have in common
 both_set : (a c i : ℕ) → bit_at a i ≡ 1 → bit_at c i ≡ 1 → bit_at (bit_and a c) i ≡ 1
 both_set a c i e f = let m = bit_at_and a c i in omega (arith, m, e, f)
 
@@ -45,13 +45,13 @@ both_set a c i e f = let m = bit_at_and a c i in omega (arith, m, e, f)
 set_in_both : (a c i : ℕ) → bit_at (bit_and a c) i ≡ 1 → (bit_at a i ≡ 1) × (bit_at c i ≡ 1)
 set_in_both a c i e = grind (arith, common_steps, bit_at_and, bit_at-lt)
 
--- what two masks have in common fits where the first does
+-- what two masks have in common fits if the first does
 and_fits : (a c : ℕ) → a < 2 ^ 64 → bit_and a c < 2 ^ 64
 and_fits a c l = let m = and_le_l a c in omega (arith, l, m)
 
--- ---- where a chain leaves a run, and where it enters one
+-- ---- the last index of a chain in a slice, and the first one
 
--- the last place of the chain in the run, or the run's first
+-- the last index of the chain in the slice, or the slice's first
 pub record Leaves (chain run place : ℕ) : Type 0 where
   pub set : bit_at run place ≡ 1
   pub none_behind : (i : ℕ) → bit_at run i ≡ 1 → bit_at chain i ≡ 1 → i ≤ place
@@ -78,7 +78,7 @@ leaves chain run s f = go (bit_and run chain) refl
           ends = inl both.1;
         }
 
--- the first place of the chain in the run, or the run's last
+-- the first index of the chain in the slice, or the slice's last
 pub record Enters (chain run place : ℕ) : Type 0 where
   pub set : bit_at run place ≡ 1
   pub none_ahead : (i : ℕ) → bit_at run i ≡ 1 → bit_at chain i ≡ 1 → place ≤ i
@@ -105,14 +105,14 @@ enters chain run s f = go (bit_and run chain) refl
           ends = inl both.1;
         }
 
--- ---- places and points
+-- ---- indices and points
 
 module _ (S : List Pair) (s : IsPointSet S) where
-  -- a lower place has an earlier point
+  -- a lower index has an earlier point
   earlier : (i j : ℕ) → i < j → j < length S → IsBefore (point_at S i) (point_at S j)
   earlier i j l m = s i j origin l m
 
-  -- an earlier point has a lower place
+  -- an earlier point has a lower index
   lower_place : (i j : ℕ) → i < length S → j < length S → IsBefore (point_at S i) (point_at S j) → i < j
   lower_place i j l m b = elim (cases_order i j) [
     | inl e ↦ absurd (before_irrefl (point_at S j) (subst (λ (k : ℕ). IsBefore (point_at S k) (point_at S j)) e b))
@@ -121,7 +121,7 @@ module _ (S : List Pair) (s : IsPointSet S) where
         (before_trans (point_at S i) (point_at S j) (point_at S i) b (earlier j i k l)))
   ]
 
-  -- one point has one place
+  -- one point has one index
   one_place : (i j : ℕ) → i < length S → j < length S → point_at S i ≡ point_at S j → i ≡ j
   one_place i j l m e = elim (cases_order i j) [
     | inl q ↦ q
@@ -131,7 +131,7 @@ module _ (S : List Pair) (s : IsPointSet S) where
         (subst (IsBefore (point_at S j)) e (earlier j i k l)))
   ]
 
-  -- a point of a chain stands at a place of its mask
+  -- a point of a chain is at an index of its mask
   pub on_chain : (chain i : ℕ) → i < length S → Contains (at_places chain S) (point_at S i) → bit_at chain i ≡ 1
   on_chain chain i l m =
       let p = place_of chain S (point_at S i) m in
@@ -139,14 +139,14 @@ module _ (S : List Pair) (s : IsPointSet S) where
 
 -- ---- the bridges
 
--- a corner of either chain, seen from a side
+-- a vertex of either chain, seen from a side
 seen_from : (side : Side) (b : BucketValue) (i : ℕ) → (bit_at b.lower i ≡ 1) ⊎ (bit_at b.upper i ≡ 1)
     → (bit_at (mask_on side b) i ≡ 1) ⊎ (bit_at (mask_on (opposite side) b) i ≡ 1)
 seen_from Lower b i h = h
 seen_from Upper b i (inl h) = inr h
 seen_from Upper b i (inr h) = inl h
 
--- the places of a run are places of corners
+-- the indices of a slice are indices of vertices
 abbrev pub HasCorners : BucketValue → ℕ → Type 0
 HasCorners b run = (i : ℕ) → bit_at run i ≡ 1 → (bit_at b.lower i ≡ 1) ⊎ (bit_at b.upper i ≡ 1)
 
@@ -159,24 +159,24 @@ module _ (b : BucketValue) (k : IsBucket b) (run : ℕ) (some : 0 < run) (fits :
   abbrev behind_it : Tree
   behind_it = tree_of_run b (right_run run)
 
-  -- the places of the run are places of points
+  -- the indices of the slice are indices of points
   in_list : (i : ℕ) → bit_at run i ≡ 1 → i < length b.points
   in_list i e =
       let h = bit_to run i some fits e in
       let t = top_before run (highest_of run) (length b.points) (highest_there run some fits) within in
       omega (arith, h, t)
 
-  -- a point of the left half stands at a place before the parting
+  -- a point of the left half is at an index before the split
   at_left : (t : Pair) → On before_it t → PlaceIn b (left_run run) t
   at_left t i = on_place (width_of (left_run run)) b (left_run run) (left_some run some fits wide)
       (left_fits run some fits wide) (omega arith) t i
 
-  -- one of the right half at a place behind it
+  -- one of the right half at an index after it
   at_right : (t : Pair) → On behind_it t → PlaceIn b (right_run run) t
   at_right t i = on_place (width_of (right_run run)) b (right_run run) (right_some run some fits wide)
       (right_fits run some fits wide) (omega arith) t i
 
-  -- all of the left half stands before all of the right one
+  -- all of the left half is before all of the right one
   pub all_before : IsAllBefore (On before_it) (On behind_it)
   all_before p q i j =
       let x = at_left p i in
@@ -189,11 +189,11 @@ module _ (b : BucketValue) (k : IsBucket b) (run : ℕ) (some : 0 < run) (fits :
       (subst (IsBefore (point_at b.points x.0)) (sym y.2)
       (earlier b.points k.ordered x.0 y.0 (omega (arith, a, c)) (in_list y.0 r.1)))
 
-  -- where the chain on a side leaves the left half
+  -- the last vertex of the chain on a side in the left half
   leaving : (side : Side) → Leaves (mask_on side b) (left_run run) (end_of_run (mask_on side b) (left_run run))
   leaving side = leaves (mask_on side b) (left_run run) (left_some run some fits wide) (left_fits run some fits wide)
 
-  -- and where it enters the right one
+  -- and the first one in the right half
   entering : (side : Side) → Enters (mask_on side b) (right_run run) (start_of_run (mask_on side b) (right_run run))
   entering side = enters (mask_on side b) (right_run run) (right_some run some fits wide) (right_fits run some fits
       wide)
@@ -204,7 +204,7 @@ module _ (b : BucketValue) (k : IsBucket b) (run : ℕ) (some : 0 < run) (fits :
   right_in_list : (i : ℕ) → bit_at (right_run run) i ≡ 1 → i < length b.points
   right_in_list i e = in_list i (right_bit run some fits wide i e).1
 
-  -- a point at a place of a run is a corner of the one chain or of the other
+  -- a point at an index of a slice is a vertex of the one chain or of the other
   on_either : (side : Side) (t : Pair) (i : ℕ) → bit_at run i ≡ 1 → t ≡ point_at b.points i
       → Contains (at_places (mask_on side b) b.points) t ⊎ Contains (at_places (mask_on (opposite side) b) b.points) t
   on_either side t i e f = elim (seen_from side b i (corners i e)) [
@@ -278,7 +278,7 @@ module _ (b : BucketValue) (k : IsBucket b) (run : ℕ) (some : 0 < run) (fits :
       (at_places (mask_on (opposite side) b) b.points) _ _ (k.corners side).chain (k.corners (opposite side)).chain
       (parted_at side)
 
-  -- the halves are runs of corners, too
+  -- the halves are slices of vertices, too
   pub left_corners : HasCorners b (left_run run)
   left_corners i e = corners i (left_bit run some fits wide i e).1
 
@@ -291,7 +291,7 @@ module _ (b : BucketValue) (k : IsBucket b) (run : ℕ) (some : 0 < run) (fits :
   pub right_within : right_run run < 2 ^ length b.points
   right_within = let s = shr_split run (parting_of run) in omega (arith, s, within)
 
--- each stored edge of the tree of a run of corners is the bridge of the halves below it
+-- each stored edge of the tree of a slice of vertices is the bridge of the halves below it
 pub run_bridged : (n : ℕ) (b : BucketValue) (run : ℕ) → IsBucket b → 0 < run → run < 2 ^ 64 → run < 2 ^ length b.points
     → HasCorners b run → width_of run ≤ n → IsBridged (tree_of_run b run)
 run_bridged zero b run k s f w c l = elim (one_or_several run s f) [
@@ -311,7 +311,7 @@ run_bridged (suc n) b run k s f w c l = elim (one_or_several run s f) [
   )
 ]
 
--- all corners of a bucket
+-- all vertices of a bucket
 pub all_corners : (b : BucketValue) → HasCorners b (all_of b)
 all_corners b i e = let m = bit_at_or b.lower b.upper i in
     either (bit_at b.lower i) (bit_at b.upper i) (bit_at-lt b.lower i) (bit_at-lt b.upper i) (sym m ∙ e)
@@ -335,7 +335,7 @@ some_corner b k = let l = le_or_l b.lower b.upper in omega (arith, l, below)
           (ap (λ (m : ℕ). at_places m b.points) (omega (arith, l)) ∙ none_at b.points) (k.corners Lower).chain))
     ]
 
--- they are places of its points
+-- they are indices of its points
 pub all_within : (b : BucketValue) → IsBucket b → all_of b < 2 ^ length b.points
 all_within b k = or_lt (length b.points) b.lower b.upper (k.corners Lower).within (k.corners Upper).within
 
@@ -346,7 +346,7 @@ bucket_low b k = six_high b (all_of b) (some_corner b k)
 
 -- ---- the edges by the words of a half
 
--- one place has no edge
+-- one index has no edge
 pub no_edge : (side : Side) (b : BucketValue) (run : ℕ) → lowest_of run ≡ highest_of run
     → edge_at side (tree_of_run b run) ≡ None
 no_edge Lower b run e = ap (edge_at Lower) (leaf_is b run e)
@@ -358,7 +358,7 @@ pub some_edge : (side : Side) (b : BucketValue) (run : ℕ) → 0 < run → run 
 some_edge Lower b run s f w = ap (edge_at Lower) (fork_is b run s f w)
 some_edge Upper b run s f w = ap (edge_at Upper) (fork_is b run s f w)
 
--- the places of its ends are places of the run's list
+-- the indices of its ends are indices of the slice's list
 pub end_within : (chain run n : ℕ) → 0 < run → run < 2 ^ 64 → lowest_of run < highest_of run → run < 2 ^ n
     → end_of_run chain (left_run run) < n
 end_within chain run n s f w l =
@@ -373,9 +373,9 @@ start_within chain run n s f w l =
     (right_bit run s f w (start_of_run chain (right_run run))
     (enters chain (right_run run) (right_some run s f w) (right_fits run s f w)).set).1
 
--- ---- the corners and all points
+-- ---- the vertices and all points
 
--- the points of the tree of all corners are points of the bucket
+-- the points of the tree of all vertices are points of the bucket
 pub corners_among : (b : BucketValue) → IsBucket b → (t : Pair) → On (tree_of_run b (all_of b)) t → Contains b.points t
 corners_among b k t i =
     let f = mask_fits (all_of b) (length b.points) (all_within b k) k.few in
@@ -385,7 +385,7 @@ corners_among b k t i =
       get_or_free b.points p.0 _ _ (place_within (all_of b) (length b.points) p.0 (all_within b k) p.1) ∙ sym p.2,
     )
 
--- each corner of a chain is one of them
+-- each vertex of a chain is one of them
 chain_on_tree : (side : Side) (b : BucketValue) → IsBucket b → (t : Pair)
     → Contains (at_places (mask_on side b) b.points) t → On (tree_of_run b (all_of b)) t
 chain_on_tree side b k t m =
@@ -398,7 +398,7 @@ chain_on_tree side b k t m =
     in_all Lower i e = let m = bit_at_or b.lower b.upper i in let l = bit_at-lt b.upper i in omega (arith, m, e, l)
     in_all Upper i e = let m = bit_at_or b.lower b.upper i in let l = bit_at-lt b.lower i in omega (arith, m, e, l)
 
--- they are a fringe of all points of the bucket
+-- they are a candidate list of all points of the bucket
 pub corners_fringe : (side : Side) (b : BucketValue) → IsBucket b
     → IsFringe side (On (tree_of_run b (all_of b))) (Contains b.points)
 corners_fringe side b k =

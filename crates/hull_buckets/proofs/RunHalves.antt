@@ -1,4 +1,4 @@
--- A run of several places, by what is told of it, and each of its halves: the left one, or else the right one.
+-- A slice of several indices, by what is known of it, and each of its halves: the left one, or else the right one.
 use Rattle.std.proofs.lemmas.Grind.{common_steps}
 use Rattle.std.proofs.Common.{◌≡◌, ℕ, ◌<◌, ◌≤◌, ◌^◌, Bool, true, false, List, length, get_or, sym, ap, ◌∙◌, subst}
 use Rattle.std.proofs.Common.{arith}
@@ -15,14 +15,14 @@ use Rattle.hull_buckets.proofs.Places.{read_at}
 use Rattle.hull_buckets.proofs.RunBridges.{end_within, start_within}
 use Rattle.hull_buckets.proofs.RunTrees.{fork_is, low_enough, mask_fits, several_of, several_of_fork}
 
--- a run of several places of a bucket
+-- a slice of several indices of a bucket
 pub record IsSeveral (b : BucketValue) (run : ℕ) : Type 0 where
   pub some : 0 < run
   pub within : run < 2 ^ length b.points
   pub fits : run < 2 ^ 64
   pub wide : lowest_of run < highest_of run
 
--- its lowest place is not its highest
+-- its lowest index is not its highest
 pub several_told : (b : BucketValue) (run low high : ℕ) → 0 < run → run < 2 ^ length b.points → length b.points ≤ 64
     → low ≡ lowest_of run → high ≡ highest_of run → ¬ (low ≡ high) → IsSeveral b run
 several_told b run low high s w few e g n =
@@ -41,17 +41,17 @@ abbrev pub half_run : Bool → ℕ → ℕ
 half_run true = left_run
 half_run false = right_run
 
--- the place in a half where the edge of a chain ends
+-- the index in a half at which the edge of a chain ends
 abbrev pub end_in : Bool → ℕ → ℕ → ℕ
 end_in true = end_of_run
 end_in false = start_of_run
 
--- a half has a place
+-- a half has an index
 pub half_some : (left : Bool) (b : BucketValue) (run : ℕ) → IsSeveral b run → 0 < half_run left run
 half_some true b run s = left_some run s.some s.fits s.wide
 half_some false b run s = right_some run s.some s.fits s.wide
 
--- and is a run whose stored edges are bridges
+-- and is a slice whose stored edges are bridges
 pub half_is : (left : Bool) (b : BucketValue) (run m : ℕ) → IsSeveral b run → IsBridged (tree_of_run b run)
     → m ≡ half_run left run
     → (0 < m) × (m < 2 ^ length b.points) × (height_of (tree_of_run b m) ≤ 63) × IsBridged (tree_of_run b m)
@@ -73,7 +73,7 @@ half_is left b run m s d e = subst (λ (z : ℕ). (0 < z) × (z < 2 ^ length b.p
       (subst IsBridged (fork_is b run s.some s.fits s.wide) d).4,
     )
 
--- a place that was told of a list that was read, and its point
+-- an index that was returned for a list that was read, and its point
 pub record IsReadAt (points read : List Pair) (place told : ℕ) : Type 0 where
   pub within : told < length read
   pub point : (p : Pair) → p ≡ get_or read told p → p ≡ point_at points place
@@ -82,7 +82,7 @@ pub read_there : (points read : List Pair) (place told : ℕ) → read ≡ point
     → IsReadAt points read place told
 read_there points read place told e f l = grind (arith, common_steps, read_at)
 
--- where the edge of a chain ends in a half
+-- the end of the edge of a chain in a half
 pub end_read : (left : Bool) (b : BucketValue) (side : Side) (run chain half told : ℕ) (read : List Pair)
     → IsSeveral b run → chain ≡ mask_on side b → half ≡ half_run left run → told ≡ end_in left chain half
     → read ≡ b.points → IsReadAt b.points read (end_in left (mask_on side b) (half_run left run)) told

@@ -1,4 +1,4 @@
--- The tree of a run of corners: a point, or a fork over the trees of its halves.
+-- The tree of a slice of vertices: a point, or a fork over the trees of its halves.
 use Rattle.std.proofs.lemmas.Grind.{common_steps}
 use Rattle.std.proofs.Common.{◌≡◌, ℕ, zero, suc, ◌+◌, ◌-◌, ◌^◌, ◌<◌, ◌≤◌, ◌⊎◌, inl, inr, sym, ap, ◌∙◌, subst, arith}
 use Rattle.std.proofs.Common.{refl}
@@ -22,12 +22,12 @@ use Rattle.hull_buckets.proofs.Halvings.{right_some, right_fits, right_highest, 
 
 -- ---- depths that are enough
 
--- a run has one place or several
+-- a slice has one index or several
 pub one_or_several : (run : ℕ) → 0 < run → run < 2 ^ 64 → (lowest_of run ≡ highest_of run) ⊎ (lowest_of run <
     highest_of run)
 one_or_several run s f = grind (arith, common_steps, cases_lt, lowest_of, highest_of, lowest_to_highest)
 
--- a tree to one depth is the tree to another, where both are enough
+-- a tree to one depth is the tree to another, if both are enough
 pub enough : (n m : ℕ) (b : BucketValue) (run : ℕ) → 0 < run → run < 2 ^ 64 → width_of run ≤ n → width_of run ≤ m
     → tree_to n b run ≡ tree_to m b run
 enough zero zero b run s f k l = refl
@@ -69,7 +69,7 @@ enough (suc n) (suc m) b run s f k l = elim (one_or_several run s f) [
       )))
 ]
 
--- one place is a point
+-- one index is a point
 pub leaf_is : (b : BucketValue) (run : ℕ) → lowest_of run ≡ highest_of run
     → tree_of_run b run ≡ Leaf (point_at b.points (lowest_of run))
 leaf_is b run e = let z : width_of run ≡ 0 = omega (arith, e) in ap (λ (n : ℕ). tree_to n b run) z
@@ -99,15 +99,15 @@ fork_is b run s f w =
 
 -- ---- points
 
--- a place of a run, and its point
+-- an index of a slice, and its point
 abbrev pub PlaceIn : BucketValue → ℕ → Pair → Type 0
 PlaceIn b run t = (i : ℕ) × (bit_at run i ≡ 1) × (t ≡ point_at b.points i)
 
--- one width is no less than several places
+-- one width is no less than several indices
 pub too_wide : (run : ℕ) → lowest_of run < highest_of run → width_of run ≤ 0 → ⊥
 too_wide run w k = omega (arith, w, k)
 
--- each point of the tree stands at a place of the run
+-- each point of the tree is at an index of the slice
 pub on_place : (n : ℕ) (b : BucketValue) (run : ℕ) → 0 < run → run < 2 ^ 64 → width_of run ≤ n → (t : Pair)
     → On (tree_of_run b run) t → PlaceIn b run t
 on_place zero b run s f k t i = elim (one_or_several run s f) [
@@ -130,12 +130,12 @@ on_place (suc n) b run s f k t i = elim (one_or_several run s f) [
     parts w g h (inl j) = let p = g j in (p.0, (left_bit run s f w p.0 p.1).1, p.2)
     parts w g h (inr j) = let p = h j in (p.0, (right_bit run s f w p.0 p.1).1, p.2)
 
--- a run of one place has no other
+-- a slice of one index has no other
 only_place : (run i : ℕ) → 0 < run → run < 2 ^ 64 → bit_at run i ≡ 1 → lowest_of run ≡ highest_of run
     → i ≡ lowest_of run
 only_place run i s f e q = let a = bit_from run i s f e in let c = bit_to run i s f e in omega (arith, a, c, q)
 
--- the point at each place of the run is one of the tree
+-- the point at each index of the slice is one of the tree
 pub on_tree : (n : ℕ) (b : BucketValue) (run : ℕ) → 0 < run → run < 2 ^ 64 → width_of run ≤ n → (i : ℕ)
     → bit_at run i ≡ 1 → On (tree_of_run b run) (point_at b.points i)
 on_tree zero b run s f k i e = elim (one_or_several run s f) [
@@ -155,7 +155,7 @@ on_tree (suc n) b run s f k i e = elim (one_or_several run s f) [
       ])
 ]
 
--- its first point stands at the lowest place
+-- its first point is at the lowest index
 pub first_is : (n : ℕ) (b : BucketValue) (run : ℕ) → 0 < run → run < 2 ^ 64 → width_of run ≤ n
     → first_of (tree_of_run b run) ≡ point_at b.points (lowest_of run)
 first_is zero b run s f k = elim (one_or_several run s f) [
@@ -185,7 +185,7 @@ last_is (suc n) b run s f k = elim (one_or_several run s f) [
       ∙ ap (point_at b.points) (right_highest run s f w)
 ]
 
--- it is no higher than the run is wide
+-- it is no higher than the slice is wide
 pub height_to : (n : ℕ) (b : BucketValue) (run : ℕ) → 0 < run → run < 2 ^ 64 → width_of run ≤ n
     → height_of (tree_of_run b run) ≤ n
 height_to zero b run s f k = elim (one_or_several run s f) [
@@ -205,12 +205,12 @@ height_to (suc n) b run s f k = elim (one_or_several run s f) [
       omega (arith, e, l, r)
 ]
 
--- how wide a run may be that is halved so often, if it is less
+-- the greatest width of a slice that is halved this often, if it is less
 abbrev reach : ℕ → ℕ
 reach zero = 1
 reach (suc n) = reach n + reach n
 
--- since each half is half as wide, so many forks are enough
+-- since each half is half as wide, this many forks are enough
 height_halved : (n : ℕ) (b : BucketValue) (run : ℕ) → 0 < run → run < 2 ^ 64 → width_of run < reach n
     → height_of (tree_of_run b run) ≤ n
 height_halved zero b run s f k = height_to 0 b run s f (omega (arith, k))
@@ -227,30 +227,30 @@ height_halved (suc n) b run s f k = elim (one_or_several run s f) [
       omega (arith, e, l, r)
 ]
 
--- no run of 64 places is higher than 6
+-- no slice of 64 indices is higher than 6
 pub six_high : (b : BucketValue) (run : ℕ) → 0 < run → run < 2 ^ 64 → height_of (tree_of_run b run) ≤ 6
 six_high b run s f = height_halved 6 b run s f (omega arith)
 
 -- ---- by the words of a half
 
--- a mask of the places of a list fits
+-- a mask of the indices of a list fits
 pub mask_fits : (mask n : ℕ) → mask < 2 ^ n → n ≤ 64 → mask < 2 ^ 64
 mask_fits mask n l k = let p = power_le n 64 k in omega (arith, l, p)
 
--- a place of it is one of the list
+-- an index of it is one of the list
 pub place_within : (mask n i : ℕ) → mask < 2 ^ n → bit_at mask i ≡ 1 → i < n
 place_within mask n i l e = grind (arith, common_steps, cases_lt, bit_at_above)
 
--- two places that differ are several
+-- two indices that differ are several
 pub several_of : (mask low high : ℕ) → 0 < mask → mask < 2 ^ 64 → low ≡ lowest_of mask → high ≡ highest_of mask
     → ¬ (low ≡ high) → lowest_of mask < highest_of mask
 several_of mask low high s f e g n = grind (arith, common_steps, one_or_several)
 
--- a fork is over several places
+-- a fork is over several indices
 pub several_of_fork : (b : BucketValue) (run : ℕ) → 0 < run → run < 2 ^ 64 → IsFork (tree_of_run b run)
     → lowest_of run < highest_of run
 several_of_fork b run s f h = grind (arith, common_steps, one_or_several, leaf_is)
 
--- no run is higher than a half may be
+-- no slice is higher than a half may be
 pub low_enough : (b : BucketValue) (run : ℕ) → 0 < run → run < 2 ^ 64 → height_of (tree_of_run b run) ≤ 63
 low_enough b run s f = height_to 63 b run s f (omega arith)

@@ -1,4 +1,4 @@
--- One step of a pass over the places of a mask: the lowest of them goes to the chain.
+-- One step of a pass over the indices of a mask: the lowest of them goes to the chain.
 use Rattle.std.proofs.lemmas.Grind.{common_steps}
 use Rattle.std.proofs.Common.{◌≡◌, ℕ, suc, refl, ◌+◌, ◌-◌, ◌*◌, ◌%◌, ◌^◌, ◌<◌, ◌≤◌, sym, ap, ◌∙◌, subst, arith, List}
 use Rattle.std.proofs.Common.{[], ◌∷◌, ◌++◌, length}
@@ -14,7 +14,7 @@ use Rattle.hull_buckets.specs.Masks.{at_places, AreApart}
 use Rattle.hull_buckets.proofs.Places.{first_at, none_at, pushed, set_at, together}
 use Rattle.hull_buckets.proofs.Words.{top_before, lowest_from, power_le, without_lowest, twice}
 
--- the chain so far, what is left, and the lowest place of that
+-- the chain so far, what is left, and the lowest index of that
 pub record IsStep (S : List Pair) (kept left place : ℕ) : Type 0 where
   pub apart : AreApart kept left
   pub least : 2 ^ place ≤ left
@@ -28,22 +28,22 @@ step S kept left place apart least there within =
     record { apart = apart; least = least; there = there; within = within }
 
 module _ {S : List Pair} {kept left place : ℕ} (now : IsStep S kept left place) where
-  -- the lowest place is one of the list
+  -- the lowest index is one of the list
   pub place_within : place < length S
   place_within = top_before left place (length S) now.least now.within
 
-  -- all of the chain stand before it
+  -- all of the chain are before it
   pub kept_before : kept < 2 ^ place
   kept_before = let l = lowest_from left now.apart.0 place now.apart.2 now.there in
       let p = power_le now.apart.0 place l in
       let k = now.apart.1 in
       omega (arith, p, k)
 
-  -- the points at the places that were left
+  -- the points at the indices that were left
   pub first_left : at_places left S ≡ point_at S place ∷ at_places (left - 2 ^ place) S
   first_left = first_at S left place now.there place_within
 
-  -- what is left stands behind the new chain
+  -- what is left is after the new chain
   pub still_apart : (next : ℕ) → next < 2 ^ (place + 1) → AreApart next (left - 2 ^ place)
   still_apart next l =
       let w = without_lowest left place now.there in
@@ -53,7 +53,7 @@ module _ {S : List Pair} {kept left place : ℕ} (now : IsStep S kept left place
   pub rest_apart : (next bit : ℕ) → next < 2 ^ (place + 1) → bit ≡ 2 ^ place → AreApart next (left - bit)
   rest_apart next bit l e = subst (λ (b : ℕ). AreApart next (left - b)) (sym e) (still_apart next l)
 
-  -- the places stay within a bound
+  -- the indices stay within a bound
   pub next_within : (next k : ℕ) → next < 2 ^ (place + 1) → kept < 2 ^ k → left < 2 ^ k → next < 2 ^ k
   next_within next k l m n =
       let t = top_before left place k now.least n in
@@ -81,7 +81,7 @@ module _ {S : List Pair} {kept left place : ℕ} (now : IsStep S kept left place
       ends_cut (point_at S place) (at_places next S)
       (h.ends (point_at S place) (ends_right (point_at S place) (at_places kept S) (point_at S place ∷ []) refl))
 
-  -- where the new point stays behind the last of the chain, at which those that are left bend on, all stay
+  -- if the new point stays after the last of the chain, at which those that are left bend on, all stay
   pub stopped : (side : Side) (next : ℕ) (front : List Pair) (q : Pair) → IsPointSet S → next < 2 ^ length S
       → next ≡ kept + 2 ^ place → at_places kept S ≡ front ++ q ∷ [] → IsConvex side (q ∷ at_places left S)
       → IsConvex side (at_places next S)
@@ -119,7 +119,7 @@ module _ {S : List Pair} {kept left place : ℕ} (now : IsStep S kept left place
           ∙ ap (λ (z : List Pair). (front ++ q ∷ []) ++ z) first_left
           ∙ append_twice front (q ∷ []) (point_at S place ∷ at_places (left - 2 ^ place) S)
 
--- where nothing is left the chain is what the pass leaves
+-- if nothing is left the chain is what the pass leaves
 pub none_left : (side : Side) (S : List Pair) (kept left : ℕ) → IsPointSet S → left ≡ 0
     → IsConvex side (at_places kept S) → IsPassed side (at_places kept S ++ at_places left S) (at_places kept S)
 none_left side S kept left s e t = grind (arith, common_steps, at_places, append_none, none_at, passed_itself, set_at)

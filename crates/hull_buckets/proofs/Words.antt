@@ -14,7 +14,7 @@ twice k = let a : suc k ≡ k + 1 = omega arith in let e = pow-add 2 k 1 in ap (
 pub one_more : (n k : ℕ) → n % 2 ^ (k + 1) ≡ bit_at n k * 2 ^ k + n % 2 ^ k
 one_more n k = let a : k + 1 ≡ 1 + k = omega arith in ap (λ (m : ℕ). n % 2 ^ m) a ∙ mod-pow-add n 1 k
 
--- with no bit below a place there is nothing below it
+-- with no bit below an index there is nothing below it
 pub none_below : (n k : ℕ) → ((i : ℕ) → i < k → bit_at n i ≡ 0) → n % 2 ^ k ≡ 0
 none_below n zero h = omega arith
 none_below n (suc k) h =
@@ -24,7 +24,7 @@ none_below n (suc k) h =
     let m = none_below n k (λ i l. h i (omega (arith, l))) in
     ap (λ (j : ℕ). n % 2 ^ j) a ∙ e ∙ ap (λ (z : ℕ). z * 2 ^ k + n % 2 ^ k) b ∙ (omega (arith, m))
 
--- the highest place of a number below a power stands before that power's
+-- the highest index of a number below a power is before that power's
 pub top_before : (mask h k : ℕ) → 2 ^ h ≤ mask → mask < 2 ^ k → h < k
 top_before mask h k there l = elim (cases_order h k) [
   | inl e ↦ absurd (let s = ap (λ (n : ℕ). 2 ^ n) e in omega (arith, there, l, s))
@@ -54,7 +54,7 @@ divided n j k l e =
     assoc : (a b c : ℕ) → a * (b * c) ≡ a * b * c + 0
     assoc a b c = grind arith
 
--- a mask that has no place before k has its lowest place there or behind it
+-- a mask that has no index before k has its lowest index at k or after it
 pub lowest_from : (n k place : ℕ) → n % 2 ^ k ≡ 0 → n % 2 ^ (place + 1) ≡ 2 ^ place → k ≤ place
 lowest_from n k place e f = elim (cases_lt place k) [
   | inl l ↦ absurd (let z = divided n (place + 1) k (omega (arith, l)) e in let s = pow_pos place in omega (
@@ -74,14 +74,14 @@ power_le j k l = elim (cases_order j k) [
   | inr (inr b) ↦ absurd (omega (arith, l, b))
 ]
 
--- without its lowest place a mask has none up to it
+-- without its lowest index a mask has none up to it
 pub without_lowest : (n place : ℕ) → n % 2 ^ (place + 1) ≡ 2 ^ place
     → (high : ℕ) × (n - 2 ^ place ≡ high * 2 ^ (place + 1)) × (n ≡ high * 2 ^ (place + 1) + 2 ^ place)
 without_lowest n place f =
     let s = div-add-mod' n (2 ^ (place + 1)) in
     (n / 2 ^ (place + 1), omega (arith, s, f), omega (arith, s, f))
 
--- two masks, all places of the one before all of the other, are below a power together where each is
+-- two masks, all indices of the one before all of the other, are below a power together if each is
 pub sum_within : (low high n : ℕ) → AreApart low high → low < 2 ^ n → high < 2 ^ n → low + high < 2 ^ n
 sum_within low high n (k, l, e) below_n high_below_n = elim (cases_lt n k) [
   | inl b ↦ none b
@@ -110,11 +110,11 @@ sum_within low high n (k, l, e) below_n high_below_n = elim (cases_lt n k) [
 pub next_power : (k : ℕ) → 2 ^ (k + 1) ≡ 2 ^ k * 2
 next_power k = let a : k + 1 ≡ suc k = omega arith in ap (λ (z : ℕ). 2 ^ z) a ∙ twice k
 
--- a number without what is below a place
+-- a number without what is below an index
 pub high_part : (n k : ℕ) → n - n % 2 ^ k ≡ n / 2 ^ k * 2 ^ k
 high_part n k = let s = div-add-mod' n (2 ^ k) in omega (arith, s)
 
--- twice that is so many of the next power
+-- twice that is this many of the next power
 pub high_twice : (n k : ℕ) → (n - n % 2 ^ k) * 2 ≡ n / 2 ^ k * 2 ^ (k + 1)
 high_twice n k =
     ap (λ (z : ℕ). z * 2) (high_part n k) ∙ assoc (n / 2 ^ k) (2 ^ k)

@@ -1,5 +1,4 @@
--- What a bucket is: points in order, how often each is held, and which of them are corners of the two chains of all of
--- them.
+-- The values of a bucket: points in order, the multiplicity of each, and which of them are vertices of the two chains of all of them.
 use Rattle.std.specs.Prelude.{◌≡◌, ◌⊎◌, ℕ, ◌<◌, ◌≤◌, ◌^◌, List, length, take}
 use Rattle.std.specs.List.{All, Contains}
 use Rattle.lattice.specs.Covers.{IsPointSet}
@@ -11,34 +10,34 @@ use Rattle.hull_set.specs.declared.TheConstants.{MULTIPLICITY_LIMIT}
 use Rattle.hull_buckets.specs.Masks.{at_places, without_place, AreApart}
 use Rattle.hull_buckets.specs.declared.TheConstants.{ROOM}
 
--- what contracts see of a bucket: its points, how often each is held, and the places of the corners of its two chains
+-- a bucket as contracts see it: its points, the multiplicity of each, and the indices of the vertices of its two chains
 pub record BucketValue : Type 0 where
   pub points : List Pair
   pub times : List ℕ
   pub lower : ℕ
   pub upper : ℕ
 
--- the first so many of two arrays, and two masks
+-- the first elements of two arrays, as many as the first argument, and two masks
 abbrev pub seen : ℕ → List Pair → List ℕ → ℕ → ℕ → BucketValue
 seen len points times lower upper =
     record { points = take len points; times = take len times; lower = lower; upper = upper }
 
--- the places of the corners of the chain on a side
+-- the indices of the vertices of the chain on a side
 abbrev pub mask_on : Side → BucketValue → ℕ
 mask_on Lower b = b.lower
 mask_on Upper b = b.upper
 
--- how often a point of a bucket is held
+-- a multiplicity that a point of a bucket may have
 abbrev pub IsMultiplicity : ℕ → Type 0
 IsMultiplicity times = (1 ≤ times) × (times ≤ MULTIPLICITY_LIMIT)
 
--- a mask has the places of the corners of the chain of these points on a side, and no other
+-- a mask has the indices of the vertices of the chain of these points on a side, and no other
 pub record IsMaskOf (side : Side) (points : List Pair) (mask : ℕ) : Type 0 where
   pub within : mask < 2 ^ length points
   pub chain : IsChainOf side points (at_places mask points)
 
--- at least one point and no more than there is room for, in order, each held as often as a point may be; the masks are
--- those of the two chains of all of them
+-- a bucket: at least one point and no more than its capacity, in order, each with a multiplicity that a point may have; the masks are those of the
+-- two chains of all of them
 pub record IsBucket (b : BucketValue) : Type 0 where
   pub some : 0 < length b.points
   pub few : length b.points ≤ ROOM
@@ -47,7 +46,7 @@ pub record IsBucket (b : BucketValue) : Type 0 where
   pub held : All IsMultiplicity b.times
   pub corners : (side : Side) → IsMaskOf side b.points (mask_on side b)
 
--- a mask had the corners of the chain of these points and of one more, which stood at a place
+-- a mask had the vertices of the chain of these points and of one more, which was at an index
 pub record WasMaskOf (side : Side) (points : List Pair) (place mask : ℕ) : Type 0 where
   pub old : List Pair
   pub few : length old ≤ ROOM
@@ -56,12 +55,12 @@ pub record WasMaskOf (side : Side) (points : List Pair) (place mask : ℕ) : Typ
   pub left : points ≡ without_place place old
   pub corners : IsMaskOf side old mask
 
--- t stands after all of the one list and before all of the other
+-- t is after all of the one list and before all of the other
 abbrev pub IsAmid : List Pair → List Pair → Pair → Type 0
 IsAmid left right t = All (λ u. IsBefore u t) left × All (IsBefore t) right
 
--- the points at the places of two masks, all of the one before all of the other, are convex; each of the points is inner to those of
--- one, or stands between both
+-- the points at the indices of two masks, all of the one before all of the other, are convex; each of the points is inner to those of one, or is
+-- between both
 pub record AreEnds (side : Side) (points : List Pair) (low high : ℕ) : Type 0 where
   pub apart : AreApart low high
   pub low_within : low < 2 ^ length points
@@ -71,6 +70,6 @@ pub record AreEnds (side : Side) (points : List Pair) (low high : ℕ) : Type 0 
   pub others : (t : Pair) → Contains points t → IsInner side (at_places low points) t
       ⊎ (IsInner side (at_places high points) t ⊎ IsAmid (at_places low points) (at_places high points) t)
 
--- p stands inwards of a segment between two of the points: it is no corner on this side
+-- p is inwards of a segment between two of the points: it is no vertex on this side
 abbrev pub IsCovered : Side → Pair → List Pair → Type 0
 IsCovered side p S = (a : Pair) × (b : Pair) × Contains S a × Contains S b × IsInwards side a b p

@@ -11,15 +11,15 @@ use super::run::Run;
 use bridge_search::both_bridges;
 use lattice::{Point, Side};
 
-/// The corners of a bucket are a fringe of its points: what they tell a search of bridges is so of all of them.
+/// The vertices of a bucket are a candidate list of its points: a bridge search on them finds the bridges of all points.
 pub fn corners_are_a_fringe(bucket: &Bucket, side: Side)
     ensures { IsFringe side (On (tree_of_run bucket.now (all_of bucket.now))) (Contains bucket.now.points) }
 {
     buckets_are_sound(bucket);
 }
 
-/// The upper and the lower bridge of all points of two buckets, all of the one before all of the other: each from its
-/// end in the first to its end in the second. The search goes down their corners alone.
+/// Returns the upper and the lower bridge of all points of two buckets, all of the one before all of the other: each from its end in the first to its
+/// end in the second. The search goes down their vertices only.
 pub fn bridges_of(first: &Bucket, second: &Bucket) -> ((Point, Point), (Point, Point))
     requires { IsAllBefore (Contains first.now.points) (Contains second.now.points) }
     ensures upper { IsUpperBridge (Contains first.now.points) (Contains second.now.points) result.0.0 result.0.1 }

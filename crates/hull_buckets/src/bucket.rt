@@ -17,8 +17,7 @@ use super::row::{put_behind, put_in, put_over, take_out};
 use lattice::{Point, Side};
 use std::marker::Model;
 
-/// One to 64 points in order, each with how often it is held, and the places of the corners of their lower and of their
-/// upper chain.
+/// One to 64 points in order, each with its multiplicity, and the indices of the vertices of their lower and of their upper chain.
 #[derive(Drop)]
 pub struct Bucket {
     points: [Point; ROOM],
@@ -43,7 +42,7 @@ impl Model for Bucket {
 impl Bucket {
     ghost use Rattle.hull_buckets.specs.Buckets.{IsMultiplicity, IsMaskOf, IsCovered, mask_on};
 
-    /// A bucket of one point.
+    /// Makes a bucket of one point.
     pub fn new(point: Point, times: u16) -> Bucket
         requires { IsMultiplicity times }
         ensures points { result.points ≡ point ∷ [] }
@@ -58,7 +57,7 @@ impl Bucket {
         }
     }
 
-    /// Its points, in order.
+    /// Returns the points, in order.
     pub fn points(&self) -> &[Point]
         ensures points { result.now ≡ self.now.points }
         ensures some { 0 < length result.now }
@@ -68,7 +67,7 @@ impl Bucket {
         &self.points[..self.len]
     }
 
-    /// How often each is held, in the order of the points.
+    /// Returns the multiplicity of each point, in the order of the points.
     pub fn times(&self) -> &[u16]
         ensures times { result.now ≡ self.now.times }
         ensures counted { length result.now ≡ length self.now.points }
@@ -77,21 +76,21 @@ impl Bucket {
         &self.times[..self.len]
     }
 
-    /// Whether there is room for no more.
+    /// Whether the bucket has no capacity left.
     pub fn is_full(&self) -> bool
         ensures { IsTrue result ↔ (length self.now.points ≡ ROOM) }
     {
         self.points().len() == ROOM
     }
 
-    /// Where a point stands in it, or else where it would stand.
+    /// Returns the index of a point, or else the index at which it would be inserted.
     pub fn place_of(&self, p: Point) -> Result<usize, usize>
         ensures { IsPositionOf self.now.points p result }
     {
         position_of(&self.points[..self.len], p)
     }
 
-    /// The places of the corners of the chain on a side, as the bits of a word.
+    /// Returns the indices of the vertices of the chain on a side, as the bits of a word.
     pub fn corners(&self, side: Side) -> u64
         ensures mask { result ≡ mask_on side self.now }
         ensures corners { IsMaskOf side self.now.points result }
@@ -102,7 +101,7 @@ impl Bucket {
         }
     }
 
-    /// Whether the point at a place is a corner on a side: else it stands inwards of a segment between two others.
+    /// Whether the point at an index is a vertex on a side: if not, it is inwards of a segment between two others.
     pub fn is_corner(&self, side: Side, place: usize) -> bool
         requires { place < length self.now.points }
         ensures { result ≡ false → IsCovered side (point_at self.now.points place) self.now.points }
@@ -111,7 +110,7 @@ impl Bucket {
         has(self.corners(side), place)
     }
 
-    /// Makes the point at a place one that is held so often.
+    /// Sets the multiplicity of the point at an index.
     pub fn set_times(&mut self, place: usize, times: u16)
         requires within { place < length self.old.points }
         requires held { IsMultiplicity times }
@@ -122,7 +121,7 @@ impl Bucket {
         put_over(&mut self.times, self.len, place, times);
     }
 
-    /// Puts a point in, at its place.
+    /// Inserts a point at its index.
     pub fn insert(&mut self, place: usize, point: Point, times: u16)
         requires position { IsPositionOf self.old.points point (Err place) }
         requires room { length self.old.points < ROOM }
@@ -138,7 +137,7 @@ impl Bucket {
         self.upper = with_corner(Side::Upper, points, self.upper, place);
     }
 
-    /// Takes the point at a place out; it is not the only one.
+    /// Removes the point at an index; it must not be the only one.
     pub fn remove(&mut self, place: usize)
         requires within { place < length self.old.points }
         requires others { 1 < length self.old.points }
@@ -153,7 +152,7 @@ impl Bucket {
         self.upper = without_corner(Side::Upper, points, self.upper, place);
     }
 
-    /// A bucket of points in order, each held so often.
+    /// Makes a bucket of points in order, each with its multiplicity.
     pub fn from_parts(points: &[Point], times: &[u16]) -> Bucket
         requires some { 0 < length points.now }
         requires few { length points.now ≤ ROOM }
@@ -171,7 +170,7 @@ impl Bucket {
         )
     }
 
-    /// A bucket of points in order, each held so often, whose corners are known.
+    /// Makes a bucket of points in order, each with its multiplicity, whose vertices are known.
     fn with_corners(points: &[Point], times: &[u16], lower: u64, upper: u64) -> Bucket
         requires some { 0 < length points.now }
         requires few { length points.now ≤ ROOM }
@@ -196,7 +195,7 @@ impl Bucket {
         }
     }
 
-    /// Keeps the first so many points, and not the others.
+    /// Keeps the first `len` points, and drops the others.
     fn truncate(&mut self, len: usize)
         requires some { 0 < len }
         requires within { len < length self.old.points }
@@ -209,7 +208,7 @@ impl Bucket {
         self.len = len;
     }
 
-    /// Parts it in the middle: the points of its second half go to the bucket that is returned.
+    /// Splits the bucket in the middle: the points of its second half move to the bucket that is returned.
     pub fn split(&mut self) -> Bucket
         requires { 1 < length self.old.points }
         ensures points { self.old.points ≡ self.new.points ++ result.points }
@@ -228,7 +227,7 @@ impl Bucket {
         second
     }
 
-    /// Takes in the points of a bucket that stands behind it.
+    /// Appends the points of a bucket that is after this one.
     pub fn merge(&mut self, other: &Bucket)
         requires order { IsAllBefore (Contains self.old.points) (Contains other.now.points) }
         requires room { length self.old.points + length other.now.points ≤ ROOM }
@@ -245,7 +244,7 @@ impl Bucket {
     }
 }
 
-/// What each bucket is.
+/// The law of buckets: each is well formed.
 pub fn buckets_are_sound(bucket: &Bucket)
     ensures { IsBucket bucket.now }
 {

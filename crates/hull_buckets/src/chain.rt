@@ -1,5 +1,4 @@
-//! The chain of a hull on one side, as the places of its corners, by a pass over points in order (the monotone chain:
-//! Andrew, 1979).
+//! The chain of a hull on one side, as the indices of its vertices, by a pass over points in order (the monotone chain: Andrew, 1979).
 ghost use Rattle.std.specs.Prelude.{◌≡◌, ℕ, ◌↔◌, ◌<◌, ◌≤◌, ◌+◌, ◌-◌, ◌^◌, ◌++◌, ◌∷◌, [], IfSome, IsTrue, None};
 ghost use Rattle.std.specs.Prelude.{pos, ◌<ℤ◌, length, take};
 ghost use Rattle.lattice.specs.Covers.{IsPointSet};
@@ -12,15 +11,14 @@ ghost use Rattle.hull_buckets.specs.declared.TheConstants.{ROOM};
 use super::mask::{bit, highest, lowest};
 use lattice::{Point, Side, orient_on};
 
-/// Whether a chain bends at `b` on the way from `a` to `c`: whether `b` lies outwards of the segment between them.
+/// Whether a chain bends at `b` on the way from `a` to `c`: whether `b` is outwards of the segment between them.
 pub(crate) fn is_convex_at(side: Side, a: Point, b: Point, c: Point) -> bool
     ensures { IsTrue result ↔ (pos 0 <ℤ orientations.orient_on side a b c) }
 {
     orient_on(side, a, b, c) > 0
 }
 
-/// A chain without its last corner, where that one does not lie outwards of the segment from the one before it to the
-/// point at a place.
+/// Removes the last vertex of a chain, if it is not outwards of the segment from the one before it to the point at an index.
 fn without_last(side: Side, points: &[Point], chain: u64, place: usize) -> Option<u64>
     requires few { length points.now ≤ ROOM }
     requires within { place < length points.now }
@@ -47,7 +45,7 @@ fn without_last(side: Side, points: &[Point], chain: u64, place: usize) -> Optio
     Some(front)
 }
 
-/// The chain with the point at a place behind it: those of its last corners go at which it does not bend then.
+/// Appends the point at an index to the chain, and removes those of the chain's last vertices at which it does not bend then.
 pub(crate) fn pushed(side: Side, points: &[Point], chain: u64, place: usize) -> u64
     requires few { length points.now ≤ ROOM }
     requires within { place < length points.now }
@@ -65,7 +63,7 @@ pub(crate) fn pushed(side: Side, points: &[Point], chain: u64, place: usize) -> 
     kept + bit(place)
 }
 
-/// A chain taken on over the points at the places of `rest`, all behind its own: one pass in order.
+/// Continues a chain over the points at the indices of `rest`, all after its own: one pass in order.
 pub(crate) fn passed_over(side: Side, points: &[Point], chain: u64, rest: u64) -> u64
     requires few { length points.now ≤ ROOM }
     requires ordered { IsPointSet points.now }
@@ -87,8 +85,8 @@ pub(crate) fn passed_over(side: Side, points: &[Point], chain: u64, rest: u64) -
     kept
 }
 
-/// A chain taken on over corners that bend, all behind its own, at the places of `rest`. It ends as soon as two of them
-/// stand on it in a row: from there on all bends are as they were.
+/// Continues a chain over vertices that bend, all after its own, at the indices of `rest`. It ends as soon as two of them in a row are on it: from
+/// there on all bends are as they were.
 pub(crate) fn taken_up(side: Side, points: &[Point], chain: u64, rest: u64) -> u64
     requires few { length points.now ≤ ROOM }
     requires ordered { IsPointSet points.now }

@@ -1,10 +1,8 @@
-//! Buckets of lattice points: up to 64 of them in order in one array, with the corners of both chains of their hull as
-//! the bits of two words.
+//! Buckets of lattice points: up to 64 of them in order in one array, with the vertices of both chains of their hull as the bits of two words.
 //!
-//! A [`Bucket`] takes points in and out, is parted in the middle, and takes in a bucket behind it; each change mends
-//! the two words, by passes over the places that it can touch. To a search of bridges and to questions it is a half of
-//! a hull, a [`Run`] of its corners. A leaf tree over buckets has a thirtieth of the forks that one over points has;
-//! `BucketTree` (crate `bucket_tree`) is one.
+//! You can insert points into a [`Bucket`] and remove them, split it in the middle, and append a bucket that is after it; each change repairs the two
+//! words, by passes over the indices that it can affect. To a search of bridges and to questions it is a half of a hull, a [`Run`] of its vertices. A
+//! leaf tree over buckets has a thirtieth of the forks that one over points has; `BucketTree` (crate `bucket_tree`) is one.
 //!
 //! # A worked example
 //!
@@ -37,5 +35,5 @@ pub use bridges::{bridges_of, corners_are_a_fringe};
 pub use bucket::{Bucket, buckets_are_sound};
 pub use run::Run;
 
-/// How many points a bucket has room for: a bit of a word each.
+/// The capacity of a bucket: one bit of a word for each point.
 pub const ROOM: usize = 64;

@@ -1,8 +1,8 @@
-//! Places as the bits of a word.
+//! Indices as the bits of a word.
 ghost use Rattle.std.specs.Prelude.{◌≡◌, ◌⊎◌, ◌<◌, ◌≤◌, ◌+◌, ◌-◌, ◌*◌, ◌/◌, ◌%◌, ◌^◌, ◌↔◌, IsTrue};
 ghost use Rattle.hull_buckets.specs.Masks.{AreApart, IsGap, lowest_of, highest_of};
 
-/// The lowest place of a mask that has one.
+/// Returns the lowest index of a mask that has one.
 pub(crate) fn lowest(mask: u64) -> usize
     requires { 0 < mask }
     ensures value { result ≡ lowest_of mask }
@@ -14,7 +14,7 @@ pub(crate) fn lowest(mask: u64) -> usize
     mask.trailing_zeros() as usize
 }
 
-/// The highest place of a mask that has one.
+/// Returns the highest index of a mask that has one.
 pub(crate) fn highest(mask: u64) -> usize
     requires { 0 < mask }
     ensures value { result ≡ highest_of mask }
@@ -25,7 +25,7 @@ pub(crate) fn highest(mask: u64) -> usize
     63 - mask.leading_zeros() as usize
 }
 
-/// The mask of one place.
+/// Returns the mask of one index.
 pub(crate) fn bit(place: usize) -> u64
     requires { place < 64 }
     ensures { result ≡ 2 ^ place }
@@ -33,7 +33,7 @@ pub(crate) fn bit(place: usize) -> u64
     1 << place
 }
 
-/// The places of a mask before one.
+/// Returns the indices of a mask before one.
 pub(crate) fn below(mask: u64, place: usize) -> u64
     requires { place < 64 }
     ensures { result ≡ mask % 2 ^ place }
@@ -41,7 +41,7 @@ pub(crate) fn below(mask: u64, place: usize) -> u64
     mask & (bit(place) - 1)
 }
 
-/// The places of a mask from one on, each moved up by one.
+/// Returns the indices of a mask from one on, each moved up by one.
 pub(crate) fn moved_up(mask: u64, place: usize) -> u64
     requires within { place < 64 }
     requires room { mask < 2 ^ 63 }
@@ -50,7 +50,7 @@ pub(crate) fn moved_up(mask: u64, place: usize) -> u64
     (mask - below(mask, place)) * 2
 }
 
-/// The places of a mask behind one, each moved down by one.
+/// Returns the indices of a mask after one, each moved down by one.
 pub(crate) fn moved_down(mask: u64, place: usize) -> u64
     requires { place < 64 }
     ensures { result ≡ mask / 2 ^ (place + 1) * 2 ^ place }
@@ -58,7 +58,7 @@ pub(crate) fn moved_down(mask: u64, place: usize) -> u64
     mask >> place >> 1 << place
 }
 
-/// Whether a mask has a place.
+/// Whether a mask has an index.
 pub(crate) fn has(mask: u64, place: usize) -> bool
     requires { place < 64 }
     ensures { IsTrue result ↔ (mask / 2 ^ place % 2 ≡ 1) }
@@ -66,7 +66,7 @@ pub(crate) fn has(mask: u64, place: usize) -> bool
     (mask >> place) & 1 == 1
 }
 
-/// The first so many places.
+/// Returns the mask of the first `count` indices.
 pub(crate) fn first(count: usize) -> u64
     requires { count ≤ 64 }
     ensures { result ≡ 2 ^ count - 1 }
@@ -78,7 +78,7 @@ pub(crate) fn first(count: usize) -> u64
     }
 }
 
-/// The place behind the highest one of a mask; the first where it has none.
+/// Returns the index after the highest one of a mask; the first if it has none.
 fn behind(mask: u64) -> usize
     ensures all { mask < 2 ^ result }
     ensures next { (result ≡ 0) ⊎ (2 ^ (result - 1) ≤ mask) }
@@ -90,7 +90,7 @@ fn behind(mask: u64) -> usize
     highest(mask) + 1
 }
 
-/// The lowest place of a mask of so many; where it has none, their number.
+/// Returns the lowest index of a mask of `count` indices, or `count` if it has none.
 fn ahead(mask: u64, count: usize) -> usize
     requires { mask < 2 ^ count }
     ensures none { mask % 2 ^ result ≡ 0 }
@@ -103,7 +103,7 @@ fn ahead(mask: u64, count: usize) -> usize
     lowest(mask)
 }
 
-/// The places, of the first so many, that stand behind all of `low` and before all of `high`.
+/// Returns those of the first `count` indices that are after all of `low` and before all of `high`.
 #[tactic(none)]
 pub(crate) fn between(low: u64, high: u64, count: usize) -> u64
     requires few { count ≤ 64 }

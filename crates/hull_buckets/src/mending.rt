@@ -1,4 +1,4 @@
-//! The chain of a bucket's points after one came or went, or after all did.
+//! The chain of a bucket's points after one was added or removed, or of all points.
 ghost use Rattle.std.specs.Prelude.{◌≡◌, ◌↔◌, ◌<◌, ◌≤◌, ◌+◌, ◌%◌, ◌^◌, ◌++◌, IsTrue, length, take, drop};
 ghost use Rattle.lattice.specs.Covers.{IsPointSet};
 ghost use Rattle.hull_geometry.specs.Mending.{IsOverEdge};
@@ -11,8 +11,7 @@ use super::chain::{is_convex_at, passed_over, pushed, taken_up};
 use super::mask::{below, between, first, has, highest, lowest, moved_down, moved_up};
 use lattice::{Point, Side};
 
-/// Whether the point at a place lies between the last corner before it and the first one behind it, and not outwards of
-/// their segment.
+/// Whether the point at an index is between the last vertex before it and the first one after it, and not outwards of their segment.
 fn is_covered(side: Side, points: &[Point], low: u64, high: u64, place: usize) -> bool
     requires few { length points.now ≤ ROOM }
     requires within { place < length points.now }
@@ -30,10 +29,10 @@ fn is_covered(side: Side, points: &[Point], low: u64, high: u64, place: usize) -
     !is_convex_at(side, ahead, points[place], behind)
 }
 
-/// The mask of the chain of points of which the one at `place` came new; `old` was that of the others.
+/// Returns the mask of the chain of points of which the one at `place` is new; `old` is that of the others.
 ///
-/// Where the point lies between two corners of the old chain and not outwards of their segment, nothing changes. Else
-/// those corners go at which the chain to it does not bend, on either side.
+/// If the point is between two vertices of the old chain and not outwards of their segment, nothing changes. Otherwise the vertices are removed, on
+/// either side, at which the chain to the point does not bend.
 pub(crate) fn with_corner(side: Side, points: &[Point], old: u64, place: usize) -> u64
     requires few { length points.now ≤ ROOM }
     requires ordered { IsPointSet points.now }
@@ -50,8 +49,8 @@ pub(crate) fn with_corner(side: Side, points: &[Point], old: u64, place: usize) 
     taken_up(side, points, front, high)
 }
 
-/// The mask of the chain of points, by corners at its two ends: one pass goes over the points between these, and on over the
-/// corners behind them until the chain bends as it did.
+/// Returns the mask of the chain of points, given vertices at its two ends: one pass goes over the points between these, and on over the vertices
+/// after them until the chain bends as it did.
 fn joined(side: Side, points: &[Point], low: u64, high: u64) -> u64
     requires few { length points.now ≤ ROOM }
     requires ordered { IsPointSet points.now }
@@ -63,10 +62,9 @@ fn joined(side: Side, points: &[Point], low: u64, high: u64) -> u64
     taken_up(side, points, front, high)
 }
 
-/// The mask of the chain of points of which one has gone that stood at `place`; `old` was that of all of them.
+/// Returns the mask of the chain of points after the one at `place` was removed; `old` is that of all of them.
 ///
-/// Where the point was no corner, nothing changes. Else its neighbours stay, and one pass goes over the points between
-/// them.
+/// If the point was no vertex, nothing changes. Otherwise its neighbours stay, and one pass goes over the points between them.
 pub(crate) fn without_corner(side: Side, points: &[Point], old: u64, place: usize) -> u64
     requires { WasMaskOf side points.now place old }
     ensures { IsMaskOf side points.now result }
@@ -79,8 +77,8 @@ pub(crate) fn without_corner(side: Side, points: &[Point], old: u64, place: usiz
     joined(side, points, low, high)
 }
 
-/// The mask of the chain of the first so many points, where `old` is that of all of them: its corners stay, and a pass goes
-/// over the points behind the last of them.
+/// Returns the mask of the chain of the first `count` points, if `old` is that of all of them: its vertices stay, and a pass goes over the points
+/// after the last of them.
 pub(crate) fn corners_before(side: Side, points: &[Point], old: u64, count: usize) -> u64
     requires few { length points.now ≤ ROOM }
     requires ordered { IsPointSet points.now }
@@ -91,7 +89,7 @@ pub(crate) fn corners_before(side: Side, points: &[Point], old: u64, count: usiz
     joined(side, &points[..count], below(old, count), 0)
 }
 
-/// The mask of the chain of the points from a place on, where `old` is that of all of them.
+/// Returns the mask of the chain of the points from an index on, if `old` is that of all of them.
 pub(crate) fn corners_from(side: Side, points: &[Point], old: u64, place: usize) -> u64
     requires few { length points.now ≤ ROOM }
     requires ordered { IsPointSet points.now }
@@ -102,7 +100,7 @@ pub(crate) fn corners_from(side: Side, points: &[Point], old: u64, place: usize)
     joined(side, &points[place..], 0, old >> place)
 }
 
-/// The mask of the chain of these points, in one pass.
+/// Returns the mask of the chain of these points, in one pass.
 pub(crate) fn all_corners(side: Side, points: &[Point]) -> u64
     requires few { length points.now ≤ ROOM }
     requires ordered { IsPointSet points.now }

@@ -1,4 +1,4 @@
-//! Where a point stands among points in order.
+//! The index of a point among points in order.
 ghost use Rattle.std.specs.Prelude.{◌<◌, ◌≤◌, length, take, drop};
 ghost use Rattle.std.specs.List.{All};
 ghost use Rattle.lattice.specs.Covers.{IsPointSet};
@@ -8,7 +8,7 @@ ghost use Rattle.hull_buckets.specs.declared.TheConstants.{ROOM};
 
 use lattice::{Point, before};
 
-/// The first place whose point does not stand before `p`: a binary search, with one comparison a step.
+/// Returns the first index whose point is not before `p`: a binary search, with one comparison a step.
 fn first_not_before(points: &[Point], p: Point) -> usize
     requires few { length points.now ≤ ROOM }
     requires ordered { IsPointSet points.now }
@@ -29,7 +29,7 @@ fn first_not_before(points: &[Point], p: Point) -> usize
     low
 }
 
-/// Where `p` stands, or else where it would stand.
+/// Returns the index of `p`, or else the index at which it would be inserted.
 pub(crate) fn position_of(points: &[Point], p: Point) -> Result<usize, usize>
     requires few { length points.now ≤ ROOM }
     requires ordered { IsPointSet points.now }

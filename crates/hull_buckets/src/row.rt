@@ -1,10 +1,10 @@
-//! The first values of an array as a list: one put in, one taken out, some copied.
+//! The first values of an array as a list: inserting one, removing one, copying some.
 ghost use Rattle.std.specs.Prelude.{◌≡◌, ◌<◌, ◌≤◌, ◌+◌, ◌-◌, ◌++◌, length, take, slice_set};
 ghost use Rattle.std.specs.List.{insert, remove};
 
 use super::ROOM;
 
-/// Puts a value in at a place of the first `count`; those from there on move up by one.
+/// Inserts a value at an index of the first `count`; those from there on move up by one.
 pub(crate) fn put_in<T: Copy>(items: &mut [T], count: usize, place: usize, item: T)
     requires order { place ≤ count }
     requires room { count < length items.old }
@@ -15,7 +15,7 @@ pub(crate) fn put_in<T: Copy>(items: &mut [T], count: usize, place: usize, item:
     items[place] = item;
 }
 
-/// Takes the value at a place out of the first `count`; those behind it move down by one.
+/// Removes the value at an index of the first `count`; those after it move down by one.
 pub(crate) fn take_out<T: Copy>(items: &mut [T], count: usize, place: usize)
     requires order { place < count }
     requires within { count ≤ length items.old }
@@ -25,7 +25,7 @@ pub(crate) fn take_out<T: Copy>(items: &mut [T], count: usize, place: usize)
     items.copy_within(place + 1..count, place);
 }
 
-/// Writes values behind the first `count`.
+/// Appends values after the first `count`.
 pub(crate) fn put_behind<T: Copy>(items: &mut [T], count: usize, more: &[T])
     requires room { count + length more.now ≤ length items.old }
     ensures items { take (count + length more.now) items.new ≡ take count items.old ++ more.now }
@@ -34,7 +34,7 @@ pub(crate) fn put_behind<T: Copy>(items: &mut [T], count: usize, more: &[T])
     items[count..count + more.len()].copy_from_slice(more);
 }
 
-/// Writes a value over the one at a place of the first `count`.
+/// Overwrites the value at an index of the first `count`.
 pub(crate) fn put_over<T: Copy>(items: &mut [T], count: usize, place: usize, item: T)
     requires order { place < count }
     requires within { count ≤ length items.old }

@@ -1,4 +1,4 @@
-//! Runs of a bucket's corners, as halves of a hull.
+//! Slices of a bucket's vertices, as halves of a hull.
 ghost use Rattle.std.specs.Prelude.{◌≡◌, ◌<◌, ◌≤◌, ◌^◌, length};
 ghost use Rattle.lattice.specs.Plane as plane;
 ghost use Rattle.lattice.specs.Plane.{IsWithin, widest_side};
@@ -14,12 +14,10 @@ use super::mask::{below, highest, lowest};
 use bridge_search::Half;
 use lattice::{Point, Side, orient};
 
-/// Neighbouring corners of a bucket, of both its chains together, at the places of a mask: a half of a hull, which
-/// searches and questions go down.
+/// Neighbouring vertices of a bucket, of both its chains together, at the indices of a mask: a half of a hull, which searches and questions go down.
 ///
-/// Its halves are the corners up to the middle of its places and those behind it, so each step halves its width. The
-/// edge between them is read off the masks: it goes from where the chain leaves the first half to where it enters the
-/// second.
+/// Its halves are the vertices up to the middle of its indices and those after it, so each step halves its width. The edge between them is computed
+/// from the masks: it goes from the last vertex of the chain in the first half to the first one in the second.
 #[derive(Clone, Copy)]
 pub struct Run<'a> {
     bucket: &'a Bucket,
@@ -31,7 +29,7 @@ pub struct Run<'a> {
     ghost bridged: { IsBridged (tree_of_run bucket.now mask) } by { IsBridged-prop (tree_of_run bucket.now mask) },
 }
 
-/// The places of a mask up to the middle between its lowest and its highest, and those behind it.
+/// Returns the indices of a mask up to the middle between its lowest and its highest, and those after it.
 fn halves_of(mask: u64) -> (u64, u64)
     requires some { 0 < mask }
     requires several { lowest_of mask < highest_of mask }
@@ -42,7 +40,7 @@ fn halves_of(mask: u64) -> (u64, u64)
     (left, mask - left)
 }
 
-/// The last place of a chain in a run, or the run's first where the chain has none there.
+/// Returns the last index of a chain in a slice, or the slice's first if the chain has none there.
 fn end_of(run: u64, chain: u64) -> usize
     requires { 0 < run }
     ensures { result ≡ end_of_run chain run }
@@ -51,7 +49,7 @@ fn end_of(run: u64, chain: u64) -> usize
     if own == 0 { lowest(run) } else { highest(own) }
 }
 
-/// The first place of a chain in a run, or the run's last where the chain has none there.
+/// Returns the first index of a chain in a slice, or the slice's last if the chain has none there.
 fn start_of(run: u64, chain: u64) -> usize
     requires { 0 < run }
     ensures { result ≡ start_of_run chain run }
@@ -60,7 +58,7 @@ fn start_of(run: u64, chain: u64) -> usize
     if own == 0 { highest(run) } else { lowest(own) }
 }
 
-/// How many forks stand above the deepest place of a run.
+/// Returns the height of a slice: the number of forks above its deepest index.
 fn height_below(mask: u64) -> u32
     requires { 0 < mask }
     ensures { (b : BucketValue) → result ≡ height_of (tree_of_run b mask) }
@@ -73,7 +71,7 @@ fn height_below(mask: u64) -> u32
 }
 
 impl<'a> Run<'a> {
-    /// All corners of a bucket: its half of a hull.
+    /// Returns all vertices of a bucket: its half of a hull.
     pub fn new(bucket: &'a Bucket) -> Run<'a>
         ensures { ⟦<Run<'a> as Half>⟧.tree result ≡ tree_of_run bucket.now (all_of bucket.now) }
     {
@@ -84,7 +82,7 @@ impl<'a> Run<'a> {
         }
     }
 
-    /// The edge on a side, or nothing where the run is one point.
+    /// Returns the edge on a side, or nothing if the slice is one point.
     fn edge_on(self, side: Side) -> Option<(Point, Point)>
         ensures { result ≡ edge_at side (tree_of_run self.entry.bucket.now self.entry.mask) }
     {

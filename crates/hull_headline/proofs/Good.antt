@@ -17,7 +17,7 @@ use Rattle.hull_headline.specs.Headline.{Always, WheneverFree, AtMostOneHolds, S
 use Rattle.hull_headline.specs.Headline.{HoldsEachPointAsOften, HasLegalJournal, IsInOrderOfNumbers, LedgersSumToLength}
 use Rattle.hull_headline.specs.Headline.{FirstComeFirstServed, IsOfSoundSet}
 
--- a right line has its number: of the lines that begin with line k, line i has the first number and k and i
+-- a right line has its number: of the lines that begin with line k, line i has the first number plus k and i
 numbered : (head : Head) (k : ℕ) (S : Held) (lines : List Line) → AreRight head k S lines → (i : ℕ) (line : Line)
     → slice_get lines i ≡ Some line → line.number ≡ (head.first + (k + i)) % (2 ^ 64)
 unfolding AreRight
@@ -30,7 +30,7 @@ numbered head k S (m ∷ lines) right (suc i) line e =
     (numbered head (suc k) (after S m.call m.reply) lines right.1 i line e)
 
 module _ {S B H L : Type 0} (set : Ghosts S) (kind : Kind S B H L) where
-  -- what a sound set stores is that of the live points, where it is that of the points that it holds
+  -- what a sound set stores is that of the live points, if it is that of the points that it contains
   pub bridges_of : (stores : S → List Pair → Type 0) → ((t : S) → set.sound t → stores t (set.held t).points)
       → WheneverFree kind (IsOfSoundSet set) → WheneverFree kind (HoldsEachPointAsOften set)
       → WheneverFree kind (StoresThatOfLivePoints stores)
@@ -49,7 +49,7 @@ module _ {S B H L : Type 0} (set : Ghosts S) (kind : Kind S B H L)
   pub one_holder : Law → Always kind AtMostOneHolds
   one_holder law seats book opening now steps led = (law seats book opening now steps led.0 led.1).0.one_holder
 
-  -- what the set stores is that of the live points, where a sound set stores that of the points that it holds
+  -- what the set stores is that of the live points, if a sound set stores that of the points that it contains
   pub bridges : (stores : S → List Pair → Type 0) → ((t : S) → set.sound t → stores t (set.held t).points) → Law
       → WheneverFree kind (StoresThatOfLivePoints stores)
   bridges stores sound law seats book opening now steps led free = let lawful =
@@ -57,7 +57,7 @@ module _ {S B H L : Type 0} (set : Ghosts S) (kind : Kind S B H L)
       subst (λ (points : List Pair). stores (kind.whole now.current).set points)
       (ap (λ (h : Held). h.points) lawful.set) (sound (kind.whole now.current).set lawful.sound)
 
-  -- each point is held as often as the journal's calls left it
+  -- the multiplicity of each point is the one that the journal's calls left
   pub multiplicities : Law → WheneverFree kind (HoldsEachPointAsOften set)
   multiplicities law seats book opening now steps led free =
       (tells now.current (law seats book opening now steps led.0 led.1).0.lawful).set

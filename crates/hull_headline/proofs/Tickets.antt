@@ -37,7 +37,7 @@ module _ {B H L : Type 0} (K : Ghosts B H L) (F : Form) (laws : FormLaws F) (n :
       → K.line_number l ≡ t
   handed_ticket m t c l hands adds = grind (arith, common_steps, no_longer, same_last)
 
-  -- from a good world, the line that the step at r adds has the ticket that is served and as many more as calls end before
+  -- from a good world, the line that the step at r adds has the ticket that is served plus the number of calls that end before
   ticket_from : (es : List (Event B)) (w u : World B H L) (q : List ℕ) (now : B) (r k : ℕ) (c : B) (l : L)
       → Good K F n b w q → Runs K F es w u → w.current ≡ now → get_elem? es r ≡ some (hands_on k c)
       → journal_after K now es (suc r) ≡ journal_after K now es r ++ l ∷ []

@@ -1,5 +1,4 @@
--- What is promised of a book over a set that many seats share, sentence by sentence, whatever order their single
--- steps fall in.
+-- The promises of a book over a set that many seats share, sentence by sentence, for every order of their single steps.
 use Rattle.std.specs.Prelude.{◌≡◌, ◌+◌, ◌++◌, ◌%◌, ◌^◌, ℕ, zero, suc, true, List, [], ◌∷◌, length, slice_get, Some, Box}
 use Rattle.std.specs.Global.{Global}
 use mathlib.Core.Option.{some}
@@ -27,7 +26,7 @@ use Rattle.ticket_lock.specs.Forms.{partitioned_form}
 use Rattle.ticket_lock.specs.Linearizable.{Call}
 use Rattle.ticket_lock.specs.Schedule.{Opened, Runs, takers, enterers}
 
--- a book over a tree on the heap, as the lock that runs keeps it: it holds all its lines
+-- a book over a tree on the heap, as the lock that runs has it: it keeps all its lines
 abbrev pub kept : Kind LimitedTree (Box (BookValue LimitedTree) Global) BookHead Line
 kept = kinds.kept hull_tree
 
@@ -35,24 +34,23 @@ kept = kinds.kept hull_tree
 abbrev pub sparing : Kind buckets.LimitedTree (Box (BookValue buckets.LimitedTree) Global) BookHead Line
 sparing = kinds.kept bucket_set
 
--- one that may be drained: of it, all that is said is said of the whole
+-- one that may be drained: every statement about it is about its whole journal
 abbrev pub drained : Kind LimitedTree (Box (LongValue LimitedTree) Global) BookHead MarkedLine
 drained = kinds.drained hull_tree
 
 module _ {S B H L : Type 0} (kind : Kind S B H L) where
-  -- The steps, in this order, lead from the opened lock to this moment: of a lock that was opened for so many seats
-  -- round this book
+  -- The steps, in this order, lead from the opened lock to this moment; the lock was opened for this many seats around this book
   abbrev pub Leads : ℕ → B → World B H L → List (Event B) → World B H L → Type 0
   Leads seats book opening steps now = Opened kind.says partitioned_form seats book opening
       × Runs kind.says partitioned_form steps opening now
 
-  -- It holds at every moment: however many seats a lock was opened for, round whatever lawful book, and whichever steps
-  -- of its seats were made since, in whatever order.
+  -- True at every moment: however many seats a lock was opened for, around whatever lawful book, and whichever steps of its seats were made since, in
+  -- whatever order.
   abbrev pub Always : (World B H L → Type 0) → Type 0
   Always P = (seats : ℕ) (book : B) (opening now : World B H L) (steps : List (Event B))
       → Leads seats book opening steps now → P now
 
-  -- The same whenever the lock is free, of the book that it keeps.
+  -- True whenever the lock is free, of the book that it protects.
   abbrev pub WheneverFree : (BookValue S → Type 0) → Type 0
   WheneverFree P = Always (λ now. now.home ≡ true → P (kind.whole now.current))
 
@@ -74,9 +72,8 @@ ended_in (suc r) [] = 0
 ended_in (suc r) (step ∷ steps) = ends step + ended_in r steps
 
 module _ {S B H L : Type 0} (kind : Kind S B H L) where
-  -- Tickets go up in the order of the calls: the line of the call that ended with step r has the ticket that was served
-  -- first and as many more as calls had ended before, whether they had found room or not, modulo 2 ^ 64. (The number that
-  -- the lock asks a line for is its ticket.)
+  -- Tickets go up in the order of the calls: the line of the call that ended with step r has the ticket that was served first plus the number of
+  -- calls that had ended before, whether they had found space or not, modulo 2 ^ 64. (The number of a line for the lock is its ticket.)
   abbrev pub TicketsCountTheCalls : Type 0
   TicketsCountTheCalls = (seats : ℕ) (book : B) (opening now : World B H L) (steps : List (Event B))
       → Leads kind seats book opening steps now
@@ -91,17 +88,17 @@ AtMostOneHolds now = (one other t u : ℕ) → Holds now one t → Holds now oth
 abbrev pub StoresBridgesOf : LimitedTree → List Pair → Type 0
 StoresBridgesOf tree points = IsWellBuiltRoot tree.root × (points_of_root tree.root ≡ points)
 
--- Each bridge that a tree over buckets stores is that of the points below it, each bucket tells the corners of its own
--- points, and all these are the points.
+-- Each bridge that a tree over buckets stores is that of the points below it, each bucket has the vertices of its own points, and all these are the
+-- points.
 abbrev pub StoresBridgesInBuckets : buckets.LimitedTree → List Pair → Type 0
 StoresBridgesInBuckets tree points = roots.IsWellBuiltRoot tree.root × (roots.points_of_root tree.root ≡ points)
 
--- What the book's set keeps is sound, as the set says.
+-- The data that the book's set stores is sound, as the set defines it.
 abbrev pub IsOfSoundSet : {S : Type 0} → hull_set.Ghosts S → BookValue S → Type 0
 IsOfSoundSet set book = set.sound book.set
 
 module _ {S : Type 0} (stores : S → List Pair → Type 0) where
-  -- What a set stores is that of the live points: of those that the journal's calls left.
+  -- The data that a set stores is that of the live points: of those that the journal's calls left.
   abbrev pub StoresThatOfLivePoints : BookValue S → Type 0
   StoresThatOfLivePoints book = stores book.set (live book.lines)
 
@@ -110,7 +107,7 @@ module _ {S : Type 0} (stores : S → List Pair → Type 0) where
 abbrev pub StoresBridgesOfLivePoints : BookValue LimitedTree → Type 0
 StoresBridgesOfLivePoints = StoresThatOfLivePoints StoresBridgesOf
 
--- Each point is held as often as the journal's calls left it.
+-- The multiplicity of each point is the one that the journal's calls left.
 abbrev pub HoldsEachPointAsOften : {S : Type 0} → hull_set.Ghosts S → BookValue S → Type 0
 HoldsEachPointAsOften set book = set.held book.set ≡ held_after book.lines
 
@@ -118,7 +115,7 @@ HoldsEachPointAsOften set book = set.held book.set ≡ held_after book.lines
 abbrev pub HasLegalJournal : {S : Type 0} → BookValue S → Type 0
 HasLegalJournal book = IsLegal book.head.journal book.lines
 
--- The calls stand in the order of their numbers: line k has the first number and k, modulo 2 ^ 64.
+-- The calls are in the order of their numbers: line k has the first number plus k, modulo 2 ^ 64.
 abbrev pub IsInOrderOfNumbers : {S : Type 0} → BookValue S → Type 0
 IsInOrderOfNumbers book = (k : ℕ) (line : Line) → slice_get book.lines k ≡ Some line
     → line.number ≡ (book.head.journal.first + k) % (2 ^ 64)
@@ -128,8 +125,8 @@ abbrev pub LedgersSumToLength : {S : Type 0} → BookValue S → Type 0
 LedgersSumToLength book = (ledgers : List LedgerValue) → AreAllLedgers book ledgers
     → sum_of_counts ledgers ≡ length book.lines
 
--- The parts that were taken out, in their order, and then the lines that are held are the journal of the book that the
--- lock keeps whenever it is free: of a kind of books whose lines are marked.
+-- The segments that were taken out, in their order, and then the lines that the book has are the journal of the book that the lock protects, whenever
+-- the lock is free: for a kind of books whose lines are marked.
 abbrev pub PartsAndHeldAreTheJournal : {S B H : Type 0} → Kind S B H MarkedLine → Type 0
 PartsAndHeldAreTheJournal kind = Always kind (λ now. now.home ≡ true
     → joined (parts_of (kind.says.lines now.current)) ++ held_of (kind.says.lines now.current)

@@ -5,13 +5,12 @@
 //! > its calls in the order of their numbers: first come, first served. Once all ledgers are gathered, they sum to the
 //! > journal's length.
 //!
-//! Beside that, whenever the lock is free each point is held as often as the journal's calls left it. It is said of the
-//! lock that runs, `TicketLock<Box<Book<HullTree>>>` (crates `ticket_lock`, `hull_book` and `hull_tree`), and over every
-//! list of single steps of its seats; `specs/Headline.antt` has each of its words. It is said once of books over any set
-//! (`headline_holds_of_books_over`), and named at each book that runs: over a tree that searches each bridge, and over
-//! buckets. Of a book that may be drained the same is said once more, and that the parts that were taken out, in their order, and then the lines that are held are
-//! its journal; and that its lines' own numbers go up one by one, whichever calls found no room, and their tickets in
-//! the order of the calls.
+//! Besides, whenever the lock is free the multiplicity of each point is the one that the journal's calls left. The headline is proved for the lock
+//! that runs, `TicketLock<Box<Book<HullTree>>>` (crates `ticket_lock`, `hull_book` and `hull_tree`), and for every list of single steps of its seats;
+//! `specs/Headline.antt` defines each of its words. It is proved once for books over any set (`headline_holds_of_books_over`), and stated for each
+//! book that runs: over a tree that searches each bridge, and over buckets. For a book that may be drained it is proved once more, and also that the
+//! segments that were taken out, in their order, and then the lines that the book still has are its journal; and that its lines' own numbers go up
+//! one by one, whichever calls found no space, and their tickets in the order of the calls.
 #![tactic(auto)]
 
 ghost use Rattle.hull_headline.specs.Headline.{Always, WheneverFree, AtMostOneHolds, StoresBridgesOfLivePoints};
@@ -29,8 +28,8 @@ use hull_set::HullSet;
 use hull_tree::HullTree;
 use ticket_lock::partitioned_schedules_hold;
 
-/// The headline of a book over any set, a clause for each of its sentences: what the set keeps is sound, as the set says
-/// what that asks, and it holds the live points. The law asks for nothing and does nothing.
+/// The headline of a book over any set, a clause for each of its sentences: what the set stores is sound, as the set defines it, and it contains the
+/// live points. The law requires nothing and does nothing.
 pub fn headline_holds_of_books_over<S: HullSet + Drop>()
     ensures first_come { FirstComeFirstServed (kept_over S.HullSet) }
     ensures one_holder { Always (kept_over S.HullSet) AtMostOneHolds }
@@ -43,8 +42,8 @@ pub fn headline_holds_of_books_over<S: HullSet + Drop>()
     partitioned_schedules_hold::<Box<Book<S>>>();
 }
 
-/// The same of the book that `hullbook run --sparing` opens, over a tree over buckets: each stored bridge is that of the
-/// points below it, each bucket has the vertices of its own points, and all these are the live points.
+/// The headline of the book that `hullbook run --sparing` opens, over a tree over buckets: each stored bridge is that of the points below it, each
+/// bucket has the vertices of its own points, and all these are the live points.
 pub fn headline_holds_of_sparing_books()
     ensures first_come { FirstComeFirstServed sparing }
     ensures one_holder { Always sparing AtMostOneHolds }
@@ -57,7 +56,7 @@ pub fn headline_holds_of_sparing_books()
     headline_holds_of_books_over::<BucketTree>();
 }
 
-/// The headline, a clause for each of its sentences. The law asks for nothing and does nothing.
+/// The headline, a clause for each of its sentences. The law requires nothing and does nothing.
 pub fn headline_holds()
     ensures first_come { FirstComeFirstServed kept }
     ensures one_holder { Always kept AtMostOneHolds }
@@ -70,9 +69,9 @@ pub fn headline_holds()
     headline_holds_of_books_over::<HullTree>();
 }
 
-/// The headline of a book that may be drained, however often it was, each of its sentences of the whole journal: the
-/// parts that were taken out, in their order, and then the lines that are held. Numbers are the lines' own, so that they
-/// have no gap; the tickets of the lines count all calls, those too that found no room.
+/// The headline of a book that may be drained, however often it was, each sentence about the whole journal: the segments that were taken out, in
+/// their order, and then the lines that the book still has. Numbers are the lines' own, so that they have no gap; the tickets of the lines count all
+/// calls, also those that found no space.
 pub fn headline_holds_of_drained_books()
     ensures first_come { FirstComeFirstServed drained }
     ensures one_holder { Always drained AtMostOneHolds }

@@ -30,7 +30,7 @@ same_lines before lines p le = none p.0 (omega (arith, length-append before p.0,
     none [] e is = sym is ∙ append-nil before
     none (l ∷ rest) e is = absurd (omega arith)
 
--- nothing is served where the lines are the same
+-- nothing is served if the lines are the same
 none_served : (k : ℕ) (before lines served : List Line) → lines ≡ before
     → lines_of k lines ≡ lines_of k before ++ served → served ≡ []
 none_served k before lines [] same own = refl
@@ -42,18 +42,18 @@ none_served k before lines (l ∷ served) same own =
       length-append (lines_of k before) (l ∷ served),
     ))
 
--- all of the first list, and so many of the second
+-- all of the first list, and this many of the second
 take_both : (xs ys : List Call) (n : ℕ) → take (length xs + n) (xs ++ ys) ≡ xs ++ take n ys
 take_both [] ys n = ap (λ (m : ℕ). take m ys) (let e : 0 + n ≡ n = omega arith in e)
 take_both (x ∷ xs) ys n =
     ap (λ (m : ℕ). take m ((x ∷ xs) ++ ys)) (let e : length (x ∷ xs) + n ≡ suc (length xs + n) = omega arith in e)
     ∙ ap (λ (zs : List Call). x ∷ zs) (take_both xs ys n)
 
--- fulls behind fulls
+-- fulls after fulls
 fulls_both : (m n k : ℕ) → k ≡ m + n → fulls m ++ fulls n ≡ fulls k
 fulls_both m n k e = replicate-append-replicate m n (Err (record {})) ∙ ap (λ (j : ℕ). fulls j) (sym e)
 
--- the work of two phases in a row, where the journal was not full before the second
+-- the work of two phases in a row, if the journal was not full before the second
 more_work : (k room : ℕ) (one two : List Call) (before between lines : List Line) (old mid new : List Answer)
     → (h : HasWorked k room (length one) one before between old mid)
     → (g : HasWorked k room (length two) two between lines mid new) → length h.served ≡ length one
@@ -90,7 +90,7 @@ more_work k room one two before between lines old mid new h g all =
         ∙ ap (λ (xs : List Answer). old ++ xs) (sym (map-append (λ (l : Line). Ok l.reply) h.served g.served)))
         ∙ ap (λ (m : ℕ). old ++ replies_of (h.served ++ g.served) ++ fulls m) same
 
--- and where it was
+-- and if it was
 no_more_work : (k room : ℕ) (one two : List Call) (before between lines : List Line) (old mid new : List Answer)
     → (h : HasWorked k room (length one) one before between old mid)
     → (g : HasWorked k room (length two) two between lines mid new) → lines ≡ between → length h.served < length one
@@ -128,9 +128,9 @@ works_on k room one two before between lines old mid new begins within h g =
       | inr ge ↦ more_work k room one two before between lines old mid new h g (omega (arith, h.few))
     ]
 
--- ---- some phases, and the phases behind them
+-- ---- some phases, and the phases after them
 
--- the calls of some phases and of those behind them
+-- the calls of some phases and of those after them
 pub calls_both : (front back : List PhaseValue)
     → calls_in_all (front ++ back) ≡ calls_in_all front + calls_in_all back
 calls_both front back = sum_by-append (λ (p : PhaseValue). calls_in p) front back
@@ -143,20 +143,20 @@ calls_of-append k (phase ∷ front) back =
     ap (λ (xs : List Call). job phase k ++ xs) (calls_of-append k front back)
     ∙ sym (append_assoc (job phase k) (calls_of k front) (calls_of k back))
 
--- so many are they
+-- they are this many
 pub count_both : (k : ℕ) (front back : List PhaseValue)
     → length (calls_of k (front ++ back)) ≡ length (calls_of k front) + length (calls_of k back)
 count_both k front back = ap length (calls_of-append k front back)
     ∙ length-append (calls_of k front) (calls_of k back)
 
--- what holds of all phases holds of those in front
+-- what holds of all phases holds of the first ones
 all_front : (P : PhaseValue → Type 0) (front back : List PhaseValue) → All P (front ++ back) → All P front
 all_front P [] back all = λ k d lt. absurd (omega arith)
 all_front P (phase ∷ front) back all =
     All-cons P phase front (All-head P phase (front ++ back) all)
     (all_front P front back (All-tail P phase (front ++ back) all))
 
--- and of those behind them
+-- and of those after them
 all_back : (P : PhaseValue → Type 0) (front back : List PhaseValue) → All P (front ++ back) → All P back
 all_back P [] back all = all
 all_back P (phase ∷ front) back all = all_back P front back (All-tail P phase (front ++ back) all)
@@ -166,7 +166,7 @@ module _ {S : Type 0} {K : Ghosts S} where
   run_none : (b : BookValue S) (w : WorkersValue) → MayRunAll K b w [] → HasRunAll K b w [] b w
   run_none b w may = grind (arith, common_steps, not_begun, append-nil)
 
-  -- what some phases and the phases behind them come to
+  -- the result of some phases and of the phases after them
   run_on : (b m c : BookValue S) (w x v : WorkersValue) (front back : List PhaseValue)
       → HasRunAll K b w front m x → HasRunAll K m x back c v → HasRunAll K b w (front ++ back) c v
   run_on b m c w x v front back one rest =
@@ -191,7 +191,7 @@ module _ {S : Type 0} {K : Ghosts S} where
             omega (arith, a, d, count_both k front back);
       }
 
-  -- the phases of a front may be run
+  -- the phases of a prefix may be run
   pub may_front : (b : BookValue S) (w : WorkersValue) (front back : List PhaseValue)
       → MayRunAll K b w (front ++ back) → MayRunAll K b w front
   may_front b w front back may = record {
@@ -203,7 +203,7 @@ module _ {S : Type 0} {K : Ghosts S} where
     room = λ k below. let r = may.room k below in omega (arith, r, count_both k front back);
   }
 
-  -- the phases behind some may be run after them
+  -- the phases after some may be run after them
   may_back : (b m : BookValue S) (w x : WorkersValue) (front back : List PhaseValue)
       → MayRunAll K b w (front ++ back) → HasRunAll K b w front m x → MayRunAll K m x back
   may_back b m w x front back may one =
@@ -218,7 +218,7 @@ module _ {S : Type 0} {K : Ghosts S} where
             omega (arith, a, d, count_both k front back);
       }
 
-  -- what phases come to that were run one after the other
+  -- the result of phases that were run one after the other
   pub run_all : (b : BookValue S) (w : WorkersValue) (phases : List PhaseValue) (c : BookValue S) (v : WorkersValue)
       → MayRunAll K b w phases → HasRunPhases K b w phases c v → HasRunAll K b w phases c v
   run_all b w [] c v may chain =

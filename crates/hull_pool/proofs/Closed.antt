@@ -1,4 +1,4 @@
--- The ledgers of seats that come back are those of the book that is closed.
+-- The ledgers of seats that are returned are those of the book that is closed.
 use Rattle.std.proofs.Common.{◌≡◌, ◌<◌, ℕ, zero, suc, List, [], ◌∷◌, length, refl, subst, ◌∙◌, arith, Some, slice_get}
 use Rattle.std.specs.Prelude.{All, slice_index_or}
 use Rattle.std.specs.List.{AllZip}
@@ -18,7 +18,7 @@ module _ {B H L : Type 0} (plain : List L → List Line) where
   abbrev Counts : Seat B H L → LedgerValue → Type 0
   Counts s l = IsLedgerOf (seat_number s) (plain (seat_seen s)) l
 
-  -- in the place of each ledger stands the seat whose lines it counts
+  -- at the index of each ledger is the seat whose lines it counts
   seat_at : (ss : List (Seat B H L)) (ls : List LedgerValue) → AllZip Counts ss ls → (k : ℕ) (d : LedgerValue)
       → k < length ls → (s : Seat B H L) × (slice_get ss k ≡ Some s) × Counts s (slice_index_or ls k d)
   seat_at [] [] z k d lt = absurd (omega arith)

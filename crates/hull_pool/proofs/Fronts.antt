@@ -32,19 +32,19 @@ calls_le (phase ∷ phases) k =
       length-append (job phase k) (calls_of k phases),
     )
 
--- so where all have no more than a text has lines, no worker has
+-- so if all have no more than a text has lines, no worker has
 pub few_each : (phases : List PhaseValue) (k : ℕ) → calls_in_all phases ≤ TEXT_LINE_LIMIT
     → length (calls_of k phases) ≤ TEXT_LINE_LIMIT
 few_each phases k few = omega (arith, calls_le phases k, few)
 
 module _ {S : Type 0} {K : Ghosts S} where
-  -- where all phases may be run, the first may be
+  -- if all phases may be run, the first may be
   pub may_first : (b : BookValue S) (w : WorkersValue) (phases : List PhaseValue) (d : PhaseValue)
       → MayRunAll K b w phases → 0 < length phases → MayRunAll K b w (slice_index_or phases 0 d ∷ [])
   may_first b w [] d may some = absurd (omega arith)
   may_first b w (phase ∷ phases) d may some = may_front b w (phase ∷ []) phases may
 
--- the phases before one, that one, and the phases behind it
+-- the phases before one, that one, and the phases after it
 pub parted : (phases : List PhaseValue) (i : ℕ) (d : PhaseValue) → i < length phases
     → phases ≡ take i phases ++ slice_index_or phases i d ∷ drop (suc i) phases
 parted phases i d lt =

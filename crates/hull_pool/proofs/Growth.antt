@@ -1,4 +1,4 @@
--- How many lines a phase adds: as many as it has calls, or as the journal had room.
+-- How many lines a phase adds: as many as it has calls, or as the journal had space.
 use Rattle.std.proofs.Common.{◌≡◌, ◌<◌, ◌≤◌, ◌+◌, ℕ, zero, suc, List, length, ap, subst, arith, ◌⊎◌}
 use Rattle.std.proofs.lemmas.Grind.{common_steps}
 use Rattle.std.proofs.Common.{inl, inr, length-append, take}
@@ -19,7 +19,7 @@ use Rattle.hull_pool.specs.Work.{HasWorked, lines_of, capacity_of, workers_of}
 use Rattle.hull_pool.proofs.Called.{count-lines_of}
 use Rattle.hull_set.specs.declared.set.HullSet.{Ghosts}
 
--- a worker's lines are as many more as it was served
+-- a worker has as many lines more as it was served
 count_grown : (k cap done : ℕ) (calls : List Call) (before lines : List Line) (old new : List Answer)
     (h : HasWorked k cap done calls before lines old new) → count_of k lines ≡ count_of k before + length h.served
 count_grown k cap done calls before lines old new h =
@@ -40,12 +40,12 @@ first_jobs phase w lt = grind (arith, common_steps, take_more, sum_by-append, su
 all_jobs : (phase : PhaseValue) → calls_in (take (length phase) phase) ≡ calls_in phase
 all_jobs phase = ap (λ (xs : PhaseValue). calls_in xs) (take_all (length phase) phase (omega arith))
 
--- the lines of the first w workers: no more than their calls were added, and fewer only where the journal is full
+-- the lines of the first w workers: no more than their calls were added, and fewer only if the journal is full
 pub record Grows (cap : ℕ) (phase : PhaseValue) (before lines : List Line) (w : ℕ) : Type 0 where
   pub most : below w lines ≤ below w before + calls_in (take w phase)
   pub all : (cap ≤ length lines) ⊎ (below w lines ≡ below w before + calls_in (take w phase))
 
--- the first w workers added so many, each having worked
+-- the first w workers added this many, each having worked
 grows : (cap : ℕ) (phase : PhaseValue) (before lines : List Line) (olds news : ℕ → List Answer) (w : ℕ)
     → w ≤ length phase → ((k : ℕ) → k < w
     → HasWorked k cap (length (job phase k)) (job phase k) before lines (olds k) (news k))

@@ -1,4 +1,4 @@
--- A phase: from the lists that its crew is made of to the lists that are left of it.
+-- A phase: from the lists from which its worker set is assembled to the lists into which it is disbanded.
 use Rattle.std.proofs.Common.{◌≡◌, ◌<◌, ◌≤◌, ◌+◌, ◌-◌, ℕ, zero, suc, List, [], ◌∷◌, ◌++◌, length, refl, sym, ap, subst}
 use Rattle.std.proofs.lemmas.Grind.{common_steps}
 use Rattle.std.proofs.Common.{◌∙◌, arith, reverse, map, length-append, append-nil}
@@ -31,7 +31,7 @@ use base.Growing.{prefix_trans}
 use Rattle.hull_pool.proofs.Called.{same_count}
 use Rattle.hull_set.specs.declared.set.HullSet.{Ghosts}
 
--- a seat of a lock round a book on the heap
+-- a seat of a lock around a book on the heap
 abbrev pub BookSeat : Type 0 → Type 0
 BookSeat S = Seat (Boxed S) BookHead Line
 
@@ -56,12 +56,12 @@ module _ {B : Type 0} where
 zero_plus : (j : ℕ) → 0 + j ≡ j
 zero_plus j = omega arith
 
--- room that is left is room behind what is there
+-- space that is left is space after what is there
 vec_room : (v : AnswerVec) (n : ℕ) → n ≤ vec_capacity v - length v.items → vec_len v + n ≤ vec_capacity v
 vec_room v n h = omega (arith, v.ok.0, v.ok.1)
 
 module _ {S : Type 0} where
-  -- what holds of the ledgers, the jobs and the room of the workers from j on
+  -- what is true of the ledgers, the jobs and the capacities of the workers from j on
   pub record Fits (b : BookValue S) (phase : PhaseValue) (j : ℕ) (vs : List AnswerVec)
       (ls : List LedgerValue) : Type 0 where
     pub ledgers : (i : ℕ) (d : LedgerValue) → i < length ls → IsLedger b (i + j) (slice_index_or ls i d)
@@ -83,7 +83,7 @@ module _ {S : Type 0} where
         (omega arith) (f.room (suc i) d (omega arith));
   }
 
-  -- every worker of a crew is ready
+  -- every worker of a set is ready
   pub ready_from : (lock : TicketLock (Boxed S) BookHead Line) (b : BookValue S) (phase : PhaseValue) (j : ℕ)
       (ss : List (BookSeat S)) (vs : List AnswerVec) (ls : List LedgerValue) → length vs ≡ length ss
       → length ls ≡ length ss → Numbered j ss → All (IsSeatOf book_head lock) ss
@@ -112,7 +112,7 @@ module _ {S : Type 0} where
       (All-tail (IsSeatOf book_head lock) s ss own) (All-tail (λ t. seat_seen t ≡ b.lines) s ss seen)
       (fits_rest b phase j v vs l ls f))
 
-  -- what came of the worker n: its part of the new journal, its ledger, and the same memory for its answers
+  -- the result of the worker n: its share of the new journal, its ledger, and the same memory for its answers
   pub record Outcome (b c : BookValue S) (phase : PhaseValue) (n : ℕ) (v w : AnswerVec) (l : LedgerValue) : Type 0 where
     pub worked : HasWorked n (capacity_of b) (length (job phase n)) (job phase n) b.lines c.lines v.items w.items
     pub ledger : IsLedgerOf n c.lines l
@@ -124,7 +124,7 @@ module _ {S : Type 0} where
   IsSeenIn c s = IsPrefix (seat_seen s) c.lines
       × (lines_of (seat_number s) c.lines ≡ lines_of (seat_number s) (seat_seen s))
 
--- what a worker did stands where the journal grew on by other seats' lines
+-- what a worker did stays true when the journal grew by other seats' lines
 worked_on : (n cap done : ℕ) (calls : List Call) (before seen lines : List Line) (old new : List Answer)
     → IsPrefix seen lines → lines_of n lines ≡ lines_of n seen → HasWorked n cap done calls before seen old new
     → HasWorked n cap done calls before lines old new
@@ -134,7 +134,7 @@ worked_on n cap done calls before seen lines old new begins own h = grind (arith
     longer_by xs ys p = omega (arith, length-append xs p.0, ap length p.1)
 
 module _ {S : Type 0} where
-  -- what came of one worker
+  -- the result of one worker
   outcome : (lock : TicketLock (Boxed S) BookHead Line) (b c : BookValue S) (phase : PhaseValue) (n : ℕ)
       (s t : BookSeat S) (v w : AnswerVec) (l m : LedgerValue) → seat_number s ≡ n → IsSeenIn c t
       → HasRun lock b phase (worker_of s v l) (worker_of t w m) → Outcome b c phase n v w m
@@ -147,7 +147,7 @@ module _ {S : Type 0} where
         begins = prefix_trans b.lines (seat_seen t) c.lines run.own.2 seen.0;
       })
 
-  -- what came of each worker of a crew
+  -- the result of each worker of a set
   pub outcomes : (lock : TicketLock (Boxed S) BookHead Line) (b c : BookValue S) (phase : PhaseValue) (j : ℕ)
       (ss ts : List (BookSeat S)) (vs ws : List AnswerVec) (ls ms : List LedgerValue) → length vs ≡ length ss
       → length ls ≡ length ss → length ts ≡ length ss → length ws ≡ length ss → length ms ≡ length ss
@@ -251,7 +251,7 @@ module _ {S : Type 0} {K : Ghosts S} where
   }
 
 module _ {S : Type 0} where
-  -- what came of the worker k, and where its answers and its ledger stand
+  -- the result of the worker k, and the indices of its answers and its ledger
   pub record CameOut (b c : BookValue S) (phase : PhaseValue) (vs ws : List AnswerVec) (ms : List LedgerValue)
       (k : ℕ) : Type 0 where
     pub old : AnswerVec
@@ -260,7 +260,7 @@ module _ {S : Type 0} where
     pub new_shown : slice_index_or (map (λ v. shown v) ws) k no_answers ≡ shown new
     pub outcome_is : (f : LedgerValue) → Outcome b c phase k old new (slice_index_or ms k f)
 
-  -- what came of the worker k of a crew
+  -- the result of the worker k of a set
   pub came_out : (lock : TicketLock (Boxed S) BookHead Line) (b c : BookValue S) (phase : PhaseValue)
       (ss ts : List (BookSeat S)) (vs ws : List AnswerVec) (ls ms : List LedgerValue) → length vs ≡ length ss
       → length ls ≡ length ss → length ts ≡ length ss → length ws ≡ length ss → length ms ≡ length ss
@@ -281,7 +281,7 @@ module _ {S : Type 0} where
             (outcomes lock b c phase 0 ss ts vs ws ls ms lv ll lt lw lm num seen runs k v.0 w.0 f below)));
       }
 
-  -- the worker's part, as the phase says it
+  -- the worker's share, as the definition of the phase states it
   came_worked : (b c : BookValue S) (phase : PhaseValue) (vs ws : List AnswerVec) (ls ms : List LedgerValue) (k : ℕ)
       (f : LedgerValue) → CameOut b c phase vs ws ms k
       → HasWorked k (capacity_of b) (length (job phase k)) (job phase k) b.lines c.lines
@@ -307,7 +307,7 @@ answers_grown k room calls before lines old new h =
     )
 
 module _ {S : Type 0} where
-  -- the room that is left is less by the worker's calls
+  -- the space that is left is less by the worker's calls
   came_room : (b c : BookValue S) (phase : PhaseValue) (vs ws : List AnswerVec) (ls ms : List LedgerValue) (k : ℕ)
       (f : LedgerValue) → CameOut b c phase vs ws ms k
       → length (job phase k) ≤ (answers_of (shown_workers vs ls) k).room
@@ -375,28 +375,28 @@ module _ {S : Type 0} where
       numbered None n P f h = h
       numbered (Some s) n P f h = f s h
 
-  -- the lists that a crew is made of are as long as the book has workers
+  -- the lists from which a worker set is assembled are as long as the book has workers
   pub record AreLong (b : BookValue S) (ss : List (BookSeat S)) (vs : List AnswerVec)
       (ls : List LedgerValue) : Type 0 where
     pub seats : length ss ≡ workers_of b
     pub answers : length vs ≡ length ss
     pub ledgers : length ls ≡ length ss
 
-  -- and so is the crew
+  -- and so is the worker set
   pub record IsCrew (b : BookValue S) (crew : List (Worker (Boxed S) BookHead Line)) (ss : List (BookSeat S))
       (vs : List AnswerVec) (ls : List LedgerValue) : Type 0 where
     pub long : AreLong b ss vs ls
     pub many : length crew ≡ workers_of b
 
 module _ {S : Type 0} {K : Ghosts S} where
-  -- a crew for what may be run, made the other way round of lists with a seat for each worker, is that long
+  -- a worker set for what may be run, assembled in reverse order from lists with a seat for each worker, is that long
   pub is_crew : (b : BookValue S) (phase : PhaseValue) (crew : List (Worker (Boxed S) BookHead Line))
       (seats : Vec (BookSeat S) Global) (vs : List AnswerVec) (ls : List LedgerValue) (count : ℕ)
       → count ≡ workers_of b → vec_len seats ≡ count → MayRunAll K b (shown_workers vs ls) (phase ∷ [])
       → reverse crew ≡ team worker_of seats.items vs ls → IsCrew b crew seats.items vs ls
   is_crew b phase crew seats vs ls count workers some may is = grind (arith, common_steps, length-map, length-reverse, team-length)
 
--- what a crew left is as long as what it was made of
+-- the lists into which a worker set is disbanded are as long as those from which it was assembled
 as_long : {A B C : Type 0} → (left : Vec A Global) (crew ran : Vec B Global) (made : List C) (n : ℕ)
     → length crew.items ≡ n → length made ≡ n → vec_len ran ≡ vec_len crew → vec_len left ≡ vec_len ran
     → length left.items ≡ length made

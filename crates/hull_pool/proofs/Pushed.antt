@@ -1,4 +1,4 @@
--- One seat more, and its ledger, behind those that are there.
+-- One seat more, and its ledger, after those that are there.
 use Rattle.std.proofs.Common.{◌≡◌, ◌+◌, ℕ, zero, suc, List, [], ◌∷◌, ◌++◌, length, sym, ap, subst, ◌∙◌, arith, Some}
 use Rattle.std.proofs.Common.{slice_get}
 use Rattle.std.specs.Prelude.{Option, None}

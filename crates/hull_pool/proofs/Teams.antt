@@ -27,7 +27,7 @@ pub same_team : {A B C D : Type 0} → (make : A → B → C → D) (xs xs' : Li
     → xs ≡ xs' → ys ≡ ys' → zs ≡ zs' → team make xs ys zs ≡ team make xs' ys' zs'
 same_team {A} {B} {C} {D} make xs xs' ys ys' zs zs' e f h = grind (arith, common_steps)
 
--- the last of each list moves to the front of what was taken before
+-- the last of each list moves to the front of those that were taken before
 pub moved : {A B C D : Type 0}
     → (make : A → B → C → D) (xs xs' : List A) (ys ys' : List B) (zs zs' : List C) (x : A) (y : B) (z : C)
     (taken : List D) (whole : List D) → xs ≡ xs' ++ x ∷ [] → ys ≡ ys' ++ y ∷ [] → zs ≡ zs' ++ z ∷ []
@@ -36,7 +36,7 @@ pub moved : {A B C D : Type 0}
 moved {A} {B} {C} {D} make xs xs' ys ys' zs zs' x y z taken whole ex ey ez ly lz is =
     grind (arith, common_steps, reverse-append, append_assoc, team-append_one, length-append, same_team)
 
--- what was taken last goes to the end of each list
+-- the last one taken is put at the end of each list
 pub moved_back : {A B C D : Type 0}
     → (make : A → B → C → D) (xs xs' : List A) (ys ys' : List B) (zs zs' : List C) (x : A) (y : B) (z : C) (w : D)
     (taken taken' whole : List D) → xs' ≡ xs ++ x ∷ [] → ys' ≡ ys ++ y ∷ [] → zs' ≡ zs ++ z ∷ []

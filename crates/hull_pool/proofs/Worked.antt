@@ -28,7 +28,7 @@ no_fulls n e = ap (λ (m : ℕ). fulls m) e
 fulls_more : (n m : ℕ) (f : JournalFull) → m ≡ n + 1 → fulls n ++ Err f ∷ [] ≡ fulls m
 fulls_more n m f e = replicate-append-replicate n 1 (Err f) ∙ sym (ap (λ (k : ℕ). fulls k) e)
 
--- one reply more, where no answer was that the journal is full
+-- one reply more, if no answer was that the journal is full
 answers_ok : (old new newer : List Answer) (served : List Line) (line : Line) (n m : ℕ)
     → new ≡ old ++ replies_of served ++ fulls n → n ≡ 0 → m ≡ 0 → newer ≡ new ++ Ok line.reply ∷ []
     → newer ≡ old ++ replies_of (served ++ line ∷ []) ++ fulls m
@@ -86,7 +86,7 @@ pub finished : (k n capacity i : ℕ) (items : List Call) (jobs : List (List Cal
     → HasWorked n capacity (length (slice_index_or jobs n [])) (slice_index_or jobs n []) before seen old new
 finished k n capacity i items jobs before seen old new same are low high worked = grind (arith, common_steps)
 
--- where the seat has seen the lines of the start, nothing was done
+-- if the seat has seen the lines of the start, nothing was done
 pub not_begun_at : (k capacity : ℕ) (calls : List Call) (lines seen : List Line) (answers : List Answer) → seen ≡ lines
     → HasWorked k capacity 0 calls lines seen answers answers
 not_begun_at k capacity calls lines seen answers e = grind (arith, common_steps, not_begun)

@@ -4,7 +4,7 @@ use Rattle.hull_book.specs.Answers.{Answer}
 use Rattle.hull_book.specs.Ledgers.{LedgerValue}
 use Rattle.hull_book.specs.Scripts.{PhaseValue, calls_of}
 
--- the answers of one worker so far, and the room that is reserved for more
+-- the answers of one worker so far, and the capacity that is reserved for more
 pub record AnswersValue : Type 0 where
   pub answers : List Answer
   pub room : ℕ
@@ -14,19 +14,19 @@ pub record WorkersValue : Type 0 where
   pub answers : List AnswersValue
   pub ledgers : List LedgerValue
 
--- what a vector of answers shows
+-- the value of a vector of answers
 abbrev pub shown : {A : Type 0} → Vec Answer A → AnswersValue
 shown v = record { answers = v.items; room = vec_capacity v - length v.items }
 
--- no answers, and no room for any
+-- no answers, and no capacity for any
 abbrev pub no_answers : AnswersValue
 no_answers = record { answers = []; room = 0 }
 
--- what the workers show whose answers and ledgers these are
+-- the value of the workers with these answers and ledgers
 abbrev pub shown_workers : {A : Type 0} → List (Vec Answer A) → List LedgerValue → WorkersValue
 shown_workers answers ledgers = record { answers = map (λ v. shown v) answers; ledgers = ledgers }
 
--- no answer was given yet, and each worker has room for an answer to each of its calls
+-- there is no answer yet, and each worker has capacity for an answer to each of its calls
 pub record HasRoomFor (workers : ℕ) (phases : List PhaseValue) (answers : List AnswersValue) : Type 0 where
   pub number : length answers ≡ workers
   pub none : (k : ℕ) → k < workers → (slice_index_or answers k no_answers).answers ≡ []

@@ -16,7 +16,7 @@ use Rattle.hull_book.specs.Answers.{Answer}
 use Rattle.hull_pool.specs.Work.{HasWorked, capacity_of, workers_of}
 use Rattle.hull_pool.specs.declared.worker.Worker.{Worker}
 
--- what `make` makes of the members of three lists at each place
+-- the results of `make` on the members of three lists at each index
 abbrev pub team : {A B C D : Type 0} → (A → B → C → D) → List A → List B → List C → List D
 team make (x ∷ xs) (y ∷ ys) (z ∷ zs) = make x y z ∷ team make xs ys zs
 team make _ _ _ = []
@@ -34,16 +34,15 @@ Boxed S = Box (BookValue S) Global
 abbrev pub book_head : {S : Type 0} → Boxed S → BookHead
 book_head b = (box_value b).head
 
--- the seat is there, is the one of this number of the lock, and the ledger counts its lines among those that it has
--- seen
+-- the seat is present and has this number of the lock, and the ledger counts its lines among those that it has seen
 pub record IsSeated {S : Type 0} (lock : TicketLock (Boxed S) BookHead Line) (number : ℕ) (ledger : LedgerValue)
     (seat : Option (Seat (Boxed S) BookHead Line)) : Type 0 where
   pub there : IsSome seat
   pub own : IfSome seat
       (λ s. IsSeatOf book_head lock s × (seat_number s ≡ number) × IsLedgerOf number (seat_seen s) ledger)
 
--- The worker may work on the phase: its seat is there, is of the lock, and has seen the lines of the book b; its ledger
--- counts its lines among them; it has a list of calls, and room for an answer to each.
+-- The worker may work on the phase: its seat is present, is of the lock, and has seen the lines of the book b; its ledger counts its lines among
+-- them; it has a list of calls, and capacity for an answer to each.
 pub record IsReady {S : Type 0} (lock : TicketLock (Boxed S) BookHead Line) (b : BookValue S) (phase : PhaseValue)
     (w : Worker (Boxed S) BookHead Line) : Type 0 where
   pub seated : IsSome w.seat
@@ -55,8 +54,8 @@ pub record IsReady {S : Type 0} (lock : TicketLock (Boxed S) BookHead Line) (b :
   pub few : length (slice_index_or phase w.number []) ≤ TEXT_LINE_LIMIT
   pub room : vec_len w.answers + length (slice_index_or phase w.number []) ≤ vec_capacity w.answers
 
--- The worker has worked on the phase: its seat is there, is of the lock, and has seen what it did since the lines of
--- the book b; its ledger counts its lines among those.
+-- The worker has worked on the phase: its seat is present, is of the lock, and has seen what the worker did since the lines of the book b; its ledger
+-- counts its lines among those.
 pub record HasRun {S : Type 0} (lock : TicketLock (Boxed S) BookHead Line) (b : BookValue S) (phase : PhaseValue)
     (old new : Worker (Boxed S) BookHead Line) : Type 0 where
   pub seated : IsSome new.seat

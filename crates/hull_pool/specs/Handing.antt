@@ -1,4 +1,4 @@
--- A call of a seat that enters a lock, and one of a seat that holds the book: of books of whatever kind.
+-- A call of a seat that enters a lock, and one of a seat that holds the book: for books of either kind.
 use Rattle.std.specs.Prelude.{◌≡◌, ◌<◌, ℕ, List}
 use mathlib.Core.List.{IsPrefix}
 use Rattle.ticket_lock.specs.declared.guard.Guard.{Guard}
@@ -12,7 +12,7 @@ use Rattle.hull_book.specs.declared.line.Line.{Line}
 use Rattle.hull_pool.specs.Work.{lines_of, workers_of}
 
 module _ {S B H L : Type 0} (kind : Kind S B H L) where
-  -- the seat k holds a lawful book just as it found it, whose turn is its own, and this is its ledger
+  -- the seat k holds a lawful book exactly as it found it, whose turn is the seat's number, and this is its ledger
   pub record HoldsBook (guard : Guard B H L) (k : ℕ) (counts : LedgerValue) : Type 0 where
     pub seat : guard_seat guard ≡ k
     pub head : KeepsHead kind.says.head guard
@@ -30,15 +30,15 @@ module _ {S B H L : Type 0} (kind : Kind S B H L) where
       pub below : k < workers_of (kind.whole (opening_book lock))
       pub ledger : IsLedgerOf k (kind.plain (seat_seen seat)) counts
 
-    -- so is the seat that came back, which had seen these lines before, and what came behind them
+    -- the same for the returned seat, which had seen these lines before, and the lines after them
     pub record HasCome (before : List L) (after : Seat B H L) (counts : LedgerValue) : Type 0 where
       pub own : IsSeatOf kind.says.head lock after
       pub number : seat_number after ≡ k
       pub ledger : IsLedgerOf k (kind.plain (seat_seen after)) counts
       pub begins : IsPrefix before (seat_seen after)
 
--- The seat k, which had seen the lines `before`, found by some ticket a whole journal that begins with those lines
--- and has no other line in its name, and of both this is so.
+-- The seat k, which had seen the lines `before`, found by some ticket a whole journal that begins with those lines and has no other line in its name,
+-- and this relation holds of both.
 pub record Found {L : Type 0} (plain : List L → List Line) (k : ℕ) (before : List L) (so : ℕ → List L → Type 0)
     : Type 0 where
   pub number : ℕ

@@ -1,5 +1,5 @@
--- Linearizability (Herlihy and Wing, 1990) of the calls on a shared book: each seat's calls and answers are those of its
--- lines, in one order for all seats.
+-- Linearizability (Herlihy and Wing, 1990) of the calls on a shared book: each seat's calls and answers are those of its lines, in one order for all
+-- seats.
 use Rattle.std.specs.Prelude.{◌≡◌, ℕ, ◌<◌, Bool, List, Ok, Err, box_value}
 use mathlib.Core.Option.{some}
 use lib.ListN.{get_elem?}
@@ -22,9 +22,8 @@ use Rattle.hull_pool.specs.Crews.{Boxed}
 use Rattle.hull_book.specs.Served.{HasServed, HasServedLong}
 
 module _ {B H L : Type 0} (says : chronicle.Ghosts B H L) (line_of : L → Line) where
-  -- The lines are a sequential history of the calls that the events made on a book of whatever kind: each call that has a
-  -- line was answered with the reply of that line, which is in its seat's name and has that call; each other found the
-  -- journal full, and was answered so
+  -- The lines are a sequential history of the calls that the events made on a book of either kind: each call that has a line got the reply of that
+  -- line, which is in its seat's name and has that call; each other found the journal full, and got that answer
   pub record Agree (b : B) (es : List (Event B)) (calls : ℕ → Call) (answers : ℕ → Answer)
       (lines : List L) : Type 0 where
     pub sequential : IsSequentialHistory says b es lines
@@ -33,8 +32,8 @@ module _ {B H L : Type 0} (says : chronicle.Ghosts B H L) (line_of : L → Line)
     pub fulls : (k i r : ℕ) → FoundFull says b es k i r → answers r ≡ Err (record {})
 
 module _ {S : Type 0} (K : Ghosts S) where
-  -- Each hand on, the event at r, ended a call that was served (`HasServed`, as `serve_and_hand_on` serves one): the call
-  -- `calls r`, with the answer `answers r`, at the journal that the events before it had left
+  -- Each hand on, the event at r, ended a call that was served (`HasServed`, as `serve_and_hand_on` serves one): the call `calls r`, with the answer
+  -- `answers r`, at the journal that the events before it had left
   abbrev pub AreServed : Boxed S → List (Event (Boxed S)) → (ℕ → Call) → (ℕ → Answer) → Type 0
   AreServed b es calls answers = (r k : ℕ) (c : Boxed S) → get_elem? es r ≡ some (hands_on k c)
       → (t : ℕ) × HasServed (box_value b).head.journal t k (calls r) (journal_after (says_boxed K) b es r)
@@ -49,15 +48,15 @@ module _ {S : Type 0} (K : Ghosts S) where
     pub fulls_last : (k i r j a s p : ℕ) (line : Line) → FoundFull (says_boxed K) b es k i r
         → lock.Call (says_boxed K) b es j a s p line → s < r
 
-  -- Every list of steps of the lock that runs, in which each seat that held the book had a call served, leaves a journal
-  -- by whose order each seat was answered
+  -- Every list of steps of the lock that runs, in which each seat that held the book served a call, leaves a journal whose order explains every
+  -- answer
   abbrev pub AnswersAreOfLines : Type 0
   AnswersAreOfLines = (n : ℕ) (b : Boxed S) (w u : World (Boxed S) BookHead Line) (es : List (Event (Boxed S)))
       (calls : ℕ → Call) (answers : ℕ → Answer) → Opened (says_boxed K) partitioned_form n b w
       → Runs (says_boxed K) partitioned_form es w u → AreServed b es calls answers
       → Respond b es calls answers (box_value u.current).lines
 
--- The same of books of a kind that may be drained, where `head_of` has the head of the book
+-- The same for books of a kind that may be drained, if `head_of` is the head of the book
 module _ {S B H : Type 0} (kind : Kind S B H MarkedLine) (head_of : H → BookHead) where
   -- each hand on ended a call that was served, and that took lines out or did not
   abbrev pub AreServedLong : B → List (Event B) → (ℕ → Call) → (ℕ → Answer) → Type 0

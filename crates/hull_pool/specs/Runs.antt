@@ -1,4 +1,4 @@
--- What a run of phases comes to, over all calls of each worker.
+-- The result of a run of phases, over all calls of each worker.
 use Rattle.std.specs.Prelude.{◌≡◌, ◌+◌, ◌<◌, ◌≤◌, ℕ, min, List, [], length, slice_index_or}
 use Rattle.std.specs.List.{All}
 use mathlib.Core.List.{IsPrefix}
@@ -19,8 +19,8 @@ job phase k = slice_index_or phase k []
 abbrev pub answers_of : WorkersValue → ℕ → AnswersValue
 answers_of w k = slice_index_or w.answers k no_answers
 
--- The workers may run these phases on the book: it is lawful, the ledgers are its own, each phase has a list of calls
--- for each worker, none has more calls than a text has lines, and there is room for an answer to each.
+-- The workers may run these phases on the book: it is lawful, the ledgers are its own, each phase has a list of calls for each worker, none has more
+-- calls than a text has lines, and there is capacity for an answer to each.
 pub record MayRunAll {S : Type 0} (K : Ghosts S) (b : BookValue S) (w : WorkersValue)
     (phases : List PhaseValue) : Type 0 where
   pub lawful : IsLawful K b
@@ -30,10 +30,9 @@ pub record MayRunAll {S : Type 0} (K : Ghosts S) (b : BookValue S) (w : WorkersV
   pub few : (k : ℕ) → k < workers_of b → length (calls_of k phases) ≤ TEXT_LINE_LIMIT
   pub room : (k : ℕ) → k < workers_of b → length (calls_of k phases) ≤ (answers_of w k).room
 
--- The phases were run. The book is lawful, with the same head; its journal is the earlier one and then new lines, as
--- many as there are calls or, where that is less, as the journal had room; the new lines of each worker are a front of
--- its calls over the phases in their order, and its new answers are their replies and then that the journal is full;
--- the ledgers are the book's own.
+-- The phases were run. The book is lawful, with the same head; its journal is the earlier one and then new lines, as many as there are calls or, if
+-- that is less, as many as the journal had space for; the new lines of each worker are a prefix of its calls over the phases in their order, and its
+-- new answers are their replies and then that the journal is full; the ledgers are the book's own.
 pub record HasRunAll {S : Type 0} (K : Ghosts S) (b : BookValue S) (w : WorkersValue) (phases : List PhaseValue)
     (c : BookValue S) (v : WorkersValue) : Type 0 where
   pub lawful : IsLawful K c

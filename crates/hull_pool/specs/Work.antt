@@ -1,4 +1,4 @@
--- What a worker has done: which lines are its, and what it was answered.
+-- The work of a worker: its lines, and the answers that it got.
 use Rattle.std.specs.Prelude.{◌≡◌, ◌==◌, ◌-◌, ◌<◌, ◌≤◌, ℕ, List, ◌++◌, length, map, filter, take, replicate}
 use Rattle.std.specs.Prelude.{Ok, Err}
 use Rattle.hull_set.specs.declared.call.Call.{Call}
@@ -10,18 +10,17 @@ use Rattle.hull_book.specs.Answers.{Answer}
 abbrev pub lines_of : ℕ → List Line → List Line
 lines_of seat lines = filter (λ line. line.seat == seat) lines
 
--- the answers that these lines are
+-- the answers in these lines
 abbrev pub replies_of : List Line → List Answer
 replies_of lines = map (λ line. Ok line.reply) lines
 
--- so many answers that the journal is full
+-- this many answers that the journal is full
 abbrev pub fulls : ℕ → List Answer
 fulls n = replicate n (Err (record {}))
 
--- The worker has made the first `done` of its calls, while the journal grew from `before` to `lines`. Its new lines
--- are a
--- front of those calls in their order; its new answers are those lines' replies and then, for each call that has no
--- line, that the journal is full; and where there is such a call, the journal has its capacity.
+-- The worker has made the first `done` of its calls, while the journal grew from `before` to `lines`. Its new lines are a prefix of those calls in
+-- their order; its new answers are those lines' replies and then, for each call that has no line, that the journal is full; and if there is such a
+-- call, the journal has its capacity.
 pub record HasWorked (seat capacity done : ℕ) (calls : List Call) (before lines : List Line)
     (old new : List Answer) : Type 0 where
   pub served : List Line

@@ -1,7 +1,6 @@
 use std::marker::Model;
 
-/// Room between what two threads write: two lines of 64 bytes, which most machines fetch in pairs. Nothing is read from
-/// it.
+/// Padding between what two threads write: two cache lines of 64 bytes, which most machines fetch in pairs. Nothing reads it.
 #[derive(Drop)]
 pub(crate) struct Apart {
     unused: [u64; 16],
@@ -14,7 +13,7 @@ impl Model for Apart {
 }
 
 impl Apart {
-    /// The room.
+    /// Makes the padding.
     pub(crate) fn new() -> Apart {
         Apart { unused: [0; 16] }
     }

@@ -1,4 +1,4 @@
-//! One call of a seat: it enters the lock, has the call served, and hands the book on.
+//! One call of a seat: it enters the lock, serves the call, and hands the book on.
 ghost use Rattle.std.specs.Prelude.{box_value};
 ghost use Rattle.ticket_lock.specs.Tokens.{guard_book, guard_lock, guard_number, guard_seen, opening_book, seat_seen};
 ghost use Rattle.hull_book.specs.Kinds.{kind_of};
@@ -18,7 +18,7 @@ pub type BookSeat<S> = Seat<Box<Book<S>>>;
 /// A seat that holds the book of that lock.
 pub type BookGuard<'a, S> = Guard<'a, Box<Book<S>>>;
 
-/// The lock round a book on the heap that may be drained.
+/// The lock around a book on the heap that may be drained.
 pub type LongLock<S> = TicketLock<Box<LongBook<S>>>;
 
 /// A seat of that lock.
@@ -27,17 +27,16 @@ pub type LongSeat<S> = Seat<Box<LongBook<S>>>;
 /// A seat that holds the book of that lock.
 pub type LongGuard<'a, S> = Guard<'a, Box<LongBook<S>>>;
 
-/// Has one call of the seat that holds the book served, and hands the book on. It asks for the book as the seat found
-/// it; who waits for the lock and who looks once both end with it. `number` is the seat's number, and `ledger` the
-/// ledger of that seat; `then` says what becomes of the lines that are held then.
+/// Serves one call for the seat that holds the book, and hands the book on. The book must be as the seat found it; a caller that waited for the lock
+/// and one that looked once both end with this function. `number` is the seat's number, and `ledger` the ledger of that seat; `then` says what
+/// becomes of the book's lines after the call.
 ///
-/// The answer is what the book's `served` says of the lines found and of those handed on, which the seat that comes back
-/// has seen. Of a [`Book`] it is the reply, which is allowed at what the seat found and has its line behind the lines
-/// found, under the number that was served; or that the journal is full. Of a [`LongBook`] it is the reply and the part
-/// that was taken out, which has the lines of the journal that were not taken out before, the call's own as the last of
-/// them; or that there was no room: for the call's own line one is spare where the lines do not stay, however many are
-/// held. Journal and capacity are those of the whole then, the lines counted that were taken out. The journal handed on
-/// is legal.
+/// The result is what the book's `served` states of the lines found and of those handed on, which the returned seat has seen. For a [`Book`] it is
+/// the reply, which is allowed at the set that the seat found and has its line after the lines found, with the number that was served; or that the
+/// journal is full. For a [`LongBook`] it is the reply and the segment that was taken out, which contains the lines of the journal that were not
+/// taken out before, the call's own as the last of them; or that there was no space: if the lines do not stay, there is a spare line for the call's
+/// own, however many the book has. In this case journal and capacity are those of the whole journal, including the lines that were taken out. The
+/// journal handed on is legal.
 pub fn serve_and_hand_on<B: Journalled>(
     guard: Guard<'_, Box<B>>,
     number: u8,
@@ -59,15 +58,14 @@ pub fn serve_and_hand_on<B: Journalled>(
     (seat, answer)
 }
 
-/// Makes one call: it waits until the seat holds the book, has the call served, and hands the book on. `number` is the
-/// seat's number, and `ledger` the ledger of that seat; `then` says what becomes of the lines that are held then: of a
-/// book that may be drained they stay, are let go for who wants no journal, or are taken out into room for as many as
-/// are held at most.
+/// Makes one call: waits until the seat holds the book, serves the call, and hands the book on. `number` is the seat's number, and `ledger` the
+/// ledger of that seat; `then` says what becomes of the book's lines after the call: the lines of a book that may be drained stay, are discarded for
+/// callers that want no journal, or are taken out into storage for the maximal number of lines.
 ///
-/// The answer is that of [`serve_and_hand_on`], at lines that begin with what the seat had seen before and have no other
-/// line in its name: the reply, whose line is in the journal, in this seat's name, and with it the part that was taken
-/// out; or that there was no room for the line, which leaves the journal as it was. The seat that comes back has seen
-/// the whole journal as it handed it on, which is a legal history and begins with what it had seen before.
+/// The result is that of [`serve_and_hand_on`], at lines that begin with those that the seat had seen before and have no other line in its name: the
+/// reply, whose line is in the journal, in this seat's name, and with it the segment that was taken out; or that there was no space for the line,
+/// which leaves the journal unchanged. The returned seat has seen the whole journal as it handed it on, which is a legal history and begins with the
+/// lines that it had seen before.
 pub fn make_call<R: Wait, B: Journalled>(
     rt: &R,
     lock: &TicketLock<Box<B>>,

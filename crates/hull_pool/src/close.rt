@@ -10,10 +10,9 @@ ghost use Rattle.hull_pool.specs.Work.{lines_of, workers_of};
 use hull_book::{Journalled, Ledger, gather};
 use ticket_lock::{Seat, TicketLock};
 
-/// Closes the lock and gathers the ledgers: the book, and how many calls have their line in its whole journal, those
-/// lines counted that were taken out. It asks for all seats of the lock in the order of their numbers, and for the
-/// ledger of each, in the same order. The journal begins with what each seat has seen, and holds in its name just the
-/// lines that it has seen in its name.
+/// Closes the lock and gathers the ledgers. Returns the book, and how many calls have their line in its whole journal, including the lines that were
+/// taken out. You pass all seats of the lock in the order of their numbers, and the ledger of each, in the same order. The journal begins with what
+/// each seat has seen, and in each seat's name it contains exactly the lines that the seat has seen in its name.
 pub fn close_book<B: Journalled>(
     lock: TicketLock<Box<B>>,
     seats: Vec<Seat<Box<B>>>,

@@ -1,4 +1,4 @@
-//! The workers of a phase, put together from their seats, answers and ledgers, and taken apart again.
+//! The worker set of a phase: assembled from seats, answers and ledgers, and disbanded again.
 ghost use Rattle.std.specs.Prelude.{◌≡◌, ◌+◌, ◌<◌, ◌≤◌, ℕ, List, [], ◌∷◌, ◌++◌, Some, IsSome, IfSome, length, reverse};
 ghost use Rattle.std.specs.Prelude.{slice_index_or, vec_len, vec_capacity, All};
 ghost use Rattle.ticket_lock.specs.Tokens.{seat_number};
@@ -9,7 +9,7 @@ use super::worker::Worker;
 use hull_book::{Answer, Ledger};
 use ticket_lock::{Chronicle, Seat};
 
-/// Makes a worker of each seat, with its answers and its ledger. The last seat's worker comes first.
+/// Makes a worker of each seat, with its answers and its ledger. The worker of the last seat is the first.
 pub(crate) fn hire<B: Chronicle>(
     seats: &mut Vec<Seat<B>>,
     answers: &mut Vec<Vec<Answer>>,
@@ -38,7 +38,7 @@ pub(crate) fn hire<B: Chronicle>(
     }
 }
 
-/// Takes the workers apart again: their seats, answers and ledgers, the last worker's first.
+/// Separates the workers into their seats, answers and ledgers, beginning with the last worker's.
 pub(crate) fn dismiss<B: Chronicle>(
     crew: &mut Vec<Worker<B>>,
     seats: &mut Vec<Seat<B>>,

@@ -1,15 +1,15 @@
-/// What is done before a worker takes a number for a call and after it has handed the book on.
+/// A hook that runs before a worker takes a number for a call and after it has handed the book on.
 ///
 /// `worker` is the worker's number, and `index` counts its calls in this phase from 0.
 pub trait Gate: Sync {
-    /// Before the worker takes a number.
+    /// Runs before the worker takes a number.
     fn before_call(&self, worker: u8, index: u32);
 
-    /// After it has handed the book on.
+    /// Runs after it has handed the book on.
     fn after_call(&self, worker: u8, index: u32);
 }
 
-/// Nothing is done.
+/// The gate that does nothing.
 #[derive(Clone, Copy, Debug)]
 pub struct NoGate;
 

@@ -1,7 +1,7 @@
-//! Workers that share one book under a ticket lock: each makes its calls one by one, in a thread of its own, and what
-//! came of it is said over every order in which the threads' steps fall.
+//! Workers that share one book under a ticket lock: each makes its calls one by one, in a thread of its own. The results are proved for every order
+//! of the threads' steps.
 //!
-//! # A book shared by threads of one's own
+//! # A book shared by your own threads
 //!
 //! ```
 //! let Ok((book, ledgers)) = Book::open(alloc, HullTree::new(alloc, 1000), 0, 64, 2) else { return refused };
@@ -13,24 +13,22 @@
 //! let journal = book.into_journal();
 //! ```
 //!
-//! `Book::open` (crate `hull_book`) makes a book round an empty set, and a ledger for each worker. `TicketLock::open`
-//! (crate `ticket_lock`) makes a lock round the book, boxed, and a seat for each worker. [`make_call`] waits for the
-//! book, has a call served and hands the book on. [`close_book`] closes the lock and gathers the ledgers: it gives back
-//! the book, and how many calls have their line. The test `two_threads_share_a_book` does all of it. Who may not wait
-//! looks (`TicketLock::look`), and ends with [`serve_and_hand_on`], as `make_call` does.
+//! `Book::open` (crate `hull_book`) makes a book around an empty set, and a ledger for each worker. `TicketLock::open` (crate `ticket_lock`) makes a
+//! lock around the book, boxed, and a seat for each worker. [`make_call`] waits for the book, serves a call and hands the book on. [`close_book`]
+//! closes the lock and gathers the ledgers: it returns the book, and how many calls have their line. The test `two_threads_share_a_book` does all of
+//! it. A caller that may not wait uses `TicketLock::look`, and ends with [`serve_and_hand_on`], as `make_call` does.
 //!
-//! # A book that lives for long
+//! # A book that is open for a long time
 //!
-//! A `LongBook` of `hull_book` is shared in the same way, by [`make_call`] and [`close_book`]. One of its seats
-//! takes the lines out, by a call with `Then::TakeOut`: under the lock only the lists change hands. Where as many are
-//! held as may be, calls with `Then::Keep` are refused until then. Where nobody wants a journal, all seats make their
-//! calls with `Then::LetGo`. [`two_seats_share`] is the whole flow for two seats, to copy.
+//! You share a `LongBook` of `hull_book` in the same way, with [`make_call`] and [`close_book`]. One of its seats takes the lines out, with a call by
+//! `Then::TakeOut`: under the lock only the lists change owners. If the book has as many lines as it may, calls with `Then::Keep` are refused until
+//! then. If you want no journal, make the calls of all seats with `Then::LetGo`. [`two_seats_share`] is the whole flow for two seats, to copy.
 //!
 //! # A whole script
 //!
-//! [`run_phases`] does all of it for a script: [`Workers`] holds the ledgers and the answers, and each phase has a lock
-//! and threads of its own. [`run_phase`] runs one phase. What phases come to, over all calls of each worker, is
-//! said in `specs/Runs.antt`, of one phase as of many; `specs/Scripts.antt` adds that they ran one after the other.
+//! [`run_phases`] does all of it for a script: [`Workers`] has the ledgers and the answers, and each phase has its own lock and threads.
+//! [`run_phase`] runs one phase. `specs/Runs.antt` defines the result of phases, over all calls of each worker, for one phase as for many;
+//! `specs/Scripts.antt` adds that they ran one after the other.
 #![tactic(auto)]
 
 mod apart;

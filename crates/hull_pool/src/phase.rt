@@ -1,4 +1,4 @@
-//! One phase: a lock is opened round the book, the workers run, and the lock is closed.
+//! One phase: a lock is opened around the book, the workers run, and the lock is closed.
 ghost use Rattle.std.specs.Prelude.{◌≡◌, ◌≤◌, [], ◌∷◌, IfOk, IfErr, OnOk, OnErr, Err, All, box_value, vec_len};
 ghost use Rattle.std.specs.Prelude.{vec_capacity};
 ghost use Rattle.ticket_lock.specs.Tokens.{seat_count, opening_book, IsSeatOf, AreNumbered, seat_seen};
@@ -28,17 +28,17 @@ pub enum PoolFault {
     NoMemory,
 }
 
-/// What is there after a run: the book, which is closed, the workers, and how it ended.
+/// The result of a run: the book, which is closed, the workers, and how it ended.
 pub struct PhaseEnd<S: HullSet + Drop> {
     /// The book, lawful in every case.
     pub book: Book<S>,
     /// The workers with their answers and ledgers.
     pub workers: Workers,
-    /// Whether all was run; else the phase that was refused was not run at all.
+    /// Whether all was run; if not, the phase that was refused was not run at all.
     pub ended: Result<(), PoolFault>,
 }
 
-/// What a phase needs beside its workers: a lock round the book, its seats, and room for a crew.
+/// The requirements of a phase besides its workers: a lock around the book, its seats, and storage for a worker set.
 struct SetUp<S: HullSet + Drop> {
     lock: BookLock<S>,
     seats: Vec<BookSeat<S>>,
@@ -73,7 +73,7 @@ fn run_locked<R: Threads + Wait + Sync, S: HullSet + Drop + Send + Sync, G: Gate
     lock.close(seats)
 }
 
-/// The end of a phase of which nothing ran.
+/// Returns the end of a phase of which nothing ran.
 fn refused<S: HullSet + Drop>(book: Book<S>, workers: Workers) -> PhaseEnd<S>
     ensures book { result.book ≡ book }
     ensures workers { result.workers ≡ workers }
@@ -86,7 +86,7 @@ fn refused<S: HullSet + Drop>(book: Book<S>, workers: Workers) -> PhaseEnd<S>
     }
 }
 
-/// A lock round the book, its seats, and room for a crew. The book comes back where memory was refused.
+/// Makes a lock around the book, its seats, and storage for a worker set. Returns the book if memory was refused.
 fn set_up<S: HullSet + Drop>(alloc: Global, book: Book<S>) -> Result<SetUp<S>, Book<S>>
     requires lawful { IsLawful S.HullSet book }
     ensures lock { IfOk result (λ r. (box_value (opening_book r.lock) ≡ book) × (seat_count r.lock ≡ workers_of book)) }
@@ -117,10 +117,10 @@ fn set_up<S: HullSet + Drop>(alloc: Global, book: Book<S>) -> Result<SetUp<S>, B
     }
 }
 
-/// Runs the workers over one phase of calls: a lock with a seat for each worker is opened round the book, the workers
-/// run, each in a thread of its own where the system starts that many, and the lock is closed.
+/// Runs the workers over one phase of calls: opens a lock with a seat for each worker around the book, runs the workers, each in a thread of its own
+/// if the system starts that many, and closes the lock.
 ///
-/// `NoMemory` where the lock or the set-up was refused; nothing of the phase ran then.
+/// Fails with `NoMemory` if the lock or the setup was refused; then nothing of the phase ran.
 pub fn run_phase<R: Threads + Wait + Sync, S: HullSet + Drop + Send + Sync, G: Gate>(
     rt: &R,
     alloc: Global,
@@ -160,7 +160,7 @@ pub fn run_phase<R: Threads + Wait + Sync, S: HullSet + Drop + Send + Sync, G: G
 
 /// Runs the phases of a script in their order, and stops at the first that is refused.
 ///
-/// `NoMemory` where a phase was refused; those before it ran whole, and nothing of it.
+/// Fails with `NoMemory` if a phase was refused; then those before it ran completely, and nothing of it did.
 pub fn run_phases<R: Threads + Wait + Sync, S: HullSet + Drop + Send + Sync, G: Gate>(
     rt: &R,
     alloc: Global,

@@ -14,7 +14,7 @@ use hull_book::{Call, Ledger, LongAnswer, LongBook, Room, Then};
 use hull_set::HullSet;
 use std::sync::Wait;
 
-/// A seat that is out of the list of all, and its ledger.
+/// A seat that is taken out of the list of all, and its ledger.
 pub struct Member<S: HullSet + Drop> {
     /// The seat.
     pub seat: LongSeat<S>,
@@ -22,9 +22,9 @@ pub struct Member<S: HullSet + Drop> {
     pub ledger: Ledger,
 }
 
-/// Seat 0 makes a call, seat 1 takes all lines out by another, and seat 0 asks for the count and lets the line go. Then
-/// the lock is closed with both seats: the book, what was taken out, and how many calls have their line. In a program
-/// each seat has a thread of its own. The lists are those that the seats and the ledgers came in.
+/// Seat 0 makes a call, seat 1 takes all lines out with another, and seat 0 asks for the count and discards the line. Then the lock is closed with
+/// both seats. Returns the book, the segment that was taken out, and how many calls have their line. In a program each seat has a thread of its own.
+/// The lists are those that the seats and the ledgers came in.
 pub fn two_seats_share<R: Wait, S: HullSet + Drop>(
     rt: &R,
     lock: LongLock<S>,

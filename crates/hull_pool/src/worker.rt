@@ -14,8 +14,8 @@ use std::thread;
 use std::thread::Threads;
 use ticket_lock::{Chronicle, Seat};
 
-/// A worker of a phase. Its seat is there whenever it does not work. The workers of a crew lie in one list, and each
-/// writes its ledger while it holds the book and its answers after: none of that is on a line of another's.
+/// A worker of a phase. Its seat is present whenever it does not work. The workers of a set are in one list, and each writes its ledger while it
+/// holds the book and its answers afterwards: none of that shares a cache line with another worker's.
 pub(crate) struct Worker<B: Chronicle> {
     pub(crate) number: u8,
     pub(crate) seat: Option<Seat<B>>,
@@ -24,7 +24,7 @@ pub(crate) struct Worker<B: Chronicle> {
     pub(crate) apart: Apart,
 }
 
-/// Makes the worker's calls of the phase in their order, with the gate round each.
+/// Makes the worker's calls of the phase in their order, with the gate around each.
 pub(crate) fn work<R: Wait, S: HullSet + Drop, G: Gate>(
     rt: &R,
     lock: &BookLock<S>,
@@ -50,7 +50,7 @@ pub(crate) fn work<R: Wait, S: HullSet + Drop, G: Gate>(
     let None = none else { unreachable!() };
 }
 
-/// Each worker works on the phase, in a thread of its own where the system starts that many.
+/// Each worker works on the phase, in a thread of its own if the system starts that many.
 fn work_each<R: Threads + Wait + Sync, S: HullSet + Drop + Send + Sync, G: Gate>(
     rt: &R,
     lock: &BookLock<S>,
@@ -73,7 +73,7 @@ fn work_each<R: Threads + Wait + Sync, S: HullSet + Drop + Send + Sync, G: Gate>
     thread::for_each_mut(rt, crew, threads, &each);
 }
 
-/// All workers of a crew work on the phase at once.
+/// All workers of a set work on the phase at once.
 pub(crate) fn work_all<R: Threads + Wait + Sync, S: HullSet + Drop + Send + Sync, G: Gate>(
     rt: &R,
     lock: &BookLock<S>,

@@ -9,7 +9,7 @@ use hull_set::NoMemory;
 use std::alloc::{AllocError, Global};
 use std::marker::Model;
 
-/// The answers and the ledgers of the workers of a book, with room for every answer of a script.
+/// The answers and the ledgers of the workers of a book, with storage for every answer of a script.
 pub struct Workers {
     pub(crate) answers: Vec<Vec<Answer>>,
     pub(crate) ledgers: Vec<Ledger>,
@@ -23,7 +23,7 @@ impl Model for Workers {
     ghost view = { λ w. shown_workers w.answers.items w.ledgers.items };
 }
 
-/// How many calls a worker has in these phases.
+/// Returns how many calls a worker has in these phases.
 fn count_of(phases: &[Phase], worker: u8) -> usize
     requires jobs { All (λ phase. worker < length phase) phases.now }
     requires few { calls_in_all phases.now ≤ TEXT_LINE_LIMIT }
@@ -38,7 +38,7 @@ fn count_of(phases: &[Phase], worker: u8) -> usize
     count
 }
 
-/// A list for each worker, with room for its answers.
+/// Makes a list for each worker, with storage for its answers.
 fn lists_for(alloc: Global, script: &Script) -> Result<Vec<Vec<Answer>>, AllocError>
     ensures { IfOk result (λ lists. HasRoomFor script.now.workers script.now.phases (map (λ v. shown v) lists.items)) }
 {
@@ -51,9 +51,9 @@ fn lists_for(alloc: Global, script: &Script) -> Result<Vec<Vec<Answer>>, AllocEr
 }
 
 impl Workers {
-    /// Workers with these ledgers, in the order of their seats, and with room for every answer of the script.
+    /// Makes workers with these ledgers, in the order of their seats, and with storage for every answer of the script.
     ///
-    /// `NoMemory` where memory for that room was refused; the ledgers come back with it.
+    /// Fails with `NoMemory` if memory for that storage was refused, and returns the ledgers.
     pub fn new(
         alloc: Global,
         ledgers: Vec<Ledger>,
@@ -70,7 +70,7 @@ impl Workers {
         }
     }
 
-    /// Each worker's answers in their order, and the ledgers. It takes no memory.
+    /// Returns each worker's answers in their order, and the ledgers. It allocates no memory.
     pub fn into_parts(self) -> (Vec<Vec<Answer>>, Vec<Ledger>)
         ensures answers { answers_in result.0.items ≡ map (λ a. a.answers) self.answers }
         ensures ledgers { result.1.items ≡ self.ledgers }

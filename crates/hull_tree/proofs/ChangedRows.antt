@@ -1,4 +1,4 @@
--- What a change makes of a set, and of two lists in a row.
+-- The effect of a change on a set, and on two concatenated lists.
 use Rattle.std.proofs.Common.{◌≡◌, refl, List, [], ◌∷◌, ◌++◌}
 use Rattle.std.specs.List.{All, Contains}
 use Rattle.lattice.specs.Covers.{IsPointSet, with_point, without_point}
@@ -8,7 +8,7 @@ use Rattle.hull_geometry.proofs.SetLaws.{ordered_with, ordered_without}
 use Rattle.hull_geometry.proofs.PointLists.{only_member}
 use Rattle.leaf_trees.proofs.Rows.{with_left, with_right, without_left, without_right}
 
--- what a change at a point makes of a set: of two lists in a row the one that the point stands in changes
+-- a change at a point of two concatenated lists changes the one that the point belongs to
 pub record IsChange (f : Pair → List Pair → List Pair) : Type 0 where
   pub left : (p : Pair) (xs ys : List Pair) → All (IsBefore p) ys → f p (xs ++ ys) ≡ f p xs ++ ys
   pub right : (p : Pair) (xs ys : List Pair) → All (λ t. IsBefore t p) xs → f p (xs ++ ys) ≡ xs ++ f p ys
@@ -18,7 +18,7 @@ pub record IsChange (f : Pair → List Pair → List Pair) : Type 0 where
 pub added : IsChange with_point
 added = record { left = with_left; right = with_right; ordered = ordered_with }
 
--- or taken
+-- or removed
 pub taken : IsChange without_point
 taken = record { left = without_left; right = without_right; ordered = ordered_without }
 

@@ -1,4 +1,4 @@
--- What a change of a tree with a limit is answered, and what it makes of what is held.
+-- The reply of a change of a tree with a limit, and its effect on the set.
 use Rattle.std.proofs.lemmas.Grind.{common_steps}
 use Rattle.std.proofs.Common.{◌≡◌, ℕ, ◌+◌, ◌-◌, ◌<◌, ◌≤◌, refl, sym, ◌∙◌, List, length, arith, Some, inl, inr}
 use Rattle.std.proofs.Common.{subst}
@@ -23,7 +23,7 @@ use Rattle.hull_tree.specs.Sets.{IsLimited, IsSound}
 use Rattle.hull_tree.proofs.LimitedTrees.{sound}
 use Rattle.hull_tree.proofs.Multiplicities.{live_iff, live_by_times, not_live, times_few}
 
--- a way down the tree n of a set found p there r times, and left the same tree m
+-- a way down the tree n of a set found p with multiplicity r, and left the same tree m
 pub record IsCounted (root : Option Node) (n m : Node) (p : Pair) (count limit r : ℕ) : Type 0 where
   pub limited : IsLimited root count limit
   pub own : root ≡ Some n
@@ -31,7 +31,7 @@ pub record IsCounted (root : Option Node) (n m : Node) (p : Pair) (count limit r
   pub built : IsWellBuilt m
   pub same : tree_of m ≡ tree_of n
 
--- what the way down says, together with what the set was
+-- the result of the way down, together with the set before
 pub counted : {root : Option Node} {n m : Node} {p : Pair} {count limit r : ℕ} → IsLimited root count limit
     → root ≡ Some n → r ≡ times_below n p → IsWellBuilt m → tree_of m ≡ tree_of n → IsCounted root n m p count limit r
 counted limited own was built same = record { limited = limited; own = own; was = was; built = built; same = same }
@@ -51,13 +51,13 @@ pub sound_after : {root : Option Node} {n m : Node} {p : Pair} {count limit r : 
     → IsSound (Some m)
 sound_after k = sound _ _ _ (limited_after k)
 
--- p is held no more often than a point may be
+-- the multiplicity of p is at most the greatest
 pub few_times : {root : Option Node} {n m : Node} {p : Pair} {count limit r : ℕ} → IsCounted root n m p count limit r
     → r ≤ MULTIPLICITY_LIMIT
 few_times {root} {n} {m} {p} k = let b : IsWellBuilt n = built_before k in
     omega (arith, k.was, times_few n p b.bridged b.labelled)
 
--- where p is held at least once, it is a live point
+-- if p has a multiplicity of at least one, it is in the set
 live : {root : Option Node} {n m : Node} {p : Pair} {count limit r : ℕ} → IsCounted root n m p count limit r → 1 ≤ r
     → Contains (points_of_root root) p
 live {root} {n} {m} {p} k l = rw k.own ((live_iff n p (built_before k)).1 (omega (arith, k.was, l)))
@@ -68,7 +68,7 @@ pub live_after : {root : Option Node} {n m : Node} {p : Pair} {count limit r : �
 live_after {root} {n} {m} {p} k l =
     contains_of_on (tree_of m) p (subst (λ u. On u p) (sym k.same) (live_by_times n p (omega (arith, k.was, l))))
 
--- where it is held 0 times, it is none
+-- if its multiplicity is 0, it is not
 pub dead : {root : Option Node} {n m : Node} {p : Pair} {count limit r : ℕ} → IsCounted root n m p count limit r → r ≡ 0
     → ¬ (Contains (points_of_root root) p)
 dead {root} {n} {m} {p} k z = rw k.own (not_live n p (built_before k) (sym k.was ∙ z))
@@ -83,12 +83,12 @@ dead_after {root} {n} {m} {p} k z i =
 pub some_points : (S : List Pair) (p : Pair) → Contains S p → 1 ≤ length S
 some_points S p (k, l, e) = omega (arith, l)
 
--- a point that is held as often as a point may be is one too many
+-- a point with the greatest multiplicity is one too many
 pub answers_full : {root : Option Node} {n m : Node} {p : Pair} {count limit r : ℕ} → IsCounted root n m p count limit r
     → r ≡ MULTIPLICITY_LIMIT → AnswersAdd Counted (held_by root) limit p TooMany
 answers_full k z = inr (refl, live k (omega (arith, z)), rw k.own (sym k.was ∙ z))
 
--- a live point that is held less often is held once more
+-- a point of the set with a smaller multiplicity is added once more
 pub answers_again : {root : Option Node} {n m : Node} {p : Pair} {count limit r : ℕ}
     → IsCounted root n m p count limit r → 1 ≤ r → ¬ (r ≡ MULTIPLICITY_LIMIT)
     → AnswersAdd Counted (held_by root) limit p (Again (r + 1))
@@ -96,24 +96,24 @@ answers_again {root} {n} {m} {p} {count} {limit} {r} k l f =
     let e : times_of_root root p ≡ r = rw k.own (sym k.was) in
     (refl, live k l, omega (arith, e), omega (arith, l), omega (arith, f, few_times k))
 
--- a new point is one too many where the set has as many points as its limit
+-- a new point is one too many if the set has as many points as its limit
 pub answers_many : {root : Option Node} {n m : Node} {p : Pair} {count limit r : ℕ} → IsCounted root n m p count limit r
     → r ≡ 0 → limit ≤ count → AnswersAdd Counted (held_by root) limit p TooMany
 answers_many k z l = inl (dead k z, omega (arith, k.limited.counted, k.limited.room, l))
 
--- else there is room for it
+-- otherwise there is capacity for it
 pub answers_new : {root : Option Node} {n m : Node} {p : Pair} {count limit r : ℕ} → IsCounted root n m p count limit r
     → r ≡ 0 → count < limit → AnswersAdd Counted (held_by root) limit p Added
 answers_new k z l = (dead k z, omega (arith, k.limited.counted, l))
 
--- a point that is held more than once is left
+-- a point that has a multiplicity above one is left
 pub answers_left : {root : Option Node} {n m : Node} {p : Pair} {count limit r : ℕ} → IsCounted root n m p count limit r
     → 1 < r → AnswersRemove Counted (held_by root) p (Left (r - 1))
 answers_left {root} {n} {m} {p} {count} {limit} {r} k l =
     let e : times_of_root root p ≡ r = rw k.own (sym k.was) in
     (refl, live k (omega (arith, l)), omega (arith, e, l), omega (arith, l))
 
--- one that is held once is taken
+-- one with multiplicity one is removed
 pub answers_removed : {root : Option Node} {n m : Node} {p : Pair} {count limit r : ℕ}
     → IsCounted root n m p count limit r → r ≡ 1 → AnswersRemove Counted (held_by root) p Removed
 answers_removed k l = (live k (omega (arith, l)), λ c. rw k.own (sym k.was ∙ l))
@@ -129,7 +129,7 @@ pub held_new : (root : Option Node) (n m : Node) (p : Pair) → root ≡ Some n
     → held_by (Some m) ≡ with_new p (held_by root)
 held_new root n m p o e h = grind (arith, common_steps, same_held, points_below, with_point, times_below, once)
 
--- without the point p, which was held once
+-- without the point p, which had multiplicity one
 pub held_none : (root left : Option Node) (n : Node) (p : Pair) → root ≡ Some n
     → points_of_root left ≡ without_point p (points_below n)
     → ((q : Pair) → times_of_root left q + once p q ≡ times_below n q) → held_by left ≡ with_none p (held_by root)

@@ -1,4 +1,4 @@
--- Two nodes in a row: the parts of a fork, and where a point goes that is added or taken.
+-- Two nodes in a row: the halves of a fork, and the half that a point is added to or removed from.
 use Rattle.std.proofs.Common.{◌≡◌, ◌+◌, refl, sym, subst, List, ◌++◌, inl, inr, append_assoc, Some}
 use Rattle.std.specs.List.{All}
 use Rattle.lattice.specs.Covers.{IsPointSet}
@@ -62,7 +62,7 @@ over_halves (node.Node' upper lower height near times
       near = b.balanced.0;
     }
 
--- a node that stands in a row with n stands in a row with a, where n has the points of a and then those of b
+-- a node that is in a row with n is in a row with a, if n has the points of a and then those of b
 pub row_with_left : (l n a b : node.Node) → AreInRow a b → points_below n ≡ points_below a ++ points_below b
     → AreInRow l n → AreInRow l a
 row_with_left l n a b o i k =
@@ -91,7 +91,7 @@ pub regrouped : (l r s t : node.Node) → AreInRow l r → IsWellBuilt s → IsW
     → points_below l ++ points_below r ≡ points_below s ++ points_below t → AreInRow s t
 regrouped l r s t k a b e = record { left_built = a; right_built = b; in_order = subst IsPointSet e k.in_order }
 
--- p before the first point of r: it stands before all of r
+-- p before the first point of r: it is before all of r
 pub before_first : (l r : node.Node) (p : Pair) → AreInRow l r → IsBefore p (first_of (tree_of r))
     → All (IsBefore p) (points_below r)
 before_first l r p k b = all_of (IsBefore p) (points_below r) (λ t i. elim (before_total (first_of (tree_of r)) t) [
@@ -100,7 +100,7 @@ before_first l r p k b = all_of (IsBefore p) (points_below r) (λ t i. elim (bef
   | inr (inr h) ↦ absurd (first_by (tree_of r) k.right_built.bridged t (on_of_contains (tree_of r) t i) h)
 ])
 
--- else all of l stands before p
+-- otherwise all of l is before p
 pub after_first : (l r : node.Node) (p : Pair) → AreInRow l r → ¬ (IsBefore p (first_of (tree_of r)))
     → All (λ t. IsBefore t p) (points_below l)
 after_first l r p k n = all_of (λ t. IsBefore t p) (points_below l) (λ t i.

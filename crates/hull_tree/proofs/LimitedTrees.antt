@@ -1,4 +1,4 @@
--- What a tree with a limit keeps, and that a change keeps it.
+-- The invariant of a tree with a limit, and that a change preserves it.
 use Rattle.std.proofs.lemmas.Grind.{common_steps}
 use Rattle.std.proofs.Common.{◌≡◌, ℕ, ◌+◌, ◌-◌, ◌<◌, ap, ◌∙◌, List, length, arith, Some, None, subst}
 use Rattle.std.specs.Prelude.{Option}

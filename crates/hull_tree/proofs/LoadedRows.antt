@@ -44,7 +44,7 @@ entries_back m es h = record {
   held = All-drop (λ (e : Pair × ℕ). IsMultiplicity e.1) m es h.held;
 }
 
--- the nodes over both parts stand in a row
+-- the nodes over both halves are in a row
 pub row_over : (m : ℕ) (es : List (Pair × ℕ)) (l r : Node) → AreEntries es → IsOver (take m es) l
     → IsOver (drop m es) r → AreInRow l r
 row_over m es l r h a b = record {

@@ -1,4 +1,4 @@
--- How often points are held below a node, and below which of its halves.
+-- The multiplicities of points below a node, and the half that a point is below.
 use Rattle.std.proofs.lemmas.Grind.{common_steps}
 use Rattle.std.proofs.Common.{◌≡◌, None, ℕ, zero, suc, ◌+◌, ◌-◌, ◌<◌, ◌≤◌, refl, sym, ◌∙◌, subst, arith, ◌⊎◌, inl, inr}
 use Rattle.std.proofs.Common.{true, false, Bool, if◌then◌else◌}
@@ -21,7 +21,7 @@ use Rattle.hull_tree.specs.Nodes.{tree_of, times_below, IsLabelled, IsWellBuilt}
 use Rattle.hull_tree.specs.Changes.{points_below, AreInRow, IsPartedAt}
 use Rattle.hull_tree.proofs.HalfRows.{before_first, after_first}
 
--- a point that is not below a node is held 0 times there
+-- a point that is not below a node has multiplicity 0 there
 pub times_absent : (n : node.Node) (p : Pair) → ¬ (On (tree_of n) p) → times_below n p ≡ 0
 times_absent (node.Node' upper lower height near times node.None') p a =
     several_elsewhere times upper.0 p (λ e. a (sym e))
@@ -29,7 +29,7 @@ times_absent (node.Node' upper lower height near times
     (node.Some' i (halves.Halves' left right last_left first_right))) p a =
     omega (arith, times_absent left p (λ h. a (inl h)), times_absent right p (λ h. a (inr h)))
 
--- one that is below it is held at least once
+-- one that is below it has a multiplicity of at least one
 pub times_live : (n : node.Node) (p : Pair) → IsLabelled n → On (tree_of n) p → 1 ≤ times_below n p
 times_live (node.Node' upper lower height near times node.None') p l e = grind (arith, common_steps, several, several_there)
 times_live (node.Node' upper lower height near times
@@ -39,12 +39,12 @@ times_live (node.Node' upper lower height near times
     (node.Some' i (halves.Halves' left right last_left first_right))) p l (inr h) =
     omega (arith, times_live right p l.4 h)
 
--- where two numbers come to one at least, so does one of them
+-- if the sum of two numbers is at least one, so is one of them
 some_of : (a b : ℕ) → 1 ≤ a + b → (1 ≤ a) ⊎ (1 ≤ b)
 some_of zero b h = inr (omega (arith, h))
 some_of (suc a) b h = inl (omega arith)
 
--- a point that is held at least once below a node is below it
+-- a point that has a multiplicity of at least one below a node is below it
 pub live_by_times : (n : node.Node) (p : Pair) → 1 ≤ times_below n p → On (tree_of n) p
 live_by_times (node.Node' upper lower height near times node.None') p h =
     elim (same_or_other upper.0 p) [
@@ -59,7 +59,7 @@ live_by_times (node.Node' upper lower height near times
       | inr k ↦ inr (live_by_times right p k)
     ]
 
--- no point is held more often than a point may be
+-- no multiplicity is above the greatest
 pub times_few : (n : node.Node) (p : Pair) → IsBridged (tree_of n) → IsLabelled n → times_below n p ≤ MULTIPLICITY_LIMIT
 times_few (node.Node' upper lower height near times node.None') p b l = at_most (is_same_pair upper.0 p)
   where
@@ -81,28 +81,28 @@ times_few (node.Node' upper lower height near times
     some_or_none zero = inl refl
     some_or_none (suc a) = inr (omega arith)
 
--- the points below a well-built node are those that are held there
+-- the points below a well-built node are those with a multiplicity there
 pub live_iff : (n : node.Node) (p : Pair) → IsWellBuilt n → Contains (points_below n) p ↔ (1 ≤ times_below n p)
 live_iff n p b = grind (arith, common_steps, times_live, on_of_contains, tree_of, contains_of_on, live_by_times)
 
--- a point that is held 0 times is none of them
+-- a point with multiplicity 0 is none of them
 pub not_live : (n : node.Node) (p : Pair) → IsWellBuilt n → times_below n p ≡ 0 → ¬ (Contains (points_below n) p)
 not_live n p b e m = let h : 1 ≤ times_below n p = (live_iff n p b).0 m in omega (arith, e, h)
 
--- p before the first point of the right one of two nodes in a row is held 0 times there
+-- p before the first point of the right one of two nodes in a row has multiplicity 0 there
 pub none_right : (l r : node.Node) (p : Pair) → AreInRow l r → IsBefore p (first_of (tree_of r)) → times_below r p ≡ 0
 none_right l r p k b =
     times_absent r p (λ h. before_irrefl p
     (All-contains (IsBefore p) (points_below r) p (before_first l r p k b) (contains_of_on (tree_of r) p h)))
 
--- any other is held 0 times in the left one
+-- any other has multiplicity 0 in the left one
 pub none_left : (l r : node.Node) (p : Pair) → AreInRow l r → ¬ (IsBefore p (first_of (tree_of r)))
     → times_below l p ≡ 0
 none_left l r p k b =
     times_absent l p (λ h. before_irrefl p
     (All-contains (λ t. IsBefore t p) (points_below l) p (after_first l r p k b) (contains_of_on (tree_of l) p h)))
 
--- so p before the parting is held as often as in the left one
+-- so the multiplicity of p before the split is that in the left one
 pub all_left : (l r : node.Node) (p last first : Pair) → IsPartedAt l r last first → IsBefore p first
     → times_below l p + times_below r p ≡ times_below l p
 all_left l r p last first k b = omega (arith, none_right l r p k.row (subst (IsBefore p) k.starts_right b))
@@ -113,7 +113,7 @@ pub all_right : (l r : node.Node) (p last first : Pair) → IsPartedAt l r last 
 all_right l r p last first k b =
     omega (arith, none_left l r p k.row (λ h. b (subst (IsBefore p) (sym k.starts_right) h)))
 
--- the leaf of a point that is held once there
+-- the leaf of a point that has multiplicity one there
 pub leaf_once : (n : node.Node) (p : Pair) → tree_of n ≡ Leaf p → times_below n p ≡ 1 → (q : Pair)
     → times_below n q ≡ once p q
 leaf_once (node.Node' upper lower height near times node.None') p t e q =
@@ -126,7 +126,7 @@ leaf_once (node.Node' upper lower height near times node.None') p t e q =
 leaf_once (node.Node' upper lower height near times
     (node.Some' i (halves.Halves' left right last_left first_right))) p t e q = absurd (cc)
 
--- p before the parting, held once in both halves, is held once in the left one and is one of its points
+-- p before the split, with multiplicity one in both halves together, has multiplicity one in the left one and is one of its points
 pub once_left : (l r : node.Node) (p last first : Pair) → IsPartedAt l r last first → IsBefore p first
     → times_below l p + times_below r p ≡ 1 → (times_below l p ≡ 1) × Contains (points_below l) p
 once_left l r p last first k b e =
@@ -146,7 +146,7 @@ several_more : (b : Bool) (n : ℕ) → (if b then n + 1 else 0) ≡ (if b then 
 several_more true n = refl
 several_more false n = refl
 
--- one time less and once more are n times
+-- n from one less and one more
 several_less : (b : Bool) (n : ℕ) → 1 < n → (if b then n - 1 else 0) + (if b then 1 else 0) ≡ (if b then n else 0)
 several_less true n h = omega (arith, h)
 several_less false n h = refl

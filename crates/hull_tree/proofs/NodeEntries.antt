@@ -1,4 +1,4 @@
--- The points below a node, each with how often it is held, as entries.
+-- The points below a node, each with its multiplicity, as entries.
 use Rattle.std.proofs.lemmas.Grind.{common_steps}
 use Rattle.std.proofs.Common.{◌≡◌, ℕ, ◌+◌, refl, sym, ◌∙◌, ap, subst, List, [], ◌++◌, length, arith, Option, Some, None}
 use Rattle.std.specs.List.{All}
@@ -33,7 +33,7 @@ points_of_entries (node.Node' upper lower height near times
 pub length_of_entries : (n : node.Node) → length (entries_below n) ≡ length (points_below n)
 length_of_entries n = sym (length-keys_of (entries_below n)) ∙ ap (λ (z : List Pair). length z) (points_of_entries n)
 
--- each held as often
+-- each with the same multiplicity
 pub times_of_entries : (n : node.Node) (q : Pair) → times_listed (entries_below n) q ≡ times_below n q
 times_of_entries (node.Node' upper lower height near times node.None') q = omega arith
 times_of_entries (node.Node' upper lower height near times

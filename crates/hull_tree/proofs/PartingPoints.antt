@@ -1,4 +1,4 @@
--- The points at the parting of two halves, when a point is added to one of them or taken from it.
+-- The points at the split of two halves, when a point is added to one of them or removed from it.
 use Rattle.std.proofs.Common.{◌≡◌, sym, ap, ◌∙◌, subst, ◌⊎◌, inl, inr, refl, [], ◌++◌, append-nil, arith, ◌+◌, Some}
 use Rattle.std.specs.List.{Contains}
 use Rattle.lattice.specs.Covers.{with_point, without_point}
@@ -20,7 +20,7 @@ use Rattle.hull_tree.proofs.PointRows.{all_before_of_set}
 use Rattle.hull_tree.proofs.ChangedRows.{without_only, added, taken}
 use Rattle.hull_tree.proofs.HalfRows.{IsOver, over_halves, change_left, change_right, row_left, row_right}
 
--- the last point of a half is its point that none stands after
+-- the last point of a half is its point that none is after
 last_is : (t : Tree) (x : Pair) → IsBridged t → On t x → ((s : Pair) → On t s → ¬ IsBefore x s) → last_of t ≡ x
 last_is t x b i h =
     elim (before_total (last_of t) x) [
@@ -29,7 +29,7 @@ last_is t x b i h =
       | inr (inr k) ↦ absurd (h (last_of t) (on_last t) k)
     ]
 
--- the first point is the one that none stands before
+-- the first point is the one that none is before
 first_is : (t : Tree) (x : Pair) → IsBridged t → On t x → ((s : Pair) → On t s → ¬ IsBefore s x) → first_of t ≡ x
 first_is t x b i h =
     elim (before_total (first_of t) x) [
@@ -74,7 +74,7 @@ last_kept t v p b d e h =
       | inr k ↦ λ l. last_by t b s k l
     ])
 
--- p that does not stand before the first point leaves it
+-- p that is not before the first point leaves it
 first_kept : (t v : Tree) (p : Pair) → IsBridged t → IsBridged v → points_of v ≡ with_point p (points_of t)
     → ¬ IsBefore p (first_of t) → first_of v ≡ first_of t
 first_kept t v p b d e h =
@@ -110,7 +110,7 @@ first_left t v p b d e n =
     sym (first_is v (first_of t) d (still_there t v p (first_of t) b e (on_first t) n)
     (λ s i. first_by t b s (one_less t v p s b e i)))
 
--- p, before the first point of r, is added to l, and the last point of l moves behind it
+-- p, before the first point of r, is added to l, and the last point of l becomes p if p is after it
 pub parted_add_left : (l r m : Node) (p last first end : Pair) → IsPartedAt l r last first → IsBefore p first
     → IsWellBuilt m → points_below m ≡ with_point p (points_below l) → (IsBefore last p → end ≡ p)
     → (¬ IsBefore last p → end ≡ last) → IsPartedAt m r end first
@@ -142,12 +142,12 @@ parted_add_right l r m p last first k b h e =
           ∙ sym (first_kept (tree_of r) (tree_of m) p k.row.right_built.bridged h.bridged e n);
     }
 
--- a half with p that is not p alone is a fork
+-- a half with p and another point is a fork
 pub fork_of : (t : Tree) (p : Pair) → On t p → ¬ (t ≡ Leaf p) → IsFork t
 fork_of (Leaf x) p i n = absurd (n (ap Leaf (sym i)))
 fork_of (Fork e f u w) p i n = tt
 
--- p, before the first point of r, is taken from l, which m is then
+-- p, before the first point of r, is removed from l, which is m afterwards
 pub parted_drop_left : (l r m s t : Node) (p last first end start : Pair) → IsPartedAt l r last first → IsBefore p first
     → IsWellBuilt m → points_below m ≡ without_point p (points_below l) → s ≡ m → t ≡ r → end ≡ last_of (tree_of m)
     → start ≡ first → IsPartedAt s t end start
@@ -157,14 +157,14 @@ parted_drop_left l r m s t p last first end start k b h e es et i j = rw (es, et
   starts_right = k.starts_right;
 }
 
--- so it is taken from both in a row
+-- so it is removed from both in a row
 pub points_drop_left : (l r m s t : Node) (p last first : Pair) → IsPartedAt l r last first → IsBefore p first
     → points_below m ≡ without_point p (points_below l) → s ≡ m → t ≡ r
     → points_below s ++ points_below t ≡ without_point p (points_below l ++ points_below r)
 points_drop_left l r m s t p last first k b e es et =
     rw (es, et, e) (sym (change_left taken l r p k.row (subst (IsBefore p) k.starts_right b)))
 
--- any other is taken from r
+-- any other is removed from r
 pub parted_drop_right : (l r m s t : Node) (p last first end start : Pair) → IsPartedAt l r last first
     → ¬ IsBefore p first → IsWellBuilt m → points_below m ≡ without_point p (points_below r) → s ≡ l → t ≡ m
     → end ≡ last → start ≡ first_of (tree_of m) → IsPartedAt s t end start
@@ -174,7 +174,7 @@ parted_drop_right l r m s t p last first end start k b h e es et i j = rw (es, e
   starts_right = refl;
 }
 
--- so it is taken from both in a row
+-- so it is removed from both in a row
 pub points_drop_right : (l r m s t : Node) (p last first : Pair) → IsPartedAt l r last first → ¬ IsBefore p first
     → points_below m ≡ without_point p (points_below r) → s ≡ l → t ≡ m
     → points_below s ++ points_below t ≡ without_point p (points_below l ++ points_below r)
@@ -185,13 +185,13 @@ points_drop_right l r m s t p last first k b e es et =
 without_leaf : (t : Tree) (p : Pair) → t ≡ Leaf p → without_point p (points_of t) ≡ []
 without_leaf t p e = ap (λ z. without_point p (points_of z)) e ∙ without_only p p (0, omega arith, refl)
 
--- what s is to the node n: n without p, which was held once
+-- s is the node n without p, which had multiplicity one
 pub record IsRest (n s : Node) (p : Pair) : Type 0 where
   pub built : IsWellBuilt s
   pub points : points_below s ≡ without_point p (points_below n)
   pub times : (q : Pair) → times_below s q + once p q ≡ times_below n q
 
--- p, held once, is all of the left half: the right one is the rest
+-- if p, with multiplicity one, is all of the left half, the right one is the rest
 rest_right : (n s : Node) (h : Halves) (p : Pair) → IsOver n h → tree_of (left_half h) ≡ Leaf p → times_below n p ≡ 1
     → s ≡ right_half h → IsRest n s p
 rest_right n s h p o e c d =
@@ -209,7 +209,7 @@ rest_right n s h p o e c d =
       times = λ q. omega (arith, o.times q, leaf_once (left_half h) p e a q);
     }
 
--- else p is all of the right half, and the left one is the rest
+-- otherwise p is all of the right half, and the left one is the rest
 rest_left : (n s : Node) (h : Halves) (p : Pair) → IsOver n h → tree_of (right_half h) ≡ Leaf p → times_below n p ≡ 1
     → s ≡ left_half h → IsRest n s p
 rest_left n s h p o e c d =
@@ -225,7 +225,7 @@ rest_left n s h p o e c d =
       times = λ q. omega (arith, o.times q, leaf_once (right_half h) p e a q);
     }
 
--- where p, held once, is all of one half, the other one is the rest
+-- if p, with multiplicity one, is all of one half, the other one is the rest
 pub rest_below : (n s : Node) (g h : Halves) (p : Pair) → IsWellBuilt n → below_of n ≡ Some h → g ≡ h
     → (tree_of (left_half g) ≡ Leaf p) ⊎ (tree_of (right_half g) ≡ Leaf p)
     → (tree_of (left_half h) ≡ Leaf p → s ≡ right_half h) → (¬ (tree_of (left_half h) ≡ Leaf p) → s ≡ left_half h)

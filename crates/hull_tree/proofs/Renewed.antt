@@ -36,7 +36,7 @@ under_fork (node.Node' upper lower height near times node.None') h p e = absurd 
 under_fork (node.Node' upper lower height near times
     (node.Some' i (halves.Halves' left right last_left first_right))) h p e = grind (arith, common_steps, near, last_left, same_below)
 
--- a fork over two halves that are parted is yet to be renewed
+-- a fork over two halves that store the points at their split is still to be renewed
 pub parted_fork : (n : node.Node) (h : halves.Halves) → below_of n ≡ Some h → AreParted h → IsParted n
 unfolding node.out-Node halves.out-Halves denote.Hole.Carrier.out
 parted_fork (node.Node' upper lower height near times node.None') h e p = absurd (cc)
@@ -91,8 +91,8 @@ dearer_on_both (node.Node' upper lower height near times
     by_fork e f (tree_of left) (tree_of right) a
     (subst (λ (z : halves.Halves). IsForkCost e f (tree_of (left_half z)) (tree_of (right_half z)) a) (sym b) c)
 
--- where p is below one of the halves, and the fork over them was renewed, the turns below and those of the renewal are at
--- least the cost of the forks above p
+-- if p is below one of the halves, and the fork over them was renewed, the turns below and those of the renewal are at least the cost of the forks
+-- above p
 pub cost_through : (n : node.Node) (h : halves.Halves) (v : Tree) (p : Pair) (m a k : ℕ) → below_of n ≡ Some h
     → AreParted h → IsCostAtMost (tree_of (left_half h)) p m ⊎ IsCostAtMost (tree_of (right_half h)) p m
     → IsDearerByAtMost (left_of (tree_of n)) v a → IsDearerByAtMost (right_of (tree_of n)) v a → m + a ≤ k

@@ -17,7 +17,7 @@ use Rattle.leaf_trees.proofs.Stretches.{early, from_append, none_from, take_more
 use Rattle.hull_tree.proofs.NodeEntries.{listed_halves, points_of_entries}
 use Rattle.hull_tree.proofs.HalfRows.{over_halves}
 
--- a node whose last point stands before the start has none
+-- a node whose last point is before the start has none
 pub none_below : (s : Pair) (n : node.Node) → IsWellBuilt n → IsBefore (last_of (tree_of n)) s
     → entries_from s (entries_below n) ≡ []
 none_below s n h b =
@@ -37,7 +37,7 @@ both_halves s m n h old b =
     ∙ ap (λ (z : List (Pair × ℕ)). old ++ z) (sym (ap (λ z. entries_from s z) (listed_halves n h b).entries
     ∙ from_append s (entries_below (left_half h)) (entries_below (right_half h)))))
 
--- and the right half's alone where the left half stands before the start
+-- and only those of the right half if the left half is before the start
 pub right_alone : (s : Pair) (m : ℕ) (n : node.Node) (h : halves.Halves) (old : List (Pair × ℕ)) → IsWellBuilt n
     → below_of n ≡ Some h → IsBefore (before_parting h) s
     → take m (old ++ entries_from s (entries_below (right_half h))) ≡ take m (old ++ entries_from s (entries_below n))

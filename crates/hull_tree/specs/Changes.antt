@@ -1,4 +1,4 @@
--- What a change below a node asks for and keeps.
+-- The conditions of a change below a node, and what it preserves.
 use Rattle.std.specs.Prelude.{◌≡◌, ℕ, ◌+◌, ◌≤◌, max, List, ◌++◌}
 use Rattle.lattice.specs.Bridges.{IsBridge}
 use Rattle.lattice.specs.Covers.{IsPointSet}
@@ -17,7 +17,7 @@ use Rattle.hull_tree.specs.Nodes.{IsWellBuilt, DifferByAtMost}
 abbrev pub points_below : Node → List Pair
 points_below n = points_of (tree_of n)
 
--- how many forks stand above the deepest point below a node
+-- the height of a node: the number of forks above its deepest point
 abbrev pub height_at : Node → ℕ
 height_at n = height_of (tree_of n)
 
@@ -37,7 +37,7 @@ pub record IsPartedAt (l r : Node) (last first : Pair) : Type 0 where
 abbrev pub points_within : Halves → List Pair
 points_within h = points_below (left_half h) ++ points_below (right_half h)
 
--- how often each point is held in them
+-- the multiplicity of each point in them
 abbrev pub times_within : Halves → Pair → ℕ
 times_within h q = times_below (left_half h) q + times_below (right_half h) q
 
@@ -49,26 +49,25 @@ height_within h = max (height_at (left_half h)) (height_at (right_half h))
 abbrev pub IsAtMostOneMore : ℕ → ℕ → Type 0
 IsAtMostOneMore m n = (m ≤ n) × (n ≤ m + 1)
 
--- two halves that stand in a row and keep the points at their parting
+-- two nodes in a row that store the points at their split
 abbrev pub AreParted : Halves → Type 0
 AreParted h = IsPartedAt (left_half h) (right_half h) (before_parting h) (after_parting h)
 
--- a fork over two such halves, whose edges and height may be yet to be renewed
+-- a fork over two such halves, whose edges and height may still have to be renewed
 abbrev pub IsParted : Node → Type 0
 IsParted (node.Node' upper lower height near times node.None') = ⊥
 IsParted (node.Node' upper lower height near times (node.Some' i (halves.Halves' left right last_left first_right))) =
     IsPartedAt left right last_left first_right
 
--- the height of a node's left half; of a leaf its own
+-- the height of a node's left half; for a leaf its own
 abbrev pub left_height : Node → ℕ
 left_height n = height_of (left_of (tree_of n))
 
--- the height of a node's right half; of a leaf its own
+-- the height of a node's right half; for a leaf its own
 abbrev pub right_height : Node → ℕ
 right_height n = height_of (right_of (tree_of n))
 
--- the height h of a node that is made of two of heights l and r: that of the fork over them, or one less where they
--- differ by two
+-- the height h of a node that is made of two of heights l and r: that of the fork over them, or one less if they differ by two
 abbrev pub IsHeightOver : ℕ → ℕ → ℕ → Type 0
 IsHeightOver l r h = IsAtMostOneMore (max l r) h × (DifferByAtMost 1 l r → h ≡ max l r + 1)
 

@@ -4,6 +4,6 @@ use Rattle.lattice.specs.Plane.{Pair}
 use Rattle.bridge_search.specs.Trees.{Tree, IsBridged}
 use Rattle.hull_tree.specs.Turns.{IsPathCost}
 
--- in a tree that keeps its law the forks above a point have one cost
+-- in a tree that satisfies its law the forks above a point have one cost
 abbrev pub PathCostIsUnique : Type 0
 PathCostIsUnique = (t : Tree) (p : Pair) (m n : ℕ) → IsBridged t → IsPathCost t p m → IsPathCost t p n → m ≡ n

@@ -1,5 +1,4 @@
--- The finite tree that a node is, and what makes it well built (Overmars and van Leeuwen, 1981; Adelson-Velsky and
--- Landis, 1962).
+-- The finite tree that a node represents, and the conditions of being well built (Overmars and van Leeuwen, 1981; Adelson-Velsky and Landis, 1962).
 use Rattle.std.specs.Prelude.{◌≡◌, ℕ, Bool, ◌+◌, ◌≤◌, Option, Some, None, option_map}
 use Rattle.lattice.specs.Plane.{Pair}
 use Rattle.bridge_search.specs.Trees.{Tree, Leaf, Fork, IsBridged, first_of, last_of, height_of}
@@ -10,7 +9,7 @@ use Rattle.hull_tree.specs.declared.node.Node as node
 use Rattle.hull_tree.specs.declared.node.Halves.{Halves, out-Halves}
 use Rattle.hull_tree.specs.declared.node.Halves as halves
 
--- the tree of a node: a node with nothing below it is one point, both ends of the edges that it keeps
+-- the tree of a node: a node with nothing below it is one point, which is both ends of the edges that it stores
 abbrev pub tree_of : Node → Tree
 tree_of (node.Node' upper lower height near times node.None') = Leaf upper.0
 tree_of (node.Node' upper lower height near times (node.Some' i (halves.Halves' left right last_left first_right))) =
@@ -24,7 +23,7 @@ left_half h = (out-Halves h).left
 abbrev pub right_half : Halves → Node
 right_half h = (out-Halves h).right
 
--- the point before the parting that two halves keep
+-- the point before the split, as two halves store it
 abbrev pub before_parting : Halves → Pair
 before_parting h = (out-Halves h).last_left
 
@@ -32,39 +31,39 @@ before_parting h = (out-Halves h).last_left
 abbrev pub after_parting : Halves → Pair
 after_parting h = (out-Halves h).first_right
 
--- the node with other edges, another height and another word on its points' being near over what is below it
+-- the node with other edges, another height and another flag whether its points are near, and the same halves
 abbrev pub keeping : Node → Pair × Pair → Pair × Pair → ℕ → Bool → Node
 keeping (node.Node' upper lower height near times below) e f h n = node.Node' e f h n times below
 
--- the halves below a fork; below a leaf nothing
+-- the halves of a fork; for a leaf nothing
 abbrev pub below_of : Node → Option Halves
 below_of n = option_map (λ b. b.value) (out-Node n).below
 
--- the left and the right half of a fork; of a leaf nothing
+-- the left and the right half of a fork; for a leaf nothing
 abbrev pub halves_of : Node → Option (Node × Node)
 halves_of (node.Node' upper lower height near times node.None') = None
 halves_of (node.Node' upper lower height near times (node.Some' i (halves.Halves' left right last_left first_right))) =
     Some (left, right)
 
--- the point of a leaf; of a fork nothing
+-- the point of a leaf; for a fork nothing
 abbrev pub point_of : Node → Option Pair
 point_of (node.Node' upper lower height near times node.None') = Some upper.0
 point_of (node.Node' upper lower height near times
     (node.Some' i (halves.Halves' left right last_left first_right))) = None
 
--- how often a leaf's point is held; of a fork nothing
+-- the multiplicity of a leaf's point; for a fork nothing
 abbrev pub multiplicity_of : Node → Option ℕ
 multiplicity_of (node.Node' upper lower height near times node.None') = Some times
 multiplicity_of (node.Node' upper lower height near times
     (node.Some' i (halves.Halves' left right last_left first_right))) = None
 
--- how often each point is held below a node
+-- the multiplicity of each point below a node
 abbrev pub times_below : Node → Pair → ℕ
 times_below (node.Node' upper lower height near times node.None') q = several times upper.0 q
 times_below (node.Node' upper lower height near times
     (node.Some' i (halves.Halves' left right last_left first_right))) q = times_below left q + times_below right q
 
--- neither number is more than this above the other
+-- the numbers differ by at most this
 abbrev pub DifferByAtMost : ℕ → ℕ → ℕ → Type 0
 DifferByAtMost most m n = (m ≤ n + most) × (n ≤ m + most)
 
@@ -73,8 +72,8 @@ abbrev pub IsBalanced : Tree → Type 0
 IsBalanced (Leaf x) = Unit {0}
 IsBalanced (Fork e f u w) = DifferByAtMost 1 (height_of u) (height_of w) × IsBalanced u × IsBalanced w
 
--- each node keeps its height and whether its points are near, each leaf how often its point is held, and each fork the
--- last point of its left half and the first one of its right half
+-- each node stores its height and whether its points are near, each leaf the multiplicity of its point, and each fork the last point of its left half
+-- and the first one of its right half
 abbrev pub IsLabelled : Node → Type 0
 IsLabelled (node.Node' upper lower height near times node.None') =
     (height ≡ 0) × IsMultiplicity times × (near ≡ is_near upper.0)
@@ -83,9 +82,8 @@ IsLabelled (node.Node' upper lower height near times (node.Some' i (halves.Halve
     × (height ≡ height_of (Fork upper lower (tree_of left) (tree_of right))) × IsLabelled left × IsLabelled right
     × (near ≡ are_near (Fork upper lower (tree_of left) (tree_of right)))
 
--- all is as it should be: each fork's left half stands before its right one and its stored edges are the bridges of
--- the two, it is balanced, and it keeps its height and the points at its parting; each leaf's point is held as often
--- as a point may be
+-- a well-built node: each fork's left half is before its right one and its stored edges are the bridges of the two, it is balanced, and it stores its
+-- height and the points at its split; each leaf's point has a multiplicity that a point may have
 pub record IsWellBuilt (n : Node) : Type 0 where
   pub bridged : IsBridged (tree_of n)
   pub balanced : IsBalanced (tree_of n)

@@ -1,4 +1,4 @@
--- A node is labelled in one way: what a ghost field asks.
+-- The proof that a node is labelled is unique, as a ghost field requires.
 use Rattle.std.specs.Prelude.{◌≡◌, ◌≤◌, ℕ}
 use Rattle.std.proofs.Math.Nat.{ℕ_set}
 use native.Mathlib.Bridge.{le_prop}

@@ -11,12 +11,12 @@ abbrev pub points_of_root : Option Node → List Pair
 points_of_root None = []
 points_of_root (Some n) = points_below n
 
--- how often each point is held
+-- the multiplicity of each point
 abbrev pub times_of_root : Option Node → Pair → ℕ
 times_of_root None = λ q. 0
 times_of_root (Some n) = times_below n
 
--- what it holds
+-- the set that it contains
 abbrev pub held_by : Option Node → Held
 held_by root = record { points = points_of_root root; times = times_of_root root }
 
@@ -25,7 +25,7 @@ abbrev pub IsWellBuiltRoot : Option Node → Type 0
 IsWellBuiltRoot None = Unit {0}
 IsWellBuiltRoot (Some n) = IsWellBuilt n
 
--- its height; of nothing 0
+-- its height; for nothing 0
 abbrev pub height_of_root : Option Node → ℕ
 height_of_root None = 0
 height_of_root (Some n) = height_at n

@@ -1,4 +1,4 @@
--- What a tree with a limit on the number of its points is seen as, and what it keeps.
+-- A tree with a limit on the number of its points, as contracts see it, and its invariant.
 use Rattle.std.specs.Prelude.{◌≡◌, ℕ, ◌≤◌, Option, Some, length, option_map}
 use Rattle.lattice.specs.Covers.{IsPointSet}
 use Rattle.bridge_search.specs.Trees.{Tree, size_of}
@@ -22,18 +22,18 @@ pub record IsLimited (root : Option Node) (count limit : ℕ) : Type 0 where
   pub low : 1 ≤ limit
   pub high : limit ≤ POINT_LIMIT
 
--- the tree is well built, its points stand in order, and it is at most 28 high
+-- the tree is well built, its points are in order, and it is at most 28 high
 pub record IsSound (root : Option Node) : Type 0 where
   pub built : IsWellBuiltRoot root
   pub in_order : IsPointSet (points_of_root root)
   pub low : height_of_root root ≤ 28
 
--- what the trait `HullSet` says of a tree: what it holds, its bound, and that it is well built, which says that each
--- stored bridge is that of the points below it
+-- the ghosts of a tree for the trait `HullSet`: the set that it contains, its bound, and that it is well built, so that each stored bridge is that of
+-- the points below it
 abbrev pub hull_tree : Ghosts LimitedTree
 hull_tree = record { held = λ t. held_by t.root; bound = λ t. t.limit; sound = λ t. IsSound t.root }
 
--- the half is the tree, with its points, and no more than its limit
+-- the half is the tree, with its points, at most as many as its limit
 pub record IsWhole (t : LimitedTree) (u : Tree) : Type 0 where
   pub own : option_map tree_of t.root ≡ Some u
   pub points : points_of_root t.root ≡ points_of u

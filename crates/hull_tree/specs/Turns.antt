@@ -1,4 +1,4 @@
--- How many turns the searches of a fork's bridges take, and those of all forks above a point.
+-- The number of turns of the searches of a fork's bridges, and of those of all forks above a point.
 use Rattle.std.specs.Prelude.{◌≡◌, ◌⊎◌, ℕ, ◌+◌, ◌*◌, ◌≤◌, Option, Some, None}
 use Rattle.lattice.specs.Plane.{Pair}
 use Rattle.bridge_search.specs.Trees.{Tree, Leaf, Fork, IsAtDepth}
@@ -9,11 +9,11 @@ use Rattle.leaf_trees.specs.Heights.{greatest_height}
 use Rattle.hull_tree.specs.declared.node.Node.{Node}
 use Rattle.hull_tree.specs.Nodes.{tree_of}
 
--- those of a fork's two bridges at most: each search takes no more than both halves are high
+-- at most this many for a fork's two bridges: each search takes at most the sum of the heights of both halves
 abbrev pub turns_a_fork : ℕ
 turns_a_fork = 2 * (greatest_height + greatest_height)
 
--- those of a level of a change, which renews three forks there at most
+-- at most this many for a level of a change, which renews at most three forks there
 abbrev pub turns_a_level : ℕ
 turns_a_level = 3 * turns_a_fork
 
@@ -40,15 +40,14 @@ abbrev pub IsRootCostAtMost : Option Node → Pair → ℕ → Type 0
 IsRootCostAtMost None p n = ⊥
 IsRootCostAtMost (Some root) p n = IsCostAtMost (tree_of root) p n
 
--- p was added to the tree that is now `root`: the turns are at least the cost of the forks above p; any other answer
--- took none
+-- if p was added to the tree that is now `root`, the turns are at least the cost of the forks above p; any other reply took none
 abbrev pub IsLeastCount : AddReply → Option Node → Pair → ℕ → Type 0
 IsLeastCount Added root p n = IsRootCostAtMost root p n
 IsLeastCount (Again times) root p n = n ≡ 0
 IsLeastCount TooMany root p n = n ≡ 0
 IsLeastCount NoMemory root p n = n ≡ 0
 
--- the answer is a point of the tree, n forks down; nothing is found in no tree, and lies no fork down
+-- the answer is a point of the tree, below n forks; in no tree there is no answer, and n is 0
 abbrev pub IsLeafDepth : Option Node → Option Pair → ℕ → Type 0
 IsLeafDepth None None n = n ≡ 0
 IsLeafDepth None (Some t) n = ⊥

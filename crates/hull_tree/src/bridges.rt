@@ -1,4 +1,4 @@
-//! Which bridges stand between two halves.
+//! The bridges between two halves.
 ghost use Rattle.std.specs.Prelude.{◌≡◌, ◌&&◌, ◌≤◌, ◌+◌, ◌*◌};
 ghost use Rattle.lattice.specs.declared.side.Side.TheVariants.{Lower, Upper};
 ghost use Rattle.bridge_search.specs.Near.{are_near};
@@ -21,8 +21,8 @@ fn both_near(halves: &Halves) -> bool
     near_of(&halves.left) && near_of(&halves.right)
 }
 
-/// Searches both bridges between two halves: in 64 bits where all their points are near, which is asked once for both
-/// searches and not at each of their turns.
+/// Searches both bridges between two halves: in 64 bits if all their points are near, which is tested once for both searches and not at each of their
+/// turns.
 fn both_bridges_of(halves: &Halves) -> (Counted, Counted)
     requires parted { AreParted halves.now }
     requires low { height_within halves.now ≤ greatest_height }

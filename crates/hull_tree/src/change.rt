@@ -19,7 +19,7 @@ use heap::Heap;
 use hull_set::MULTIPLICITY_LIMIT;
 use lattice::{Point, before};
 
-/// How often a point is held below a node: one comparison a fork.
+/// Returns the multiplicity of a point below a node, with one comparison a fork.
 pub(crate) fn times_of(node: &Node, p: Point) -> u32
     requires { IsWellBuilt node.now }
     ensures { result ≡ times_below node.now p }
@@ -36,8 +36,8 @@ pub(crate) fn times_of(node: &Node, p: Point) -> u32
     }
 }
 
-/// Holds a point that is below a node once more, where a point may be held so often: its number rises where it is, and
-/// nothing else changes. Tells how often it was held before.
+/// Raises the multiplicity of a point below a node by one, if a point may have that multiplicity; nothing else changes. Returns its multiplicity
+/// before.
 pub(crate) fn raise(node: &mut Node, p: Point) -> u32
     requires { IsWellBuilt node.old }
     ensures was { result ≡ times_below node.old p }
@@ -69,8 +69,7 @@ pub(crate) fn raise(node: &mut Node, p: Point) -> u32
     }
 }
 
-/// Holds a point once less that is held more than once below a node: its number falls where it is, and nothing else
-/// changes. Tells how often it was held before.
+/// Lowers the multiplicity of a point below a node by one, if it is above one; nothing else changes. Returns its multiplicity before.
 pub(crate) fn lower(node: &mut Node, p: Point) -> u32
     requires { IsWellBuilt node.old }
     ensures was { result ≡ times_below node.old p }
@@ -100,7 +99,7 @@ pub(crate) fn lower(node: &mut Node, p: Point) -> u32
     }
 }
 
-/// The fork over two points, each of them held so many times, whose halves lie in a box that is there.
+/// Makes the fork over two points with these multiplicities, in an existing box for the halves.
 fn parted(mut spare: Box<Halves, Heap>, first: (Point, u32), last: (Point, u32)) -> Node
     requires in_order { IsBefore first.0 last.0 }
     requires times_first { IsMultiplicity first.1 }
@@ -122,7 +121,7 @@ fn parted(mut spare: Box<Halves, Heap>, first: (Point, u32), last: (Point, u32))
     .0
 }
 
-/// The fork over a point that is held so many times and a new one, whose halves lie in a box that is there.
+/// Makes the fork over a point with its multiplicity and a new one, in an existing box for the halves.
 fn beside(point: Point, times: u32, p: Point, spare: Box<Halves, Heap>) -> Node
     requires new { ¬ (p ≡ point) }
     requires times { IsMultiplicity times }
@@ -139,7 +138,7 @@ fn beside(point: Point, times: u32, p: Point, spare: Box<Halves, Heap>) -> Node
     }
 }
 
-/// Moves the last point of a half behind a point that was added to it.
+/// Sets the last point of a half to p, if a point p after it was added to the half.
 fn reach(last: &mut Point, p: Point)
     ensures moved { IsBefore last.old p → last.new ≡ p }
     ensures kept { ¬ IsBefore last.old p → last.new ≡ last.old }
@@ -149,8 +148,8 @@ fn reach(last: &mut Point, p: Point)
     }
 }
 
-/// Adds a point below a node; its halves lie in a box that is there. Each fork on the way to the point is renewed. Tells
-/// how many turns the searches took: at most 336 a level, and at least the cost of the forks above the point.
+/// Adds a point below a node, with an existing box for its halves. Each fork on the way to the point is renewed. Returns how many turns the searches
+/// took: at most 336 a level, and at least the cost of the forks above the point.
 #[cycle(insert)]
 pub(crate) fn insert(node: &mut Node, p: Point, spare: Box<Halves, Heap>) -> u32
     requires built { IsWellBuilt node.old }
@@ -175,7 +174,7 @@ pub(crate) fn insert(node: &mut Node, p: Point, spare: Box<Halves, Heap>) -> u32
     }
 }
 
-/// Adds a point to the half that it belongs to, and keeps the points at the parting.
+/// Adds a point to the half that it belongs to, and keeps the points at the split.
 #[cycle(insert)]
 fn insert_below(halves: &mut Halves, p: Point, spare: Box<Halves, Heap>) -> u32
     requires parted { AreParted halves.old }
@@ -198,7 +197,7 @@ fn insert_below(halves: &mut Halves, p: Point, spare: Box<Halves, Heap>) -> u32
     }
 }
 
-/// Whether a point is all of one of two halves.
+/// Whether a point is the only one of one of two halves.
 fn is_half(halves: &Halves, p: Point) -> bool
     ensures { IsTrue result ↔ (tree_of (left_half halves.now) ≡ Leaf p) ⊎ (tree_of (right_half halves.now) ≡ Leaf p) }
 {
@@ -215,7 +214,7 @@ pub(crate) fn is_leaf(node: &Node, p: Point) -> bool
     }
 }
 
-/// The half that is left where the other one is a point alone, taken from its place.
+/// Takes out the other half, if one half is only this point.
 fn other_half(halves: &mut Halves, p: Point) -> Node
     ensures right { tree_of (left_half halves.old) ≡ Leaf p → result ≡ right_half halves.old }
     ensures left { ¬ (tree_of (left_half halves.old) ≡ Leaf p) → result ≡ left_half halves.old }
@@ -224,8 +223,8 @@ fn other_half(halves: &mut Halves, p: Point) -> Node
     if is_leaf(&left, p) { right } else { left }
 }
 
-/// Takes a point that is held once from below a fork. Each fork on the way to the point is renewed, but for the last one:
-/// its other half takes its place. Tells how many turns the searches took: at most 336 a level.
+/// Removes a point of multiplicity one from below a fork. Each fork on the way to the point is renewed, except the last one: its other half takes its
+/// place. Returns how many turns the searches took: at most 336 a level.
 #[cycle(remove)]
 pub(crate) fn remove(node: &mut Node, p: Point) -> u32
     requires built { IsWellBuilt node.old }
@@ -249,7 +248,7 @@ pub(crate) fn remove(node: &mut Node, p: Point) -> u32
     below + rebalance(node)
 }
 
-/// Takes a point from the half that it belongs to, which has other points too, and keeps the points at the parting.
+/// Removes a point from the half that it belongs to, which has other points too, and keeps the points at the split.
 #[cycle(remove)]
 fn remove_below(halves: &mut Halves, p: Point) -> u32
     requires parted { AreParted halves.old }
@@ -275,7 +274,7 @@ fn remove_below(halves: &mut Halves, p: Point) -> u32
     }
 }
 
-/// Finds the last point of the left half anew where it was p, which was taken from that half.
+/// Finds the last point of the left half again, if it was p, which was removed from that half.
 fn draw_back_last(halves: &mut Halves, p: Point)
     requires { ¬ (before_parting halves.old ≡ p)
         → before_parting halves.old ≡ last_in (tree_of (left_half halves.old)) }
@@ -289,7 +288,7 @@ fn draw_back_last(halves: &mut Halves, p: Point)
     }
 }
 
-/// Finds the first point of the right half anew where it was p, which was taken from that half.
+/// Finds the first point of the right half again, if it was p, which was removed from that half.
 fn draw_back_first(halves: &mut Halves, p: Point)
     requires { ¬ (after_parting halves.old ≡ p)
         → after_parting halves.old ≡ first_in (tree_of (right_half halves.old)) }

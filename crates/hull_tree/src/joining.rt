@@ -1,4 +1,4 @@
-//! Forks joined of two halves, and taken apart.
+//! Joining two halves into a fork, and separating a fork into its halves.
 ghost use Rattle.std.specs.Prelude.{◌≡◌, Some, ◌≤◌, ◌+◌, ◌*◌, ◌++◌, max};
 ghost use Rattle.lattice.specs.Plane.{Pair};
 ghost use Rattle.bridge_search.specs.Trees.{IsFork, left_of, right_of, first_of as first_in, last_of as last_in};
@@ -15,7 +15,7 @@ use heap::Heap;
 use lattice::Point;
 use std::mem;
 
-/// Two halves that stand for nothing yet.
+/// Returns two halves that represent nothing yet.
 pub(crate) fn blank(point: Point) -> Halves {
     Halves {
         left: Node::leaf(point, 1),
@@ -25,7 +25,7 @@ pub(crate) fn blank(point: Point) -> Halves {
     }
 }
 
-/// The left and the right half, which have a point in their places from then on.
+/// Takes out the left and the right half, and leaves a point in the place of each.
 pub(crate) fn take_halves(halves: &mut Halves) -> (Node, Node)
     ensures left { result.0 ≡ left_half halves.old }
     ensures right { result.1 ≡ right_half halves.old }
@@ -38,7 +38,7 @@ pub(crate) fn take_halves(halves: &mut Halves) -> (Node, Node)
     (left, right)
 }
 
-/// A fork taken apart: its left and its right half, and their box, which keeps the points at their parting.
+/// Separates a fork into its left half, its right half and their box, which keeps the points at their split.
 pub(crate) fn take_apart(node: Node) -> (Node, Node, Box<Halves, Heap>)
     requires built { IsWellBuilt node }
     requires fork { IsFork (tree_of node) }
@@ -59,8 +59,8 @@ pub(crate) fn take_apart(node: Node) -> (Node, Node, Box<Halves, Heap>)
     (left, right, halves)
 }
 
-/// Searches both bridges of a fork, keeps them and its height, and tells how many turns the two searches took. Each
-/// bridge of the tree is stored here.
+/// Searches both bridges of a fork, stores them and its height, and returns how many turns the two searches took. Every bridge of the tree is stored
+/// here.
 pub(crate) fn renew(node: &mut Node) -> u32
     requires parted { IsParted node.old }
     requires balanced { DifferByAtMost 1 (left_height node.old) (right_height node.old) }
@@ -85,8 +85,7 @@ pub(crate) fn renew(node: &mut Node) -> u32
     turns
 }
 
-/// The fork over two halves, in a box that keeps the points at their parting, and how many turns the searches for its
-/// bridges took.
+/// Makes the fork over two halves, in a box that keeps the points at their split. Returns it and how many turns the searches for its bridges took.
 pub(crate) fn join(mut spare: Box<Halves, Heap>, left: Node, right: Node) -> (Node, u32)
     requires parted { IsPartedAt left right (before_parting spare.value) (after_parting spare.value) }
     requires balanced { DifferByAtMost 1 (height_at left) (height_at right) }

@@ -1,11 +1,11 @@
-//! What a fork keeps of its two halves.
+//! The data of its two halves that a fork stores.
 ghost use Rattle.std.specs.Prelude.{◌≡◌, ◌≤◌};
 ghost use Rattle.hull_tree.specs.Nodes.{keeping};
 
 use super::node::Node;
 use lattice::Point;
 
-/// What a fork keeps of its two halves, and how many turns the searches for its bridges took.
+/// The data of its two halves that a fork stores, and how many turns the searches for its bridges took.
 #[derive(Clone, Copy)]
 pub(crate) struct Found {
     pub(crate) upper: (Point, Point),
@@ -15,7 +15,7 @@ pub(crate) struct Found {
     pub(crate) turns: u32,
 }
 
-/// Stores a point where it is another than the one that is kept.
+/// Stores a point if it differs from the stored one.
 fn keep_point(kept: &mut Point, found: Point)
     ensures { kept.new ≡ found }
 {
@@ -24,7 +24,7 @@ fn keep_point(kept: &mut Point, found: Point)
     }
 }
 
-/// Stores a height where it is another than the one that is kept.
+/// Stores a height if it differs from the stored one.
 fn keep_height(kept: &mut u16, found: u32)
     requires { found ≤ 65535 }
     ensures { kept.new ≡ found }
@@ -35,7 +35,7 @@ fn keep_height(kept: &mut u16, found: u32)
     }
 }
 
-/// Stores whether all points are near where the other is kept.
+/// Stores whether all points are near, if that differs from the stored value.
 fn keep_near(kept: &mut bool, found: bool)
     ensures { kept.new ≡ found }
 {
@@ -44,7 +44,7 @@ fn keep_near(kept: &mut bool, found: bool)
     }
 }
 
-/// Stores what was found of a fork where it is another than what is kept: most searches find the bridge that is there.
+/// Stores what was found of a fork if it differs from what is stored: most searches find the bridge that is already there.
 pub(crate) fn keep(node: &mut Node, found: Found)
     requires { found.height ≤ 65535 }
     ensures { node.new ≡ keeping node.old found.upper found.lower found.height found.near }

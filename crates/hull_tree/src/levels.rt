@@ -8,7 +8,7 @@ use heap::Heap;
 use leaf_trees::Bridge;
 use std::alloc::AllocError;
 
-/// Puts what the forks of a level store behind what is there, from left to right; the node stands on level `here`.
+/// Appends what the forks of a level store, from left to right; the node is on level `here`.
 #[tactic(auto, unfolding(crate::specs::Levels::level_of))]
 pub fn push_level(
     node: &Node,

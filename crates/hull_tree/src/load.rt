@@ -10,8 +10,8 @@ use heap::Heap;
 use hull_set::NoMemory;
 use lattice::Point;
 
-/// The node over some points in order, each with how often it is held: a leaf for one, and else the fork over its two
-/// halves, of which the right one has at most one point more.
+/// Makes the node over some points in order, each with its multiplicity: a leaf for one, otherwise the fork over its two halves, of which the right
+/// one has at most one point more.
 pub(crate) fn node_over(alloc: Heap, entries: &[(Point, u32)]) -> Result<Node, NoMemory>
     requires entries { AreEntries entries.now }
     requires some { 1 ≤ length entries.now }
@@ -37,7 +37,7 @@ pub(crate) fn node_over(alloc: Heap, entries: &[(Point, u32)]) -> Result<Node, N
     Ok(join(spare, left, right).0)
 }
 
-/// Appends the points below a node in order, each with how often it is held, to entries with room for them.
+/// Appends the points below a node in order, each with its multiplicity, to entries with capacity for them.
 pub(crate) fn push_entries(node: &Node, entries: &mut Vec<(Point, u32), Heap>)
     requires { vec_len entries.old + length (points_below node.now) ≤ vec_capacity entries.old }
     ensures entries { entries.new.items ≡ entries.old.items ++ entries_below node.now }

@@ -12,12 +12,11 @@ ghost use Rattle.leaf_trees.specs.Entries.{several, IsMultiplicity};
 use heap::Heap;
 use lattice::{Point, is_near};
 
-/// A part of the tree: one point, or a fork over two parts.
+/// A subtree: one point, or a fork over two subtrees.
 ///
-/// It keeps its two bridges and its height itself, beside the pointer to its halves: so a search that goes down a half
-/// reads the edges that it compares from where it is. Of a point both ends of both edges are that point, and `times` is
-/// how often it is held; of a fork `times` says nothing. `near` is whether all its points are near: such halves are
-/// compared in 64 bits.
+/// It stores its two bridges and its height itself, next to the pointer to its halves: so a search that goes down a half reads the edges that it
+/// compares from the node where it is. For a point, both ends of both edges are that point, and `times` is its multiplicity; for a fork `times` has
+/// no meaning. `near` is whether all its points are near: such halves are compared in 64 bits.
 #[cycle(node)]
 #[derive(Drop)]
 pub struct Node {
@@ -29,7 +28,7 @@ pub struct Node {
     pub(crate) below: Option<Box<Halves, Heap>>,
 }
 
-/// The two halves of a fork, all of the left one before all of the right one, and the two points at their parting.
+/// The two halves of a fork, all points of the left one before all of the right one, and the two points at their split.
 #[cycle(node)]
 #[derive(Drop)]
 pub struct Halves {
@@ -40,7 +39,7 @@ pub struct Halves {
 }
 
 impl Node {
-    /// The node of one point, which is held so many times.
+    /// Makes the node of one point with its multiplicity.
     pub(crate) fn leaf(point: Point, times: u32) -> Node
         requires { IsMultiplicity times }
         ensures tree { tree_of result ≡ Leaf point }
@@ -57,8 +56,7 @@ impl Node {
         }
     }
 
-    /// The upper bridge that a fork keeps, from its end in the left half to its end in the right one; `None` for a
-    /// leaf.
+    /// Returns the upper bridge that a fork stores, from its end in the left half to its end in the right one; `None` for a leaf.
     pub fn upper(&self) -> Option<&(Point, Point)>
         ensures { option_map (λ (e : Bor (Pair × Pair)). e.now) result ≡ edge_of (tree_of self.now) }
     {
@@ -68,8 +66,7 @@ impl Node {
         }
     }
 
-    /// The lower bridge that a fork keeps, from its end in the left half to its end in the right one; `None` for a
-    /// leaf.
+    /// Returns the lower bridge that a fork stores, from its end in the left half to its end in the right one; `None` for a leaf.
     pub fn lower(&self) -> Option<&(Point, Point)>
         ensures { option_map (λ (e : Bor (Pair × Pair)). e.now) result ≡ lower_of (tree_of self.now) }
     {
@@ -79,7 +76,7 @@ impl Node {
         }
     }
 
-    /// The left and the right half of a fork; `None` for a leaf.
+    /// Returns the left and the right half of a fork; `None` for a leaf.
     pub fn halves(&self) -> Option<(&Node, &Node)>
         ensures { option_map (λ (e : Bor Node × Bor Node). (e.0.now, e.1.now)) result ≡ halves_of self.now }
     {
@@ -89,7 +86,7 @@ impl Node {
         }
     }
 
-    /// The point of a leaf; `None` for a fork.
+    /// Returns the point of a leaf; `None` for a fork.
     pub fn point(&self) -> Option<Point>
         ensures { result ≡ point_of self.now }
     {
@@ -99,7 +96,7 @@ impl Node {
         }
     }
 
-    /// How often the point of a leaf is held; `None` for a fork.
+    /// Returns the multiplicity of the point of a leaf; `None` for a fork.
     pub fn multiplicity(&self) -> Option<u32>
         ensures { result ≡ multiplicity_of self.now }
     {
@@ -110,7 +107,7 @@ impl Node {
     }
 }
 
-/// The first point below a node: one step a level.
+/// Returns the first point below a node: one step a level.
 pub(crate) fn first_of(node: &Node) -> Point
     ensures { result ≡ first_in (tree_of node.now) }
 {
@@ -120,7 +117,7 @@ pub(crate) fn first_of(node: &Node) -> Point
     }
 }
 
-/// The last point below a node: one step a level.
+/// Returns the last point below a node: one step a level.
 pub(crate) fn last_of(node: &Node) -> Point
     ensures { result ≡ last_in (tree_of node.now) }
 {
@@ -130,7 +127,7 @@ pub(crate) fn last_of(node: &Node) -> Point
     }
 }
 
-/// How many forks stand above the deepest point below a node.
+/// Returns the height of a node: the number of forks above its deepest point.
 pub(crate) fn height_of(node: &Node) -> u32
     requires { IsLabelled node.now }
     ensures { result ≡ height_in (tree_of node.now) }

@@ -11,7 +11,7 @@ use super::node::{Node, first_of, height_of, last_of};
 use bridge_search::Half;
 use lattice::{Point, orient};
 
-/// A lent node that is well built: the half of a hull that the bridge search and the questions walk down.
+/// A borrowed node that is well built: the half of a hull that the bridge search and the questions walk down.
 #[derive(Clone, Copy)]
 pub struct NodeRef<'a> {
     node: &'a Node,
@@ -21,7 +21,7 @@ pub struct NodeRef<'a> {
 }
 
 impl<'a> NodeRef<'a> {
-    /// The half that a well-built node is. (The nodes of a [`HullTree`](crate::HullTree) are at most 28 high.)
+    /// Returns a well-built node as a half. (The nodes of a [`HullTree`](crate::HullTree) are at most 28 high.)
     pub fn new(node: &'a Node) -> NodeRef<'a>
         requires built { IsWellBuilt node.now }
         requires low { height_at node.now ≤ highest }

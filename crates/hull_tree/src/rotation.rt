@@ -1,4 +1,4 @@
-//! Rotations: forks whose halves' heights differ by two.
+//! Rotations: of forks whose halves differ in height by two.
 ghost use Rattle.std.specs.Prelude.{◌≡◌, ◌≤◌, ◌+◌, ◌++◌, max};
 ghost use Rattle.lattice.specs.Plane.{Pair};
 ghost use Rattle.bridge_search.specs.Trees.{left_of, right_of};
@@ -12,8 +12,8 @@ use super::joining::{join, renew, take_apart, take_halves};
 use super::node::{Halves, Node, height_of};
 use heap::Heap;
 
-/// The fork over two halves of which the left one is two higher, after a rotation to the right, double where the left
-/// half leans to the right.
+/// Makes the fork over two halves of which the left one is two higher, after a rotation to the right, which is double if the left half leans to the
+/// right.
 fn rotate_right(spare: Box<Halves, Heap>, left: Node, right: Node) -> (Node, u32)
     requires parted { IsPartedAt left right (before_parting spare.value) (after_parting spare.value) }
     requires two_higher { height_at left ≡ height_at right + 2 }
@@ -39,8 +39,8 @@ fn rotate_right(spare: Box<Halves, Heap>, left: Node, right: Node) -> (Node, u32
     (whole, turns + first_turns + second_turns)
 }
 
-/// The fork over two halves of which the right one is two higher, after a rotation to the left, double where the right
-/// half leans to the left.
+/// Makes the fork over two halves of which the right one is two higher, after a rotation to the left, which is double if the right half leans to the
+/// left.
 fn rotate_left(spare: Box<Halves, Heap>, left: Node, right: Node) -> (Node, u32)
     requires parted { IsPartedAt left right (before_parting spare.value) (after_parting spare.value) }
     requires two_higher { height_at right ≡ height_at left + 2 }
@@ -66,9 +66,8 @@ fn rotate_left(spare: Box<Halves, Heap>, left: Node, right: Node) -> (Node, u32)
     (whole, turns + first_turns + second_turns)
 }
 
-/// Renews a fork whose halves' heights differ by two at most: rotates it where they differ by two. Tells how many turns
-/// its searches took: three forks at most are renewed, with two bridges each, and a bridge between halves of at most 28
-/// forks each takes at most 56 turns.
+/// Renews a fork whose halves differ in height by at most two: rotates it if they differ by two. Returns how many turns its searches took: at most
+/// three forks are renewed, with two bridges each, and a bridge between halves of at most 28 forks each takes at most 56 turns.
 pub(crate) fn rebalance(node: &mut Node) -> u32
     requires parted { IsParted node.old }
     requires near { DifferByAtMost 2 (left_height node.old) (right_height node.old) }

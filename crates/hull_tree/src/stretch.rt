@@ -1,4 +1,4 @@
-//! A stretch of the points below a node.
+//! A range of the points below a node.
 ghost use Rattle.std.specs.Prelude.{◌≡◌, ◌≤◌, ◌++◌, take, vec_len, vec_capacity};
 ghost use Rattle.hull_tree.specs.Nodes.{IsWellBuilt};
 ghost use Rattle.hull_tree.specs.Loaded.{entries_below};
@@ -8,8 +8,8 @@ use super::node::Node;
 use heap::Heap;
 use lattice::{Point, before};
 
-/// Appends the points below a node that do not stand before `start`, in order, each with how often it is held, until
-/// there are `most` entries. Halves that end before `start` are passed by.
+/// Appends the points below a node that are not before `start`, in order, each with its multiplicity, until there are `most` entries. Halves that end
+/// before `start` are skipped.
 pub(crate) fn push_from(
     node: &Node,
     start: Point,

@@ -26,13 +26,12 @@ use lattice::{Direction, Point};
 use leaf_trees::{Bridge, Listed};
 use std::marker::Model;
 
-/// A set of points as a balanced leaf tree, whose forks keep the bridges of their two halves, and whose leaves keep how
-/// often their points are held.
+/// A set of points as a balanced leaf tree, whose forks store the bridges of their two halves, and whose leaves store the multiplicities of their
+/// points.
 ///
-/// `add` of a new point and `remove` of one that is held once renew the forks on the way to the point and those that a
-/// rotation makes; every other change is one way down, to the number in the point's leaf. Each question goes down the
-/// stored bridges. Only `add`, `vertices`, the entries and `extend` ask for memory: `add` of a new point for one box, and
-/// none for the first.
+/// `add` of a new point and `remove` of one with multiplicity one renew the forks on the way to the point and those that a rotation makes; every
+/// other change is one way down, to the number in the point's leaf. Each question goes down the stored bridges. Only `add`, `vertices`, the entries
+/// and `extend` allocate memory: `add` of a new point allocates one box, but none for the first point.
 #[derive(Drop)]
 pub struct HullTree {
     root: Option<Node>,
@@ -56,7 +55,7 @@ impl Model for HullTree {
 }
 
 impl HullTree {
-    /// The empty set, which takes `limit` points at most. Asks for no memory; what asks for some later asks `alloc`.
+    /// Makes the empty set, which takes at most `limit` points. Allocates no memory; later calls allocate from `alloc`.
     pub fn new(alloc: Heap, limit: u32) -> HullTree
         requires low { 1 ≤ limit }
         requires high { limit ≤ POINT_LIMIT }
@@ -70,8 +69,8 @@ impl HullTree {
         }
     }
 
-    /// The bridges that the forks of a level store, from left to right; the root stands on level 0. `NoMemory` comes only for
-    /// some points.
+    /// Returns the bridges that the forks of a level store, from left to right; the root is on level 0. Fails with `NoMemory` only if the set has
+    /// points.
     pub fn bridges_at(&self, level: u32) -> Result<Vec<Bridge, Heap>, NoMemory>
         ensures bridges { IfOk result (λ bridges. bridges.items ≡ bridges_at level self.now.root) }
         ensures refused { IfErr result (λ _. self.now.root ≢ None) }
@@ -83,7 +82,7 @@ impl HullTree {
         Ok(bridges)
     }
 
-    /// The tree's own root; `None` for the empty set.
+    /// Returns the tree's root, borrowed; `None` for the empty set.
     pub fn root(&self) -> Option<&Node>
         ensures own { option_map (λ (n : Bor Node). n.now) result ≡ self.now.root }
         ensures built { IsWellBuiltRoot self.now.root }
@@ -94,7 +93,7 @@ impl HullTree {
         }
     }
 
-    /// The half that the whole tree is; `None` for the empty set.
+    /// Returns the half that the whole tree is; `None` for the empty set.
     pub fn half<'a>(&'a self) -> Option<NodeRef<'a>>
         ensures { MatchOption result (self.now.root ≡ None)
             (λ half. IsWhole self.now (⟦<NodeRef<'a> as Half>⟧.tree half)) }
@@ -105,12 +104,11 @@ impl HullTree {
         }
     }
 
-    /// Holds `p` once more, as [`add`](HullSet::add), and tells how many turns the searches of bridges took.
+    /// Adds `p` once, as [`add`](HullSet::add), and also returns how many turns the searches of bridges took.
     ///
-    /// They are at most 10,000: a tree is at most 28 high, a change builds at most three forks a level and searches two
-    /// bridges for each, and a search of two halves below it takes at most 56 turns. An added point takes at least the
-    /// sum, over the forks that stand above it afterwards, of the depths of both bridges' ends in that fork's halves:
-    /// each of these bridges was searched for. Every other answer takes none.
+    /// They are at most 10,000: a tree is at most 28 high, a change builds at most three forks a level and searches two bridges for each, and a
+    /// search of two halves below it takes at most 56 turns. An added point takes at least the sum, over the forks that are above it afterwards, of
+    /// the depths of both bridges' ends in that fork's halves: each of these bridges was searched for. Every other reply takes none.
     pub fn add_counted(&mut self, p: Point) -> (AddReply, u32)
         ensures reply { Answers Rules.Counted (held_by self.old.root) self.old.limit (Call.Add p)
             (reply_to_add result.0) }
@@ -143,8 +141,8 @@ impl HullTree {
         (AddReply::Added, turns)
     }
 
-    /// Holds `p` once less, as [`remove`](HullSet::remove), and tells how many turns the searches of bridges took: at
-    /// most 10,000, for the reason told at [`add_counted`](HullTree::add_counted), and none unless `p` left the set.
+    /// Removes `p` once, as [`remove`](HullSet::remove), and also returns how many turns the searches of bridges took: at most 10,000, for the reason
+    /// given at [`add_counted`](HullTree::add_counted), and none unless `p` left the set.
     pub fn remove_counted(&mut self, p: Point) -> (RemoveReply, u32)
         ensures reply { Answers Rules.Counted (held_by self.old.root) self.old.limit (Call.Remove p)
             (reply_to_remove result.0) }
@@ -173,8 +171,8 @@ impl HullTree {
         (RemoveReply::Removed, remove(root, p))
     }
 
-    /// The first of the farthest points in the direction `d`, as [`extreme`](HullSet::extreme), and how many forks lie
-    /// above its leaf; none for the empty set.
+    /// Returns the first of the farthest points in the direction `d`, as [`extreme`](HullSet::extreme), and the number of forks above its leaf; none
+    /// for the empty set.
     pub fn extreme_counted(&self, d: Direction) -> (Option<Point>, u32)
         ensures reply { Answers Rules.Counted (held_by self.now.root) self.now.limit (Call.Extreme d)
             (reply_to_extreme result.0) }
@@ -195,7 +193,7 @@ impl HullSet for HullTree {
 
     ghost bound = { λ t. t.limit };
 
-    // well built: each stored bridge is that of the points below it; the points in order; at most 28 high
+    // well built: each stored bridge is that of the points below it; the points are in order; at most 28 high
     ghost sound = { λ t. IsSound t.root };
 
     fn limit(&self) -> u32 {
@@ -252,7 +250,7 @@ impl HullSet for HullTree {
 }
 
 impl Listed for HullTree {
-    // building anew is faster from a sixteenth on
+    // building a new tree is faster from a sixteenth on
     const SHARE: usize = 16;
 
     ghost SHARE = { 16 };
@@ -298,9 +296,8 @@ impl Listed for HullTree {
     ghost some_share = { Prim.omega arith };
 }
 
-/// The law of a tree: whatever calls came before, it is well built, its points stand in order, and it is at most 28
-/// high. (A tree of height h has at least as many points as the Fibonacci number F(h + 2), and F(31) is above the
-/// greatest limit.)
+/// The law of a tree: after any calls, it is well built, its points are in order, and it is at most 28 high. (A tree of height h has at least as many
+/// points as the Fibonacci number F(h + 2), and F(31) is above the greatest limit.)
 pub fn trees_are_sound(tree: &HullTree)
     ensures { IsSound tree.now.root }
 {

@@ -1,4 +1,4 @@
--- What adding points one by one leaves, and that loading them at once leaves the same.
+-- The set after points are added one by one, and that loading them at once makes the same set.
 use Rattle.std.proofs.lemmas.Grind.{common_steps}
 use Rattle.std.proofs.Common.{◌≡◌, ℕ, suc, ◌+◌, ◌≤◌, inl, inr, refl, sym, ◌∙◌, ap, subst, List, [], ◌∷◌, arith, ◌++◌, length, take}
 use Rattle.std.proofs.Common.{drop, get_or, ◌<◌, Bool, true, false, cond, ◌-◌}
@@ -25,7 +25,7 @@ use Rattle.leaf_trees.specs.Entries.{AreTooMany}
 use Rattle.leaf_trees.proofs.Rows.{with_length}
 use Rattle.leaf_trees.proofs.Counting.{live_of, listed_live}
 
--- one more point keeps that
+-- one more point keeps the points those with a multiplicity
 with_held : (h : Held) (p : Pair) → IsTrueHeld h → IsTrueHeld (with_new p h)
 with_held h p k = record {
   in_order = (with_point_law h.points p k.in_order).0;
@@ -46,7 +46,7 @@ after_held : (ps : List Pair) (h : Held) → IsTrueHeld h → IsTrueHeld (held_a
 after_held [] h k = k
 after_held (p ∷ ps) h k = after_held ps (with_new p h) (with_held h p k)
 
--- each point is held once more for each time that it was added
+-- the multiplicity of each point grows by the number of times that it was added
 pub after_times : (ps : List Pair) (h : Held) (q : Pair) → (held_after_adds h ps).times q ≡ h.times q + times_among ps q
 after_times [] h q = omega arith
 after_times (p ∷ ps) h q =
@@ -55,23 +55,23 @@ after_times (p ∷ ps) h q =
     let s : times_among (p ∷ ps) q ≡ once p q + times_among ps q = sum_by-cons (λ p. once p q) p ps in
     omega (arith, r, s)
 
--- entries hold each of their points, and no other
+-- the points of entries are exactly those with a multiplicity
 pub entries_held : (es : List (Pair × ℕ)) → AreEntries es → IsTrueHeld (held_listed es)
 entries_held es h = record { in_order = h.in_order; live = λ t. (λ m. live_of es t h.held m, λ l. listed_live es t l) }
 
--- no entries are entries
+-- the empty list is a list of entries
 pub no_entries : AreEntries []
 no_entries = record { in_order = AllPairs-none; held = λ k d l. absurd (omega (arith, l)) }
 
--- which hold nothing
+-- which lists the empty set
 pub none_listed : held_listed [] ≡ nothing_held
 none_listed = refl
 
--- nothing is held
+-- the empty set is a set
 pub nothing_is_held : IsTrueHeld nothing_held
 nothing_is_held = subst IsTrueHeld none_listed (entries_held [] no_entries)
 
--- what holds each point as often as it was held and stands among some holds what adding those leaves
+-- a set in which each multiplicity is the old one plus the number of times among some points is the set after adding those points
 pub same_as_added : (h k : Held) (ps : List Pair) → IsTrueHeld h → IsTrueHeld k
     → ((q : Pair) → k.times q ≡ h.times q + times_among ps q) → k ≡ held_after_adds h ps
 same_as_added h k ps g r e =
@@ -89,7 +89,7 @@ same_as_added h k ps g r e =
     same : (q : Pair) → k.times q ≡ a.times q
     same q = let z : a.times q ≡ h.times q + times_among ps q = after_times ps h q in omega (arith, e q, z)
 
--- entries that hold what was held and as often as points stand among some hold what adding those leaves
+-- entries whose multiplicities are those of a set plus the numbers of times among some points list the set after adding those points
 pub merged_is_added : (h : Held) (ps : List Pair) (held added es : List (Pair × ℕ)) → IsTrueHeld h → AreEntries es
     → held_listed held ≡ h → ((q : Pair) → times_listed added q ≡ times_among ps q)
     → ((q : Pair) → times_listed es q ≡ times_listed held q + times_listed added q)
@@ -100,11 +100,11 @@ merged_is_added h ps held added es t a e f g =
 
 -- ---- one by one
 
--- a point that is held once at least is not held fewer times than once
+-- adding to a point of the set leaves no multiplicity below the count of only that point
 once_few : (h : Held) (p q : Pair) → 1 ≤ h.times p → once p q ≤ h.times q
 once_few h p q l = grind (arith, common_steps, same_or_other, once, once_same, once_other)
 
--- a point that is held is held once less when it is removed
+-- removing a point of the set lowers its multiplicity by one
 pub removed_times : (h k : Held) (limit : ℕ) (p q : Pair) (r : RemoveReply) → IsTrueHeld h → 1 ≤ h.times p
     → Answers Counted h limit (Remove p) (reply_to_remove r) → k ≡ after h (Remove p) (reply_to_remove r)
     → k.times q + once p q ≡ h.times q
@@ -112,7 +112,7 @@ removed_times h k limit p q Removed t l a e = grind (arith, common_steps, once, 
 removed_times h k limit p q (Left n) t l a e = grind (arith, common_steps, once, once_few)
 removed_times h k limit p q Absent t l a e = absurd (a ((t.live p).1 l))
 
--- a point that is refused where points may be so many is one too many
+-- if `add` refuses a point with `TooMany`, adding it makes too many
 pub one_too_many : (h : Held) (limit : ℕ) (p : Pair) → Answers Counted h limit (Add p) (reply_to_add add.TooMany)
     → AreTooMany h (p ∷ []) limit
 one_too_many h limit p (inl a) = inr (omega (arith, with_length p h.points a.0, a.1))
@@ -139,7 +139,7 @@ after_both : (h : Held) (xs ys : List Pair) → held_after_adds h (xs ++ ys) ≡
 after_both h [] ys = refl
 after_both h (x ∷ xs) ys = after_both (with_new x h) xs ys
 
--- where one point after some is too many, so are all
+-- if one point after some is too many, so are all
 pub all_too_many : (h k : Held) (ps : List Pair) (i : ℕ) (p : Pair) (limit : ℕ) → k ≡ held_after_adds h (take i ps)
     → p ≡ get_or ps i p → i < length ps → AreTooMany k (p ∷ []) limit → AreTooMany h ps limit
 all_too_many h k ps i p limit e g l many =
@@ -160,7 +160,7 @@ all_too_many h k ps i p limit e g l many =
 
 -- ---- one change
 
--- an answered `add` keeps that what is held is the points
+-- the reply of `add` keeps the points those with a multiplicity
 pub kept_by_add : (h : Held) (limit : ℕ) (p : Pair) (r : AddReply) → IsTrueHeld h
     → Answers Counted h limit (Add p) (reply_to_add r) → IsTrueHeld (after h (Add p) (reply_to_add r))
 kept_by_add h limit p add.Added k a = with_held h p k
@@ -177,7 +177,7 @@ kept_by_add h limit p (add.Again n) k a = record {
 kept_by_add h limit p add.TooMany k a = k
 kept_by_add h limit p add.NoMemory k a = k
 
--- an answered `remove` does
+-- so does the reply of `remove`
 pub kept_by_remove : (h : Held) (limit : ℕ) (p : Pair) (r : RemoveReply) → IsTrueHeld h
     → Answers Counted h limit (Remove p) (reply_to_remove r) → IsTrueHeld (after h (Remove p) (reply_to_remove r))
 kept_by_remove h limit p Removed k a = record {

@@ -26,16 +26,16 @@ use Rattle.leaf_trees.specs.Entries.{Precedes}
 use Rattle.hull_geometry.proofs.PointSets.{set_apart}
 use Rattle.leaf_trees.proofs.Multiplicities.{several_there, several_elsewhere}
 
--- the points of entries with one more behind them
+-- the points of entries with one more after them
 points_pushed : (es : List (Pair × ℕ)) (e : Pair × ℕ) → points_listed (es ++ e ∷ []) ≡ points_listed es ++ e.0 ∷ []
 points_pushed es e = map-append (λ (e : Pair × ℕ). e.0) es (e ∷ [])
 
--- so they are the same where the last points are
+-- so they are the same if the last points are
 same_points : (es : List (Pair × ℕ)) (e f : Pair × ℕ) → e.0 ≡ f.0
     → points_listed (es ++ e ∷ []) ≡ points_listed (es ++ f ∷ [])
 same_points es e f h = points_pushed es e ∙ ap (λ (z : Pair). points_listed es ++ z ∷ []) h ∙ sym (points_pushed es f)
 
--- all entries but the last one
+-- each multiplicity but the last is legal
 held_left : (es : List (Pair × ℕ)) (e : Pair × ℕ) → All (λ (e : Pair × ℕ). IsMultiplicity e.1) (es ++ e ∷ [])
     → All (λ (e : Pair × ℕ). IsMultiplicity e.1) es
 held_left es e h k d l =
@@ -50,11 +50,11 @@ last_held es e h = grind (arith, common_steps)
 pub last_among : (es : List (Pair × ℕ)) (e : Pair × ℕ) → Contains (points_listed (es ++ e ∷ [])) e.0
 last_among es e = grind (arith, common_steps, points_pushed, points_listed)
 
--- an entry alone
+-- a list of one entry
 one_held : (p : Pair) (n : ℕ) → IsMultiplicity n → All (λ (e : Pair × ℕ). IsMultiplicity e.1) ((p, n) ∷ [])
 one_held p n h = All-cons (λ (e : Pair × ℕ). IsMultiplicity e.1) (p, n) [] h (λ k d l. absurd (omega arith))
 
--- another number beside the last point
+-- the last entry may get another number
 pub recounted : (es : List (Pair × ℕ)) (e : Pair × ℕ) (p : Pair) (n : ℕ) → AreEntries (es ++ e ∷ []) → e.0 ≡ p
     → IsMultiplicity n → AreEntries (es ++ (p, n) ∷ [])
 recounted es e p n h s m = record {
@@ -67,7 +67,7 @@ pub points_recounted : (es : List (Pair × ℕ)) (e : Pair × ℕ) (p : Pair) (n
     → Contains (points_listed (es ++ (p, n) ∷ [])) t → Contains (points_listed (es ++ e ∷ [])) t
 points_recounted es e p n t s m = subst (λ z. Contains z t) (sym (same_points es e (p, n) s)) m
 
--- a point before none of the points of a set and none of them stands after all of them
+-- a point that is before none of the points of a set, and none of them, is after all of them
 pub after_all : (xs : List Pair) (x p t : Pair) → IsPointSet (xs ++ x ∷ []) → ¬ IsBefore p x → ¬ (x ≡ p)
     → Contains (xs ++ x ∷ []) t → IsBefore t p
 after_all xs x p t s n d m =
@@ -79,7 +79,7 @@ after_all xs x p t s n d m =
     ahead : IsBefore x p
     ahead = elim (before_total x p) [ inl b ↦ b | inr (inl e) ↦ absurd (d e) | inr (inr b) ↦ absurd (n b) ]
 
--- one point behind a set
+-- a point after a set makes a larger set
 pub set_pushed : (xs : List Pair) (p : Pair) → IsPointSet xs → ((t : Pair) → Contains xs t → IsBefore t p)
     → IsPointSet (xs ++ p ∷ [])
 set_pushed xs p s h =
@@ -89,7 +89,7 @@ set_pushed xs p s h =
     only : (b : Pair) → Contains (p ∷ []) b → p ≡ b
     only b (k, l, e) = elim (Contains-push_cases [] p b (k, l, e)) [ inl i ↦ absurd (omega (arith, i.1)) | inr i ↦ i ]
 
--- a new point behind entries
+-- a new point after entries
 pub followed : (es : List (Pair × ℕ)) (e f : Pair × ℕ) → AreEntries (es ++ e ∷ []) → ¬ IsBefore f.0 e.0
     → ¬ (e.0 ≡ f.0) → IsMultiplicity f.1 → AreEntries ((es ++ e ∷ []) ++ f ∷ [])
 followed es e f h n d m =
@@ -107,12 +107,12 @@ more_times : (b : Bool) (m n : ℕ) → (if b then m + n else 0) ≡ (if b then 
 more_times true m n = refl
 more_times false m n = refl
 
--- the last point so many times more
+-- the last point with a multiplicity that is n greater
 pub times_recounted : (es : List (Pair × ℕ)) (e : Pair × ℕ) (p q : Pair) (n : ℕ) → e.0 ≡ p
     → times_listed (es ++ (p, e.1 + n) ∷ []) q ≡ times_listed (es ++ e ∷ []) q + several n p q
 times_recounted es e p q n s = grind (arith, common_steps, sum_by_push, several, more_times, is_same_pair)
 
--- two points of which a test told that they differ do
+-- two points are different if the test returned so
 pub other_point : {r : Bool} (p q : Pair) → r ≡ not (is_same_pair p q) → r ≡ true → ¬ (p ≡ q)
 other_point p q e t = told_other p q (not_true _ (sym e ∙ t))
   where
@@ -120,16 +120,16 @@ other_point p q e t = told_other p q (not_true _ (sym e ∙ t))
     not_true true h = sym h
     not_true false h = refl
 
--- a point stands at least once more among all points than before its place
+-- a point is at least once more among all points than before its index
 pub counted_past : (xs : List Pair) (i : ℕ) (p : Pair) → p ≡ get_or xs i p → i < length xs
     → times_among (take i xs) p + 1 ≤ times_among xs p
 counted_past xs i p e l = grind (arith, common_steps, times_among, once, sum_by_more_le, once_same)
 
--- the same point, whatever stands for a missing one
+-- the same point, whatever the default for a missing one
 pub at_place : (xs : List Pair) (i : ℕ) (p t : Pair) → p ≡ get_or xs i p → i < length xs → p ≡ get_or xs i t
 at_place xs i p t e l = e ∙ get_or_free xs i p t l
 
--- each of the points of entries is held at least once
+-- the multiplicity of each of the points of entries is at least one
 pub live_of : (es : List (Pair × ℕ)) (t : Pair) → All (λ (e : Pair × ℕ). IsMultiplicity e.1) es
     → Contains (points_listed es) t → 1 ≤ times_listed es t
 live_of [] t h (k, l, e) = absurd (omega (arith, l))
@@ -142,7 +142,7 @@ live_of (x ∷ es) t h (suc k, l, e) =
     live_of es t (All-tail (λ (e : Pair × ℕ). IsMultiplicity e.1) x es h) (k, omega (arith, l), e) in
     rw (sum_by-cons (λ (e : Pair × ℕ). several e.1 e.0 t) x es) (omega (arith, r))
 
--- and a point that is held at least once is one of them
+-- and a point with a multiplicity of at least one is one of them
 pub listed_live : (es : List (Pair × ℕ)) (t : Pair) → 1 ≤ times_listed es t → Contains (points_listed es) t
 listed_live [] t h = absurd (omega (arith, h))
 listed_live (x ∷ es) t h =
@@ -157,21 +157,21 @@ listed_live (x ∷ es) t h =
 
 -- ---- two lists of entries
 
--- an entry, so many times more among the first ones than before its place
+-- the entry at an index adds its multiplicity to the entries before it
 pub listed_more : (es : List (Pair × ℕ)) (i : ℕ) (e : Pair × ℕ) (q : Pair) → e ≡ get_or es i e → i < length es
     → times_listed (take (i + 1) es) q ≡ times_listed (take i es) q + several e.1 e.0 q
 listed_more es i e q h l = grind (arith, common_steps, sum_by_more, several, times_listed)
 
--- a point stands at least once more among all points than before its place
+-- a point is at least once more among all points than before its index
 pub listed_past : (es : List (Pair × ℕ)) (i : ℕ) (e : Pair × ℕ) → e ≡ get_or es i e → i < length es
     → times_listed (take i es) e.0 + e.1 ≤ times_listed es e.0
 listed_past es i e h l = grind (arith, common_steps, times_listed, several, sum_by_more_le, several_there)
 
--- so often at most among the first ones
+-- a multiplicity among the first entries is at most the one among all
 pub listed_few : (es : List (Pair × ℕ)) (i : ℕ) (q : Pair) → times_listed (take i es) q ≤ times_listed es q
 listed_few es i q = grind (arith, common_steps, sum_by-append, several, times_listed, take-append-drop)
 
--- no entry behind a place stands before the one there
+-- no entry after an index is before the one there
 pub entry_behind : (es : List (Pair × ℕ)) (i k : ℕ) (d : Pair × ℕ) → AreEntries es → i < k → k < length es
     → IsBefore (get_or es i d).0 (get_or es k d).0
 entry_behind es i k d h l m =
@@ -179,18 +179,18 @@ entry_behind es i k d h l m =
     (subst (λ (z : Pair). IsBefore (get_or (points_listed es) i d.0) z) (get_or-map (λ (e : Pair × ℕ). e.0) es k d)
     (h.in_order i k d.0 l (omega (arith, m, length-keys_of es))))
 
--- the entry at a place, whatever stands for a missing one
+-- the entry at an index, whatever the default for a missing one
 same_entry : (es : List (Pair × ℕ)) (i : ℕ) (d e : Pair × ℕ) → i < length es → get_or es i d ≡ get_or es i e
 same_entry [] i d e l = absurd (omega (arith, l))
 same_entry (x ∷ es) zero d e l = refl
 same_entry (x ∷ es) (suc i) d e l = same_entry es i d e (omega (arith, l))
 
--- none of the entries from a place on stands before one of the points
+-- none of the entries from an index on is before one of the points
 abbrev pub AreBehind : List (Pair × ℕ) → ℕ → List Pair → Type 0
 AreBehind es i points =
     (t : Pair) → Contains points t → (k : ℕ) (d : Pair × ℕ) → i ≤ k → k < length es → ¬ IsBefore (get_or es k d).0 t
 
--- the entry there came to the points: those behind it stand before none of them
+-- the entry there was added to the points: those after it are before none of them
 behind_taken : (es : List (Pair × ℕ)) (i : ℕ) (e : Pair × ℕ) (before after : List Pair) → AreEntries es
     → e ≡ get_or es i e → i < length es → AreBehind es i before
     → ((t : Pair) → Contains after t → Contains before t ⊎ (t ≡ e.0)) → AreBehind es (i + 1) after
@@ -203,7 +203,7 @@ behind_taken es i e before after h g l b among t m k d n o p =
           (subst (IsBefore (get_or es k d).0) same p)
     ]
 
--- an entry came to them before which none of another list's stands that are left
+-- an entry was added to them that none of another list's remaining entries is before
 behind_other : (es fs : List (Pair × ℕ)) (i j : ℕ) (e : Pair × ℕ) (before after : List Pair) → AreEntries fs
     → e ≡ get_or es i e → Precedes es i fs j → AreBehind fs j before
     → ((t : Pair) → Contains after t → Contains before t ⊎ (t ≡ e.0)) → AreBehind fs j after
@@ -221,7 +221,7 @@ behind_other es fs i j e before after h g s b among t m k d n o p =
       | inr c ↦ before_trans _ _ _ (entry_behind fs j k d h c o) a
     ]
 
--- so after a turn of the merging
+-- so after a step of merging
 pub behind_both : (es fs : List (Pair × ℕ)) (i j : ℕ) (e : Pair × ℕ) (before after : List Pair) → AreEntries es
     → AreEntries fs → e ≡ get_or es i e → Precedes es i fs j → AreBehind es i before → AreBehind fs j before
     → ((t : Pair) → Contains after t → Contains before t ⊎ (t ≡ e.0)) → AreBehind es (i + 1) after × AreBehind fs j after

@@ -1,5 +1,5 @@
--- A balanced tree of a height has so many points at least (Adelson-Velsky and Landis, 1962), so one of 2^20 points is
--- at most 28 high.
+-- A balanced tree of a given height has at least this many points (Adelson-Velsky and Landis, 1962), so the height of one of 2^20 points is at most
+-- 28.
 use Rattle.std.proofs.lemmas.Grind.{common_steps}
 use Rattle.std.proofs.Common.{◌≡◌, ℕ, zero, suc, ◌+◌, ◌-◌, ◌≤◌, max, refl, subst, arith, inl, inr}
 use Rattle.std.proofs.lemmas.Bool.{cases_lt}

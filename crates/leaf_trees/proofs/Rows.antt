@@ -1,4 +1,4 @@
--- What a change makes of a set, and of two lists in a row.
+-- The effect of a change on a set whose points are two concatenated lists.
 use Rattle.std.proofs.Common.{Bool, true, false, cond, ◌≡◌, ◌+◌, ◌≤◌, refl, sym, ap, subst, List, [], ◌∷◌, ◌++◌, length}
 use Rattle.std.proofs.Common.{arith, inl, inr}
 use Rattle.std.specs.List.{All, Contains}
@@ -10,7 +10,7 @@ use Rattle.lattice.proofs.Order.{before_trans, before_irrefl, before_total, befo
 use Rattle.lattice.proofs.Order.{is_before-true, is_before-false}
 use Rattle.hull_geometry.proofs.PointLists.{AllPairs-head, AllPairs-tail, only_member}
 
--- a list behind one of three
+-- a list after one of three
 both : (b c : Bool) (xs zs vs ws ys : List Pair) → ws ≡ xs ++ ys
     → cond b ws (cond c (zs ++ ys) (vs ++ ys)) ≡ cond b xs (cond c zs vs) ++ ys
 both true c xs zs vs ws ys e = e
@@ -34,7 +34,7 @@ with_right p (x ∷ xs) ys a =
     rw (is_before-true x p (All-head (λ t. IsBefore t p) x xs a))
     (ap (λ (z : List Pair). x ∷ z) (with_right p xs ys (All-tail (λ t. IsBefore t p) x xs a)))
 
--- p before all of the right list: it is taken from the left one
+-- p before all of the right list: it is removed from the left one
 pub without_left : (p : Pair) (xs ys : List Pair) → All (IsBefore p) ys
     → without_point p (xs ++ ys) ≡ without_point p xs ++ ys
 without_left p [] [] a = refl
@@ -44,7 +44,7 @@ without_left p [] (y ∷ ys) a =
 without_left p (x ∷ xs) ys a = both (is_before x p) (is_before p x) (x ∷ without_point p xs) (x ∷ xs) xs
     (x ∷ without_point p (xs ++ ys)) ys (ap (λ (z : List Pair). x ∷ z) (without_left p xs ys a))
 
--- p after all of the left list: it is taken from the right one
+-- p after all of the left list: it is removed from the right one
 pub without_right : (p : Pair) (xs ys : List Pair) → All (λ t. IsBefore t p) xs
     → without_point p (xs ++ ys) ≡ xs ++ without_point p ys
 without_right p [] ys a = refl
@@ -52,7 +52,7 @@ without_right p (x ∷ xs) ys a =
     rw (is_before-true x p (All-head (λ t. IsBefore t p) x xs a))
     (ap (λ (z : List Pair). x ∷ z) (without_right p xs ys (All-tail (λ t. IsBefore t p) x xs a)))
 
--- fewer points are no more
+-- removing a point does not make the list longer
 pub without_short : (p : Pair) (xs : List Pair) → length (without_point p xs) ≤ length xs
 without_short p [] = omega arith
 without_short p (x ∷ xs) =
@@ -77,7 +77,7 @@ with_length p (x ∷ xs) n =
       | inr (inr k) ↦ rw (is_before-false x p (before_not p x k), is_before-true p x k) (omega arith)
     ]
 
--- a member that is taken is one less
+-- removing a member makes the list one shorter
 pub without_length : (p : Pair) (xs : List Pair) → IsPointSet xs → Contains xs p
     → length (without_point p xs) + 1 ≡ length xs
 without_length p [] s (i, l, e) = absurd (omega arith)

@@ -13,7 +13,7 @@ use Rattle.lattice.proofs.Order.{before_trans, before_total, is_before-true}
 use Rattle.leaf_trees.specs.Entries.{points_listed}
 use Rattle.leaf_trees.specs.Stretches.{entries_from}
 
--- those of two lists in a row are those of the one and then those of the other
+-- those of two concatenated lists are those of the first and then those of the second
 from_cons : (b : Bool) (e : Pair × ℕ) (es fs gs : List (Pair × ℕ)) → gs ≡ es ++ fs
     → cond b gs (e ∷ gs) ≡ cond b es (e ∷ es) ++ fs
 from_cons true e es fs gs h = h
@@ -24,14 +24,14 @@ from_append s [] fs = refl
 from_append s (e ∷ es) fs =
     from_cons (is_before e.0 s) e (entries_from s es) (entries_from s fs) (entries_from s (es ++ fs)) (from_append s es fs)
 
--- there are none where all points stand before the start
+-- there are none if all points are before the start
 pub none_from : (s : Pair) (es : List (Pair × ℕ)) → All (λ p. IsBefore p s) (points_listed es) → entries_from s es ≡ []
 none_from s [] a = refl
 none_from s (e ∷ es) a =
     rw (is_before-true e.0 s (All-head (λ p. IsBefore p s) e.0 (points_listed es) a))
     (none_from s es (All-tail (λ p. IsBefore p s) e.0 (points_listed es) a))
 
--- a point that is not after one before the start stands before the start
+-- a point that is not after one before the start is before the start
 pub early : (p l s : Pair) → (IsBefore l p → ⊥) → IsBefore l s → IsBefore p s
 early p l s h b =
     elim (before_total p l) [
@@ -40,13 +40,13 @@ early p l s h b =
       | inr (inr k) ↦ absurd (h k)
     ]
 
--- the first so many of a list that was cut there already
+-- the first m of a list that was already cut there
 pub take_more : {A : Type 0} (m : ℕ) (xs ys : List A) → take m (take m xs ++ ys) ≡ take m (xs ++ ys)
 take_more zero xs ys = refl
 take_more (suc m) [] ys = refl
 take_more (suc m) (x ∷ xs) ys = ap (λ z. x ∷ z) (take_more m xs ys)
 
--- a list that is no longer than so many
+-- a list that is no longer than m
 pub take_all : {A : Type 0} (m : ℕ) (xs : List A) → length xs ≤ m → take m xs ≡ xs
 take_all zero [] l = refl
 take_all (suc m) [] l = refl

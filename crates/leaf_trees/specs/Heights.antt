@@ -1,4 +1,4 @@
--- How high a tree can be.
+-- The greatest height of a tree.
 use Rattle.std.specs.Prelude.{ℕ}
 
 -- a balanced tree of as many points as a set may have is no higher

@@ -1,4 +1,4 @@
-//! Points that are added one by one, all or none of them.
+//! Adding points one by one, all or none of them.
 ghost use Rattle.std.specs.Prelude.{◌≡◌, ◌≤◌, ◌+◌, ◌∷◌, [], IfOk, IfErr, Err, length};
 ghost use Rattle.lattice.specs.Plane.{Pair};
 ghost use Rattle.hull_set.specs.Held.{once, times_among};
@@ -8,7 +8,7 @@ use super::fault::LoadFault;
 use hull_set::{AddReply, HullSet};
 use lattice::Point;
 
-/// Adds a point, or tells why not.
+/// Adds a point, or returns why not.
 fn add_one<S: HullSet>(set: &mut S, p: Point) -> Result<(), LoadFault>
     requires { IsTrueHeld (S.held set.old) }
     ensures times { IfOk result (λ _. (q : Pair) → (S.held set.new).times q ≡ (S.held set.old).times q + once p q) }
@@ -26,7 +26,7 @@ fn add_one<S: HullSet>(set: &mut S, p: Point) -> Result<(), LoadFault>
     }
 }
 
-/// Takes a point away that is held.
+/// Removes a point that is in the set.
 fn remove_one<S: HullSet>(set: &mut S, p: Point)
     requires kept { IsTrueHeld (S.held set.old) }
     requires held { 1 ≤ (S.held set.old).times p }
@@ -38,7 +38,7 @@ fn remove_one<S: HullSet>(set: &mut S, p: Point)
     let _ = set.remove(p);
 }
 
-/// Takes points away one by one, each of which is held as often at least as it stands among them.
+/// Removes points one by one. Each is in the set at least as often as it is among them.
 fn remove_each<S: HullSet>(set: &mut S, points: &[Point])
     requires kept { IsTrueHeld (S.held set.old) }
     requires sound { S.sound set.old }
@@ -53,7 +53,7 @@ fn remove_each<S: HullSet>(set: &mut S, points: &[Point])
     }
 }
 
-/// Adds points one by one; if one is refused, those before it go again. `NoMemory` comes only for some points.
+/// Adds points one by one; if one is refused, removes those before it again. Fails with `NoMemory` only if there are points.
 pub fn add_each<S: HullSet>(set: &mut S, points: &[Point]) -> Result<(), LoadFault>
     requires kept { IsTrueHeld (S.held set.old) }
     requires sound { S.sound set.old }

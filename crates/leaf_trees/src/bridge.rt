@@ -1,10 +1,10 @@
-//! What a fork shows.
+//! The bridges that a fork shows.
 use lattice::Point;
 
-/// What a fork of the tree stores: its bridges, each from its end in the left half to its end in the right one.
+/// The stored bridges of a fork of the tree, each from its end in the left half to its end in the right one.
 #[derive(Clone, Copy, PartialEq, Eq, Debug)]
 pub struct Bridge {
-    /// How many forks stand above this one.
+    /// The number of forks above this one.
     pub level: u32,
     /// The upper bridge.
     pub upper: (Point, Point),

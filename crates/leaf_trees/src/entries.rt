@@ -1,4 +1,4 @@
-//! Points in order, each with how often it is held: made of points in any order, and merged.
+//! Points in order, each with its multiplicity: made from points in any order, and merged.
 ghost use Rattle.std.specs.Prelude.{◌≡◌, ◌≤◌, ◌<◌, ◌+◌, ◌⊎◌, ℕ, IfOk, IsTrue, false, length, vec_len, vec_capacity, Err};
 ghost use Rattle.std.specs.List.{Contains};
 ghost use Rattle.lattice.specs.Plane.{Pair, IsBefore};
@@ -11,8 +11,8 @@ use heap::Heap;
 use hull_set::MULTIPLICITY_LIMIT;
 use lattice::{Point, before};
 
-/// Counts an entry in whose point stands before none of the entries, of which there is room for one more: the last one is
-/// held so many times more, or the entry follows it. Tells whether a point may be held so often.
+/// Counts in an entry whose point is before none of the entries, which have capacity for one more: raises the multiplicity of the last one, or
+/// appends the entry. Returns whether a point may have that multiplicity.
 fn count_in(entries: &mut Vec<(Point, u32), Heap>, entry: (Point, u32)) -> bool
     requires entries { AreEntries entries.old.items }
     requires times { IsMultiplicity entry.1 }
@@ -44,8 +44,8 @@ fn count_in(entries: &mut Vec<(Point, u32), Heap>, entry: (Point, u32)) -> bool
     true
 }
 
-/// Points in ascending order, each once and beside it how often it stands among them; `None` where that is more often
-/// than a point is held.
+/// Writes points in ascending order to the entries, each once with the number of times it is among them. Returns `false` if that is more often than a
+/// point may be in a set.
 fn counted(points: &[Point], entries: &mut Vec<(Point, u32), Heap>) -> bool
     requires ascending { IsAscending points.now }
     requires none { vec_len entries.old ≡ 0 }
@@ -62,7 +62,7 @@ fn counted(points: &[Point], entries: &mut Vec<(Point, u32), Heap>) -> bool
     true
 }
 
-/// Whether of what is left of two lists of entries the first one of the first list comes next.
+/// Whether the first entry left of the first list comes next, of what is left of two lists of entries.
 fn is_next(first: &[(Point, u32)], i: usize, second: &[(Point, u32)], j: usize) -> bool
     requires { (i < length first.now) ⊎ (j < length second.now) }
     ensures first { IsTrue result → Precedes first.now i second.now j }
@@ -77,8 +77,7 @@ fn is_next(first: &[(Point, u32)], i: usize, second: &[(Point, u32)], j: usize) 
     !before(second[j].0, first[i].0)
 }
 
-/// Merges two lists of entries: a point of both is held as often as by both together. Tells whether a point may be held
-/// so often.
+/// Merges two lists of entries: the multiplicity of a point of both is the sum. Returns whether a point may have that multiplicity.
 fn merged(
     first: &[(Point, u32)],
     second: &[(Point, u32)],
@@ -111,7 +110,7 @@ fn merged(
     true
 }
 
-/// Two lists of entries as one: a point of both is held as often as by both together.
+/// Merges two lists of entries into one: the multiplicity of a point of both is the sum.
 pub fn merged_entries(
     alloc: Heap,
     first: &[(Point, u32)],
@@ -133,8 +132,8 @@ pub fn merged_entries(
     }
 }
 
-/// Points in any order as entries: sorted, each once and beside it how often it stands among them. `NoMemory` comes only
-/// for some points.
+/// Makes entries from points in any order: sorted, each once with the number of times it is among them. Fails with `NoMemory` only if there are
+/// points.
 pub fn entries_of(alloc: Heap, points: &[Point]) -> Result<Vec<(Point, u32), Heap>, LoadFault>
     ensures entries { IfOk result (λ entries. AreEntries entries.items) }
     ensures times { IfOk result (λ entries. (q : Pair) → times_listed entries.items q ≡ times_among points.now q) }

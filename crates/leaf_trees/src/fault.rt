@@ -1,4 +1,4 @@
-//! Why points are not taken.
+//! Why points are refused.
 ghost use Rattle.std.specs.Prelude.{◌≡◌};
 
 use hull_set::NoMemory;
@@ -9,7 +9,7 @@ use std::fmt;
 /// Why no set was loaded.
 #[derive(Clone, Copy, PartialEq, Eq, Debug)]
 pub enum LoadFault {
-    /// More points than the set takes, or one of them more often than a point is held.
+    /// There are more points than the set takes, or one of them more often than a point may be in a set.
     TooMany,
     /// Memory was refused.
     NoMemory,

@@ -1,7 +1,7 @@
-//! What the leaf trees over a set's points share: the lists of points that they are loaded from and tell, what such a set is
-//! ([`Listed`]), points that are added all or none of them, and what a fork shows of itself.
+//! The common parts of the leaf trees over a set's points: the lists of points that they are loaded from and return, the trait of such a set
+//! ([`Listed`]), points that are added all or none of them, and the bridges that a fork shows.
 //!
-//! `proofs/` has the lemmas of lists in a row, of answers by how often a point is held, and of how high a balanced tree can be.
+//! `proofs/` has the lemmas about concatenated lists, about replies by multiplicity, and about the greatest height of a balanced tree.
 #![tactic(auto)]
 
 mod adding;

@@ -1,4 +1,4 @@
-//! Sets that list what they hold, and are made of such a list.
+//! Sets that list their points, and are made from such a list.
 ghost use Rattle.std.specs.Prelude.{◌≡◌, ◌≢◌, ◌≤◌, ◌+◌, ◌++◌, ℕ, List, [], Err, IfOk, IfErr, length, take, vec_len, vec_capacity};
 ghost use Rattle.lattice.specs.Plane.{Pair};
 ghost use Rattle.hull_set.specs.Held.{nothing_held, times_among};
@@ -12,38 +12,37 @@ use heap::Heap;
 use hull_set::{HullSet, NoMemory, POINT_LIMIT};
 use lattice::Point;
 
-/// A set that lists its points in order, each with how often it is held, and is made of such a list at once.
+/// A set that lists its points in order, each with its multiplicity, and is made from such a list at once.
 pub trait Listed: HullSet + Drop {
-    /// Where they are this part of its points at least, the set is made anew for the points that come: one in so many.
+    /// If the new points are at least one in this many of the set's points, the set is built anew for them.
     const SHARE: usize;
 
     ghost SHARE: { ℕ };
 
     ghost listed: { Self → List (Pair × ℕ) };
 
-    /// Where the set asks for memory.
+    /// Returns the allocator of the set.
     fn alloc(&self) -> Heap;
 
-    /// The law of such a set: it lists what it holds.
+    /// The law of such a set: its list is what it contains.
     fn lists_are_sound(&self)
         ensures sound { Self.sound self.now }
         ensures entries { AreEntries (listed self.now) }
         ensures held { held_listed (listed self.now) ≡ Self.held self.now };
 
-    /// Appends all points, each with how often it is held, to entries with room for them.
+    /// Appends all points, each with its multiplicity, to entries with capacity for them.
     fn push_entries(&self, entries: &mut Vec<(Point, u32), Heap>)
         requires { vec_len entries.old + length (Self.held self.now).points ≤ vec_capacity entries.old }
         ensures { entries.new.items ≡ entries.old.items ++ listed self.now };
 
-    /// Appends the points that do not stand before `start`, each with how often it is held, until there are `most`
-    /// entries.
+    /// Appends the points that are not before `start`, each with its multiplicity, until there are `most` entries.
     fn push_from(&self, start: Point, most: usize, entries: &mut Vec<(Point, u32), Heap>)
         requires few { vec_len entries.old ≤ most }
         requires room { most ≤ vec_capacity entries.old }
         ensures { entries.new.items ≡ take most (entries.old.items ++ entries_from start (listed self.now)) };
 
-    /// The set of some points in order, each with how often it is held, with room for `limit` points: in a small part of
-    /// the time of adding them one by one. `NoMemory` comes only for some points, and leaves nothing behind.
+    /// Makes the set of some points in order, each with its multiplicity, for up to `limit` points, in a small part of the time of adding them one by
+    /// one. Fails with `NoMemory` only if there are points, and leaves nothing allocated.
     fn from_entries(alloc: Heap, limit: u32, entries: &[(Point, u32)]) -> Result<Self, NoMemory>
         requires high { limit ≤ POINT_LIMIT }
         requires low { 1 ≤ limit }
@@ -56,9 +55,9 @@ pub trait Listed: HullSet + Drop {
 
     ghost some_share: { 1 ≤ SHARE };
 
-    /// The set of some points in any order, each held as often as it stands among them, with room for `limit` points:
-    /// what adding them one by one makes, in a small part of the time. `TooMany` comes where adding them would answer
-    /// it, and `NoMemory` only for some points; a fault leaves nothing behind.
+    /// Makes the set of some points in any order, for up to `limit` points; the multiplicity of each is the number of times it is among them. The
+    /// result is the same as after adding them one by one, in a small part of the time. Fails with `TooMany` if adding them would, and with
+    /// `NoMemory` only if there are points; an error leaves nothing allocated.
     final fn from_points(alloc: Heap, limit: u32, points: &[Point]) -> Result<Self, LoadFault>
         requires high { limit ≤ POINT_LIMIT }
         requires low { 1 ≤ limit }
@@ -76,7 +75,7 @@ pub trait Listed: HullSet + Drop {
         Ok(Self::from_entries(alloc, limit, &entries)?)
     }
 
-    /// The points in order, each with how often it is held. `NoMemory` comes only for some points.
+    /// Returns the points in order, each with its multiplicity. Fails with `NoMemory` only if there are points.
     final fn entries(&self) -> Result<Vec<(Point, u32), Heap>, NoMemory>
         ensures entries { IfOk result (λ entries. AreEntries entries.items) }
         ensures held { IfOk result (λ entries. held_listed entries.items ≡ Self.held self.now) }
@@ -92,9 +91,8 @@ pub trait Listed: HullSet + Drop {
         Ok(entries)
     }
 
-    /// The first `most` points that do not stand before `start`, in order, each with how often it is held: all points a
-    /// piece at a time, where each piece starts behind the last point of the one before. `NoMemory` comes only for some
-    /// points.
+    /// Returns the first `most` points that are not before `start`, in order, each with its multiplicity. With it you can read all points a piece at
+    /// a time: each piece starts after the last point of the one before. Fails with `NoMemory` only if there are points.
     final fn entries_from(
         &self,
         start: Point,
@@ -114,10 +112,9 @@ pub trait Listed: HullSet + Drop {
         Ok(entries)
     }
 
-    /// Adds points in any order, all or none of them: what adding them one by one makes. Where they are one in
-    /// [`SHARE`](Listed::SHARE) of the points at least, the set is made anew beside the old one, and else they are added one
-    /// by one. `TooMany` comes where adding them would answer it, and `NoMemory` only for some points; after a fault the set
-    /// holds what it held.
+    /// Adds points in any order, all or none of them; the result is the same as after adding them one by one. If they are at least one in
+    /// [`SHARE`](Listed::SHARE) of the set's points, a new set is built while the old one still exists; otherwise they are added one by one. Fails
+    /// with `TooMany` if adding them would, and with `NoMemory` only if there are points; an error leaves the set unchanged.
     final fn extend(&mut self, points: &[Point]) -> Result<(), LoadFault>
         ensures held { IfOk result (λ _. Self.held self.new ≡ held_after_adds (Self.held self.old) points.now) }
         ensures fault { IfErr result (λ _. Self.held self.new ≡ Self.held self.old) }
@@ -139,7 +136,7 @@ pub trait Listed: HullSet + Drop {
     }
 }
 
-/// Adds points, all or none of them: makes the set anew beside the old one, from the points of both.
+/// Adds points, all or none of them: builds a new set from the points of both while the old one still exists.
 fn extend_anew<S: Listed>(set: &mut S, points: &[Point]) -> Result<(), LoadFault>
     ensures held { IfOk result (λ _. S.held set.new ≡ held_after_adds (S.held set.old) points.now) }
     ensures fault { IfErr result (λ _. set.new ≡ set.old) }

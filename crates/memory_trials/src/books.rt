@@ -1,4 +1,4 @@
-//! A book is opened, serves calls, and its journal is checked.
+//! Opening a book, serving calls, and checking its journal.
 ghost use Rattle.std.specs.Prelude.{◌≡◌, ◌≤◌};
 ghost use Rattle.hull_set.specs.Held.{nothing_held};
 ghost use Rattle.hull_book.specs.Books.{IsLawful};
@@ -13,7 +13,7 @@ use hull_set::{Call, HullSet, PointList, Reply, Rules};
 use lattice::Point;
 use std::alloc::{AllocError, Global};
 
-/// Gives up a book and its ledgers, which have to sum to `lines`.
+/// Ends a book and its ledgers, which must sum to `lines`.
 pub fn give_up<S: HullSet + Drop>(
     book: Book<S>,
     ledgers: Vec<Ledger>,
@@ -28,7 +28,7 @@ pub fn give_up<S: HullSet + Drop>(
     drop(book);
 }
 
-/// Looks at a book that was opened with first 7, capacity 4 and three workers.
+/// Tests a book that was opened with first 7, capacity 4 and three workers.
 fn expect_new<S: HullSet + Drop>(book: Book<S>, ledgers: Vec<Ledger>, findings: &mut Findings)
     requires lawful { IsLawful S.HullSet book }
     requires ledgers { AreLedgers book ledgers.items }
@@ -49,7 +49,7 @@ fn open_again<S: HullSet + Drop>(alloc: Global, set: S, findings: &mut Findings)
     }
 }
 
-/// Opens a book over the set. Where memory is refused, the set comes back, and the next attempt opens it.
+/// Opens a book over the set. If memory is refused, the set is returned, and the next attempt opens the book.
 pub fn try_open<S: HullSet + Drop>(alloc: Global, set: S) -> Result<Stage, &'static str>
     requires empty { S.held set ≡ nothing_held }
 {
@@ -71,7 +71,7 @@ pub fn try_open<S: HullSet + Drop>(alloc: Global, set: S) -> Result<Stage, &'sta
     findings.told(stage)
 }
 
-/// Has one call of seat 0 served.
+/// Serves one call of seat 0.
 pub fn serve<S: HullSet + Drop>(
     book: &mut Book<S>,
     ledgers: &mut Vec<Ledger>,
@@ -86,8 +86,7 @@ pub fn serve<S: HullSet + Drop>(
     book.serve(0, call, &mut ledgers[0])
 }
 
-/// The same. Where memory is refused, the reply and the line say so, the set has as many points as
-/// before, and the next attempt is answered.
+/// The same. If memory is refused, the reply and the line are that, the set has as many points as before, and the next attempt succeeds.
 fn serve_again<S: HullSet + Drop>(
     book: &mut Book<S>,
     ledgers: &mut Vec<Ledger>,
@@ -113,7 +112,7 @@ fn serve_again<S: HullSet + Drop>(
     (Stage::Refused, serve(book, ledgers, call))
 }
 
-/// The later of two stages of a trial in which one request is refused.
+/// Returns the later of two stages of a trial in which one request is refused.
 fn either(one: Stage, other: Stage) -> Stage {
     if one == Stage::Refused { one } else { other }
 }
@@ -145,7 +144,7 @@ pub fn lists(answer: &Answer, points: &[Point]) -> bool {
     }
 }
 
-/// A legal journal of two lines, whose replay asks for memory twice; `None` for a limit that no journal has.
+/// Returns a legal journal of two lines, whose replay asks for memory twice; `None` for a limit that no journal has.
 pub fn journal_of(alloc: Global, p: Point, limit: u32) -> Result<Option<Journal>, AllocError> {
     let list = PointList::new(Vec::from_array(alloc, [p])?);
     let add = Line::new(7, 0, Call::Add(p), Reply::Added);

@@ -1,25 +1,25 @@
 use crate::stage::Stage;
 
-/// What a trial has found: the first thing that was not as it should be, if there is one.
+/// What a trial has found: the first thing that was wrong, if there is one.
 #[derive(Drop)]
 pub struct Findings {
     wrong: Option<&'static str>,
 }
 
 impl Findings {
-    /// Nothing is wrong yet.
+    /// Makes the findings with nothing wrong.
     pub fn new() -> Findings {
         Findings { wrong: None }
     }
 
-    /// Keeps `what` as wrong where it does not hold and nothing else was wrong before.
+    /// Records `what` as wrong if the condition is false and nothing was wrong before.
     pub fn expect(&mut self, holds: bool, what: &'static str) {
         if !holds && self.wrong.is_none() {
             self.wrong = Some(what);
         }
     }
 
-    /// The stage, or what was wrong.
+    /// Returns the stage, or what was wrong.
     pub fn told(self, stage: Stage) -> Result<Stage, &'static str> {
         match self.wrong {
             None => Ok(stage),

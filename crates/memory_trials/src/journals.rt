@@ -1,4 +1,4 @@
-//! A journal is gone on with, made short, drained, and judged in parts.
+//! Continuing a journal, compacting, draining, and judging it in segments.
 ghost use Rattle.std.specs.Prelude.{◌≡◌, ◌<◌, ◌≤◌, ◌-◌, ◌^◌, IfSome, length};
 ghost use Rattle.hull_set.specs.Held.{nothing_held};
 ghost use Rattle.hull_book.specs.Answers.{HasRoom};
@@ -23,7 +23,7 @@ use std::alloc::Global;
 use text_io::Counted;
 use text_io::testing::{Pieces, Spout};
 
-/// The first part of a journal.
+/// The first segment of a journal.
 const FIRST: &[u8] = b"hullbook journal 3 first 7 limit 4 capacity 4\n7 0 add 3 4 = added\nend 1\n";
 
 /// The second, whose replay asks for memory.
@@ -34,10 +34,10 @@ const SECOND: &[u8] =
 const LONG: &[u8] =
     b"hullbook journal 3 first 7 limit 4 capacity 4\n7 0 add 3 4 = added\n8 0 vertices = list 1 3 4\nend 2\n";
 
-/// The short one that leaves the same point.
+/// The compacted one that leaves the same point.
 const SHORT: &[u8] = b"hullbook journal 3 first 9 limit 4 capacity 4\n9 0 add 3 4 = added\nend 1\n";
 
-/// Whether the fault tells want of memory.
+/// Whether the fault is a lack of memory.
 fn is_want(fault: CompactFault) -> bool {
     match fault {
         CompactFault::Text(fault) => is_memory(fault, 4),
@@ -46,7 +46,7 @@ fn is_want(fault: CompactFault) -> bool {
     }
 }
 
-/// Looks at a book that goes on with the journal of two lines, and gives it up.
+/// Tests a book that continues the journal of two lines, and ends it.
 fn expect_reopened<S: HullSet + Drop>(book: Book<S>, ledgers: Vec<Ledger>, findings: &mut Findings)
     requires lawful { IsLawful S.HullSet book }
     requires ledgers { AreLedgers book ledgers.items }
@@ -61,7 +61,7 @@ fn expect_reopened<S: HullSet + Drop>(book: Book<S>, ledgers: Vec<Ledger>, findi
     give_up(book, ledgers, 2, findings);
 }
 
-/// Opens the book at the second attempt, with the set and the journal that came back.
+/// Opens the book at the second attempt, with the set and the journal that were returned.
 fn reopen_again<S: HullSet + Drop>(
     alloc: Global,
     set: S,
@@ -81,8 +81,7 @@ fn reopen_again<S: HullSet + Drop>(
     }
 }
 
-/// Opens a book that goes on with a journal of two lines. Where memory is refused, set and journal come back, and the
-/// next attempt opens it.
+/// Opens a book that continues a journal of two lines. If memory is refused, set and journal are returned, and the next attempt opens it.
 pub fn try_reopen<S: HullSet + Drop>(alloc: Global, set: S, p: Point) -> Result<Stage, &'static str>
     requires empty { S.held set ≡ nothing_held }
 {
@@ -115,7 +114,7 @@ pub fn try_reopen<S: HullSet + Drop>(alloc: Global, set: S, p: Point) -> Result<
     }
 }
 
-/// Has one call of seat 0 served.
+/// Serves one call of seat 0.
 fn serve_long<S: HullSet + Drop>(
     book: &mut LongBook<S>,
     ledgers: &mut Vec<Ledger>,
@@ -134,7 +133,7 @@ fn serve_long<S: HullSet + Drop>(
     book.serve(0, call, &mut ledgers[0], then)
 }
 
-/// Drains a book by a call of seat 0; `None` where it is full.
+/// Drains a book with a call of seat 0; `None` if it is full.
 fn drain<S: HullSet + Drop>(
     book: &mut LongBook<S>,
     ledgers: &mut Vec<Ledger>,
@@ -154,7 +153,7 @@ fn drain<S: HullSet + Drop>(
     }
 }
 
-/// Room for four lines. Where memory is refused, nothing is taken out of the book, and the next attempt has it.
+/// Allocates storage for four lines. If memory is refused, nothing is taken out of the book, and the next attempt allocates it.
 fn reserve<S: HullSet + Drop>(
     alloc: Global,
     book: &LongBook<S>,
@@ -172,7 +171,7 @@ fn reserve<S: HullSet + Drop>(
     }
 }
 
-/// Gives up a book that was drained, and its ledgers, which have to sum to the two lines of the part.
+/// Ends a book that was drained, and its ledgers, which must sum to the two lines of the segment.
 fn give_up_long<S: HullSet + Drop>(
     book: LongBook<S>,
     ledgers: Vec<Ledger>,
@@ -191,8 +190,8 @@ fn give_up_long<S: HullSet + Drop>(
     drop(book);
 }
 
-/// Drains a book of one line by the call that lists the vertices. Where memory is refused to the room, nothing is taken
-/// out, and the next attempt has it; where it is refused to the call, the part has its line all the same.
+/// Drains a book of one line with the call that lists the vertices. If memory for the storage is refused, nothing is taken out, and the next attempt
+/// succeeds; if it is refused to the call, the segment has its line all the same.
 pub fn try_drain<S: HullSet + Drop>(alloc: Global, set: S, p: Point) -> Result<Stage, &'static str>
     requires empty { S.held set ≡ nothing_held }
 {
@@ -226,7 +225,7 @@ pub fn try_drain<S: HullSet + Drop>(alloc: Global, set: S, p: Point) -> Result<S
     findings.told(stage)
 }
 
-/// The number behind the two parts, where they are those of a legal journal.
+/// Returns the number after the two segments, if they are those of a legal journal.
 fn judged(alloc: Global, first: &Journal, second: &Journal) -> Result<u64, ReplayFault> {
     let _limits = first.lines();
     let set = PlainSet::new(alloc, first.limit());
@@ -234,7 +233,7 @@ fn judged(alloc: Global, first: &Journal, second: &Journal) -> Result<u64, Repla
     Ok(checker.check_next(second)?.next())
 }
 
-/// Judges two parts. Where memory is refused, the next attempt begins with the first.
+/// Judges two segments. If memory is refused, the next attempt begins with the first.
 pub fn try_parts(alloc: Global) -> Result<Stage, &'static str> {
     let mut findings = Findings::new();
     let first = read_journal(alloc, &mut Counted::new(Pieces::new(FIRST, 4096)));
@@ -250,7 +249,7 @@ pub fn try_parts(alloc: Global) -> Result<Stage, &'static str> {
     findings.told(stage)
 }
 
-/// Makes a text short by a replay on a plain set.
+/// Compacts a text by a replay on a plain set.
 fn make_short<R: Source, W: Sink>(
     alloc: Global,
     source: &mut R,
@@ -262,7 +261,7 @@ fn make_short<R: Source, W: Sink>(
     compact(alloc, |limit| PlainSet::new(alloc, limit), source, out)
 }
 
-/// Makes the text of a journal short, in pieces of that size.
+/// Compacts the text of a journal, in pieces of that size.
 pub fn try_compact(alloc: Global, size: usize) -> Result<Stage, &'static str> {
     let mut findings = Findings::new();
     let Ok(device) = Spout::new(alloc, SHORT.len(), size) else {

@@ -15,10 +15,10 @@ use std::alloc::Global;
 use std::sync::Wait;
 use std::thread::Threads;
 
-/// What the worker does.
+/// The calls of the worker.
 const SCRIPT: &[u8] = b"0 add 0 0\n0 add 1 1\njoin\n0 count\n";
 
-/// Looks at what a refused phase left: those before it ran whole and nothing of it, and the book serves on.
+/// Tests what a refused phase left: those before it ran completely and nothing of it did, and the book continues.
 fn serve_on<S: HullSet + Drop>(book: Book<S>, workers: Workers, findings: &mut Findings) -> Stage
     requires lawful { IsLawful S.HullSet book }
     requires ledgers { AreLedgers book workers.ledgers }
@@ -44,8 +44,7 @@ fn serve_on<S: HullSet + Drop>(book: Book<S>, workers: Workers, findings: &mut F
     }
 }
 
-/// Which call of a script that was run whole was refused memory, as the worker's answers tell; `None` where they are
-/// none of those that may be.
+/// Returns which call of a script that was run completely was refused memory, by the worker's answers; `None` if they are none of the possible ones.
 fn stage_of(answers: &[Answer]) -> Option<Stage> {
     let [first, second, third] = answers else {
         return None;
@@ -67,8 +66,7 @@ fn stage_of(answers: &[Answer]) -> Option<Stage> {
     }
 }
 
-/// Runs a script of two phases. Where the second is refused memory, the first ran whole, nothing of the second did, and
-/// the book serves on.
+/// Runs a script of two phases. If the second is refused memory, the first ran completely, nothing of the second did, and the book continues.
 pub fn try_later<R: Threads + Wait + Sync, S: HullSet + Drop + Send + Sync>(
     rt: &R,
     alloc: Global,

@@ -1,4 +1,4 @@
-//! A lock is opened round a book.
+//! A lock is opened around a book.
 ghost use Rattle.std.specs.Prelude.{◌≡◌};
 ghost use Rattle.hull_set.specs.Held.{nothing_held};
 
@@ -9,8 +9,7 @@ use hull_set::HullSet;
 use std::alloc::Global;
 use ticket_lock::{OpenFault, TicketLock};
 
-/// Opens a lock with three seats round a book, and closes it. Where memory is refused, the book comes back, and the
-/// next attempt opens the lock.
+/// Opens a lock with three seats around a book, and closes it. If memory is refused, the book is returned, and the next attempt opens the lock.
 pub fn try_lock<S: HullSet + Drop>(alloc: Global, set: S) -> Result<Stage, &'static str>
     requires empty { S.held set ≡ nothing_held }
 {

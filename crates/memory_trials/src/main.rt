@@ -1,13 +1,11 @@
-//! Tries what answers want of memory, and looks at what stands where it was refused.
+//! Tests the replies when memory is refused, and the state after a refusal.
 //!
-//! `memory_trials NAME..` makes each of the named trials, all of them without a name, and writes a line for each: its
-//! name, and the stage in which memory was refused (`whole` where none was that it needs), or `wrong:` and what did not
-//! hold. The status is 0 where nothing was wrong, 1 where something was, and 4 where the words could not be read for
-//! want of memory. Nothing is refused unless something outside the program does it:
+//! `memory_trials NAME..` makes each of the named trials, or all of them without a name, and writes a line for each: its name, and the stage in which
+//! memory was refused (`whole` if none was that it needs), or `wrong:` and the condition that was false. The status is 0 if nothing was wrong, 1 if
+//! something was, and 4 if the words could not be read for lack of memory. Nothing is refused unless something outside the program does it:
 //! `tests/memory/run.sh` refuses each request for memory in turn, below the C library.
 //!
-//! After a refusal a trial looks at what its function gives back or leaves, and then makes a second attempt, which has
-//! to succeed.
+//! After a refusal a trial tests what its function returns or leaves, and then makes a second attempt, which must succeed.
 #![tactic(auto)]
 
 mod books;
@@ -31,7 +29,7 @@ use std::rt::Env;
 use std::sync::Wait;
 use std::thread::Threads;
 
-/// The names of the trials, in the order in which they are made without a name.
+/// The names of the trials, in the order in which they are made if no name is given.
 const NAMES: [&str; 29] = [
     "plain_add",
     "tree_add",
@@ -64,7 +62,7 @@ const NAMES: [&str; 29] = [
     "compact",
 ];
 
-/// Makes the trial of that name; `None` where there is no such trial.
+/// Makes the trial of that name; `None` if there is no such trial.
 fn trial<R: Threads + Wait + Sync>(
     rt: &R,
     alloc: Global,
@@ -105,7 +103,7 @@ fn trial<R: Threads + Wait + Sync>(
     })
 }
 
-/// Makes the trial of that name and writes its line. `false` where something was wrong.
+/// Makes the trial of that name and writes its line. Returns `false` if something was wrong.
 fn told<R: Threads + Wait + Sync + Print + AllocGlobal>(rt: &R, name: &str) -> bool {
     let Ok(p) = Point::new(3, 4) else {
         return false;

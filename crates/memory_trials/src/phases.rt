@@ -19,15 +19,15 @@ use std::thread::Threads;
 use text_io::Counted;
 use text_io::testing::Pieces;
 
-/// What the worker does.
+/// The calls of the worker.
 const SCRIPT: &[u8] = b"0 add 0 0\n0 add 1 1\n0 vertices\n0 count\n";
 
-/// The script of this text; `None` where memory is refused to its reader.
+/// Returns the script of this text; `None` if memory is refused to its reader.
 pub fn script_of(alloc: Global, text: &[u8]) -> Option<Script> {
     read_script(alloc, &mut Counted::new(Pieces::new(text, 4096))).ok()
 }
 
-/// Which call was refused memory, as the worker's answers tell; `None` where they are none of those that may be.
+/// Returns which call was refused memory, by the worker's answers; `None` if they are none of the possible ones.
 fn stage_of(answers: &[Answer], zero: Point, one: Point) -> Option<Stage> {
     let [first, second, third, fourth] = answers else {
         return None;
@@ -49,8 +49,8 @@ fn stage_of(answers: &[Answer], zero: Point, one: Point) -> Option<Stage> {
     }
 }
 
-/// Reserves the room for the answers of a script. Where memory is refused, the ledgers come back with their counts, and
-/// the next attempt has the room.
+/// Allocates the storage for the answers of a script. If memory is refused, the ledgers are returned with their counts, and the next attempt
+/// allocates it.
 pub fn try_workers<S: HullSet + Drop>(alloc: Global, set: S) -> Result<Stage, &'static str>
     requires empty { S.held set ≡ nothing_held }
 {
@@ -82,7 +82,7 @@ pub fn try_workers<S: HullSet + Drop>(alloc: Global, set: S) -> Result<Stage, &'
     findings.told(stage)
 }
 
-/// Looks at what came of a run that ended well: the answers, the ledgers, and the journal.
+/// Tests the result of a run that ended well: the answers, the ledgers, and the journal.
 fn judge<S: HullSet + Drop>(
     alloc: Global,
     book: Book<S>,
@@ -110,7 +110,7 @@ fn judge<S: HullSet + Drop>(
     stage
 }
 
-/// A book over the set, and workers that may run the script; `None` where memory is refused to them.
+/// Makes a book over the set, and workers that may run the script; `None` if memory is refused to them.
 #[tactic(auto, using(hull_pool::proofs::Fronts::few_each))]
 pub fn prepared<S: HullSet + Drop>(
     alloc: Global,
@@ -132,7 +132,7 @@ pub fn prepared<S: HullSet + Drop>(
     }
 }
 
-/// Runs the script whole. Where the set-up is refused memory, nothing of it ran.
+/// Runs the whole script. If the setup is refused memory, nothing of it ran.
 pub fn try_phases<R: Threads + Wait + Sync, S: HullSet + Drop + Send + Sync>(
     rt: &R,
     alloc: Global,
@@ -168,7 +168,7 @@ pub fn try_phases<R: Threads + Wait + Sync, S: HullSet + Drop + Send + Sync>(
     }
 }
 
-/// Runs the phase. Where its set-up is refused memory, nothing of it ran, and the next attempt runs it.
+/// Runs the phase. If its setup is refused memory, nothing of it ran, and the next attempt runs it.
 fn run_again<R: Threads + Wait + Sync, S: HullSet + Drop + Send + Sync>(
     rt: &R,
     alloc: Global,

@@ -1,13 +1,13 @@
-//! Points are put into a set, once and once more, and its vertices are asked for.
+//! Adding points to a set, once and once more, and asking for its vertices.
 use crate::findings::Findings;
 use crate::stage::Stage;
 use hull_set::{AddReply, HullSet, NoMemory, RemoveReply};
 use lattice::Point;
 
-/// How many points are put in: lists grow several times on the way.
+/// How many points are added: lists grow several times on the way.
 const POINTS: u32 = 12;
 
-/// The point (k, k * k). All such points are vertices, in the order of their numbers.
+/// Returns the point (k, k * k). All such points are vertices, in the order of their numbers.
 fn corner(k: u32) -> Option<Point> {
     let square = k.checked_mul(k)?;
     Point::new(i64::from(k), i64::from(square)).ok()
@@ -26,8 +26,8 @@ fn are_corners(points: &[Point], count: u32) -> bool {
     true
 }
 
-/// Whether the set has just the first `count` such points: it tells their number, and its vertices are these. Where
-/// memory for the list is refused, the second attempt has it.
+/// Whether the set has exactly the first `count` such points: its count is their number, and its vertices are these. If memory for the list is
+/// refused, the second attempt returns it.
 fn has_corners<S: HullSet>(set: &S, count: u32) -> bool {
     let vertices = match set.vertices() {
         Ok(vertices) => Ok(vertices),
@@ -39,7 +39,7 @@ fn has_corners<S: HullSet>(set: &S, count: u32) -> bool {
     }
 }
 
-/// Puts a point in. Where memory is refused, the set has the points that it had, and the next attempt puts it in.
+/// Adds a point. If memory is refused, the set has the points that it had, and the next attempt adds it.
 fn put<S: HullSet>(set: &mut S, k: u32, p: Point, findings: &mut Findings) -> Stage {
     match set.add(p) {
         AddReply::Added => Stage::Whole,
@@ -55,7 +55,7 @@ fn put<S: HullSet>(set: &mut S, k: u32, p: Point, findings: &mut Findings) -> St
     }
 }
 
-/// Puts the points into the set, one after the other.
+/// Adds the points to the set, one after the other.
 pub fn try_add<S: HullSet>(mut set: S) -> (S, Result<Stage, &'static str>) {
     let mut findings = Findings::new();
     let mut stage = Stage::Whole;
@@ -73,7 +73,7 @@ pub fn try_add<S: HullSet>(mut set: S) -> (S, Result<Stage, &'static str>) {
     (set, findings.told(stage))
 }
 
-/// Puts all points in, up to the first for which memory is refused.
+/// Adds all points, up to the first for which memory is refused.
 fn fill<S: HullSet>(set: &mut S, findings: &mut Findings) -> Stage {
     for k in 0..POINTS {
         let Some(p) = corner(k) else { break };
@@ -84,7 +84,7 @@ fn fill<S: HullSet>(set: &mut S, findings: &mut Findings) -> Stage {
     Stage::Whole
 }
 
-/// Puts each point of a set in once more, and takes it out once: nothing is asked for, so nothing can be refused.
+/// Adds each point of a set once more, and removes it once: no memory is requested, so none can be refused.
 pub fn try_again<S: HullSet>(mut set: S) -> (S, Result<Stage, &'static str>) {
     let mut findings = Findings::new();
     if fill(&mut set, &mut findings) == Stage::Refused {

@@ -1,13 +1,13 @@
 use std::fmt;
 
-/// Where in a trial memory was refused.
+/// The stage of a trial in which memory was refused.
 #[derive(Clone, Copy, PartialEq, Eq, Debug)]
 pub enum Stage {
-    /// Before what is tried began.
+    /// Before the tested call began.
     SetUp,
-    /// In what is tried.
+    /// In the tested call.
     Refused,
-    /// In the second phase of a script, behind a first one that ran whole.
+    /// In the second phase of a script, after a first one that ran completely.
     LaterPhase,
     /// In the first call of a run of phases.
     FirstAdd,

@@ -13,7 +13,7 @@ const SCRIPT: &[u8] = b"0 add 0 0\n1 count\n0 vertices";
 const JOURNAL: &[u8] =
     b"hullbook journal 1 first 0 limit 4 capacity 4\n0 0 add 3 4 = added\n1 0 vertices = list 1 3 4\nend 2\n";
 
-/// Whether the fault tells want of memory, in one of the lines or behind the last.
+/// Whether the fault is a lack of memory, in one of the lines or after the last.
 pub fn is_memory(fault: TextFault, lines: u32) -> bool {
     fault.number == 10 && 1 <= fault.line && fault.line <= lines.saturating_add(1)
 }

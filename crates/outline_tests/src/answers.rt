@@ -1,4 +1,4 @@
-//! An outline and the set whose corners it has are asked the same.
+//! A polygon and the set with the same vertices get the same questions.
 use hull_outline::Outline;
 use hull_plain::PlainSet;
 use hull_set::{AddReply, HullSet};
@@ -10,10 +10,10 @@ use std::test::Fail;
 /// The greatest limit of a set, by its number.
 const LIMIT: u32 = 1048576;
 
-/// The points and directions that are asked of have coordinates of so many units at most.
+/// The points and directions of the questions have coordinates of at most this.
 const REACH: i64 = 3;
 
-/// What was found of these two numbers is true.
+/// The result for these two numbers is true.
 fn assert_at(rt: &impl Abort, truth: bool, x: i64, y: i64) {
     assert!(rt; truth, "at {x} {y}");
 }
@@ -35,7 +35,7 @@ fn assert_same_extremes<S: HullSet>(
     Ok(())
 }
 
-/// Both see alike each point of a grid with such a mesh, as far as points go.
+/// Each point of a grid with this mesh, as far as points go, has the same location and tangents in both.
 fn assert_same_sights<S: HullSet>(rt: &impl Abort, set: &S, outline: Outline<'_>, mesh: i64) {
     for right in -REACH..REACH + 1 {
         for up in -REACH..REACH + 1 {
@@ -47,7 +47,7 @@ fn assert_same_sights<S: HullSet>(rt: &impl Abort, set: &S, outline: Outline<'_>
     }
 }
 
-/// A set and the outline of its corners answer alike, whether that was made with a look at them or without.
+/// A set and the polygon of its vertices answer alike, whether the list was checked or not.
 fn assert_same_answers<S: HullSet>(rt: &impl Abort, set: &S, mesh: i64) -> Result<(), Fail> {
     let _known = (set.count(), set.limit());
     let corners = set.vertices()?;
@@ -63,7 +63,7 @@ fn assert_same_answers<S: HullSet>(rt: &impl Abort, set: &S, mesh: i64) -> Resul
     Ok(())
 }
 
-/// The set of the points of a grid of 3 by 3, two meshes apart and round the origin, whose bits are set.
+/// Returns the set of those points of a grid of 3 by 3, two meshes apart and around the origin, whose bits are set.
 fn grid_set(rt: &impl Abort, alloc: Global, bits: u32, mesh: i64) -> Result<PlainSet, Fail> {
     let mut set = PlainSet::new(alloc, LIMIT);
     for place in 0u32..9 {
@@ -99,7 +99,7 @@ fn all_sets_at_the_limit(rt: HostRuntime) -> Result<(), Fail> {
     Ok(())
 }
 
-// The corners are points of two parabolas, so that each is a corner.
+// The vertices are points of two parabolas, so that each is a vertex.
 #[test]
 fn many_corners(rt: HostRuntime) -> Result<(), Fail> {
     let mut set = PlainSet::new(rt.alloc(), LIMIT);

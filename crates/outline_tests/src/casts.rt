@@ -1,11 +1,11 @@
-//! Where rays and segments come into a square, at places that are known.
+//! Rays and segments that enter a square at known points.
 use super::meetings::outline_of;
 use hull_outline::{Entry, Hit};
 use lattice::{Direction, Point};
 use std::process::Abort;
 use std::test::Fail;
 
-/// So far on a way, across the edge between two corners.
+/// The position on a path, across the edge between two vertices.
 fn across(p: Point, q: Point, numerator: u128, denominator: u128) -> Option<Hit> {
     Some(Hit {
         place: Entry::Edge(p, q),

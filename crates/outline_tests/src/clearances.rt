@@ -1,4 +1,4 @@
-//! How far a hull is from segments, as numbers that are known, and how it stands to them.
+//! The distances of a hull from segments, as known numbers, and how the two are to each other.
 use super::meetings::outline_of;
 use hull_outline::{Distance, Length, Relation, Rounded, SquaredDistance};
 use lattice::Point;
@@ -16,7 +16,7 @@ fn square() -> Result<[Point; 4], Fail> {
     ])
 }
 
-/// How far the square is from the segment between the points of four numbers.
+/// Returns the distance of the square from the segment between the points of four numbers.
 fn distance_to(
     rt: &impl Abort,
     corners: &[Point],

@@ -1,4 +1,4 @@
-//! How far two hulls are apart, beside the least of the distances of the points of each from the other.
+//! The distance of two hulls, compared with the least of the distances of the points of each from the other.
 use super::meetings::{
     Fraction, all_corners, assert_of, corners_of, is_less, outline_of, slow_distance, slow_meet,
     small_sets, to_line, to_point,
@@ -9,7 +9,7 @@ use std::alloc::Global;
 use std::process::Abort;
 use std::test::Fail;
 
-/// The least squared distance of the points of the one from the other, and so far from so many.
+/// Returns the least squared distance of the points of the one from the other, given the one found so far.
 fn least_from(ones: &[Point], others: &[Point], other: Point, so_far: Fraction) -> Fraction {
     let mut least = so_far;
     for p in ones {
@@ -21,13 +21,13 @@ fn least_from(ones: &[Point], others: &[Point], other: Point, so_far: Fraction) 
     least
 }
 
-/// The squared distance of two sets that are apart, from each point of each.
+/// Returns the squared distance of two disjoint sets, from each point of each.
 fn slow_apart(ones: &[Point], one: Point, others: &[Point], other: Point) -> Fraction {
     let least = least_from(ones, others, other, to_point(one, other));
     least_from(others, ones, one, least)
 }
 
-/// The squared distance that is told of the two is that by the definition, and the points are theirs.
+/// The squared distance that is returned for the two is that by the definition, and the points are theirs.
 fn assert_told(rt: &impl Abort, ones: &[Point], others: &[Point], told: Distance, slow: Fraction) {
     let found = match told {
         Distance::Zero => Fraction { above: 0, below: 1 },

@@ -1,4 +1,4 @@
-//! Tests of outlines beside the plain set, over what these crates show everybody.
+//! Tests of polygons compared with the plain set, over the public surface of these crates.
 #![tactic(auto)]
 
 #[cfg(test)]

@@ -1,4 +1,4 @@
-//! Which lists of points are outlines.
+//! The lists of points that are polygons.
 use hull_outline::{Outline, is_outline};
 use hull_plain::PlainSet;
 use hull_set::{AddReply, HullSet};
@@ -19,7 +19,7 @@ fn points(alloc: Global, coordinates: &[(i64, i64)]) -> Result<Vec<Point>, Fail>
     Ok(points)
 }
 
-/// Whether the points are all different and the vertices of their set, as the plain set tells them.
+/// Whether the points are all different and the vertices of their set, as the plain set returns them.
 fn are_vertices(alloc: Global, points: &[Point]) -> Result<bool, Fail> {
     let mut set = PlainSet::new(alloc, LIMIT);
     for p in points {
@@ -30,7 +30,7 @@ fn are_vertices(alloc: Global, points: &[Point]) -> Result<bool, Fail> {
     Ok(set.vertices()?.as_slice() == points)
 }
 
-/// All lists of so many points of a grid of 3 by 3, by the digits of a number.
+/// All lists of this many points of a grid of 3 by 3, by the digits of a number.
 fn assert_all_lists(rt: &impl Abort, alloc: Global, count: u32, lists: u32) -> Result<(), Fail> {
     for number in 0..lists {
         let mut digits = number;
@@ -58,7 +58,7 @@ fn all_short_lists(rt: HostRuntime) -> Result<(), Fail> {
     assert_all_lists(&rt, rt.alloc(), 4, 6561)
 }
 
-/// Whether a list of six points turns left behind the one at `i`.
+/// Whether a list of six points turns left over the one at `i`.
 fn lies_left(list: &[Point], i: usize) -> bool {
     match (
         list.get(i % 6),
@@ -70,7 +70,7 @@ fn lies_left(list: &[Point], i: usize) -> bool {
     }
 }
 
-// Each corner turns left, and the first comes first, but the list goes round twice.
+// Each vertex turns left, and the first is first, but the list goes around twice.
 #[test]
 fn a_list_that_winds_twice(rt: HostRuntime) -> Result<(), Fail> {
     let list = points(

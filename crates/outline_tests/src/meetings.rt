@@ -1,4 +1,4 @@
-//! Segments, other hulls, extents and nearest points beside slow answers by their definitions.
+//! Segments, other hulls, extents and nearest points, compared with slow answers by their definitions.
 use hull_outline::{Meeting, Nearest, Outline, Separation, Strip, Witness};
 use hull_plain::PlainSet;
 use hull_set::{AddReply, HullSet};
@@ -10,7 +10,7 @@ use std::test::Fail;
 /// The greatest limit of a set, by its number.
 const LIMIT: u32 = 1048576;
 
-/// The points of a grid of 3 by 3 whose bits are set, a mesh apart and round the origin.
+/// Returns the points of a grid of 3 by 3 whose bits are set, a mesh apart and around the origin.
 fn grid_points(alloc: Global, bits: u32, mesh: i64) -> Result<Vec<Point>, Fail> {
     let mut points = Vec::new(alloc);
     for place in 0u32..9 {
@@ -23,7 +23,7 @@ fn grid_points(alloc: Global, bits: u32, mesh: i64) -> Result<Vec<Point>, Fail> 
     Ok(points)
 }
 
-/// The corners of the set of these points.
+/// The vertices of the set of these points.
 pub(crate) fn corners_of(
     rt: &impl Abort,
     alloc: Global,
@@ -36,7 +36,7 @@ pub(crate) fn corners_of(
     Ok(set.vertices()?)
 }
 
-/// The corners of each of these sets.
+/// The vertices of each of these sets.
 pub(crate) fn all_corners(
     rt: &impl Abort,
     alloc: Global,
@@ -49,8 +49,8 @@ pub(crate) fn all_corners(
     Ok(all)
 }
 
-/// The sets of the small grid, a mesh apart, all of whose points are corners: any other set has the corners of one of them,
-/// and corners are all that an outline knows of a set.
+/// Returns those sets of the small grid, a mesh apart, all of whose points are vertices: any other set has the vertices of one of them, and a polygon
+/// knows only the vertices of a set.
 fn outlines_of_grid(rt: &impl Abort, alloc: Global, mesh: i64) -> Result<Vec<Vec<Point>>, Fail> {
     let mut outlines = Vec::new(alloc);
     for bits in 0u32..512 {
@@ -78,7 +78,7 @@ fn is_in_triangle(a: Point, b: Point, c: Point, q: Point) -> bool {
     orient(a, b, c) > 0 && orient(a, b, q) >= 0 && orient(b, c, q) >= 0 && orient(c, a, q) >= 0
 }
 
-/// Whether `q` lies on a segment or in a triangle of these points whose first corner is `a`.
+/// Whether `q` lies on a segment or in a triangle of these points whose first vertex is `a`.
 fn is_covered_from(a: Point, points: &[Point], q: Point) -> bool {
     for b in points {
         if is_on_segment(a, *b, q) {
@@ -93,8 +93,8 @@ fn is_covered_from(a: Point, points: &[Point], q: Point) -> bool {
     false
 }
 
-/// Whether the points cover `q`, by the definition: each segment is looked at from one of its ends, and each triangle from
-/// one of its corners, the earliest.
+/// Whether the points cover `q`, by the definition: each segment is looked at from one of its ends, and each triangle from one of its vertices, the
+/// earliest.
 fn slow_covers(points: &[Point], q: Point) -> bool {
     for first in 0..points.len() {
         if is_covered_from(points[first], &points[first..], q) {
@@ -109,8 +109,8 @@ fn is_crossing(a: Point, b: Point, c: Point, d: Point) -> bool {
     orient(a, b, c) < 0 && orient(a, b, d) > 0 && orient(c, d, a) > 0 && orient(c, d, b) < 0
 }
 
-/// Whether the points and the segment meet, neither end being covered, by the definition. Each two points are looked at
-/// once, since a segment crosses another whichever of its ends is named first.
+/// Whether the points and the segment intersect, neither end being covered, by the definition. Each two points are considered once, since a segment
+/// crosses another in either direction.
 fn slow_crosses(points: &[Point], a: Point, b: Point) -> bool {
     for first in 0..points.len() {
         let s = points[first];
@@ -126,12 +126,12 @@ fn slow_crosses(points: &[Point], a: Point, b: Point) -> bool {
     false
 }
 
-/// What was found of these points is true.
+/// The result for these points is true.
 pub(crate) fn assert_of(rt: &impl Abort, truth: bool, points: &[Point]) {
     assert!(rt; truth, "{points:?}");
 }
 
-/// The separation parts the points from the others, and one of them is its farthest.
+/// The separating direction separates the points from the others, and one of them is its farthest.
 fn assert_parts(rt: &impl Abort, points: &[Point], others: &[Point], found: Separation) {
     let reach = found.direction.product(found.farthest);
     for p in points {
@@ -143,7 +143,7 @@ fn assert_parts(rt: &impl Abort, points: &[Point], others: &[Point], found: Sepa
     assert_of(rt, points.contains(&found.farthest), points);
 }
 
-/// The outline of corners that are one.
+/// Returns the polygon of the vertices of a set.
 pub(crate) fn outline_of<'a>(rt: &impl Abort, corners: &'a [Point]) -> Outline<'a> {
     match Outline::new(corners) {
         Some(outline) => outline,
@@ -158,7 +158,7 @@ struct Seen {
     covered: bool,
 }
 
-/// The points of a grid so far round the origin, and whether the points cover them.
+/// Returns the points of a grid this far around the origin, and whether the points cover them.
 fn seen_grid(alloc: Global, points: &[Point], reach: i64, mesh: i64) -> Result<Vec<Seen>, Fail> {
     let mut seen = Vec::new(alloc);
     for x in reach.wrapping_neg()..reach.wrapping_add(1) {
@@ -184,7 +184,7 @@ fn assert_segment(rt: &impl Abort, points: &[Point], outline: Outline<'_>, a: &S
     }
 }
 
-/// All segments of a grid so far round the origin are answered as by the definition.
+/// All segments of a grid this far around the origin are answered as by the definition.
 fn assert_segments(
     rt: &impl Abort,
     alloc: Global,
@@ -269,7 +269,7 @@ pub(crate) fn slow_distance(points: &[Point], first: Point, q: Point) -> Fractio
     least
 }
 
-/// The squared distance that an answer tells.
+/// The squared distance that an answer returns.
 fn told_distance(place: Nearest, q: Point) -> Fraction {
     match place {
         Nearest::Covered => to_point(q, q),
@@ -278,7 +278,7 @@ fn told_distance(place: Nearest, q: Point) -> Fraction {
     }
 }
 
-/// The nearest place is as near as the nearest of all.
+/// The nearest feature is as near as the nearest of all.
 fn assert_nearest(rt: &impl Abort, points: &[Point], outline: Outline<'_>, seen: &Seen) {
     match (outline.nearest(seen.point), points.first()) {
         (Some(Nearest::Covered), Some(_)) => assert_of(rt, seen.covered, points),
@@ -383,7 +383,7 @@ fn assert_box(rt: &impl Abort, points: &[Point], outline: Outline<'_>) {
     }
 }
 
-/// The two points that are told are as far apart as any two.
+/// The distance of the two returned points is the greatest of any two.
 fn assert_diameter(rt: &impl Abort, points: &[Point], outline: Outline<'_>) {
     match outline.diameter() {
         Some((p, q)) => {
@@ -438,7 +438,7 @@ fn extents_of_all_sets_of_a_small_grid(rt: HostRuntime) -> Result<(), Fail> {
     Ok(())
 }
 
-/// One of all sets of the small grid: its corners, and which points of the grid it covers, by their bits.
+/// One of all sets of the small grid: its vertices, and which points of the grid it covers, by their bits.
 #[derive(Drop)]
 struct Known {
     corners: Vec<Point>,
@@ -475,7 +475,7 @@ fn all_sets_of_a_small_grid_within_each_other(rt: HostRuntime) -> Result<(), Fai
     Ok(())
 }
 
-/// Whether two sets meet, by the definition: the points that each covers of a grid, and crossings of their segments.
+/// Whether two sets intersect, by the definition: the points that each covers of a grid, and crossings of their segments.
 pub(crate) fn slow_meet(one: &[Point], other: &[Point]) -> bool {
     for p in other {
         if slow_covers(one, *p) {
@@ -497,7 +497,7 @@ pub(crate) fn slow_meet(one: &[Point], other: &[Point]) -> bool {
     false
 }
 
-/// The sets of so many points at most of the small grid, each with so much added to its coordinates.
+/// Returns the sets of at most this many points of the small grid, each translated by this vector.
 pub(crate) fn small_sets(
     alloc: Global,
     most: u32,
@@ -517,7 +517,7 @@ pub(crate) fn small_sets(
     Ok(sets)
 }
 
-/// Where two sets meet they do.
+/// The witness that two sets intersect is right: a point of both, or a crossing of two edges.
 fn assert_meeting(rt: &impl Abort, one: &[Point], other: &[Point], meeting: Meeting) {
     match meeting {
         Meeting::OfOther(t) => {
@@ -534,7 +534,7 @@ fn assert_meeting(rt: &impl Abort, one: &[Point], other: &[Point], meeting: Meet
     }
 }
 
-/// What shows how two sets stand to each other does show it.
+/// The witness of the relation of two sets is right.
 fn assert_shown(rt: &impl Abort, one: &[Point], other: &[Point], meet: bool, found: Witness) {
     match found {
         Witness::Apart(separation) => {
@@ -545,7 +545,7 @@ fn assert_shown(rt: &impl Abort, one: &[Point], other: &[Point], meet: bool, fou
     }
 }
 
-/// And where nothing is shown one of them is empty.
+/// If there is no witness, one of them is empty.
 fn assert_witness(
     rt: &impl Abort,
     one: &[Point],

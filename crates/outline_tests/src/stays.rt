@@ -1,4 +1,4 @@
-//! Whether corners stay as a point comes or goes, beside a set to which it comes and from which it goes.
+//! Whether the vertices stay when a point is added or removed, compared with a set to which it is added and from which it is removed.
 use hull_outline::Outline;
 use hull_plain::PlainSet;
 use hull_set::HullSet;
@@ -21,8 +21,8 @@ fn grid(alloc: Global) -> Result<Vec<Point>, Fail> {
     Ok(points)
 }
 
-/// Whether the outline tells of each point what becomes of the set's corners as it comes or goes, and is the same by the place of
-/// its last corner. The set is as it was behind it.
+/// Whether the polygon's answer for each point is what becomes of the set's vertices when it is added or removed, and is the same if the index of the
+/// last vertex is given. The set is unchanged afterwards.
 fn are_told(set: &mut PlainSet, points: &[Point]) -> Result<bool, Fail> {
     let _known = (set.count(), set.limit());
     let corners = set.vertices()?;
@@ -43,7 +43,7 @@ fn are_told(set: &mut PlainSet, points: &[Point]) -> Result<bool, Fail> {
     Ok(told)
 }
 
-// The points of each 19th set of those of the grid come and go.
+// The points of each 19th set of those of the grid are added and removed.
 #[test]
 fn corners_stay_as_told(rt: HostRuntime) -> Result<(), Fail> {
     let points = grid(rt.alloc())?;

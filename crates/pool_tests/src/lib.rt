@@ -1,6 +1,6 @@
-//! Tests of the pool with real threads, over what it shows everybody.
+//! Tests of the pool with real threads, over its public surface.
 //!
-//! They stand in a crate of their own, so that the crates below are proved once.
+//! They are in a crate of their own, so that the crates below are proved once.
 #![tactic(auto)]
 
 #[cfg(test)]

@@ -1,4 +1,4 @@
-//! Scripts that are run over a plain set, by values.
+//! Scripts that are run over a plain set, with known values.
 ghost use Rattle.std.specs.Prelude.{◌≡◌, ◌≤◌, [], IfOk, length};
 ghost use Rattle.hull_plain.specs.Sets.{plain_set};
 ghost use Rattle.hull_book.specs.Books.{IsLawful};
@@ -27,7 +27,7 @@ use std::sync::Wait;
 use std::test::Fail;
 use std::thread::Threads;
 
-/// What came of a run: each worker's answers, the sum of the ledgers, and the journal.
+/// The result of a run: each worker's answers, the sum of the ledgers, and the journal.
 #[derive(Drop)]
 struct Outcome {
     answers: Vec<Vec<Answer>>,
@@ -42,7 +42,7 @@ fn at(rt: &impl Abort, x: i64, y: i64) -> Point {
     }
 }
 
-// An open book over an empty set, and its ledgers. Where memory is refused, the second attempt has it.
+// Opens a book over an empty set, with its ledgers. If memory is refused, the second attempt opens it.
 fn opened(
     rt: &impl Abort,
     alloc: Global,
@@ -68,7 +68,7 @@ fn opened(
     }
 }
 
-// A book and workers that may run the script. Where memory is refused, the second attempt has it.
+// Makes a book and workers that may run the script. If memory is refused, the second attempt makes them.
 #[tactic(auto, using(hull_pool::proofs::Fronts::few_each))]
 fn ready(
     rt: &impl Abort,
@@ -90,7 +90,7 @@ fn ready(
     }
 }
 
-// What came of the run that ended with this book and these workers.
+// Returns the result of the run that ended with this book and these workers.
 fn outcome_of(book: Book<PlainSet>, workers: Workers) -> Outcome
     requires lawful { IsLawful plain_set book }
     requires ledgers { AreLedgers book workers.ledgers }
@@ -105,7 +105,7 @@ fn outcome_of(book: Book<PlainSet>, workers: Workers) -> Outcome
     }
 }
 
-// Runs the script whole over an empty set.
+// Runs the whole script over an empty set.
 fn run_script<R: Threads + Wait + Abort + Sync, G: Gate>(
     rt: &R,
     alloc: Global,
@@ -148,8 +148,8 @@ fn run_first<R: Threads + Wait + Abort + Sync, G: Gate>(
     }
 }
 
-// The sum of the ledgers and the length of the journal, whether that is a legal history, and whether its numbers run on
-// from the first without a gap.
+// Returns the sum of the ledgers and the length of the journal, whether that is a legal history, and whether its numbers go up from the first without
+// a gap.
 fn told_of(alloc: Global, first: u64, end: &Outcome) -> (u64, usize, bool, bool) {
     let legal = check(alloc, &end.journal) == CheckResult::Legal;
     let mut runs_on = true;
@@ -167,7 +167,7 @@ fn mark_of(journal: &Journal, place: usize) -> Option<(u64, u8)> {
     }
 }
 
-// Three workers put a corner each into the set, and then the first asks for the vertices.
+// Three workers add a vertex each, and then the first asks for the vertices.
 fn three_corners(rt: &impl Abort, alloc: Global) -> Result<Script, AllocError> {
     let adds = [
         (0, Call::Add(at(rt, 0, 0))),
@@ -190,7 +190,7 @@ fn are_of_corners(answers: &[Vec<Answer>], corners: &[Point]) -> bool {
     }
 }
 
-/// A question behind a join is answered of all points that were put in before it.
+/// A question after a join is answered for all points that were added before it.
 #[test]
 fn three_workers(rt: HostRuntime) -> Result<(), Fail> {
     let corners = [at(&rt, 0, 0), at(&rt, 4, 0), at(&rt, 0, 4)];
@@ -220,7 +220,7 @@ fn workers_without_calls(rt: HostRuntime) -> Result<(), Fail> {
     Ok(())
 }
 
-// In each of two phases each of three workers puts a point in, counts, and takes the point out.
+// In each of two phases each of three workers adds a point, counts, and removes the point.
 fn three_at_once(rt: &impl Abort, alloc: Global) -> Result<Script, AllocError> {
     let (p, q) = (at(rt, 0, 0), at(rt, 4, 0));
     let (r, s) = (at(rt, 0, 4), at(rt, 4, 4));
@@ -249,8 +249,7 @@ fn three_at_once(rt: &impl Abort, alloc: Global) -> Result<Script, AllocError> {
     two_phases(alloc, 3, &once, &again)
 }
 
-// Whether each worker's points came and went. In the second phase all three put the same point in and take it out: each
-// of them is counted.
+// Whether each worker's points were added and removed. In the second phase all three add the same point and remove it: each addition is counted.
 fn came_and_went(answers: &[Vec<Answer>]) -> bool {
     let mut all = true;
     for own in answers {
@@ -284,7 +283,7 @@ fn three_workers_fifty_times(rt: HostRuntime) -> Result<(), Fail> {
     Ok(())
 }
 
-// One worker puts two points into the set and then counts them.
+// One worker adds two points and then counts them.
 fn two_and_a_count(rt: &impl Abort, alloc: Global) -> Result<Script, AllocError>
     ensures { IfOk result (λ s. length s.phases ≡ 1) }
 {
@@ -309,7 +308,7 @@ fn are_two_and_full(answers: &[Vec<Answer>]) -> bool {
     }
 }
 
-/// A journal of two lines takes two calls, and the third is told that it is full.
+/// A journal of two lines takes two calls, and the result of the third is that it is full.
 #[test]
 fn capacity_two(rt: HostRuntime) -> Result<(), Fail> {
     let script = two_and_a_count(&rt, rt.alloc())?;
@@ -323,7 +322,7 @@ fn capacity_two(rt: HostRuntime) -> Result<(), Fail> {
     Ok(())
 }
 
-// Whether the last line says that two points are there.
+// Whether the reply of the last line is two points.
 fn counts_two(journal: &Journal) -> bool {
     match journal.lines().last() {
         Some(line) => matches!(line.reply, Reply::PointCount(2)),
@@ -351,8 +350,7 @@ fn wrapping_numbers(rt: HostRuntime) -> Result<(), Fail> {
     Ok(())
 }
 
-// How many answers are that no point is there, and how many that the journal is full. No worker has a reply behind one
-// of those.
+// How many answers are that no point is there, and how many that the journal is full. No worker has a reply after one of those.
 fn counted_and_full(answers: &[Vec<Answer>]) -> Option<(u32, u32)> {
     let (mut counted, mut full) = (0u32, 0u32);
     for own in answers {
@@ -381,9 +379,8 @@ fn six_counts(alloc: Global) -> Result<Script, AllocError> {
     two_phases(alloc, 3, &calls, &[])
 }
 
-/// Three workers race for four lines whose numbers pass the greatest one, 100 times: the numbers are the two greatest
-/// and then 0 and 1, four answers are that no point is there and two that the journal is full, and no worker has a
-/// reply behind one of those.
+/// Three workers race for four lines whose numbers pass the greatest one, 100 times: the numbers are the two greatest and then 0 and 1, four answers
+/// are that no point is there and two that the journal is full, and no worker has a reply after one of those.
 #[test]
 fn six_calls_for_four_lines_across_the_wrap(rt: HostRuntime) -> Result<(), Fail> {
     let script = six_counts(rt.alloc())?;
@@ -398,7 +395,7 @@ fn six_calls_for_four_lines_across_the_wrap(rt: HostRuntime) -> Result<(), Fail>
     Ok(())
 }
 
-// How many lists of answers new workers of the script have, and how many calls their ledgers count.
+// Returns how many lists of answers new workers of the script have, and how many calls their ledgers count.
 fn new_workers(rt: &impl Abort, alloc: Global, script: &Script) -> (usize, u64) {
     let (book, ledgers) = opened(rt, alloc, 0, 4, script.workers());
     let workers = match Workers::new(alloc, ledgers, script) {
@@ -409,8 +406,8 @@ fn new_workers(rt: &impl Abort, alloc: Global, script: &Script) -> (usize, u64) 
     (answers.len(), gather(&book, ledgers))
 }
 
-/// With memory there, workers are made, a phase runs, and so do the phases of a script. A body that always refuses
-/// keeps its contract; here it fails.
+/// If there is memory, workers are made, a phase runs, and so do the phases of a script. A body that always refuses satisfies its contract; here it
+/// fails.
 #[test]
 fn constructor_always_refuses(rt: HostRuntime) -> Result<(), Fail> {
     let script = two_and_a_count(&rt, rt.alloc())?;

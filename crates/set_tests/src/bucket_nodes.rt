@@ -1,4 +1,4 @@
-//! A tree over buckets under random changes, beside a plain set: few points and many, asked in all directions.
+//! A tree over buckets under random changes, compared with a plain set: few points and many, asked in all directions.
 use crate::numbers::Numbers;
 use bucket_tree::BucketTree;
 use hull_plain::PlainSet;
@@ -15,7 +15,7 @@ fn at(rt: &impl Abort, x: i64, y: i64) -> Point {
     }
 }
 
-/// A tree and a plain set, which hold the same points.
+/// A tree and a plain set with the same points.
 #[derive(Drop)]
 struct Both {
     tree: BucketTree,
@@ -34,13 +34,13 @@ impl Both {
         both
     }
 
-    /// Holds `p` once more, and returns whether both answer alike, and the turns.
+    /// Adds `p` once, and returns whether both answer alike, and the turns.
     fn raise(&mut self, p: Point) -> (bool, u32) {
         let (reply, turns) = self.tree.add_counted(p);
         (self.plain.add(p) == reply, turns)
     }
 
-    /// Holds `p` once less, and returns whether both answer alike, and the turns.
+    /// Removes `p` once, and returns whether both answer alike, and the turns.
     fn lower(&mut self, p: Point) -> (bool, u32) {
         let (reply, turns) = self.tree.remove_counted(p);
         (self.plain.remove(p) == reply, turns)
@@ -50,7 +50,7 @@ impl Both {
         if adds { self.raise(p) } else { self.lower(p) }
     }
 
-    /// Whether both answer alike, and hold `p` as often.
+    /// Whether both answer alike, and `p` has the same multiplicity in both.
     fn are_alike(&self, p: Point, q: Point) -> bool {
         let times = self.tree.multiplicity(p) == self.plain.multiplicity(p);
         times && answer_alike(&self.tree, &self.plain, q)
@@ -82,7 +82,7 @@ fn answer_alike(tree: &BucketTree, plain: &PlainSet, q: Point) -> bool {
         && have_same_extremes(tree, plain)
 }
 
-/// A random point of a square, and the one with its coordinates exchanged, beside it.
+/// Returns a random point of a square, and the one with its coordinates exchanged.
 fn drawn(rt: &impl Abort, numbers: &mut Numbers, half: u16) -> (Point, Point) {
     let x = numbers.coordinate(half);
     let y = numbers.coordinate(half);
@@ -96,8 +96,8 @@ fn is_to_add(numbers: &mut Numbers, round: u32, changes: u32) -> bool {
     numbers.next() % 4 < adding
 }
 
-/// Makes so many changes at points of a square, beside a plain set, and asks both after each so many. Whether they answer alike,
-/// and how many turns a change took at most.
+/// Makes `changes` changes at points of a square, also on a plain set, and compares both at regular intervals. Returns whether they answer alike, and
+/// the most turns of a change.
 fn changes_alike(
     rt: &impl Abort,
     alloc: Global,

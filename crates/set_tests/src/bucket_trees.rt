@@ -1,4 +1,4 @@
-//! The set over buckets and the plain set under the same changes, among them many points in line and many that are held twice.
+//! The set over buckets and the plain set under the same changes, among them many collinear points and many with multiplicity two.
 use crate::numbers::{Numbers, centred};
 use bucket_tree::BucketTree;
 use hull_plain::PlainSet;
@@ -23,7 +23,7 @@ struct Sets {
     plain: PlainSet,
 }
 
-/// Whether the entries hold what the set holds.
+/// Whether the entries list the set.
 fn are_entries(entries: &[(Point, u32)], plain: &PlainSet) -> bool {
     let mut alike = entries.len() == plain.count() as usize;
     for (p, times) in entries {
@@ -32,7 +32,7 @@ fn are_entries(entries: &[(Point, u32)], plain: &PlainSet) -> bool {
     alike
 }
 
-/// How many entries stand before the first one whose point is not less than `start`.
+/// How many entries are before the first one whose point is not less than `start`.
 fn count_before(all: &[(Point, u32)], start: Point) -> usize {
     for k in 0..all.len() {
         if all[k].0 >= start {
@@ -75,7 +75,7 @@ impl Sets {
         alike && self.tree.multiplicity(p) == self.plain.multiplicity(p)
     }
 
-    /// Whether all that one can ask is answered alike.
+    /// Whether all questions are answered alike.
     fn are_alike(&self, q: Point, d: Direction) -> bool {
         let (tree, plain) = (&self.tree, &self.plain);
         let corners = plain.vertices();
@@ -96,7 +96,7 @@ impl Sets {
     }
 }
 
-/// A random point of a grid of so many lines, as far apart, the point with its coordinates exchanged, and a direction.
+/// Returns a random point of a grid with this number of lines and this mesh, the point with its coordinates exchanged, and a direction.
 fn drawn(
     rt: &impl Abort,
     numbers: &mut Numbers,
@@ -117,8 +117,8 @@ fn is_to_add(numbers: &mut Numbers, step: u32, steps: u32) -> bool {
     numbers.next() % 8 < adding
 }
 
-/// Makes so many changes at points of a grid of so many lines, as far apart, more of them that add while the set grows; asks at
-/// every so many. Which one was first answered differently, if any, and the most turns of a change.
+/// Makes `steps` changes at points of a grid, more of them additions while the set grows, and compares the answers at regular intervals. Returns the
+/// first change whose answers differed, if any, and the most turns of a change.
 fn first_difference(
     rt: &impl Abort,
     sets: &mut Sets,
@@ -143,7 +143,7 @@ fn first_difference(
     Ok((None, most))
 }
 
-/// Both sets answer so many changes alike.
+/// Both sets answer this many changes alike.
 fn change_on_grid(
     rt: &impl Abort,
     alloc: Global,
@@ -202,7 +202,7 @@ fn changes_parabola(
     alike
 }
 
-// Every point is a corner, and then none is.
+// Every point is a vertex, and then none is.
 #[test]
 fn parabola_comes_and_goes(rt: HostRuntime) -> Result<(), Fail> {
     let mut sets = Sets::new(rt.alloc());
@@ -214,7 +214,7 @@ fn parabola_comes_and_goes(rt: HostRuntime) -> Result<(), Fail> {
     Ok(())
 }
 
-/// So many random points of a grid of so many lines.
+/// Returns random points of a grid with this number of lines.
 fn drawn_points(
     rt: &impl Abort,
     alloc: Global,
@@ -231,7 +231,7 @@ fn drawn_points(
     Ok(points)
 }
 
-/// A plain set of these points, each held as often as it is among them.
+/// Makes a plain set of these points; the multiplicity of each is the number of times it is among them.
 fn plain_of(alloc: Global, points: &[Point]) -> PlainSet {
     let mut plain = PlainSet::new(alloc, POINT_LIMIT);
     for p in points {
@@ -249,7 +249,7 @@ fn extended_twice(alloc: Global, points: &[Point]) -> Result<BucketTree, LoadFau
     Ok(extended)
 }
 
-/// Whether a tree has these entries, and the corners of the plain set.
+/// Whether a tree has these entries, and the vertices of the plain set.
 fn is_alike(
     tree: &BucketTree,
     entries: &[(Point, u32)],
@@ -258,8 +258,8 @@ fn is_alike(
     Ok(tree.entries()?.as_slice() == entries && tree.vertices() == plain.vertices())
 }
 
-/// Loads points at once, in two parts and from their entries. Whether each of these sets holds what a plain set holds to which they
-/// were added one by one.
+/// Loads points at once, in two parts and from their entries. Returns whether each of these sets is the plain set to which they were added one by
+/// one.
 fn loads_alike(rt: &impl Abort, alloc: Global, count: u32, lines: u32) -> Result<bool, Fail> {
     let points = drawn_points(rt, alloc, count, lines)?;
     let plain = plain_of(alloc, &points);

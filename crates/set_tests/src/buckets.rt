@@ -1,4 +1,4 @@
-//! A bucket under random changes: its masks beside what a corner is by its definition, its runs beside a plain set.
+//! A bucket under random changes: its masks compared with the definition of a vertex, its slices with a plain set.
 ghost use Rattle.std.specs.Prelude.{◌<◌, ◌≤◌, ◌+◌, length};
 ghost use Rattle.std.specs.List.{Contains};
 ghost use Rattle.lattice.specs.Bridges.{IsAllBefore};
@@ -23,7 +23,7 @@ fn at(rt: &impl Abort, x: i64, y: i64) -> Point {
     }
 }
 
-/// Whether the point at a place lies outwards of each segment from a point before it to one behind it.
+/// Whether the point at an index is outwards of each segment from a point before it to one after it.
 fn is_corner(side: Side, points: &[Point], place: usize) -> bool
     requires { place < length points.now }
 {
@@ -37,7 +37,7 @@ fn is_corner(side: Side, points: &[Point], place: usize) -> bool
     true
 }
 
-/// Whether a mask has the corners on a side, and no other place.
+/// Whether a mask has the vertices on a side, and no other index.
 fn has_corners(bucket: &Bucket, side: Side) -> bool {
     let points = bucket.points();
     let mut mask = bucket.corners(side);
@@ -50,7 +50,7 @@ fn has_corners(bucket: &Bucket, side: Side) -> bool {
     mask == 0
 }
 
-/// Whether points are in order, each is held as often as a number, and the masks are right.
+/// Whether points are in order, each has a multiplicity, and the masks are right.
 fn is_right(bucket: &Bucket) -> bool {
     let points = bucket.points();
     let mut right = bucket.times().len() == points.len() && points.len() <= ROOM;
@@ -60,8 +60,7 @@ fn is_right(bucket: &Bucket) -> bool {
     right && has_corners(bucket, Side::Lower) && has_corners(bucket, Side::Upper)
 }
 
-/// Puts a point in, or, where it is there, takes it out; a full bucket is parted first, and goes on as one of its
-/// halves.
+/// Adds a point, or, if it is there, removes it; a full bucket is split first, and one of its halves is used from then on.
 fn change(bucket: Bucket, p: Point, keeps_first: bool) -> Bucket {
     let mut first = bucket;
     if first.is_full() {
@@ -78,7 +77,7 @@ fn change(bucket: Bucket, p: Point, keeps_first: bool) -> Bucket {
     first
 }
 
-/// Makes so many changes at points of a rectangle. Whether the bucket is right after each.
+/// Makes `changes` changes at points of a rectangle. Returns whether the bucket is right after each.
 fn changes_stay_right(rt: &impl Abort, changes: u32, width: u16, height: u16) -> bool {
     let mut numbers = Numbers::new();
     let mut bucket = Bucket::new(at(rt, 0, 0), 1);
@@ -152,7 +151,7 @@ fn all_corners_parted_and_merged(rt: HostRuntime) {
     assert!(rt; whole == (64, Some(2), true));
 }
 
-/// Whether no point lies outwards of an edge on a side, and none in line with it beyond its ends.
+/// Whether no point is outwards of an edge on a side, and none in line with it beyond its ends.
 fn is_edge_of(side: Side, points: &[Point], from: Point, to: Point) -> bool {
     for point in points {
         let beyond = before(*point, from) || before(to, *point);
@@ -175,8 +174,7 @@ fn are_found(upper: &Counted, lower: &Counted, found: &((Point, Point), (Point, 
     upper.0 == found.0 && lower.0 == found.1 && upper.1 <= 12 && lower.1 <= 12
 }
 
-/// Whether a search over the runs of two buckets, all of the one before all of the other, finds the bridges of all
-/// their points.
+/// Whether a search over the slices of two buckets, all of the one before all of the other, finds the bridges of all their points.
 fn bridges_are_right(first: &Bucket, second: &Bucket) -> bool
     requires { IsAllBefore (Contains first.now.points) (Contains second.now.points) }
 {
@@ -189,7 +187,7 @@ fn bridges_are_right(first: &Bucket, second: &Bucket) -> bool
         && are_found(&upper, &lower, &found)
 }
 
-/// Parts a bucket of several points, and returns its second half.
+/// Splits a bucket of several points, and returns its second half.
 fn parted(bucket: &mut Bucket) -> Bucket
     requires { 1 < length bucket.old.points }
     ensures order { IsAllBefore (Contains bucket.new.points) (Contains result.points) }
@@ -208,14 +206,14 @@ fn plain_of(alloc: Global, bucket: &Bucket) -> PlainSet {
     plain
 }
 
-/// The doubled area of a run, which is at most 16 forks high.
+/// The doubled area of a slice, which is at most 16 forks high.
 #[tactic(auto, using(crate::proofs::Sizes::low_size))]
 fn area_of(rt: &impl Abort, run: Run<'_>) -> u128 {
     assert!(rt; run.height() <= 16);
     area2(run)
 }
 
-/// Whether the run of all corners answers as the plain set of all points: the farthest points, the hull and its area.
+/// Whether the slice of all vertices answers as the plain set of all points: the farthest points, the hull and its area.
 fn has_same_hull(
     rt: &impl Abort,
     alloc: Global,
@@ -238,14 +236,14 @@ fn has_same_hull(
     Ok(alike && listed.as_slice() == expected.as_slice())
 }
 
-/// Whether both see a point alike.
+/// Whether a point has the same location and tangents in both.
 fn has_same_sight(bucket: &Bucket, plain: &PlainSet, q: Point) -> bool {
     let run = Run::new(bucket);
     place(run, q) == plain.place(q) && tangents(run, q) == plain.tangents(q)
 }
 
-/// Makes changes as above. Whether, after each fourth of them, the bucket's run answers as a plain set of all points,
-/// and where it is parted, its halves have the bridges of all their points.
+/// Makes changes as above. Returns whether, after each fourth of them, the bucket's slice answers as a plain set of all points, and, if it is split,
+/// its halves have the bridges of all their points.
 fn runs_answer_alike(
     rt: &impl Abort,
     alloc: Global,
@@ -266,7 +264,7 @@ fn runs_answer_alike(
     Ok(alike)
 }
 
-/// Whether a bucket's run answers as a plain set of all its points, also about eight random points of a square.
+/// Whether a bucket's slice answers as a plain set of all its points, also about eight random points of a square.
 fn answers_alike(
     rt: &impl Abort,
     alloc: Global,
@@ -288,8 +286,8 @@ fn around(numbers: &mut Numbers, half: u16) -> i64 {
     numbers.coordinate(half.saturating_add(1))
 }
 
-/// Parts a bucket of several points, and merges its halves. Whether their bridges are those of all their points, and the bucket is
-/// right afterwards.
+/// Splits a bucket of several points, and merges its halves. Returns whether their bridges are those of all their points, and the bucket is right
+/// afterwards.
 fn parts_and_merges(bucket: &mut Bucket) -> bool {
     if bucket.points().len() < 2 {
         return true;

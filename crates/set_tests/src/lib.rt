@@ -1,6 +1,6 @@
-//! Tests of the plane, of both sets, of buckets and of the questions, over what these crates show everybody.
+//! Tests of the plane, of both sets, of buckets and of the questions, over the public surface of these crates.
 //!
-//! They stand in a crate of their own, so that the crates that they try are proved once.
+//! They are in a crate of their own, so that the crates under test are proved once.
 #![tactic(auto)]
 
 #[cfg(test)]

@@ -1,6 +1,6 @@
 //! Pseudo-random numbers, the same in each run.
 
-/// Pseudo-random numbers: r becomes 1103515245 r + 12345 modulo 2^31, and gives its bits but for the last 16.
+/// Pseudo-random numbers: r becomes 1103515245 r + 12345 modulo 2^31; the last 16 bits are not used.
 #[derive(Drop)]
 pub(crate) struct Numbers {
     r: u32,

@@ -1,5 +1,5 @@
-//! Limits by their numbers, many changes, and memory that is refused. The worked examples are cases of tests/cli, which the
-//! plain set judges by `check`.
+//! Limits by their numbers, many changes, and memory that is refused. The worked examples are cases of tests/cli, in which `check` judges the plain
+//! set.
 use hull_plain::PlainSet;
 use hull_set::{AddReply, HullSet, NoMemory, Place, PointList, RemoveReply, Reply};
 use lattice::{Direction, Point};
@@ -7,10 +7,10 @@ use std::alloc::Global;
 use std::process::Abort;
 use std::test::Fail;
 
-/// The greatest limit of a set, by its number: no contract says what number the constant is.
+/// The greatest limit of a set, by its number: no contract fixes the number of the constant.
 const LIMIT: u32 = 1048576;
 
-/// How often a point is held at most, by its number.
+/// The greatest multiplicity, by its number.
 const MOST: u32 = 65535;
 
 fn at(rt: &impl Abort, x: i64, y: i64) -> Point {
@@ -47,7 +47,7 @@ fn are_points(points: &[Point], expected: &[(i64, i64)]) -> bool {
     points.len() == expected.len()
 }
 
-/// Whether the vertices of a set are these, where there is memory for them.
+/// Whether the vertices of a set are these, if there is memory for them.
 fn has_vertices(set: &PlainSet, expected: &[(i64, i64)]) -> bool {
     match set.vertices() {
         Ok(vertices) => are_points(&vertices, expected),
@@ -66,7 +66,7 @@ fn empty_set(rt: HostRuntime) {
     assert!(rt; hull_set::POINT_LIMIT == LIMIT);
 }
 
-/// Adds a point until it is held as often as may be. How often each reply so far told.
+/// Adds a point until it has the greatest multiplicity. Returns the multiplicity up to which each reply was right.
 fn add_to_the_most(set: &mut PlainSet, p: Point) -> u32 {
     let mut held = 1;
     for times in 2u32..=MOST {
@@ -109,8 +109,8 @@ const BOWL: [(i64, i64); 9] = [
     (8, 64),
 ];
 
-/// Whether a new point is added, and may be added again and removed. Where memory is refused, the set is as it was and
-/// the point is added at the second attempt.
+/// Whether a new point is added, and may be added again and removed. If memory is refused, the set is as it was and the point is added at the second
+/// attempt.
 fn adds_again(set: &mut PlainSet, p: Point) -> bool {
     let count = set.count();
     let mut reply = set.add(p);
@@ -132,8 +132,8 @@ fn adds_the_bowl(rt: &impl Abort, set: &mut PlainSet) -> bool {
     all
 }
 
-// `rt try --test --fail-alloc N` at N = 1, 2, .. refuses each of its requests for memory: those of the first `add`, of
-// the outline as it grows, and of the ordered map.
+// `rt try --test --fail-alloc N` at N = 1, 2, .. refuses each of its requests for memory: those of the first `add`, of the polygon as it grows, and
+// of the ordered map.
 #[test]
 fn refused_add(rt: HostRuntime) -> Result<(), Fail> {
     let (right, last) = (Direction::new(1, 0)?, at(&rt, 8, 64));
@@ -146,7 +146,7 @@ fn refused_add(rt: HostRuntime) -> Result<(), Fail> {
     Ok(())
 }
 
-// The same, where the last requests are those of `vertices`: the lower chain is the whole bowl.
+// The same, if the last requests are those of `vertices`: the lower chain is the whole bowl.
 #[test]
 fn refused_vertices(rt: HostRuntime) {
     let mut set = PlainSet::new(rt.alloc(), LIMIT);
@@ -177,7 +177,7 @@ fn removes_the_diagonal(rt: &impl Abort, set: &mut PlainSet) -> bool {
     all
 }
 
-/// The points of a grid come row by row, so that many of them are corners when they come; then corners leave.
+/// The points of a grid are added row by row, so that many of them are vertices when they are added; then vertices are removed.
 #[test]
 fn corners_come_and_go(rt: HostRuntime) {
     let (corner, inner) = (at(&rt, 0, 0), at(&rt, 15, 15));
@@ -193,7 +193,7 @@ fn corners_come_and_go(rt: HostRuntime) {
     assert!(rt; area == 2 * 31 * 31 - 2);
 }
 
-/// The list of the square's corners.
+/// The list of the square's vertices.
 fn listed_square(rt: &impl Abort, alloc: Global) -> PointList {
     match set_of(rt, alloc, &SQUARE).vertices() {
         Ok(vertices) => PointList::new(vertices),

@@ -36,7 +36,7 @@ fn range_corners(rt: HostRuntime) -> Result<(), Fail> {
     Ok(())
 }
 
-// The largest sides of near points, and one beside them that is not near.
+// The largest sides of near points, and a next one that is not near.
 #[test]
 fn near_corners(rt: HostRuntime) -> Result<(), Fail> {
     let a = Point::new(-NEAR_LIMIT, -NEAR_LIMIT)?;
@@ -62,8 +62,8 @@ fn order_by_x_and_then_by_y(rt: HostRuntime) -> Result<(), Fail> {
     Ok(())
 }
 
-/// Whether the lines ab and cd cross before m or at m; nothing where a, b, c, d are not in order, or the way along them
-/// does not turn right at b and at c.
+/// Whether the lines ab and cd cross before m or at m; nothing if a, b, c, d are not in order, or the path along them does not turn right at b and at
+/// c.
 fn crossing(a: Point, b: Point, c: Point, d: Point, m: Point) -> Option<bool> {
     if !before(a, b) || !before(b, c) || !before(c, d) {
         return None;

@@ -41,7 +41,7 @@ fn half_of(rt: &impl Abort, alloc: Global, pairs: &[(i64, i64)]) -> Result<Sixte
     Ok(sixteen(&points).ok_or("order")?)
 }
 
-/// Whether the vertices of a half are these, where there is memory for them.
+/// Whether the vertices of a half are these, if there is memory for them.
 fn has_vertices<H: Half>(alloc: Global, half: H, corners: &[Point]) -> bool {
     match vertices(alloc, half) {
         Ok(found) => found.as_slice() == corners,
@@ -81,10 +81,10 @@ fn assert_extremes(
     Ok(())
 }
 
-/// A point and where it lies.
+/// A point and its location.
 type Placed = ((i64, i64), Place);
 
-/// Whether each of these points lies there.
+/// Whether each of these points has that location.
 fn has_places<H: Half>(rt: &impl Abort, half: H, cases: &[Placed]) -> bool {
     let mut all = true;
     for case in cases {
@@ -206,7 +206,7 @@ fn agree_on_directions<H: Half>(half: H, set: &PlainSet) -> bool {
     alike
 }
 
-/// Whether a half and a plain set have the same outline.
+/// Whether a half and a plain set have the same polygon.
 fn agree_on_outline<H: Half>(alloc: Global, half: H, set: &PlainSet) -> bool
     requires { size_of (H.tree half) ≤ 16 }
 {

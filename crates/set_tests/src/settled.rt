@@ -1,4 +1,4 @@
-//! A settled set and the set that it is made of under the same changes, asked as often as it takes to know the corners, and not.
+//! A prepared set and the set that it is made of under the same changes, asked often enough for the vertices to be known, and not.
 use crate::numbers::Numbers;
 use bucket_tree::BucketTree;
 use hull_set::{HullSet, POINT_LIMIT};
@@ -22,7 +22,7 @@ impl Sets {
         }
     }
 
-    /// Makes a change on both, and tells whether they answer alike.
+    /// Makes a change on both, and returns whether they answer alike.
     fn change(&mut self, p: Point, adds: bool) -> bool {
         if adds {
             self.settled.add(p) == self.tree.add(p)
@@ -31,7 +31,7 @@ impl Sets {
         }
     }
 
-    /// Counts a question, and returns `known`, one higher if the corners are known after that.
+    /// Counts a question, and returns `known`, one higher if the vertices are known after that.
     fn settled_again(&mut self, known: u32) -> u32 {
         self.settled.settle();
         if self.settled.corners().is_some() {
@@ -41,7 +41,7 @@ impl Sets {
         }
     }
 
-    /// Whether all that one can ask is answered alike, and the corners, where they are known, are those of the tree.
+    /// Whether all questions are answered alike, and the vertices, if they are known, are those of the tree.
     fn are_alike(&self, q: Point, d: Direction) -> bool {
         let (settled, tree) = (&self.settled, &self.tree);
         let corners = tree.vertices();
@@ -60,7 +60,7 @@ impl Sets {
     }
 }
 
-/// A point of a square of that half width, the point with its coordinates exchanged, and a direction.
+/// Returns a point of a square of that half width, the point with its coordinates exchanged, and a direction.
 fn drawn(numbers: &mut Numbers, half: u16) -> Result<(Point, Point, Direction), Fail> {
     let (right, up) = (numbers.coordinate(half), numbers.coordinate(half));
     let p = Point::new(right, up)?;
@@ -70,7 +70,7 @@ fn drawn(numbers: &mut Numbers, half: u16) -> Result<(Point, Point, Direction), 
     Ok((p, q, d))
 }
 
-/// Makes so many changes in a square of that half width, a question after each third; in how many of these the corners were known, if
+/// Makes `changes` changes in a square of that half width, a question after each third. Returns after how many of these the vertices were known, if
 /// all were answered alike.
 fn known_among(alloc: Global, half: u16, changes: u32) -> Result<Option<u32>, Fail> {
     let mut sets = Sets::new(alloc);
@@ -104,7 +104,7 @@ fn many_points_are_answered_alike(rt: HostRuntime) -> Result<(), Fail> {
     Ok(())
 }
 
-/// Counts questions, at most 1000, until the corners are known. How many that took.
+/// Counts questions, at most 1000, until the vertices are known. Returns how many that took.
 fn asked_until_known(settled: &mut Settled<BucketTree>) -> u32 {
     for asked in 0u32..1000 {
         if settled.corners().is_some() {
@@ -115,7 +115,7 @@ fn asked_until_known(settled: &mut Settled<BucketTree>) -> u32 {
     1000
 }
 
-// 300 corners are known from the question on at which twice its number is as many.
+// 300 vertices are known from the first question on for which twice its number is at least their number.
 #[test]
 fn corners_are_known_after_so_many_questions(rt: HostRuntime) -> Result<(), Fail> {
     let mut sets = Sets::new(rt.alloc());

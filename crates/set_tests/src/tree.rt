@@ -1,4 +1,4 @@
-//! What a tree lends, its limits by their numbers, and memory that is refused. The tree beside the plain set is in
+//! The borrowed nodes of a tree, its limits by their numbers, and memory that is refused. The comparison with the plain set is in
 //! `tree/beside_plain.rt`; the worked examples are cases of tests/cli, which both trees run.
 mod beside_plain;
 mod both;
@@ -78,7 +78,7 @@ fn rising_order(rt: HostRuntime) {
     assert!(rt; count == 1024 && left == (0, true));
 }
 
-/// What a node lends: its point, how often it is held, its upper and its lower bridge, and whether it has halves.
+/// A node as a caller sees it: its point, the point's multiplicity, its upper and its lower bridge, and whether it has halves.
 type Lent = (
     Option<Point>,
     Option<u32>,
@@ -97,7 +97,7 @@ fn lent_by(node: &Node) -> Lent {
     )
 }
 
-/// What the root lends, and the points of its two halves.
+/// Returns the root as a caller sees it, and the points of its two halves.
 fn root_of(tree: &HullTree) -> Option<(Lent, Option<Point>, Option<Point>)> {
     let root = tree.root()?;
     match root.halves() {
@@ -133,7 +133,7 @@ fn leaf_and_fork(rt: HostRuntime) {
     assert!(rt; fork == Some(((None, None, upper, lower, true), Some(low), Some(high))));
 }
 
-/// Adds a point until it is held as often as 65535 times. How often each reply so far told.
+/// Adds a point until its multiplicity is 65535. Returns the multiplicity up to which each reply was right.
 fn add_to_the_most(tree: &mut HullTree, p: Point) -> u32 {
     let mut held = 1;
     for times in 2u32..65536 {
@@ -158,8 +158,7 @@ fn as_often_as_may_be(rt: HostRuntime) {
     assert!(rt; told == [65535, 1, 2]);
 }
 
-/// Whether a second point is added. Where memory is refused, the tree has the first one alone, and the second attempt
-/// has it.
+/// Whether a second point is added. If memory is refused, the tree has only the first one, and the second attempt adds it.
 fn adds_again(tree: &mut HullTree, first: Point, second: Point) -> bool {
     let mut reply = tree.add(second);
     let mut kept = true;
@@ -198,7 +197,7 @@ fn add_always_refuses(rt: HostRuntime) {
     assert!(rt; count == 2);
 }
 
-/// Adds a new point; where memory is refused, at the second attempt. Whether it is added.
+/// Adds a new point; if memory is refused, at the second attempt. Returns whether it was added.
 fn add_again(tree: &mut HullTree, p: Point) -> bool {
     let mut reply = tree.add(p);
     if reply == AddReply::NoMemory {
@@ -207,7 +206,7 @@ fn add_again(tree: &mut HullTree, p: Point) -> bool {
     reply == AddReply::Added
 }
 
-/// Whether these are the vertices of a tree of so many points. Where memory is refused, the second attempt has it.
+/// Whether these are the vertices of a tree of this many points. If memory is refused, the second attempt lists them.
 fn has_vertices(tree: &HullTree, corners: &[Point], count: u32) -> bool {
     match tree.vertices() {
         Ok(vertices) => vertices.as_slice() == corners,

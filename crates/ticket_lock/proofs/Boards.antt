@@ -1,4 +1,4 @@
--- Each step of the running lock is an event, or lies outside.
+-- Each step of the running lock is an event, or happens outside the time in which it is open.
 use Rattle.std.proofs.lemmas.Grind.{common_steps}
 use Rattle.std.proofs.Common.{◌≡◌, ◌≢◌, ℕ, zero, suc, ◌+◌, ◌<◌, ◌⊎◌, Bool, true, false, List, [], ◌∷◌, ◌++◌, length}
 use Rattle.std.proofs.Common.{get_or, set, sym, refl, ap, ◌∙◌, subst, inl, inr, ⊎_elim, arith}
@@ -36,7 +36,7 @@ set_own [] i inside = absurd (omega arith)
 set_own (w ∷ ws) zero inside = refl
 set_own (w ∷ ws) (suc i) inside = ap (λ (z : List ℕ). w ∷ z) (set_own ws i (omega arith))
 
--- One slot, and who has it
+-- One slot, and the seat that has it
 module _ {S : Type 0} (y : S) where
   -- the one slot is at home with y, or the seat has it
   abbrev OneSlot : List (Option S) → List (ℕ × S) → Type 0
@@ -47,7 +47,7 @@ module _ {S : Type 0} (y : S) where
   taken_one zero z e = (refl, some-injective y z (some-injective (some y) (some z) e))
   taken_one (suc k) z e = absurd (some-ne-none (some z) (sym e))
 
-  -- nothing is taken where the slot is out
+  -- nothing is taken if the slot is out
   taken_none : (k : ℕ) (z : S) → get_elem? (none ∷ []) k ≡ some (some z) → ⊥
   taken_none zero z e = some-ne-none z (sym (some-injective none (some z) e))
   taken_none (suc k) z e = some-ne-none (some z) (sym e)
@@ -62,7 +62,7 @@ module _ {S : Type 0} (y : S) where
       moves (homes_after hs c a) (carried_after c a) b (moves hs c a one valid.0) valid.1
 
 module _ {S : Type 0} where
-  -- where the slot is out and the seat has it not, no act moves it
+  -- if the slot is out and not with the seat, no act moves it
   stays_out : (hs : List (Option S)) (c : List (ℕ × S)) (a : Act S) → hs ≡ none ∷ [] → c ≡ [] → Valid hs c a
       → (homes_after hs c a ≡ none ∷ []) × (carried_after c a ≡ [])
   stays_out hs c keeps gone bare valid = (gone, bare)
@@ -77,7 +77,7 @@ module _ {S : Type 0} where
   has_one x e = let n = ap length e in omega arith
 
 module _ {B : Type 0} where
-  -- where the seat had no slot and has none, the slot is as it was
+  -- if the seat had no slot and has none, the slot is as it was
   bare_before : (home : Bool) (b : B) (hs : List (Option (std.Option B))) (c d : List (ℕ × std.Option B))
       (a : Act (std.Option B)) → hs ≡ shelf home b → c ≡ [] → Valid hs c a → d ≡ carried_after c a → d ≡ []
       → homes_after hs c a ≡ hs
@@ -89,7 +89,7 @@ module _ {B : Type 0} where
   bare_before false b hs c d a shelved bare valid carries none_left =
       (stays_out hs c a shelved bare valid).0 ∙ sym shelved
 
-  -- where the seat has taken the book at home, the slot is empty, and that is the book
+  -- if the seat has taken the book from the slot, the slot is empty, and the seat has that book
   took_it : (b c : B) (hs : List (Option (std.Option B))) (had has : List (ℕ × std.Option B)) (a : Act (std.Option B))
       → hs ≡ shelf true b → had ≡ [] → Valid hs had a → has ≡ carried_after had a → has ≡ (0, std.Some c) ∷ []
       → (homes_after hs had a ≡ none ∷ []) × (b ≡ c)
@@ -100,7 +100,7 @@ module _ {B : Type 0} where
       (t.0, one_book b c (sym t.1 ∙ (sym carries ∙ one))))
       (moves (std.Some b) hs had a (inl (shelved, bare)) valid)
 
-  -- where the seat gave the book back, the slot has it
+  -- if the seat put the book back, the slot has it
   gave_it : (b : B) (hs : List (Option (std.Option B))) (had has : List (ℕ × std.Option B)) (a : Act (std.Option B))
       → hs ≡ none ∷ [] → had ≡ (0, std.Some b) ∷ [] → Valid hs had a → has ≡ carried_after had a → has ≡ []
       → homes_after hs had a ≡ some (std.Some b) ∷ []
@@ -110,7 +110,7 @@ module _ {B : Type 0} where
       absurd (has_one (0, std.Some b) (sym t.1 ∙ (sym carries ∙ bare))))
       (moves (std.Some b) hs had a (inr (gone, one)) valid)
 
--- Events are told apart by what they change
+-- Events are distinguished by what they change
 
 -- the event of the seat j that goes from the view v to the view w, after which the book is b
 abbrev event_of : {B H L : Type 0} → ℕ → SeatState H L → SeatState H L → B → Event B
@@ -406,12 +406,12 @@ module _ {B H L : Type 0} (K : Ghosts B H L) (F : Form) where
       let kept = ones ms in
       let one = weighs_one x.old x.bare.0 in omega arith
 
-  -- a queue in which nobody stands has no length
+  -- a queue without a seat is empty
   nobody_queued : (q : List ℕ) → ((j : ℕ) → get_elem? q 0 ≡ some j → ⊥) → length q ≡ 0
   nobody_queued [] h = refl
   nobody_queued (j ∷ q) h = absurd (h j refl)
 
-  -- where no seat has a number, the book is at home and word 0 is its turn
+  -- if no seat has a number, the book is in its slot and word 0 is its turn
   pub word_zero : FormLaws F → (n : ℕ) (opening : B) → WordZeroIsTurn K F n opening
   word_zero laws n opening s r none_out =
       let g = r.good in

@@ -128,7 +128,7 @@ module _ {H L : Type 0} where
   others [] = []
   others (x ∷ xs) = xs
 
-  -- what the keeper remembers of each memo stands of the seat that it came from
+  -- what the keeper remembers of each memo is true of the seat that it came from
   pub all_stand : {A B : Type 0} (K : Ghosts B H L) (opened b : B) (f : A → SeatState H L) (items : List A)
       (ms : List (Memo H L)) → map f items ≡ idles ms
       → ((a : ℕ) (m : Memo H L) → get_elem? ms a ≡ some m → Remembers K opened b m)

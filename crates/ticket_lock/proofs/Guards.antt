@@ -1,4 +1,4 @@
--- Two guards with the same fields are one: the facts beside them have one proof each.
+-- Two guards with the same fields are equal: each fact about the fields has one proof.
 use Rattle.std.proofs.Common.{◌≡◌, [], ◌∷◌}
 use Rattle.std.specs.Prelude as std
 use Rattle.std.proofs.Props.{props}

@@ -21,7 +21,7 @@ use Rattle.ticket_lock.proofs.Schedules.{each_idle, good_opened}
 use Rattle.ticket_lock.proofs.Machine.{FormLaws, seats_stay, good_take, good_miss, good_enter, good_hand}
 
 module _ {A : Type 0} where
-  -- what stands in the longer list before the end of the shorter stands in the shorter
+  -- an element of the longer list before the end of the shorter is in the shorter
   at_shorter : (l m : List A) (i : ℕ) (a : A) → i < length l → get_elem? (l ++ m) i ≡ some a → get_elem? l i ≡ some a
   at_shorter [] m i a h e = absurd (omega arith)
   at_shorter (x ∷ xs) m zero a h e = e
@@ -32,7 +32,7 @@ module _ {A : Type 0} where
   same_last xs x y e = some-injective x y (sym (at_last xs x (length xs) refl)
       ∙ (ap (λ (z : List A). get_elem? z (length xs)) e ∙ at_last xs y (length xs) refl))
 
-  -- nothing stands at the end of a list
+  -- nothing is at the end of a list
   at_end : (xs : List A) → get_elem? xs (length xs) ≡ none
   at_end [] = refl
   at_end (x ∷ xs) = at_end xs
@@ -75,7 +75,7 @@ module _ {B H L : Type 0} (K : Ghosts B H L) where
   after_all b [] = refl
   after_all b (e ∷ es) = after_all (book_after e b) es
 
-  -- the journal after some of the events is the same where more follow
+  -- the journal after some of the events is the same if more follow
   after_some : (b : B) (es more : List (Event B)) (r : ℕ) → r ≤ length es
       → journal_after K b (es ++ more) r ≡ journal_after K b es r
   after_some b es more zero h = refl
@@ -112,7 +112,7 @@ module _ {B H L : Type 0} (K : Ghosts B H L) where
         length-append es (takes j ∷ []) in absurd (omega arith),
   )
 
-  -- a call is one also where more events follow
+  -- a call is also one if more events follow
   call_more : (b : B) (es more : List (Event B)) (k i r p : ℕ) (l : L) → Call K b es k i r p l
       → Call K b (es ++ more) k i r p l
   call_more b es more k i r p l c =
@@ -141,7 +141,7 @@ module _ {B H L : Type 0} (K : Ghosts B H L) where
         place = ap length (sym (after_some b es more r (omega arith))) ∙ c.place;
       }
 
-  -- a full journal that was found is found also where more events follow
+  -- a full journal that was found is also found if more events follow
   full_more : (b : B) (es more : List (Event B)) (k i r : ℕ) → FoundFull K b es k i r
       → FoundFull K b (es ++ more) k i r
   full_more b es more k i r f =
@@ -251,7 +251,7 @@ module _ {B H L : Type 0} (K : Ghosts B H L) (F : Form) (laws : FormLaws F) (n :
         room_grew = λ k i r j a s q m f c. p.room_grew k i r j a s q m (fuller k i r f) (less j a s q m c);
       }
 
-  -- a seat keeps its number where another view of that seat stands in its place
+  -- a seat keeps its number if another view of that seat takes its index
   named_stays : (w : World B H L) (j : ℕ) (new : SeatState H L) → seat_or j new ≡ j → ((k : ℕ) (v : SeatState H L)
       → get_elem? w.seats k ≡ some v → seat_or k v ≡ k)
       → (k : ℕ) (v : SeatState H L) → get_elem? (set w.seats j new) k ≡ some v → seat_or k v ≡ k
@@ -305,8 +305,8 @@ module _ {B H L : Type 0} (K : Ghosts B H L) (F : Form) (laws : FormLaws F) (n :
       (λ _. begun_more K es (enters j) j (λ c. other j c) (p.begun j (Waiting m t looks) at refl))
       (λ k c _. other k c) p.begun)
 
-  -- the calls, after the seat j has handed the book c on: `now` says that its journal is that of the book before with
-  -- this seat's line, or that book's where it was full
+  -- the calls, after the seat j has handed the book c on: `now` says that its journal is that of the book before with this seat's line, or that
+  -- book's if it was full
   record Handed (es : List (Event B)) (w : World B H L) (j : ℕ) (c : B) : Type 0 where
     past : Past es w
     begun : Begun K es j
@@ -329,7 +329,7 @@ module _ {B H L : Type 0} (K : Ghosts B H L) (F : Form) (laws : FormLaws F) (n :
     after : journal_after K b Longer (suc (length es)) ≡ K.lines c
     after = after_next K b es (hands_on j c)
 
-    -- what stands in the journal before stands in it afterwards
+    -- what is in the journal before is in it afterwards
     stays : (p : ℕ) (l : L) → get_elem? (K.lines w.current) p ≡ some l → get_elem? (K.lines c) p ≡ some l
     stays p l at = ⊎_elim
         (λ (t : (x : L) × (K.lines c ≡ K.lines w.current ++ x ∷ []) × (K.line_seat x ≡ j)). ap (λ (z : List L).
@@ -362,7 +362,7 @@ module _ {B H L : Type 0} (K : Ghosts B H L) (F : Form) (laws : FormLaws F) (n :
         (λ (t : (K.lines c ≡ K.lines w.current) × (K.capacity c ≤ length (K.lines w.current))).
         absurd (no_longer (K.lines w.current) l (sym t.0 ∙ is))) h.now
 
-    -- the call that has ended, where it added the line l
+    -- the call that has ended, if it added the line l
     ended : (l : L) → K.lines c ≡ K.lines w.current ++ l ∷ []
         → Call K b Longer j h.begun.0 (length es) (length (K.lines w.current)) l
     ended l is = let b0 = h.begun in record {
@@ -487,7 +487,7 @@ module _ {B H L : Type 0} (K : Ghosts B H L) (F : Form) (laws : FormLaws F) (n :
         (λ old. inl (full_less K b es (hands_on j c ∷ []) k i r (at_below es r (hands_on k f.full.0) old) f))
         (λ (t : (r ≡ length es) × (j ≡ k)). inr t.0) (which k r f.full.0 f.full.1)
 
-    -- where it was found by this hand on, this added no line
+    -- if it was found by this hand on, this added no line
     found_now : (k i r : ℕ) → FoundFull K b Longer k i r → r ≡ length es → K.lines c ≡ K.lines w.current
     found_now k i r f is = sym after ∙ (subst (λ (z : ℕ). journal_after K b Longer (suc z) ≡ journal_after K b Longer z)
         is f.same ∙ before)
@@ -518,7 +518,7 @@ module _ {B H L : Type 0} (K : Ghosts B H L) (F : Form) (laws : FormLaws F) (n :
         (which_full k i r f))
         (which k' r' y.ends.0 y.ends.1)
 
-    -- a full journal that was found had no more room than there are lines now
+    -- a full journal that was found had no more capacity than there are lines now
     reached_now : (k i r : ℕ) (f : FoundFull K b Longer k i r) → K.capacity f.full.0 ≤ length (K.lines c)
     unfolding full_less
     reached_now k i r f = ⊎_elim
@@ -531,7 +531,7 @@ module _ {B H L : Type 0} (K : Ghosts B H L) (F : Form) (laws : FormLaws F) (n :
         let was = subst (λ (z : List L). K.capacity f.full.0 ≤ length z) before (subst Q t.0 f.full.2) in
         let more = grows in omega arith) (which k r f.full.0 f.full.1)
 
-    -- a call that has its line later handed a book on that has more room
+    -- a call that has its line later handed on a book with a greater capacity
     grew_now : (k i r k' i' r' p' : ℕ) (l' : L) (f : FoundFull K b Longer k i r) (y : Call K b Longer k' i' r' p' l')
         → r < r' → K.capacity f.full.0 < K.capacity y.ends.0
     unfolding call_less full_less

@@ -64,7 +64,7 @@ abbrev held_or : {B : Type 0} → B → std.Option B → B
 held_or d (std.Some b) = b
 held_or d std.None = d
 
--- two values that are the same where wrapped are the same
+-- two values that are equal when wrapped are equal
 pub unwrapped : {B : Type 0} (x y : B) → ◌≡◌ {A = std.Option B} (std.Some x) (std.Some y) → x ≡ y
 unwrapped x y e = ap (held_or x) e
 
@@ -79,7 +79,7 @@ module _ {H L : Type 0} where
       → keeper_of h xs k (c - k) ≡ Keeper (memo k h xs ∷ memos_from h xs (k + 1) (c - (k + 1)))
   keeper_step h xs k c less = grind (arith, common_steps, suc, keeper_of, memo, memos_from)
 
--- the working form of a lock's end, with the seats that came back and the words of the table
+-- the working form of a lock's end, with the seats that were returned and the words of the table
 abbrev pub Ended : {B H L : Type 0} → Ghosts B H L → Form → ℕ → B → List (SeatState H L) → B → List ℕ → Type 0
 Ended {B} {H} {L} K F n opening given b ws =
     (w : World B H L) × Good K F n opening w [] × (w.home ≡ true) × (w.current ≡ b) × (w.next ≡ K.turn b)
@@ -115,7 +115,7 @@ module _ {H L : Type 0} where
   total_none h (v ∷ vs) e = let p = weigh_none h (memos v) (omega arith) in let q =
       total_none h vs (omega arith) in omega arith
 
-  -- where one view has all memos, it weighs what all do
+  -- if one view has all memos, it weighs what all do
   has_all : (h : ℕ → ℕ) (vs : List (SeatState H L)) (id : ℕ) (v : SeatState H L) → get_elem? vs id ≡ some v
       → total (λ v. weigh (λ _. 1) (memos v)) vs ≡ weigh (λ _. 1) (memos v)
       → total (λ v. weigh h (memos v)) vs ≡ weigh h (memos v)
@@ -135,7 +135,7 @@ module _ {B H L : Type 0} (K : Ghosts B H L) (F : Form) (n : ℕ) (opened : B) w
   abbrev Rule : State (std.Option B) (SeatState H L) → Type 0
   Rule = Standing K F n opened
 
-  -- the rule stands where the seats changed, and are good
+  -- the rule is satisfied if the seats changed, and are good
   abbrev pub with_views : (s : State (std.Option B) (SeatState H L)) (vs : List (SeatState H L)) (r : Rule s)
       → GoodSeats K n opened r.current r.home r.serving vs r.queue
       → Rule (record { words = s.words; homes = s.homes; views = vs })
@@ -175,11 +175,11 @@ module _ {B H L : Type 0} (K : Ghosts B H L) (F : Form) (n : ℕ) (opened : B) w
             (a.0, a.1, a.2, at_longer (set s.views id new) right a.0 (Holding a.1 a.2) a.3);
       }
 
-  -- the table with one seat of nobody more
+  -- the table with one keeper of no seats more
   abbrev pub WithNobody : State (std.Option B) (SeatState H L) → State (std.Option B) (SeatState H L)
   WithNobody s = record { words = s.words; homes = s.homes; views = s.views ++ nobody ∷ [] }
 
-  -- it stands under the rule
+  -- it satisfies the rule
   abbrev pub nobody_stands : (s : State (std.Option B) (SeatState H L)) → Rule s → Rule (WithNobody s)
   nobody_stands s r =
       let g = r.good in
@@ -194,7 +194,7 @@ module _ {B H L : Type 0} (K : Ghosts B H L) (F : Form) (n : ℕ) (opened : B) w
         away = λ out. let a = g.seats.away out in (a.0, a.1, a.2, at_longer s.views new a.0 (Holding a.1 a.2) a.3);
       }
 
-  -- a seat of nobody arrives
+  -- a keeper of no seats arrives
   pub arrives_ok : (slots i : ℕ)
       → Enters Rule slots i (λ found v. ◌≡◌ {A = Me (std.Option B) (SeatState H L)} (v, []) (nobody, []))
   arrives_ok slots i s r _ _ = (nobody, nobody_stands s r, refl)
@@ -357,7 +357,7 @@ module _ {B H L : Type 0} (K : Ghosts B H L) (F : Form) (n : ℕ) (opened : B) w
       × ((a : ℕ) (m : Memo H L) → get_elem? (memos_of v) a ≡ some m → Remembers K opened z m)) same
       (c.2, c.3, c.4, c.5)
 
-  -- the table as `open` lays it meets the rule
+  -- the table as `open` makes it satisfies the rule
   pub opens_from : (turn seats : ℕ) (ws : List ℕ) (value : B) (items : List (std.Option B)) → F.Shows turn turn ws
       → n ≤ 64 → K.lawful opened → turn < 2 ^ 64 → turn ≡ K.turn opened → seats ≡ n → value ≡ opened
       → items ≡ std.Some opened ∷ []

@@ -88,8 +88,7 @@ module _ {B H L : Type 0} (K : Ghosts B H L) (F : Form) (laws : FormLaws F) (n :
       → Rule record { words = set s.words i (get_or s.words i 0); homes = homes; views = views }
   unmoved s next serving home current q homes views i good shelved = grind (arith, common_steps)
 
-  -- a load of its serving word by a seat that waits is an event enter where it finds its number, and an event miss
-  -- where it does not
+  -- a load of its serving word by a seat that waits is an event enter if it finds its number, and an event miss if it does not
   pub looks_ok : (slots id : ℕ) (v : SeatState H L) (cs : List (ℕ × std.Option B)) → stage_of v ≡ 2
       → Allows Rule slots id (v, cs) (F.serving_word (number_of v)) (λ x. x)
       (looked K (step slots (F.serving_word (number_of v)) 0 0 none) (v, cs))
@@ -224,7 +223,7 @@ module _ {B H L : Type 0} (K : Ghosts B H L) (F : Form) (laws : FormLaws F) wher
       ((0, std.Some b) ∷ rest old.1) b word is.0 carried head (to ∙ ap (λ (z : ℕ). wrap (z + 1)) (sym is.2))
       (subst Q (λ i. (sym is.1 i, sym is.2 i)) hands))
 
-  -- what the store tells of the seat, after the book was laid back
+  -- what the store establishes for the seat, after the book was put back
   pub gave_from : (old new after : Me (std.Option B) (SeatState H L)) (b : B) → Back old new b
       → old.1 ≡ (0, std.None) ∷ []
       → ((c : B) → new.1 ≡ (0, std.Some c) ∷ [] → after ≡ (after_hand (K.lines c) new.0, []))
@@ -235,7 +234,7 @@ module _ {B H L : Type 0} (K : Ghosts B H L) (F : Form) (laws : FormLaws F) wher
       ∙ ap (λ (z : List (ℕ × std.Option B)). (0, std.Some b) ∷ rest z) is in
       told b carried ∙ ap (λ (z : Me (std.Option B) (SeatState H L)). (after_hand (K.lines b) z.0, [])) back
 
-  -- the seat that comes back is idle and has taken no slot
+  -- the seat that is returned is idle and has taken no slot
   pub handed_is : (old after : Me (std.Option B) (SeatState H L)) (xs : List L) (k : ℕ) → stage_of old.0 ≡ 3
       → seat_of old.0 ≡ k → after ≡ (after_hand xs old.0, [])
       → (stage_of after.0 ≡ 1) × (seat_of after.0 ≡ k) × (after.1 ≡ [])

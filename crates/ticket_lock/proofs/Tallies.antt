@@ -22,7 +22,7 @@ module _ {A C : Type 0} (f : A → ℕ) (g : C → ℕ) where
   matched xs new ys more x y is there before same = grind (arith, common_steps, before)
 
 module _ {A C B H L : Type 0} (K : Ghosts B H L) (b : B) (k : A → ℕ) (seen : A → List L) (number count : C → ℕ) where
-  -- what stands of each seat stands of each tally
+  -- what is true of each seat is true of each tally
   pub tallied : (seats : List A) (tallies : List C) → map k seats ≡ map number tallies
       → map (λ s. length (own K (k s) (seen s))) seats ≡ map count tallies → All (λ s. Stands K (k s) (seen s) b) seats
       → All (λ t. length (own K (number t) (K.lines b)) ≡ count t) tallies

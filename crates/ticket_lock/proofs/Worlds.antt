@@ -1,4 +1,4 @@
--- A world that stands under the invariant is good.
+-- A world that satisfies the invariant is good.
 use Rattle.std.proofs.Common.{◌≡◌, ℕ, zero, suc, ◌+◌, ◌<◌, List, [], ◌∷◌, length, sym, refl, ap, ◌∙◌}
 use Rattle.std.proofs.Common.{get_or, subst, arith, true≢false}
 use mathlib.Core.Logic.{dite}
@@ -16,7 +16,7 @@ use Rattle.ticket_lock.proofs.Seats.{Ended}
 use Rattle.ticket_lock.proofs.Sums.{wrap_small, one_place, at_below}
 use Rattle.ticket_lock.proofs.Machine.{FormLaws, few, strangers}
 
--- below the length of the queue stands a seat
+-- each index below the length of the queue has a seat
 pub at_of : (q : List ℕ) (i : ℕ) → i < length q → (j : ℕ) × (get_elem? q i ≡ some j)
 at_of [] i h = absurd (omega arith)
 at_of (x ∷ xs) zero h = (x, refl)
@@ -24,7 +24,7 @@ at_of (x ∷ xs) (suc i) h = at_of xs i (omega arith)
 
 module _ {B H L : Type 0} (K : Ghosts B H L) (F : Form) (laws : FormLaws F) (n : ℕ) (opening : B) (w : World B H L)
     (q : List ℕ) (g : Good K F n opening w q) where
-  -- a seat with a number stands in the queue at the place of that number
+  -- a seat with a number is in the queue at the index of that number
   place_of : (k t : ℕ) (v : SeatState H L) → Knows K opening w.current w.home w.serving q k v → HasNumber v t
       → (i : ℕ) × (get_elem? q i ≡ some k) × (t ≡ wrap (w.serving + i))
   place_of k t (Keeper ms) know has = absurd has
@@ -51,7 +51,7 @@ module _ {B H L : Type 0} (K : Ghosts B H L) (F : Form) (laws : FormLaws F) (n :
   remembered j a m (Waiting x t looks) know e = only_one x m a know.0 e
   remembered j a m (Holding x t) know e = only_one x m a know.0 e
 
-  -- the working form says that the world is good
+  -- the working form implies that the world is good
   pub good_world : GoodWorld K F opening w
   good_world = let most = few K F laws n opening w q g in record {
     words = g.words.shows;
@@ -104,7 +104,7 @@ module _ {B H L : Type 0} (K : Ghosts B H L) (F : Form) (laws : FormLaws F) wher
         next = found ∙ e.4;
       }
 
-  -- whatever stands in the table under the rule shows a good world
+  -- every table under the rule shows a good world
   pub resting : RestingTablesAreGood K F
   resting n opening s r =
       (good_world K F laws n opening (world_of s r.next r.serving r.home r.current) r.queue r.good, r.shelved)

@@ -1,6 +1,6 @@
--- What the steps of the running lock do to its table: a take, a look and a hand on are each one event of the world that
--- the table shows, every other step of a seat lies before all seats are handed out or after one has come back, and a load
--- without a seat, which is made at any time, leaves the table as it is.
+-- The effect of the running lock's steps on its table: a take, a look and a hand on are each one event of the world that the table shows; every other
+-- step of a seat happens before all seats are handed out or after one was returned; and a load without a seat, which can happen at any time, leaves
+-- the table as it is.
 use Rattle.std.specs.Prelude.{◌≡◌, ◌≢◌, ℕ, ◌+◌, ◌<◌, true, List, [], ◌∷◌, ◌++◌, length, slice_index, slice_set}
 use Rattle.std.specs.Prelude as std
 use mathlib.Core.Option.{some}
@@ -23,8 +23,8 @@ Board B H L = State (std.Option B) (SeatState H L)
 abbrev pub Sight : Type 0 → Type 0 → Type 0 → Type 0
 Sight B H L = Me (std.Option B) (SeatState H L)
 
--- The table's seat `id` made one step on the word i, from the table s to the table u: the word became f of what was
--- found in it, the seat went from `me` to `after` as `told` says of what was found, and took or gave back what it may
+-- The table's seat `id` made one step on the word i, from the table s to the table u: the word became f of the value that was found in it, the seat
+-- went from `me` to `after`, as the relation `told` says of that value, and it took or returned what it may
 pub record Steps {B H L : Type 0} (id i : ℕ) (f : ℕ → ℕ) (told : ℕ → Sight B H L → Type 0) (me after : Sight B H L)
     (s u : Board B H L) : Type 0 where
   pub there : get_elem? s.views id ≡ some me.0
@@ -46,12 +46,11 @@ module _ {B H L : Type 0} (K : Ghosts B H L) (F : Form) where
     shows s r = world_of s r.next r.serving r.home r.current
 
   module _ (n : ℕ) (opening : B) where
-    -- the table u stands under the rule, and shows a world to which the event e, and no other, leads from the world w
+    -- the table u satisfies the rule, and shows a world to which the event e, and no other, leads from the world w
     abbrev pub LeadsBy : Event B → World B H L → Board B H L → Type 0
     LeadsBy e w u = (r : Standing K F n opening u) × IsJust e w (shows u r)
 
-    -- the table u stands under the rule, and shows the words, the numbers and the book of the world w: the views alone
-    -- may differ
+    -- the table u satisfies the rule, and shows the words, the numbers and the book of the world w: only the views may differ
     abbrev pub Regroups : World B H L → Board B H L → Type 0
     Regroups w u = (r : Standing K F n opening u) × ((shows u r).words ≡ w.words) × ((shows u r).next ≡ w.next)
         × ((shows u r).serving ≡ w.serving) × ((shows u r).home ≡ w.home) × ((shows u r).current ≡ w.current)
@@ -62,7 +61,7 @@ module _ {B H L : Type 0} (K : Ghosts B H L) (F : Form) where
       (me after : Sight B H L) (st : Step (std.Option B)) → stage_of me.0 ≡ 1 → me.1 ≡ []
       → Steps id 0 (λ x. wrap (x + 1)) (took st me) me after s u → LeadsBy n opening (takes id) (shows s r) u
 
-  -- A look is one event, which is enter where the load found the number of the seat that waits, and else miss
+  -- A look is one event, which is enter if the load found the number of the seat that waits, otherwise miss
   abbrev pub LooksAreEvents : Type 0
   LooksAreEvents = (n : ℕ) (opening : B) (s u : Board B H L) (r : Standing K F n opening s) (id : ℕ)
       (me after : Sight B H L) (st : Step (std.Option B)) → stage_of me.0 ≡ 2 → me.1 ≡ []
@@ -81,7 +80,7 @@ module _ {B H L : Type 0} (K : Ghosts B H L) (F : Form) where
       → Steps id (F.serving_word (wrap (number_of me.0 + 1))) (λ _. wrap (number_of me.0 + 1)) (gave K st me) me after
       s u → LeadsBy n opening (hands_on id b) (shows s r) u
 
-  -- all seats are handed out and none has come back: no keeper has one
+  -- all seats are handed out and none was returned: no keeper has one
   abbrev pub IsOpen : World B H L → Type 0
   IsOpen w = (j : ℕ) (ms : List (Memo H L)) → get_elem? w.seats j ≡ some (Keeper ms) → ms ≡ []
 
@@ -117,13 +116,13 @@ module _ {B H L : Type 0} (K : Ghosts B H L) (F : Form) where
   EventsStayInside = (e : Event B) (w u : World B H L) → Happens K F e w u
       → (IsOpen w → IsOpen u) × (IsOpen u → IsOpen w)
 
-  -- Where one keeper has all seats, as when the table is laid and when it is taken apart, no event happens
+  -- If one keeper has all seats, as when the table is made and when it is taken down, no event happens
   abbrev pub NothingHappensOutside : Type 0
   NothingHappensOutside = (n : ℕ) (opening : B) (s : Board B H L) (r : Standing K F n opening s) (id : ℕ)
       (ms : List (Memo H L)) (e : Event B) (u : World B H L) → get_elem? s.views id ≡ some (Keeper ms)
       → length ms ≡ n → Happens K F e (shows s r) u → ⊥
 
-  -- Where no seat of a table under the rule has a number, the book is at home, and word 0 is its turn
+  -- If no seat of a table under the rule has a number, the book is in its slot, and word 0 is its turn
   abbrev pub WordZeroIsTurn : ℕ → B → Type 0
   WordZeroIsTurn n opening = (s : Board B H L) (r : Standing K F n opening s)
       → ((j t : ℕ) → Owns (shows s r) j t → ⊥)

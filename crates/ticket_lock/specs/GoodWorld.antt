@@ -22,7 +22,7 @@ module _ {B H L : Type 0} where
   abbrev pub HasSeen : World B H L → ℕ → Memo H L → Type 0
   HasSeen w j m = (v : SeatState H L) × (a : ℕ) × (get_elem? w.seats j ≡ some v) × (get_elem? (memos v) a ≡ some m)
 
-  -- the good world, of a lock that was opened round the book `opening`
+  -- the good world, of a lock that was opened around the book `opening`
   pub record GoodWorld (K : Ghosts B H L) (F : Form) (opening : B) (w : World B H L) : Type 0 where
     pub words : F.Shows w.next w.serving w.words
     -- the numbers out are those from serving to next - 1, at most 64, each of exactly one seat
@@ -34,7 +34,7 @@ module _ {B H L : Type 0} where
     pub each_owner : (j t : ℕ) → Owns w j t → (i : ℕ) × (i < out) × (t ≡ wrap (w.serving + i))
     -- no two seats have one number as seats
     pub apart : (j k : ℕ) (m x : Memo H L) → HasSeen w j m → HasSeen w k x → m.seat ≡ x.seat → j ≡ k
-    -- only the owner of serving holds, so at most one seat
+    -- only the owner of serving holds the book, so at most one seat does
     pub holder : (j t : ℕ) → Holds w j t → t ≡ w.serving
     pub one_holder : (j k t u : ℕ) → Holds w j t → Holds w k u → j ≡ k
     -- the book is at home exactly when no seat holds
@@ -43,12 +43,12 @@ module _ {B H L : Type 0} where
     pub lawful : K.lawful w.current
     pub head : K.head w.current ≡ K.head opening
     pub turn : K.turn w.current ≡ w.serving
-    -- what a seat has seen is a beginning of the current journal, with just the lines in its name
+    -- what a seat has seen is a prefix of the current journal, with exactly the lines in its name
     pub begins : (j : ℕ) (m : Memo H L) → HasSeen w j m → IsPrefix m.seen (K.lines w.current)
     pub own_lines : (j : ℕ) (m : Memo H L) → HasSeen w j m → own K m.seat (K.lines w.current) ≡ own K m.seat m.seen
 
-  -- how a lock ends: in a good world whose seats are just those given back, none of which has a number, with the
-  -- book b at home, and whose word 0 is t, which is the turn of b: the number that the next take would have had
+  -- how a lock ends: in a good world whose seats are exactly those that were returned, none of which has a number, with the book b in its slot. Word
+  -- 0 is t, the turn of b: the number that the next take would have had
   pub record Shut (K : Ghosts B H L) (F : Form) (opening : B) (given : List (SeatState H L)) (b : B) (t : ℕ)
       : Type 0 where
     pub world : World B H L

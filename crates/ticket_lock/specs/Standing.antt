@@ -1,4 +1,4 @@
--- The rule of the table under a lock, and what each step tells.
+-- The rule of the table of a lock, and what each step establishes.
 use Rattle.std.specs.Prelude.{◌≡◌, ◌≢◌, ℕ, zero, suc, ◌+◌, Bool, true, false, List, [], ◌∷◌}
 use Rattle.std.specs.Prelude as std
 use mathlib.Core.Option.{Option, none, some}
@@ -30,7 +30,7 @@ module _ {H L : Type 0} where
   abbrev pub IsIdle : {S : Type 0} → ℕ → Me S (SeatState H L) → Type 0
   IsIdle k me = (stage_of me.0 ≡ 1) × (seat_of me.0 ≡ k) × (me.1 ≡ [])
 
-  -- the number that the seat has taken, and 0 where it has none
+  -- the number that the seat has taken, or 0 if it has none
   abbrev pub number_of : SeatState H L → ℕ
   number_of (Waiting m t looks) = t
   number_of (Holding m t) = t
@@ -89,8 +89,7 @@ module _ {H L : Type 0} where
   abbrev pub nobody : SeatState H L
   nobody = Keeper []
 
-  -- A keeper is cut: it becomes the first of its seats, so that each seat is at the place of its number, and a new keeper
-  -- has the others
+  -- A keeper is cut: it becomes the first of its seats, so that the index of each seat is its number, and a new keeper has the others
   abbrev pub left_of : SeatState H L → SeatState H L
   left_of (Keeper (m ∷ ms)) = Idle m
   left_of v = v
@@ -137,7 +136,7 @@ module _ {B H L : Type 0} where
     pub good : Good K F n opening (world_of s next serving home current) queue
     pub shelved : s.homes ≡ shelf home current
 
-  -- what a seat with the view v finds that enters with the number t
+  -- the book that a seat with the view v finds when it enters with the number t
   pub record Found (K : Ghosts B H L) (v : SeatState H L) (t : ℕ) (b : B) : Type 0 where
     pub lawful : K.lawful b
     pub head : heads_of v ≡ K.head b ∷ []
@@ -145,7 +144,7 @@ module _ {B H L : Type 0} where
     pub begins : IsPrefix (seen_of v) (K.lines b)
     pub own_lines : own K (seat_of v) (K.lines b) ≡ own K (seat_of v) (seen_of v)
 
-  -- at the load by which `close` comes in: a seat of nobody, with no slot
+  -- at the load by which `close` comes in: a keeper of no seats, with no slot
   abbrev pub sat : Step (std.Option B) → Me (std.Option B) (SeatState H L) → ℕ
       → Me (std.Option B) (SeatState H L) → Type 0
   sat st m found m' = m' ≡ (nobody, [])
@@ -155,7 +154,7 @@ module _ {B H L : Type 0} where
       → Me (std.Option B) (SeatState H L) → Type 0
   took st m found m' = m' ≡ (after_take found m.0, m.1)
 
-  -- at a look: where its number was found the seat holds the book, and else it has looked once more
+  -- at a look: if its number was found, the seat holds the book; otherwise it has looked once more
   abbrev pub looked : Ghosts B H L → Step (std.Option B) → Me (std.Option B) (SeatState H L) → ℕ
       → Me (std.Option B) (SeatState H L) → Type 0
   looked K st m found m' =
@@ -163,13 +162,12 @@ module _ {B H L : Type 0} where
       → (b : B) × (m' ≡ (after_enter (K.lines b) m.0, (0, std.Some b) ∷ m.1)) × Found K m.0 (number_of m.0) b)
       × (found ≢ number_of m.0 → m' ≡ (after_miss m.0, m.1))
 
-  -- at a hand on: the seat is idle, and has seen the lines of the book that it gave back
+  -- at a hand on: the seat is idle, and has seen the lines of the book that it put back
   abbrev pub gave : Ghosts B H L → Step (std.Option B) → Me (std.Option B) (SeatState H L) → ℕ
       → Me (std.Option B) (SeatState H L) → Type 0
   gave K st m found m' = (b : B) → m.1 ≡ (0, std.Some b) ∷ [] → m' ≡ (after_hand (K.lines b) m.0, [])
 
-  -- whatever stands in the table under the rule shows a good world, and the slot has its book exactly when it is at
-  -- home
+  -- every table under the rule shows a good world, and the slot contains the book exactly when the book is not with a seat
   abbrev pub RestingTablesAreGood : Ghosts B H L → Form → Type 0
   RestingTablesAreGood K F =
       (n : ℕ) (opening : B) (s : State (std.Option B) (SeatState H L)) (r : Standing K F n opening s)

@@ -1,4 +1,4 @@
--- What a caller knows of a lock, and of its seats, tickets and guards.
+-- A lock, and its seats, tickets and guards, as a caller sees them.
 use Rattle.std.specs.Prelude.{◌≡◌, ℕ, List, [], ◌∷◌, slice_get, Some}
 use mathlib.Core.List.{IsPrefix}
 use Rattle.ticket_lock.specs.declared.chronicle.Chronicle.{Ghosts}
@@ -17,11 +17,11 @@ module _ {B H L : Type 0} where
   abbrev pub seat_count : TicketLock B H L → ℕ
   seat_count lock = lock.seats
 
-  -- the book as it was when the lock was opened round it
+  -- the book as it was when the lock was opened around it
   abbrev pub opening_book : TicketLock B H L → B
   opening_book lock = lock.board.shared.key.book.value
 
-  -- the seat is of this lock, idle, and remembers the head at opening, where `head` is that of the chronicle
+  -- the seat is of this lock, idle, and remembers the head at opening, `head` being the head of the chronicle
   abbrev pub IsSeatOf : (B → H) → TicketLock B H L → Seat B H L → Type 0
   IsSeatOf head lock s =
       (s.place.table_id ≡ lock.board.shared.table_id) × (heads_of s.place.me.0 ≡ head (opening_book lock) ∷ [])
@@ -67,7 +67,7 @@ module _ {B H L : Type 0} where
   abbrev pub with_book : Guard B H L → B → Guard B H L
   with_book g b = record g { book = b }
 
-  -- the seat that holds the book remembers the head at opening, where `head` is that of the chronicle
+  -- the seat that holds the book remembers the head at opening, `head` being the head of the chronicle
   abbrev pub KeepsHead : (B → H) → Guard B H L → Type 0
   KeepsHead head g = heads_of g.place.me.0 ≡ head (opening_book (guard_lock g)) ∷ []
 
@@ -93,20 +93,19 @@ module _ {B H L : Type 0} {K : Ghosts B H L} where
   abbrev pub ticket_looks : Ticket B H L K → ℕ
   ticket_looks t = looks_of t.place.me.0
 
-  -- what is known of the guard, where a look has entered
+  -- P holds of the guard, if a look has entered
   abbrev pub IfEntered : Look B H L K → (Guard B H L → Type 0) → Type 0
   IfEntered (Entered g) P = P g
   IfEntered (NotYet t) P = Unit {0}
 
-  -- what is known of the ticket, where a look has not entered
+  -- P holds of the ticket, if a look has not entered
   abbrev pub IfNotYet : Look B H L K → (Ticket B H L K → Type 0) → Type 0
   IfNotYet (Entered g) P = Unit {0}
   IfNotYet (NotYet t) P = P t
 
 module _ {B H L : Type 0} where
-  -- what the seat k finds that had seen the lines `seen` and enters with the number t: a lawful book with the head at
-  -- opening, whose turn is t, and whose journal begins with what the seat has seen and holds in its name just the
-  -- lines that it has seen in its name
+  -- the book that the seat k finds when it had seen the lines `seen` and enters with the number t: a lawful book with the head at opening, whose turn
+  -- is t, and whose journal begins with what the seat has seen and contains in its name exactly the lines that it has seen in its name
   pub record Finds (K : Ghosts B H L) (head : H) (k : ℕ) (seen : List L) (t : ℕ) (b : B) : Type 0 where
     pub lawful : K.lawful b
     pub same_head : K.head b ≡ head

@@ -1,4 +1,4 @@
-//! The book of a guard, lent.
+//! The book of a guard, borrowed.
 ghost use Rattle.std.specs.Prelude.{◌≡◌, []};
 ghost use Rattle.std.specs.Borrow.{sem, Lends};
 ghost use mir.Syntax.{named};
@@ -9,8 +9,7 @@ use crate::chronicle::Chronicle;
 use crate::guard::Guard;
 
 impl<'a, B: Chronicle> Guard<'a, B> {
-    /// The book, as it was found at entry until it is written to. When the borrow ends, the guard has what was written
-    /// to it.
+    /// Borrows the book. It is as it was found at entry until you write to it. When the borrow ends, the guard has what was written.
     pub fn book<'s>(&'s mut self) -> &'s mut B
         ensures* writes_back { sem 𝓛 (Lends
             (the_row (record { mir = named 1; lft = [] }) B.row B.Head.row B.Line.row B.Chronicle) B.row

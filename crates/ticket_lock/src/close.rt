@@ -1,4 +1,4 @@
-//! A lock is closed, and its book comes back.
+//! Closing a lock, which returns its book.
 ghost use Rattle.std.specs.Prelude.{◌≡◌, ◌+◌, ◌<◌, [], length, All, map, vec_len};
 ghost use Rattle.ticket_lock.specs.Standing.{stage_of, memos_of, idles, IsIdle};
 ghost use Rattle.ticket_lock.specs.Forms.{partitioned_form};
@@ -30,12 +30,11 @@ fn gather<B: Chronicle>(board: &Board<B>, keeper: &mut Place<B>, mut seats: Vec<
 }
 
 impl<B: Chronicle> TicketLock<B> {
-    /// Ends the lock, and gives its book back. It asks for all seats of this lock, idle.
+    /// Ends the lock and returns its book. You pass all seats of this lock, idle.
     ///
-    /// The lock ends in a good world whose seats are those given back, all idle. The book is lawful, its head is that
-    /// at opening, and its turn is word 0, the number that the next take would have had
-    /// ([`close_with_next`](TicketLock::close_with_next) returns that word). Its journal begins with what each seat has
-    /// seen, and holds in each seat's name just the lines that the seat has seen in its name.
+    /// The lock ends in a good world whose seats are the ones that you pass, all idle. The book is lawful, its head is the one at opening, and its
+    /// turn is word 0, the number that the next take would have had ([`close_with_next`](TicketLock::close_with_next) returns that word). Its journal
+    /// begins with what each seat has seen, and in each seat's name it contains exactly the lines that the seat has seen in its name.
     pub fn close(self, seats: Vec<Seat<B>>) -> B
         requires all { vec_len seats ≡ seat_count self }
         requires own { All (IsSeatOf B.head self) seats.items }
@@ -49,8 +48,8 @@ impl<B: Chronicle> TicketLock<B> {
         book
     }
 
-    /// Does what [`close`](TicketLock::close) does, and returns word 0 of the table beside the book, as the table had it
-    /// when it was taken apart: the number that the next take would have had, which is the book's turn.
+    /// Does what [`close`](TicketLock::close) does, and also returns word 0 of the table as it was when the table was taken down: the number that the
+    /// next take would have had, which is the book's turn.
     pub fn close_with_next(self, seats: Vec<Seat<B>>) -> (B, u64)
         requires all { vec_len seats ≡ seat_count self }
         requires own { All (IsSeatOf B.head self) seats.items }

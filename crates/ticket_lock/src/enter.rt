@@ -1,4 +1,4 @@
-//! Waiting for the book: near its turn a seat looks for a while, and else it sleeps.
+//! Waiting for the book: a seat near its turn spins for a while, then sleeps.
 ghost use Rattle.std.specs.Prelude.{◌≡◌};
 ghost use Rattle.ticket_lock.specs.Tokens.{opening_book, IsSeatOf, seat_number, seat_seen, guard_lock, guard_seat};
 ghost use Rattle.ticket_lock.specs.Tokens.{guard_number, guard_seen, guard_book, KeepsHead, Finds};
@@ -13,11 +13,10 @@ use crossbeam_utils::Backoff;
 use std::sync::Wait;
 
 impl<B: Chronicle> TicketLock<B> {
-    /// Takes a number, and looks until it is served. Near its turn it pauses between two looks, for longer each time,
-    /// and after some time it sleeps; far from its turn it sleeps at once. Who hands its number on wakes it.
+    /// Takes a number and waits until it is served. Near its turn the seat pauses between two looks, for longer each time, and after some time it
+    /// sleeps; far from its turn it sleeps at once. The seat that hands its number on wakes it.
     ///
-    /// It never yields the processor: on a busy machine that gives milliseconds away, where a thread that is woken runs
-    /// soon.
+    /// It never yields the processor: on a busy machine a yield costs milliseconds, but a thread that is woken runs soon.
     pub fn enter<R: Wait>(&self, rt: &R, seat: Seat<B>) -> Guard<'_, B>
         requires own { IsSeatOf B.head self.now seat }
         ensures entered { (guard_lock result ≡ self.now) × (guard_seat result ≡ seat_number seat)
@@ -44,17 +43,16 @@ impl<B: Chronicle> TicketLock<B> {
         unreachable!()
     }
 
-    // Whether a number that waits is at most NEAR numbers from its turn. The grant word of the number that stands NEAR
-    // before it tells: it has that number from its hand-over on until the seat has entered; before, a smaller one, or
-    // the first.
+    // Whether a waiting number is at most NEAR numbers from its turn. The grant word of the number NEAR before it shows this: from the hand-over of
+    // that number until the seat has entered, the word contains that number; before, a smaller one or the first.
     fn is_near(&self, number: u64) -> bool {
         let before = number.wrapping_sub(NEAR);
         let found = self.board.shared.peek((before % 8) as usize + 1);
         number.wrapping_sub(found) <= NEAR
     }
 
-    // Sleeps until the number is served. The seat announces itself and then looks again: a hand-over that this look
-    // does not see is stored after the announcement, and so finds it and wakes it.
+    // Sleeps until the number is served. The seat announces itself and then looks again: a hand-over that this look does not see is stored after the
+    // announcement, so it finds the announcement and wakes the seat.
     fn sleep<R: Wait>(&self, rt: &R, number: u64) {
         let announced = self.sleepers.announce(number);
         if self.board.shared.peek((number % 8) as usize + 1) != number {

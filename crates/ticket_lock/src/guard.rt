@@ -8,7 +8,7 @@ use crate::plays;
 use crate::rule::Place;
 use crate::seat::Seat;
 
-/// A seat that holds the book. It can't be dropped: it is spent by `hand_on`.
+/// A seat that holds the book. It can't be dropped: `hand_on` consumes it.
 pub struct Guard<'a, B: Chronicle> {
     pub(crate) lock: &'a TicketLock<B>,
     pub(crate) place: Place<B>,
@@ -25,12 +25,11 @@ impl<'a, B: Chronicle> Guard<'a, B> {
     ghost use Rattle.ticket_lock.specs.Tokens.{guard_lock, guard_seat, guard_number, guard_seen, guard_book};
     ghost use Rattle.ticket_lock.specs.Tokens.{opening_book, KeepsHead, IsSeatOf, seat_number, seat_seen};
 
-    /// Gives the book back, and the next number is served; then the seat that waits for it is woken, if it sleeps. The
-    /// seat that comes back has seen the lines handed on.
+    /// Hands the book on: the next number is served, and the seat that waits for it is woken if it sleeps. The seat that is returned has seen the
+    /// lines handed on.
     ///
-    /// It asks that the book is lawful, that its head is that at opening, that its turn is one more than the number
-    /// served, and that its lines are those at entry and one line of this seat with this number, or those at entry
-    /// alone where they filled the capacity.
+    /// It requires that the book is lawful, that its head is the one at opening, that its turn is one more than the number served, and that its lines
+    /// are those at entry and one line of this seat with this number, or only those at entry if they filled the capacity.
     pub fn hand_on(self) -> Seat<B>
         requires head { KeepsHead B.head self }
         requires hands { HandsOn B.Chronicle
@@ -47,9 +46,8 @@ impl<'a, B: Chronicle> Guard<'a, B> {
         seat
     }
 
-    /// The same for a lock whose seats all look for themselves: it wakes nobody. A seat that sleeps in
-    /// `TicketLock::enter` would sleep on, so it is for callers that only `take` and `look`, as in a library that may
-    /// not wake threads.
+    /// Does the same for a lock whose seats all look for themselves: it wakes no seat. A seat that sleeps in `TicketLock::enter` would sleep on, so
+    /// use it only if callers only `take` and `look`, as in a library that may not wake threads.
     pub fn hand_on_awake(self) -> Seat<B>
         requires head { KeepsHead B.head self }
         requires hands { HandsOn B.Chronicle

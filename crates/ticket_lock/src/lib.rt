@@ -1,7 +1,6 @@
-//! A ticket lock round a book that keeps a chronicle (Mellor-Crummey and Scott, 1991), in a form with eight grant
-//! words.
+//! A ticket lock (Mellor-Crummey and Scott, 1991) around a book that keeps a chronicle, in a form with eight grant words.
 //!
-//! Each call of a seat is one atomic step on one word. What the lock promises is said over every order of such steps.
+//! Each call of a seat is one atomic step on one word. The promises of the lock are theorems about every order of such steps.
 //!
 //! # A worked example
 //!
@@ -13,16 +12,16 @@
 //! let seat = seats.pop().unwrap();
 //! let number = seat.number();
 //! let mut guard = lock.enter(rt, seat); // takes a number, and waits until it is served
-//! let roll = guard.book(); // the book, lent
+//! let roll = guard.book(); // borrows the book
 //! roll.lines.push_reserved(Signature { seat: number, number: roll.turn });
 //! roll.turn = roll.turn.wrapping_add(1);
 //! seats.push_reserved(guard.hand_on()); // the next number is served
 //! let roll = lock.close(seats); // with all seats, at the end
 //! ```
 //!
-//! What `hand_on` asks of the book, and what `enter` tells of it, are their contracts: one line more, in this seat's
-//! name and with its number. A thread that may not wait has the same in two steps, `take` and `look`. `Chronicle` is
-//! what a type has to be to stand under the lock.
+//! The contracts of `enter` and `hand_on` say what the seat finds in the book, and what it must leave there: one line more, in this seat's name and
+//! with its number. A thread that may not wait does the same in two steps, `take` and `look`. A type must implement `Chronicle` to be the book of a
+//! lock.
 #![tactic(auto)]
 
 mod book;

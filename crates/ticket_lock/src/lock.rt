@@ -1,4 +1,4 @@
-//! The lock, and the two steps by which a seat comes to hold its book.
+//! The lock, and the two steps by which a seat acquires its book.
 ghost use Rattle.std.specs.Prelude.{◌≡◌};
 
 use crate::chronicle::Chronicle;
@@ -9,7 +9,7 @@ use crate::seat::Seat;
 use crate::sleepers::Sleepers;
 use crate::ticket::{Look, Ticket};
 
-/// A ticket lock round a book. It is made by `open` and ended by `close`, and can't be dropped.
+/// A ticket lock around a book. `open` makes it and `close` ends it. It can't be dropped.
 pub struct TicketLock<B: Chronicle> {
     pub(crate) board: Board<B>,
     pub(crate) seats: u8,
@@ -41,8 +41,7 @@ impl<B: Chronicle> TicketLock<B> {
         }
     }
 
-    /// Looks once whether the ticket's number is served: one load of the grant word that its number names. It never
-    /// waits.
+    /// Tests once whether the ticket's number is served: one load of the grant word that its number selects. It never waits.
     pub fn look(&self, ticket: Ticket<B>) -> Look<'_, B>
         requires own { IsTicketOf self.now ticket }
         ensures entered { IfEntered result

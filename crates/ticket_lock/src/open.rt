@@ -1,4 +1,4 @@
-//! A lock is opened round a book.
+//! Opening a lock around a book.
 ghost use Rattle.std.specs.Prelude.{◌≡◌, ◌^◌, ◌<◌, ◌≤◌, ◌⊎◌, [], ◌∷◌, length, vec_len, vec_capacity, All, IfOk, IfErr};
 ghost use Rattle.std.specs.Prelude.{IsErrAnd, map};
 ghost use Rattle.ticket_lock.specs.Standing.{keeper_of, heads_of, seen_of, IsIdle};
@@ -18,19 +18,19 @@ use atomic_table::{Refused, Table};
 use std::alloc::Global;
 use std::snapshot::Snapshot;
 
-/// The most seats that a lock can have.
+/// The maximal number of seats of a lock.
 pub const SEAT_LIMIT: u8 = 64;
 
 /// Why a lock was not opened.
 #[derive(Drop, Debug, Clone, Copy, PartialEq, Eq)]
 pub enum OpenFault {
-    /// There were to be no seats, or more than 64.
+    /// The number of seats was 0 or above 64.
     SeatCount,
     /// Memory was refused.
     NoMemory,
 }
 
-// The one value of a list.
+// Returns the only value of a list.
 fn only<T>(mut all: Vec<T>) -> T
     requires { length all.items ≡ 1 }
     ensures { all.items ≡ result ∷ [] }
@@ -40,7 +40,7 @@ fn only<T>(mut all: Vec<T>) -> T
     one
 }
 
-// A table with the book in its slot. The book comes back where there is no memory.
+// Makes a table with the book in its slot. If there is no memory, returns the book.
 fn lay<B: Chronicle>(alloc: Global, book: B, seats: u8) -> Result<(Board<B>, Place<B>), B>
     requires lawful { B.lawful book }
     requires few { seats ≤ 64 }
@@ -67,8 +67,8 @@ fn lay<B: Chronicle>(alloc: Global, book: B, seats: u8) -> Result<(Board<B>, Pla
     }
 }
 
-// Cuts the seats from their keeper, one after the other: the keeper becomes a seat, and a new one has the others. So
-// each seat is at the place of its number among the table's views. The last keeper, which has none, comes back.
+// Cuts the seats off their keeper, one after the other: the keeper becomes a seat, and a new keeper has the others. So the index of each seat among
+// the table's views is its number. Returns the last keeper, which has no seat.
 fn cut<B: Chronicle>(
     board: &Board<B>,
     keeper: Place<B>,
@@ -105,19 +105,16 @@ fn cut<B: Chronicle>(
 }
 
 impl<B: Chronicle> TicketLock<B> {
-    /// A lock round a lawful book, and its seats, numbered from 0. There can be 1 to 64 seats. Each seat has seen the
-    /// book's journal, and the first number handed out is the book's turn. The memory of all later calls is asked for
-    /// here.
+    /// Opens a lock around a lawful book, and returns it with its seats, numbered from 0. There can be 1 to 64 seats. Each seat has seen the book's
+    /// journal, and the first number handed out is the book's turn. The memory for all later calls is allocated here.
     ///
-    /// The lock begins with a table under its rule, whose views are the seats handed out and a keeper that has none. In
-    /// the world that this table shows every list of events leaves a good world, in which the k-th entry is by the seat
-    /// that made the k-th take, and a journal that is a sequential history of the calls.
+    /// The lock begins with a table under its rule, whose views are the seats returned and a keeper that has none. From the world that this table
+    /// shows, every list of events leads to a good world, in which the k-th entry is by the seat that made the k-th take, and to a journal that is a
+    /// sequential history of the calls.
     ///
-    /// Refusals, of which the first is tried first: `SeatCount` where `seats` is 0 or above 64, and `NoMemory`. The
-    /// book comes back unchanged.
+    /// Fails with `SeatCount` if `seats` is 0 or above 64, or else with `NoMemory`; it returns the book unchanged.
     ///
-    /// The book is moved at each entry and each hand-over, so a large one is better passed as a `Box` of it, which is
-    /// a `Chronicle` too.
+    /// The book is moved at each entry and each hand-over, so pass a large one as a `Box`, which is a `Chronicle` too.
     pub fn open(
         alloc: Global,
         book: B,

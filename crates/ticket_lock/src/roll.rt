@@ -15,7 +15,7 @@ pub struct Signature {
     pub number: u64,
 }
 
-/// A roll with room for `capacity` lines. It is lawful where that room is there.
+/// A roll with storage for `capacity` lines. It is lawful if that storage is allocated.
 #[derive(Drop)]
 pub struct Roll {
     pub lines: Vec<Signature>,
@@ -52,7 +52,7 @@ impl Chronicle for Roll {
 }
 
 impl Roll {
-    /// An empty roll whose first line is to have the number `turn`. It is refused where memory is.
+    /// Returns an empty roll whose first line will have the number `turn`. Fails if memory is refused.
     pub fn blank(alloc: Global, capacity: usize, turn: u64) -> Result<Roll, AllocError>
         ensures lawful { IfOk result (λ r. capacity ≤ vec_capacity r.lines) }
         ensures empty { IfOk result (λ r. (r.lines.items ≡ []) × (r.capacity ≡ capacity) × (r.turn ≡ turn)) }
@@ -65,8 +65,7 @@ impl Roll {
     }
 }
 
-/// Signs the roll in the name of the seat that holds it, unless the roll is full, and hands it on. It asks for a
-/// guard as it was found at entry.
+/// Signs the roll in the name of the seat that holds it, unless the roll is full, and hands it on. The guard must be as it was found at entry.
 pub fn sign(guard: Guard<Roll>, seat: u8) -> Seat<Roll>
     requires seat { guard_seat guard ≡ seat }
     requires lawful { (guard_book guard).capacity ≤ vec_capacity (guard_book guard).lines }

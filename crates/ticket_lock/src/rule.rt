@@ -1,4 +1,4 @@
-//! The table under the lock: the words, a slot for the book, and a view for each seat.
+//! The table of the lock: the words, a slot for the book, and a view for each seat.
 use crate::chronicle::Chronicle;
 use crate::seat_state::SeatState;
 use atomic_table::{Seat as TableSeat, Table, TableRule};

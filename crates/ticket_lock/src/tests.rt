@@ -10,7 +10,7 @@ use std::alloc::{AllocError, Global};
 use std::process::Abort;
 use std::test::Fail;
 
-// The last of the seats.
+// Returns the last of the seats.
 fn last_seat<B: Chronicle>(
     rt: &impl Abort,
     lock: &TicketLock<B>,
@@ -49,7 +49,7 @@ fn waits(rt: &impl Abort, lock: &TicketLock<Roll>, ticket: Ticket<Roll>) -> Tick
     }
 }
 
-// A lock round a roll. Where memory is refused, the roll comes back as it was.
+// Opens a lock around a roll. If memory is refused, the roll is returned unchanged.
 fn opened(
     rt: &impl Abort,
     alloc: Global,
@@ -73,7 +73,7 @@ fn opened(
     }
 }
 
-// Two seats take numbers and serve in turn. The numbers, and the roll after them.
+// Two seats take numbers and serve in turn. Returns the numbers, and the roll after them.
 fn two_serve(rt: &impl Abort, alloc: Global, turn: u64) -> Result<(u64, u64, Roll), AllocError> {
     let (lock, mut seats) = opened(rt, alloc, Roll::blank(alloc, 4, turn)?, 2)?;
     let one = last_seat(rt, &lock, &mut seats);
@@ -231,7 +231,7 @@ fn sixty_four_seats_serve(rt: HostRuntime) -> Result<(), Fail> {
     Ok(())
 }
 
-// One call by a lock round a roll on the heap.
+// Makes one call by a lock around a roll on the heap.
 fn boxed_serves(
     rt: &impl Abort,
     lock: &TicketLock<Box<Roll>>,

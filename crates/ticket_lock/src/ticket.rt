@@ -6,7 +6,7 @@ use crate::chronicle::Chronicle;
 use crate::guard::Guard;
 use crate::rule::Place;
 
-/// A seat with a number. It can't be dropped: it is spent by `TicketLock::look`.
+/// A seat with a number. It can't be dropped: `TicketLock::look` consumes it.
 pub struct Ticket<B: Chronicle> {
     pub(crate) place: Place<B>,
     pub(crate) seat: u8,
@@ -15,7 +15,7 @@ pub struct Ticket<B: Chronicle> {
         × (place.me.1 ≡ []) },
 }
 
-/// What one look at the lock found.
+/// The result of one look at the lock.
 pub enum Look<'a, B: Chronicle> {
     /// The ticket's number is served: its seat holds the book.
     Entered(Guard<'a, B>),
@@ -26,8 +26,8 @@ pub enum Look<'a, B: Chronicle> {
 impl<B: Chronicle> Ticket<B> {
     ghost use Rattle.ticket_lock.specs.Tokens.{ticket_number};
 
-    /// The number that was taken. Numbers go up by one with each take, and begin again at 0 after
-    /// 18446744073709551615. At most 64 are out at one time, and no two of those are the same.
+    /// Returns the number that was taken. Numbers go up by one with each take, and begin again at 0 after 18446744073709551615. At most 64 are out at
+    /// one time, and no two of those are the same.
     pub fn number(&self) -> u64
         ensures { result ≡ ticket_number self.now }
     {

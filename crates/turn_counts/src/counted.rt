@@ -3,12 +3,12 @@ use hull_set::{AddReply, HullSet};
 use hull_tree::HullTree;
 use lattice::Point;
 
-/// A set that tells the turns of its changes.
+/// A set whose changes also return their turns.
 pub trait CountedSet: HullSet + Drop {
-    /// Holds `p` once more: whether it is new, and how many turns the searches of bridges took.
+    /// Adds `p` once. Returns whether it is new, and how many turns the searches of bridges took.
     fn add_counted(&mut self, p: Point) -> (bool, u32);
 
-    /// Holds `p` once less: how many turns the searches of bridges took.
+    /// Removes `p` once. Returns how many turns the searches of bridges took.
     fn remove_counted(&mut self, p: Point) -> u32;
 }
 

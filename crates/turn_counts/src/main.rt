@@ -1,8 +1,8 @@
 //! How many turns of bridge search the changes of the two trees take: the greatest number of one change, and the mean.
 //!
-//! `turn_counts N..` puts N random points of the whole range into each tree (`build`), and then N times takes a random one
-//! out and puts another in (`churn`), for each N from 1 to 1048576; 1000 where none is given. The points come from a
-//! fixed seed. The bound of one change is 10,000, by the contracts of `add_counted` and `remove_counted`.
+//! `turn_counts N..` adds N random points of the whole range to each tree (`build`), and then N times removes a random one and adds another
+//! (`churn`), for each N from 1 to 1048576; 1000 if none is given. The points come from a fixed seed. The bound of one change is 10,000, by the
+//! contracts of `add_counted` and `remove_counted`.
 #![tactic(auto)]
 
 mod counted;
@@ -21,7 +21,7 @@ use std::process::ExitCode;
 use std::rt::Env;
 use tally::Tally;
 
-/// Puts points into the set and into the list until there are so many, or until as many again were there already.
+/// Adds this many random points to the set, and to the list those that were new. Tallies the turns of these.
 fn build<S: CountedSet>(
     set: &mut S,
     points: &mut Vec<Point>,
@@ -40,7 +40,7 @@ fn build<S: CountedSet>(
     Ok(tally)
 }
 
-/// Takes a random point out and puts another in, so many times.
+/// Removes a random point and adds another, this many times.
 fn churn<S: CountedSet>(
     set: &mut S,
     points: &mut Vec<Point>,
@@ -61,7 +61,7 @@ fn churn<S: CountedSet>(
     tally
 }
 
-/// Counts the turns of so many points in a set, and writes a line for the build and one for the churn.
+/// Counts the turns of this many points in a set, and writes a line for the build and one for the churn.
 fn measure<R: Print, S: CountedSet>(
     rt: &R,
     alloc: Global,
@@ -77,7 +77,7 @@ fn measure<R: Print, S: CountedSet>(
     Ok(())
 }
 
-/// Counts the turns of so many points in both trees.
+/// Counts the turns of this many points in both trees.
 fn measure_both<R: Print>(rt: &R, alloc: Global, count: u32) -> Result<(), AllocError> {
     let _ = println!(rt; "each bridge searched");
     measure(rt, alloc, HullTree::new(alloc, POINT_LIMIT), count)?;

@@ -1,13 +1,13 @@
 use lattice::{COORDINATE_LIMIT, Point};
 
-/// Numbers that look random, always the same ones: xorshift (Marsaglia, 2003).
+/// Pseudo-random numbers, always the same ones: xorshift (Marsaglia, 2003).
 #[derive(Drop)]
 pub struct Random {
     state: u64,
 }
 
 impl Random {
-    /// From a fixed seed.
+    /// Begins with a fixed seed.
     pub fn new() -> Random {
         Random {
             state: 88172645463325252,
@@ -23,7 +23,7 @@ impl Random {
         x
     }
 
-    /// A number below this one, or 0.
+    /// Returns a number below this one, or 0.
     pub fn below(&mut self, bound: usize) -> usize {
         if bound == 0 {
             return 0;
@@ -31,13 +31,13 @@ impl Random {
         (self.next() % bound as u64) as usize
     }
 
-    /// A coordinate of the whole range.
+    /// Returns a coordinate of the whole range.
     fn coordinate(&mut self) -> i64 {
         let width = 2 * COORDINATE_LIMIT as u64 + 1;
         (self.next() % width) as i64 - COORDINATE_LIMIT
     }
 
-    /// A point of the whole range.
+    /// Returns a point of the whole range.
     pub fn point(&mut self) -> Option<Point> {
         let x = self.coordinate();
         let y = self.coordinate();

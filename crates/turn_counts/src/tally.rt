@@ -1,6 +1,6 @@
 use std::fmt;
 
-/// The greatest of some numbers, their sum, and how many they are.
+/// The greatest of some numbers, their sum, and how many there are.
 #[derive(Clone, Copy, Debug)]
 pub struct Tally {
     greatest: u32,
@@ -9,7 +9,7 @@ pub struct Tally {
 }
 
 impl Tally {
-    /// Of no number.
+    /// Makes the tally of no number.
     pub fn new() -> Tally {
         Tally {
             greatest: 0,
@@ -18,7 +18,7 @@ impl Tally {
         }
     }
 
-    /// With one number more.
+    /// Adds a number.
     pub fn count(&mut self, number: u32) {
         self.greatest = self.greatest.max(number);
         self.sum = self.sum.saturating_add(u64::from(number));

@@ -1,4 +1,4 @@
-//! The film of a small journal, byte for byte, and how a film ends where a device fails.
+//! The film of a small journal, byte for byte, and how a film ends if a device fails.
 use super::HEAD;
 use hull_draw::{DrawFault, film};
 use hull_text::TextFault;
@@ -7,11 +7,11 @@ use std::test::Fail;
 use text_io::Counted;
 use text_io::testing::{Pieces, Spout};
 
-/// A point, its tangents from beside it, its vertices, and a fourth line that is wrong.
+/// A point, the tangents from another point, its vertices, and a fourth line that is wrong.
 const SHORT: &str =
     "hullbook journal 3 first 0 limit 4 capacity 9\n0 0 add 0 0 = added\n1 0 tangents 4 0 = tangents 0 0 0 0\n2 0 vertices = list 1 0 0\n3 0 add 0 0 = added\nend 4\n";
 
-/// Its film behind the head.
+/// Its film after the head.
 const SHORT_FILM: &str =
     "<style>.q{stroke:#7d3c98;stroke-width:11}.x{stroke:#c00;stroke-width:11}.f{stroke:#d35400;stroke-width:3}.e{stroke:#d35400;stroke-width:13}.b{font-weight:bold}</style>\n<text x='32' y='14'>the first 4 of 4 calls</text>\n<g><set attributeName='display' to='none' begin='-1s' end='0s'/><set attributeName='display' to='none' begin='1s'/>\n<svg x='32' y='32' overflow='visible' width='240' height='240' viewBox='0 0 4 4'>\n<polygon class='h' points='0,2 '/>\n<path class='p' d='M0 2h0'/>\n<path class='c' d='M0 2h0'/>\n</svg>\n<svg x='32' y='32' overflow='visible' width='240' height='240' viewBox='0 0 4 4'>\n<path class='q' d='M0 2h0'/>\n</svg>\n<text x='32' y='316'>points 1 (limit 4)</text>\n<text x='32' y='338'>doubled area 0</text>\n<text x='32' y='360'>x 0 to 4, y 0 to 0</text>\n<text x='32' y='382'>calls 1</text>\n<text x='32' y='404' class='b'> add 0 0</text>\n<text x='32' y='426' class='b'>= added</text>\n</g>\n<g><set attributeName='display' to='none' begin='-1s' end='1s'/><set attributeName='display' to='none' begin='2s'/>\n<svg x='32' y='32' overflow='visible' width='240' height='240' viewBox='0 0 4 4'>\n<polygon class='h' points='0,2 '/>\n<path class='p' d='M0 2h0'/>\n<path class='c' d='M0 2h0'/>\n</svg>\n<svg x='32' y='32' overflow='visible' width='240' height='240' viewBox='0 0 4 4'>\n<path class='f' d='M4 2L0 2M4 2L0 2'/>\n<path class='q' d='M4 2h0'/>\n</svg>\n<text x='32' y='316'>points 1 (limit 4)</text>\n<text x='32' y='338'>doubled area 0</text>\n<text x='32' y='360'>x 0 to 4, y 0 to 0</text>\n<text x='32' y='382'>calls 2</text>\n<text x='32' y='404' class='b'> tangents 4 0</text>\n<text x='32' y='426' class='b'>= tangents 0 0 0 0</text>\n</g>\n<g><set attributeName='display' to='none' begin='-1s' end='2s'/><set attributeName='display' to='none' begin='3s'/>\n<svg x='32' y='32' overflow='visible' width='240' height='240' viewBox='0 0 4 4'>\n<polygon class='h' points='0,2 '/>\n<path class='p' d='M0 2h0'/>\n<path class='c' d='M0 2h0'/>\n</svg>\n<svg x='32' y='32' overflow='visible' width='240' height='240' viewBox='0 0 4 4'>\n</svg>\n<text x='32' y='316'>points 1 (limit 4)</text>\n<text x='32' y='338'>doubled area 0</text>\n<text x='32' y='360'>x 0 to 4, y 0 to 0</text>\n<text x='32' y='382'>calls 3</text>\n<text x='32' y='404' class='b'> vertices</text>\n<text x='32' y='426' class='b'>= list 1 0 0</text>\n</g>\n<g><set attributeName='display' to='none' begin='-1s' end='3s'/>\n<svg x='32' y='32' overflow='visible' width='240' height='240' viewBox='0 0 4 4'>\n<polygon class='h' points='0,2 '/>\n<path class='p' d='M0 2h0'/>\n<path class='c' d='M0 2h0'/>\n</svg>\n<svg x='32' y='32' overflow='visible' width='240' height='240' viewBox='0 0 4 4'>\n<path class='q' d='M0 2h0'/>\n</svg>\n<text x='32' y='316'>points 1 (limit 4)</text>\n<text x='32' y='338'>doubled area 0</text>\n<text x='32' y='360'>x 0 to 4, y 0 to 0</text>\n<text x='32' y='382'>calls 3<tspan class='w'>; line 5 is wrong</tspan></text>\n<text x='32' y='404' class='b'> add 0 0</text>\n<text x='32' y='426' class='b'>= added</text>\n</g>\n</svg>\n";
 

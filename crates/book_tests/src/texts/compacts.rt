@@ -1,4 +1,4 @@
-//! Journals made short, as texts.
+//! Compacted journals, as texts.
 ghost use Rattle.std.specs.Prelude.{◌<◌, ◌-◌, ◌^◌};
 
 use hull_book::{CompactRefusal, Journal, Line};
@@ -13,15 +13,15 @@ use std::alloc::Global;
 use std::test::Fail;
 use text_io::testing::{Pieces, Spout};
 
-/// Points added in another order than theirs, some of them often, refused, or gone again.
+/// Points added in another order than theirs, some of them often, refused, or removed again.
 const LONG: &[u8] =
     b"hullbook journal 3 first 18446744073709551614 limit 3 capacity 16\n18446744073709551614 0 add 5 5 = added\n18446744073709551615 1 add -1 3 = added\n0 0 add 5 5 = again 2\n1 1 add 7 7 = added\n2 0 add 9 9 = toomany\n3 0 remove 7 7 = removed\n4 1 add 5 5 = again 3\n5 0 remove 5 5 = left 2\n6 0 add -1 -4 = nomemory\n7 0 add -1 -4 = added\n8 1 count = count 3\nend 11\n";
 
-/// What it leaves.
+/// Its compacted text.
 const SHORT: &[u8] =
     b"hullbook journal 3 first 9 limit 3 capacity 16\n9 0 add -1 -4 = added\n10 0 add -1 3 = added\n11 0 add 5 5 = added\n12 0 add 5 5 = again 2\nend 4\n";
 
-// Makes a text short by a replay on a plain set.
+// Compacts a text by a replay on a plain set.
 fn make_short<R: Source, W: Sink>(
     alloc: Global,
     source: &mut R,
@@ -33,7 +33,7 @@ fn make_short<R: Source, W: Sink>(
     compact(alloc, |limit| PlainSet::new(alloc, limit), source, out)
 }
 
-// What comes of making a text short, and what was written.
+// Returns the result of compacting a text, and what was written.
 fn compacted(
     alloc: Global,
     text: &[u8],
@@ -119,7 +119,7 @@ fn each_failing_write_of_a_short_journal_leaves_a_beginning(rt: HostRuntime) -> 
     Ok(())
 }
 
-// A journal that adds points of a row, the last first, and each of them again and again.
+// Returns a journal that adds points of a row, the last first, and each of them again and again.
 fn row_journal(alloc: Global, points: u32, times: u32) -> Result<Journal, Fail> {
     let mut lines = Vec::new(alloc);
     for time in 1..=times {
@@ -149,7 +149,7 @@ fn adds_a_row(short: &Journal) -> bool {
     all
 }
 
-/// A journal that adds alone has as many lines when it is made short: sorted, and each point's together.
+/// A journal of only additions has as many lines after it is compacted: sorted, and each point's together.
 #[test]
 fn thousands_of_additions_come_in_order(rt: HostRuntime) -> Result<(), Fail> {
     let long = row_journal(rt.alloc(), 300, 20)?;
@@ -169,7 +169,7 @@ fn thousands_of_additions_come_in_order(rt: HostRuntime) -> Result<(), Fail> {
     Ok(())
 }
 
-/// What is written is read again, and leaves the same.
+/// The written text is read again, and leaves the same.
 #[test]
 fn a_short_journal_is_made_short_again(rt: HostRuntime) -> Result<(), Fail> {
     let journal = match read_journal(rt.alloc(), &mut Counted::new(Pieces::new(SHORT, 7))) {

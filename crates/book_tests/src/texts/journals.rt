@@ -14,7 +14,7 @@ use text_io::testing::{Pieces, Spout};
 pub const EXAMPLE: &[u8] =
     b"hullbook journal 3 first 0 limit 8 capacity 8\n0 0 add 0 0 = added\n1 0 add 4 0 = added\n2 0 add 2 3 = added\n3 0 add 2 1 = added\n4 0 remove 2 3 = removed\n5 0 vertices = list 3 0 0 4 0 2 1\n6 0 area = area 4\nend 7\n";
 
-// What a journal reads as: how many lines, or its fault.
+// The result of reading a journal: how many lines, or its fault.
 type Outcome = Result<usize, TextFault>;
 
 // A fault by its number and its line.
@@ -30,7 +30,7 @@ fn read(alloc: Global, text: &[u8], size: usize, failing: u64) -> Outcome {
     }
 }
 
-// The pieces of a text, one behind the other.
+// Returns the pieces of a text, one after the other.
 fn joined(alloc: Global, pieces: &[&[u8]]) -> Option<Vec<u8>> {
     let mut text = Vec::new(alloc);
     for piece in pieces {
@@ -39,7 +39,7 @@ fn joined(alloc: Global, pieces: &[&[u8]]) -> Option<Vec<u8>> {
     Some(text)
 }
 
-// A text before and behind the end of its line with this number.
+// Returns a text before and after the end of its line with this number.
 fn split_behind(text: &[u8], number: u32) -> (&[u8], &[u8]) {
     let mut line = 0u32;
     let mut length = 0usize;
@@ -54,7 +54,7 @@ fn split_behind(text: &[u8], number: u32) -> (&[u8], &[u8]) {
     text.split_at(length.min(text.len()))
 }
 
-// The example, as it is read where memory is ample.
+// Returns the example, read with ample memory.
 fn example(rt: &impl Abort, alloc: Global) -> Journal {
     match read_journal(alloc, &mut Counted::new(Pieces::new(EXAMPLE, 4096))) {
         Ok(journal) => journal,
@@ -62,7 +62,7 @@ fn example(rt: &impl Abort, alloc: Global) -> Journal {
     }
 }
 
-// How a journal goes out to a device: what the writer answers, and what the device got.
+// Returns the result of writing a journal to a device: the writer's, and what the device received.
 fn sent(journal: &Journal, device: Spout) -> (Result<(), WriteFault>, Got) {
     let mut out = Counted::new(device);
     let outcome = write_journal(journal, &mut out);
@@ -92,7 +92,7 @@ fn the_example_journal_is_read_and_written_back(rt: HostRuntime) {
     }
 }
 
-// Whether a text reads so in pieces of any size.
+// Whether this is the result of reading a text in pieces of any size.
 fn is_read_so(alloc: Global, text: &[u8], want: Outcome) -> bool {
     for size in [1, 2, 3, 4096] {
         if read(alloc, text, size, 0) != want {
@@ -102,7 +102,7 @@ fn is_read_so(alloc: Global, text: &[u8], want: Outcome) -> bool {
     true
 }
 
-/// Lines that have a fault in the place of one of the example: the line's number, its text, and the fault.
+/// Faulty lines that replace one of the example: the line's number, its text, and the fault.
 const FAULTY_LINES: [(u32, &str, u8); 37] = [
     (1, "hullbook journal 0 first 0 limit 8 capacity 8", 7),
     (1, "hullbook journal 4 first 0 limit 8 capacity 8", 7),
@@ -147,7 +147,7 @@ const FAULTY_LINES: [(u32, &str, u8); 37] = [
     (9, "end 7 7", 1),
 ];
 
-// Whether the example reads so with line `number` replaced.
+// Whether this is the result of reading the example with line `number` replaced.
 fn is_changed_to(alloc: Global, number: u32, line: &str, want: Outcome) -> Option<bool> {
     let (front, rest) = split_behind(EXAMPLE, number.saturating_sub(1));
     let (_, back) = split_behind(rest, 1);
@@ -163,7 +163,7 @@ fn each_change_of_the_example_journal_is_its_fault(rt: HostRuntime) {
     }
 }
 
-/// Lines that may stand in the place of one of the example.
+/// Lines that may replace one of the example.
 const OTHER_LINES: [(u32, &str); 12] = [
     (3, "18446744073709551615 0 add 4 0 = added"),
     (3, "1 63 add 4 0 = added"),
@@ -215,7 +215,7 @@ fn with_line(alloc: Global, version: &[u8], line: &str) -> Option<Vec<u8>> {
     )
 }
 
-// Whether a version has the reply of a line, or has not and says so.
+// Whether a version has the reply of a line, or has not and reports so.
 fn is_known(alloc: Global, version: &[u8], line: &str, known: bool) -> Option<bool> {
     let want = if known { Ok(2) } else { fault(5, 3) };
     let text = with_line(alloc, version, line)?;
@@ -254,7 +254,7 @@ fn the_version_tells_the_rules(rt: HostRuntime) {
     assert!(rt; third == Some(Rules::Counted));
 }
 
-// Whether two pieces of a text read so together.
+// Whether this is the result of reading two pieces of a text together.
 fn are_read_so(alloc: Global, front: &[u8], back: &[u8], want: Outcome) -> Option<bool> {
     let text = joined(alloc, &[front, back])?;
     Some(is_read_so(alloc, &text, want))
@@ -296,8 +296,8 @@ fn line_behind(text: &[u8], bytes: usize) -> u32 {
     line
 }
 
-// Whether each failing read of the example in pieces of this size is fault 8 in the line being read, the call that
-// finds the end among them, and one that never comes is none.
+// Whether each failing read of the example in pieces of this size is fault 8 in the line being read, also for the call that finds the end, and a
+// failure at a call that never comes is none.
 fn fails_at_each_read(alloc: Global, size: usize) -> bool {
     let mut all = true;
     let mut taken = 0usize;
@@ -323,9 +323,8 @@ fn each_failing_read_of_the_example_journal_is_fault_8(rt: HostRuntime) {
     }
 }
 
-// A journal that is written to a device which takes pieces of this size and fails at each call in turn: whether the
-// write fault came each time, and a beginning of the text had gone out. A device that takes a byte at a call is asked
-// 209 times.
+// Whether a journal that is written to a device which takes pieces of this size and fails at each call in turn ends each time with the write fault,
+// after a prefix of the text. A device that takes a byte at a call is called 209 times.
 fn is_cut_short_at_each_call(
     alloc: Global,
     journal: &Journal,
@@ -359,14 +358,14 @@ fn each_failing_write_of_the_example_journal_leaves_a_beginning(rt: HostRuntime)
     assert!(rt; (failing, refusing) == (Some(true), Some(true)));
 }
 
-// Whether a journal goes out whole behind a block.
+// Whether a journal is written completely through a buffer.
 fn is_sent_in_blocks(journal: &Journal, blocks: BufWriter<Spout>) -> bool {
     let mut out = Counted::new(blocks);
     let outcome = write_journal(journal, &mut out);
     outcome == Ok(()) && out.get_ref().get_ref().bytes() == EXAMPLE
 }
 
-// No contract sees a flush: a writer of blocks would hold back what it was not told to hand on.
+// No contract sees a flush: a writer with a buffer would hold back what it was not asked to pass on.
 #[test]
 fn a_written_journal_reaches_the_device_behind_a_block(rt: HostRuntime) {
     let blocks = in_blocks(&rt, rt.alloc(), 256, 4096);
@@ -403,7 +402,7 @@ fn whichever_request_is_refused_the_journal_is_read_or_fault_10(rt: HostRuntime)
     assert!(rt; again == Ok(7));
 }
 
-// A reader that always answers want of memory meets its contract; here memory is ample.
+// A reader that always fails for lack of memory meets its contract; here memory is ample.
 #[test]
 fn reader_always_refuses(rt: HostRuntime) {
     let example = read(rt.alloc(), EXAMPLE, 4096, 0);

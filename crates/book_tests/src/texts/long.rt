@@ -7,16 +7,16 @@ use std::io::BufWriter;
 use std::process::Abort;
 use text_io::testing::{Pieces, Spout};
 
-/// How many points the list has: more than any reader would hold by chance, and no power of two.
+/// How many points the list has: more than any reader would buffer by chance, and no power of two.
 const COUNT: u32 = 5000;
 
-// Puts the point (k, -k) behind a text.
+// Appends the point (k, -k) to a text.
 fn push_point(alloc: Global, text: &mut Vec<u8>, k: u32) -> Option<()> {
     let words = format!(in alloc; " {k} {}", 0i64 - i64::from(k)).ok()?;
     text.extend_from_slice(words.as_bytes()).ok()
 }
 
-// Puts a journal with one list of points (k, -k) behind a text.
+// Appends a journal with one list of points (k, -k) to a text.
 fn push_journal(alloc: Global, text: &mut Vec<u8>) -> Option<()> {
     let header = b"hullbook journal 2 first 0 limit 8 capacity 8\n0 0 vertices = list 5000";
     text.extend_from_slice(header).ok()?;
@@ -57,8 +57,8 @@ fn sent(journal: &Journal, device: Spout, text: &[u8]) -> (Result<(), WriteFault
     (outcome, got(&out, text))
 }
 
-// What comes of reading a text in pieces of this size and writing it to a device: whether the list is there, how it
-// went out, and how many calls the reader made.
+// The result of reading a text in pieces of this size and writing it to a device: whether the list is there, how it was written, and how many calls
+// the reader made.
 type Passed = (bool, Result<(), WriteFault>, Got, u64);
 
 fn passed(alloc: Global, text: &[u8], size: usize, device: Spout) -> Result<Passed, TextFault> {
@@ -69,7 +69,7 @@ fn passed(alloc: Global, text: &[u8], size: usize, device: Spout) -> Result<Pass
     Ok((has_list, outcome, got, source.get_ref().calls()))
 }
 
-// The same of a device that takes pieces of another size, where there is memory for it.
+// The same of a device that takes pieces of another size, if there is memory for it.
 fn passed_on(alloc: Global, text: &[u8], size: usize, taken: usize) -> Option<Passed> {
     let device = Spout::new(alloc, text.len(), taken).ok()?;
     passed(alloc, text, size, device).ok()
@@ -85,7 +85,7 @@ fn is_written_back(alloc: Global, text: &[u8], size: usize) -> bool {
     }
 }
 
-// A reader that says that memory was refused for a list of more than 4096 points meets its contract.
+// A reader that fails for lack of memory at a list of more than 4096 points meets its contract.
 #[test]
 fn a_list_of_5000_points_is_read_and_written_back(rt: HostRuntime) {
     let text = long_text(&rt, rt.alloc());
@@ -98,8 +98,7 @@ fn a_list_of_5000_points_is_read_and_written_back(rt: HostRuntime) {
     assert!(rt; are_back == [true; 3]);
 }
 
-// Whether a text is read and goes out behind a block that holds the whole of it, and how often the device is called
-// then.
+// Returns whether a text is read and written through a buffer that has capacity for the whole of it, and how often the device is called then.
 fn calls_behind_a_block(alloc: Global, text: &[u8], blocks: BufWriter<Spout>) -> Option<u64> {
     let Ok(journal) = read_journal(alloc, &mut Counted::new(Pieces::new(text, 1048576))) else {
         return None;
@@ -113,15 +112,15 @@ fn calls_behind_a_block(alloc: Global, text: &[u8], blocks: BufWriter<Spout>) ->
     }
 }
 
-// The same, where there is memory for the block.
+// The same, if there is memory for the block.
 fn calls_of_a_block(alloc: Global, text: &[u8]) -> Option<u64> {
     let device = Spout::new(alloc, text.len(), 1048576).ok()?;
     let blocks = BufWriter::with_capacity(alloc, 65536, device).ok()?;
     calls_behind_a_block(alloc, text, blocks)
 }
 
-// A reader that takes a byte at a call, and a writer that hands on a byte at a call, meet their contracts. A device
-// that is wide enough is read in one call for a block of 65536 bytes, and once more for the end.
+// A reader that takes a byte at a call, and a writer that passes a byte at a call, meet their contracts. A device that is wide enough is read in one
+// call for a block of 65536 bytes, and once more for the end.
 #[test]
 fn a_wide_device_is_called_once_a_piece(rt: HostRuntime) {
     let text = long_text(&rt, rt.alloc());
@@ -132,6 +131,6 @@ fn a_wide_device_is_called_once_a_piece(rt: HostRuntime) {
     assert!(rt; length > 49152 && length < 65536);
     // the header is written in 13 pieces, the line in 11 and its points in 4 each, and the end line in 4
     assert!(rt; passed == Some((true, Ok(()), (true, length, 20028, 0), 2)));
-    // behind a block that holds the whole text the device is called once
+    // through a buffer for the whole text the device is called once
     assert!(rt; in_one == Some(1));
 }

@@ -44,7 +44,7 @@ fn answers(alloc: Global, origin: Point) -> Result<Vec<Vec<Answer>>, AllocError>
     Ok(Vec::from_array(alloc, [first, second])?)
 }
 
-// How a report goes out to a device, where it fits.
+// Returns the result of writing a report to a device, if it fits.
 fn sent(report: &Report<'_>, device: Spout, want: &[u8]) -> Option<(Result<(), WriteFault>, Got)> {
     if report_fits(report) {
         let mut out = Counted::new(device);
@@ -55,7 +55,7 @@ fn sent(report: &Report<'_>, device: Spout, want: &[u8]) -> Option<(Result<(), W
     }
 }
 
-// Whether a report goes out whole in pieces of this size, by how many calls.
+// Returns whether a report is written completely in pieces of this size, by how many calls.
 fn sent_whole(alloc: Global, report: &Report<'_>, size: usize, want: &[u8]) -> Option<u64> {
     let (outcome, got) = sent(report, device(alloc, 512, size, 0, false)?, want)?;
     let (_, _, calls, _) = got;
@@ -66,7 +66,7 @@ fn sent_whole(alloc: Global, report: &Report<'_>, size: usize, want: &[u8]) -> O
     }
 }
 
-// Whether a report goes out whole in pieces of each size.
+// Whether a report is written completely in pieces of each size.
 fn is_sent_whole(alloc: Global, report: &Report<'_>, want: &[u8]) -> bool {
     let mut all = true;
     for size in [1, 2, 3, 4096] {
@@ -91,7 +91,7 @@ fn a_report_tells_answers_ledgers_and_their_sum(rt: HostRuntime) -> Result<(), F
     Ok(())
 }
 
-/// A point that is held twice for a while: the script, its journal and its report.
+/// A point with multiplicity two for a while: the script, its journal and its report.
 const HELD_SCRIPT: &[u8] = b"0 add 3 4\n0 add 3 4\n0 remove 3 4\n";
 
 const HELD_JOURNAL: &[u8] =
@@ -161,8 +161,8 @@ fn is_cut_at(
     Some(outcome == Err(WriteFault) && is_cut(got, call))
 }
 
-// Whether the report of the example goes out whole to a device that takes pieces of this size, and each call which
-// fails cuts it short: the write fault comes each time, and a beginning of the text has gone out.
+// Whether the report of the example is written completely to a device that takes pieces of this size, and each failing call cuts it short: each time
+// with the write fault, after a prefix of the text.
 fn is_cut_short_at_each_call(
     alloc: Global,
     report: &Report<'_>,
@@ -205,7 +205,7 @@ fn each_failing_write_of_the_example_report_leaves_a_beginning(
     Ok(())
 }
 
-// Whether a report fits and goes out whole behind a block.
+// Whether a report fits and is written completely through a buffer.
 fn is_sent_in_blocks(report: &Report<'_>, blocks: BufWriter<Spout>) -> bool {
     if report_fits(report) {
         let mut out = Counted::new(blocks);
@@ -216,7 +216,7 @@ fn is_sent_in_blocks(report: &Report<'_>, blocks: BufWriter<Spout>) -> bool {
     }
 }
 
-// No contract sees a flush: a writer of blocks would hold back what it was not told to hand on.
+// No contract sees a flush: a writer with a buffer would hold back what it was not asked to pass on.
 #[test]
 fn a_written_report_reaches_the_device_behind_a_block(rt: HostRuntime) -> Result<(), Fail> {
     let origin = Point::new(0, 0)?;

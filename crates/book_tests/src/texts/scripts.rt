@@ -6,7 +6,7 @@ use std::alloc::Global;
 use std::test::Fail;
 use text_io::testing::Pieces;
 
-// What a script reads as: its workers, phases and calls, or its fault.
+// The result of reading a script: its workers, phases and calls, or its fault.
 #[derive(Clone, Copy, Debug, PartialEq)]
 enum Outcome {
     Script(u8, usize, usize),
@@ -31,7 +31,7 @@ fn read(alloc: Global, text: &[u8], size: usize, failing: u64) -> Outcome {
     }
 }
 
-// Whether a text reads so in pieces of any size.
+// Whether this is the result of reading a text in pieces of any size.
 fn is_read_so(alloc: Global, text: &[u8], want: Outcome) -> bool {
     for size in [1, 2, 3, 4096] {
         if read(alloc, text, size, 0) != want {

@@ -16,7 +16,7 @@ fn in_version(alloc: Global, version: u8) -> Option<Vec<u8>> {
     Some(text)
 }
 
-// What comes of an upgrade, and what the device got of the text that is wanted.
+// The result of an upgrade, and what the device received of the expected text.
 type Upgraded = (Result<(), UpgradeFault>, Got);
 
 fn upgraded_to(alloc: Global, source: Pieces<'_>, device: Spout, want: &[u8]) -> Upgraded {
@@ -86,13 +86,13 @@ fn a_coordinate_has_the_range_of_its_version(rt: HostRuntime) {
     assert!(rt; is_beyond && is_within);
 }
 
-// What comes of an upgrade of the example in an unknown version.
+// Returns the result of an upgrade of the example in an unknown version.
 fn unknown_upgraded(alloc: Global) -> Option<Upgraded> {
     let unknown = in_version(alloc, b'4')?;
     upgraded(alloc, &unknown, 3, EXAMPLE)
 }
 
-// What comes of an upgrade of the example whose last read fails.
+// Returns the result of an upgrade of the example whose last read fails.
 fn upgraded_to_the_last_read(alloc: Global) -> Option<Upgraded> {
     let out = device(alloc, 256, 1, 0, false)?;
     let source = Pieces::new(EXAMPLE, 1).failing_at(209);

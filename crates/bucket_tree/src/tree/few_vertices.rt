@@ -1,4 +1,4 @@
-//! The vertices of a set, where they are few.
+//! The vertices of a set, if they are few.
 ghost use Rattle.std.specs.Prelude.{◌≤◌, vec_len, IfOk, IfSome, IfNone};
 ghost use Rattle.lattice.specs.Vertices.{IsVertexList};
 ghost use Rattle.hull_questions.specs.Walks.{IsLongerThan};
@@ -13,8 +13,8 @@ use hull_set::NoMemory;
 use lattice::Point;
 
 impl BucketTree {
-    /// The vertices, as [`vertices`](hull_set::HullSet::vertices) lists them, where they are no more than `most`, and nothing
-    /// where they are more: then no more forks are passed than those above `most` edges.
+    /// Returns the vertices, as [`vertices`](hull_set::HullSet::vertices) lists them, if they are at most `most`, otherwise nothing: in that case
+    /// only the forks above `most` edges are visited.
     pub fn vertices_up_to(&self, most: usize) -> Result<Option<Vec<Point, Heap>>, NoMemory>
         ensures vertices { IfOk result (λ found. IfSome found
             (λ v. IsVertexList (points_of_root self.now.root) v.items)) }

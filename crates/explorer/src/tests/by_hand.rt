@@ -1,4 +1,4 @@
-//! Schedules that are written out, with every step by its value.
+//! Schedules that are written out, with the value of every step.
 use super::at;
 use super::choice::{Chance, Listed};
 use super::judge::judge;
@@ -54,8 +54,8 @@ fn two_seats_across_the_wrap(rt: HostRuntime) -> Result<(), Fail> {
     Ok(two_in_turn(&rt, rt.alloc(), 18446744073709551615, 0)?)
 }
 
-/// A book of capacity 1 that is full: the second seat enters and is told so, its hand on is accepted, and the next
-/// number enters. A hundred times.
+/// A book of capacity 1 that is full: the second seat enters and gets that answer, its hand on is accepted, and the next number enters. A hundred
+/// times.
 #[test]
 fn a_full_book_hands_on(rt: HostRuntime) -> Result<(), Fail> {
     for _ in 0..100 {
@@ -64,7 +64,7 @@ fn a_full_book_hands_on(rt: HostRuntime) -> Result<(), Fail> {
     Ok(())
 }
 
-// Once.
+// Does so once.
 fn full_book(rt: &impl Abort, alloc: Global) -> Result<(), AllocError> {
     let zero = Vec::from_array(alloc, [Call::Count, Call::Count])?;
     let one = Vec::from_array(alloc, [Call::Count])?;
@@ -115,7 +115,7 @@ fn sixty_four_players(alloc: Global) -> Result<Game, AllocError> {
     })
 }
 
-/// A lock with 64 seats serves each of 64 numbers in order, a hundred times as chance has it, across the wrap.
+/// A lock with 64 seats serves each of 64 numbers in order, a hundred times with random choices, across the wrap.
 #[test]
 fn sixty_four_seats_are_served(rt: HostRuntime) -> Result<(), Fail> {
     let game = sixty_four_players(rt.alloc())?;

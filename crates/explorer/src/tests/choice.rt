@@ -1,7 +1,7 @@
-//! Who makes the next step: one way after the other, or by chance.
+//! The choice of the player that makes the next step: one way after the other, or at random.
 /// Chooses among the players that can make a step.
 pub(super) trait Choice {
-    /// A number below `width`, which is not 0.
+    /// Returns a number below `width`, which is not 0.
     fn next(&mut self, width: u8) -> u8;
 }
 

@@ -1,4 +1,4 @@
-//! What has to hold of a schedule, whatever it was.
+//! The conditions on every schedule.
 use super::schedule::{Game, Outcome, Seen};
 use hull_book::{Answer, CheckResult, Journal, Line, check};
 use std::alloc::Global;
@@ -46,8 +46,8 @@ fn is_in_order(rt: &impl Abort, game: &Game, seen: &Seen, lines: &[Line]) {
     }
 }
 
-// All but whether the journal is legal: entries in the order of takes, a line for each call in that order, numbered from
-// the first on, each player's answers in its lines, and ledgers that sum to the journal's length.
+// All conditions except that the journal is legal: entries in the order of takes, a line for each call in that order, numbered from the first on,
+// each player's answers in its lines, and ledgers that sum to the journal's length.
 fn judge_schedule(rt: &impl Abort, game: &Game, workers: u8, end: &Outcome) {
     is_in_order(rt, game, &end.seen, end.journal.lines());
     assert_eq!(rt; end.sum, count_calls(game) as u64);
@@ -57,7 +57,7 @@ fn judge_schedule(rt: &impl Abort, game: &Game, workers: u8, end: &Outcome) {
     }
 }
 
-/// All that has to hold of the schedule, with a legal journal.
+/// All conditions on the schedule, with a legal journal.
 pub(super) fn judge(rt: &impl Abort, alloc: Global, game: &Game, workers: u8, end: &Outcome) {
     judge_schedule(rt, game, workers, end);
     assert_eq!(rt; check(alloc, &end.journal), CheckResult::Legal);
@@ -73,7 +73,7 @@ fn have_one_order(lines: &[Line], others: &[Line]) -> bool {
     lines.len() == others.len()
 }
 
-// Whether the lines, of which there are as many, are the same.
+// Whether the lines, of which there are equally many, are the same.
 fn are_the_same(lines: &[Line], others: &[Line]) -> bool {
     for (line, other) in lines.iter().zip(others) {
         if line.number != other.number || line.call != other.call || line.reply != other.reply {
@@ -83,7 +83,7 @@ fn are_the_same(lines: &[Line], others: &[Line]) -> bool {
     true
 }
 
-// The place of the journal that has its lines by the same seats, in the same order; `None` where there is no such one.
+// Returns the index of the journal that has its lines by the same seats, in the same order; `None` if there is none.
 fn place_of(known: &[Journal], lines: &[Line]) -> Option<usize> {
     for (place, journal) in known.iter().enumerate() {
         if have_one_order(journal.lines(), lines) {
@@ -93,8 +93,8 @@ fn place_of(known: &[Journal], lines: &[Line]) -> Option<usize> {
     None
 }
 
-/// The same of one schedule of many of a game. The order of the seats determines the journal, since each call has one reply: so
-/// the first in an order is checked, and joins those that are known, and each later one has to be that one.
+/// The same for one schedule of many of a game. The order of the seats determines the journal, since each call has one reply: so the first in an
+/// order is checked, and joins those that are known, and each later one must be that one.
 pub(super) fn judge_next(
     rt: &impl Abort,
     alloc: Global,

@@ -11,7 +11,7 @@ use hull_tree::HullTree;
 use std::process::Abort;
 use ticket_lock::{Guard, Look, Ticket};
 
-/// What a step was.
+/// The result of a step.
 #[derive(Clone, Copy, PartialEq, Eq, Debug)]
 pub(super) enum Step {
     /// A number was taken.
@@ -24,7 +24,7 @@ pub(super) enum Step {
     HandedOn,
 }
 
-/// A seat of the lock, or its ticket, or its guard, with its ledger and what it was answered.
+/// A seat of the lock, or its ticket, or its guard, with its ledger and its answers.
 pub(super) struct Player<'a> {
     pub(super) number: u8,
     pub(super) seat: Option<BookSeat<HullTree>>,
@@ -46,7 +46,7 @@ fn put<T>(rt: &impl Abort, place: &mut Option<T>, value: T)
     }
 }
 
-// Has the call served and hands the book on.
+// Serves the call and hands the book on.
 fn serve<'a>(
     guard: Guard<'a, Box<Book<HullTree>>>,
     number: u8,
@@ -71,7 +71,7 @@ fn last_of(lines: &[Line]) -> Option<(u64, u8)> {
     }
 }
 
-// The book's turn, and the number and the seat of its last line. The guard comes back as it was.
+// Returns the book's turn, and the number and the seat of its last line. The guard is returned unchanged.
 fn look_in<'a>(
     guard: Guard<'a, Box<Book<HullTree>>>,
 ) -> (Guard<'a, Box<Book<HullTree>>>, u64, Option<(u64, u8)>)

@@ -1,4 +1,4 @@
-//! Locks that are refused: the book comes back as it was.
+//! Locks that are refused: the book is returned unchanged.
 ghost use Rattle.std.specs.Prelude.{◌≡◌, ◌<◌, ◌⊎◌};
 
 use hull_book::{Book, gather};
@@ -8,7 +8,7 @@ use std::process::Abort;
 use std::test::Fail;
 use ticket_lock::{OpenFault, TicketLock};
 
-// No lock has so many seats, and the book that comes back is the one that was passed.
+// No lock has this many seats, and the book that is returned is the one that was passed.
 fn is_refused(rt: &impl Abort, alloc: Global, seats: u8) {
     let Ok((book, ledgers)) = Book::open(alloc, HullTree::new(alloc, 16), 9, 3, 2) else {
         panic!(rt; "there is memory for the book")
@@ -30,8 +30,7 @@ fn is_refused(rt: &impl Abort, alloc: Global, seats: u8) {
     }
 }
 
-/// A lock with no seats and one with 65 is refused for the number of its seats, and the book comes
-/// back: a hundred times.
+/// A lock with no seats and one with 65 is refused for the number of its seats, and the book is returned: a hundred times.
 #[test]
 fn no_seats_and_sixty_five_are_refused(rt: HostRuntime) -> Result<(), Fail> {
     for _ in 0..100 {

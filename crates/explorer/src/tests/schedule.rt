@@ -1,4 +1,4 @@
-//! One schedule, from the opening of the lock to its end, and what came of it.
+//! One schedule, from the opening of the lock to its end, and its result.
 ghost use Rattle.std.specs.Prelude.{◌≡◌, ◌+◌, ◌≤◌, ◌<◌, [], All, box_value, length, vec_len, vec_capacity};
 ghost use Rattle.std.specs.List.{AllZip};
 ghost use Rattle.ticket_lock.specs.Tokens.{seat_count, opening_book, IsSeatOf, AreNumbered, seat_number, seat_seen};
@@ -21,8 +21,7 @@ use ticket_lock::TicketLock;
 /// How many steps a schedule has at most.
 const STEPS: u32 = 4096;
 
-/// What is tried: the calls of each player, the first number, the journal's capacity, and how often looks may
-/// miss.
+/// The game: the calls of each player, the first number, the journal's capacity, and how often looks may miss.
 #[derive(Drop)]
 pub(super) struct Game {
     pub(super) calls: Vec<Vec<Call>>,
@@ -31,7 +30,7 @@ pub(super) struct Game {
     pub(super) misses: u32,
 }
 
-/// What was seen of a schedule.
+/// The observations of a schedule.
 #[derive(Drop)]
 pub(super) struct Seen {
     pub(super) takers: Vec<u8>,
@@ -42,7 +41,7 @@ pub(super) struct Seen {
 }
 
 impl Seen {
-    /// Nothing was seen yet.
+    /// Makes the empty observations.
     fn new(alloc: Global) -> Seen {
         Seen {
             takers: Vec::new(alloc),
@@ -54,7 +53,7 @@ impl Seen {
     }
 }
 
-/// What came of it: each player's answers, the last player's first, the sum of the ledgers, and the journal.
+/// The result: each player's answers, the last player's first, the sum of the ledgers, and the journal.
 #[derive(Drop)]
 pub(super) struct Outcome {
     pub(super) seen: Seen,
@@ -94,7 +93,7 @@ fn can_step(player: &Player, game: &Game, seen: &Seen) -> bool {
     has_call(player, game)
 }
 
-// The players that can make a step, each by the bit of its place: a lock has 64 seats at most.
+// Returns the players that can make a step, each by the bit of its index: a lock has at most 64 seats.
 fn able_players(players: &[Player], game: &Game, seen: &Seen) -> u64 {
     let mut able = 0u64;
     let mut bit = 1u64;
@@ -107,7 +106,7 @@ fn able_players(players: &[Player], game: &Game, seen: &Seen) -> u64 {
     able
 }
 
-// The place of the set bit that has so many set bits before it.
+// Returns the index of the set bit that has this many set bits before it.
 fn nth_bit(bits: u64, before: u8) -> Option<usize> {
     let mut left = bits;
     for _ in 0..before {
@@ -120,14 +119,14 @@ fn nth_bit(bits: u64, before: u8) -> Option<usize> {
     }
 }
 
-// Notes a number behind those that were noted.
+// Notes a number after those that were noted.
 fn note(rt: &impl Abort, numbers: &mut Vec<u8>, number: u8) {
     let Ok(()) = numbers.push(number) else {
         panic!(rt; "there is memory for the notes")
     };
 }
 
-// The player's next step, which is what is expected of it.
+// Makes the player's next step, and tests that it is the expected one.
 fn expected_step<'a>(
     rt: &impl Abort,
     lock: &'a BookLock<HullTree>,
@@ -197,7 +196,7 @@ fn play<'a, C: Choice>(
     }
 }
 
-// A player with each seat and its ledger, the last seat's player first.
+// Makes a player with each seat and its ledger, the last seat's player first.
 fn hire(
     rt: &impl Abort,
     alloc: Global,
@@ -236,7 +235,7 @@ fn hire(
     }
 }
 
-// Takes the players apart, the last first: their seats, their ledgers and their answers.
+// Separates the players, the last first, into their seats, their ledgers and their answers.
 fn dismiss(
     rt: &impl Abort,
     lock: &BookLock<HullTree>,
@@ -283,7 +282,7 @@ fn dismiss(
     }
 }
 
-// A book of the leaf tree for so many players, on the heap, and its ledgers.
+// Opens a book of the leaf tree for this many players, on the heap, with its ledgers.
 fn opened(
     rt: &impl Abort,
     alloc: Global,
@@ -306,7 +305,7 @@ fn opened(
     (book, ledgers)
 }
 
-/// Plays the game once, as the choice goes, over a book of the leaf tree.
+/// Plays the game once, with these choices, over a book of the leaf tree.
 pub(super) fn play_once<C: Choice>(
     rt: &impl Abort,
     alloc: Global,

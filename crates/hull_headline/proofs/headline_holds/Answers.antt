@@ -1,4 +1,4 @@
--- the headline of books over any set, at this one, whose soundness says what it stores
+-- the headline of books over any set, for this one, whose soundness describes what it stores
 use Rattle.std.proofs.Common.{refl}
 use Rattle.hull_headline.proofs.Good.{bridges_of}
 use Rattle.hull_headline.specs.Headline.{StoresBridgesOf, kept}

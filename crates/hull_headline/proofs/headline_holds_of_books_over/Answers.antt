@@ -1,4 +1,4 @@
--- the law of the lock leads to a good world, which says each sentence
+-- the law of the lock leads to a good world, which implies each sentence
 use Rattle.hull_book.specs.Kinds.{kept}
 use Rattle.hull_headline.proofs.Good.{first_come, one_holder, bridges, multiplicities, legal, in_order, ledgers}
 use Rattle.hull_headline.proofs.headline_holds_of_books_over.Goals as goal

@@ -1,4 +1,4 @@
-//! Eight threads on a book that one of them drains; the parts together are judged by the checker of parts.
+//! Eight threads on a book that one of them drains; the checker of segments judges all segments.
 ghost use Rattle.std.specs.Prelude.{◌≡◌, ◌+◌, ◌<◌, ◌≤◌, [], All, box_value, length, vec_len, vec_capacity};
 ghost use Rattle.std.specs.List.{AllZip};
 ghost use Rattle.ticket_lock.specs.Tokens.{AreNumbered, IsSeatOf, opening_book, seat_count, seat_number, seat_seen};
@@ -30,13 +30,13 @@ const MEMBERS: u8 = 8;
 
 const CALLS: u32 = 20_000;
 
-/// Member 0 drains with each of its calls that has so many, itself counted, since the last drain.
+/// Member 0 drains with each call that is the 10,000th since the last drain, itself counted.
 const EVERY: u32 = 10_000;
 
-/// How many lines are held at most: too few for all calls, and enough for those up to the first drain and since.
+/// The maximal number of lines that the book has at once: too few for all calls, and enough for those up to the first drain and between drains.
 const CAPACITY: u32 = 150_000;
 
-/// What a thread has: a seat, its ledger, the parts that it took out, and how many calls were refused.
+/// The state of a thread: a seat, its ledger, the segments that it took out, and how many calls were refused.
 pub(super) struct Member {
     number: u8,
     seat: Option<LongSeat<PlainSet>>,
@@ -57,7 +57,7 @@ fn nth_call(rt: &impl Abort, number: u8, i: u32) -> Call {
     }
 }
 
-// Makes the member's call, after which this becomes of the lines that are held, and returns its answer.
+// Makes the member's call, treats the book's lines as `then` says, and returns its answer.
 pub(super) fn answered<R: Wait>(
     rt: &R,
     lock: &LongLock<PlainSet>,
@@ -77,7 +77,7 @@ pub(super) fn answered<R: Wait>(
     answer
 }
 
-// The same by one look at the lock, whose next number has to be served.
+// Does the same with one look at the lock, whose next number must be served.
 pub(super) fn answered_by_look(
     rt: &impl Abort,
     lock: &LongLock<PlainSet>,
@@ -97,7 +97,7 @@ pub(super) fn answered_by_look(
     answer
 }
 
-// Has a seat's call served, for which it takes a number and looks once.
+// Serves a call of a seat, which takes a number and looks once.
 fn look_and_serve<B: Journalled>(
     rt: &impl Abort,
     lock: &TicketLock<Box<B>>,
@@ -117,14 +117,14 @@ fn look_and_serve<B: Journalled>(
     }
 }
 
-// Adds the part, if lines were taken out.
+// Adds the segment, if lines were taken out.
 fn add_part(rt: &impl Abort, parts: &mut Vec<Journal>, part: Option<Journal>) {
     if let Some(part) = part {
         assert!(rt; parts.push(part).is_ok());
     }
 }
 
-// Makes the member's call, after which this becomes of the lines that are held; it keeps the part.
+// Makes the member's call, treats the book's lines as `then` says, and keeps the segment.
 fn calls<R: Wait + Abort>(
     rt: &R,
     lock: &LongLock<PlainSet>,
@@ -142,7 +142,7 @@ fn calls<R: Wait + Abort>(
     }
 }
 
-// Makes the member's call and takes out all lines that are held.
+// Makes the member's call and takes out all lines of the book.
 fn drains<R: Wait + Abort>(
     rt: &R,
     alloc: Global,
@@ -197,7 +197,7 @@ fn work_each<R: Threads + Wait + Abort + Sync>(
     thread::for_each_mut(rt, members, threads, &each);
 }
 
-// The same of a list of them.
+// Does the same with a list of them.
 fn work_all<R: Threads + Wait + Abort + Sync>(
     rt: &R,
     alloc: Global,
@@ -250,14 +250,14 @@ pub(super) fn hire(
     }
 }
 
-// Keeps the parts of the member that took some out.
+// Keeps the segments of the member that took some out.
 fn keep(parts: &mut Vec<Journal>, own: Vec<Journal>) {
     if !own.is_empty() {
         drop(std::mem::replace(parts, own));
     }
 }
 
-// Takes the members apart, the last first: their seats, their ledgers, and the parts that they took out.
+// Separates the members, the last first, into their seats, their ledgers, and the segments that they took out.
 pub(super) fn dismiss(
     rt: &impl Abort,
     lock: &LongLock<PlainSet>,
@@ -292,7 +292,7 @@ pub(super) fn dismiss(
     }
 }
 
-// All members make their calls on one book: the parts of its journal in their order, and how many calls have a line.
+// All members make their calls on one book. Returns the segments of its journal in their order, and how many calls have a line.
 fn all_share<R: Threads + Wait + Abort + Sync>(rt: &R, alloc: Global) -> (Vec<Journal>, u64) {
     let (book, mut ledgers) = opened(rt, alloc, 18446744073709551600, CAPACITY, MEMBERS);
     let Ok(book) = LongBook::new(book) else {
@@ -324,7 +324,7 @@ fn all_share<R: Threads + Wait + Abort + Sync>(rt: &R, alloc: Global) -> (Vec<Jo
     (parts, sum)
 }
 
-// The parts of these places, checked in this order: how many lines they have, or which of them is not right, and why.
+// Checks the segments with these indices, in this order. Returns how many lines they have, or which of them is not right, and why.
 fn checked(
     alloc: Global,
     parts: &[Journal],
@@ -347,9 +347,9 @@ fn checked(
     Ok(lines)
 }
 
-/// Eight threads make 20,000 calls each on a book that holds 150,000 lines at most, and one of them drains it with
-/// every 10,000th of its calls: no call is refused, each has its line, the parts together are a legal history, and a
-/// part that is missing, doubled or exchanged is illegal at its first line.
+/// Eight threads make 20,000 calls each on a book that has at most 150,000 lines at once, and one of them drains it with every 10,000th of its calls:
+/// no call is refused, each has its line, the segments together are a legal history, and a segment that is missing, doubled or exchanged is illegal
+/// at its first line.
 #[test]
 fn eight_threads_and_one_drains(rt: HostRuntime) -> Result<(), Fail> {
     let (parts, sum) = all_share(&rt, rt.alloc());

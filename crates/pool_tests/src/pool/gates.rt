@@ -1,4 +1,4 @@
-//! Gates by which two workers look for one another, and wait for one another.
+//! Gates by which two workers test for each other, and wait for each other.
 ghost use Rattle.std.specs.Prelude.{◌≡◌, IfOk, length};
 
 use super::scripts::one_phase;
@@ -10,7 +10,7 @@ use std::sync::atomic::{AtomicBool, AtomicU64, Ordering};
 use std::test::Fail;
 use std::thread;
 
-/// How often the two workers look for one another.
+/// How often the two workers test for each other.
 const RACES: u32 = 100;
 
 /// How often a worker looks for the other's flag.
@@ -25,7 +25,7 @@ struct Flags {
     one_met: AtomicBool,
 }
 
-// Raises the own flag and looks for the other.
+// Raises its own flag and looks for the other.
 fn meet(own: &AtomicBool, other: &AtomicBool, met: &AtomicBool) {
     own.store(true, Ordering::SeqCst);
     for _ in 0..LOOKS {
@@ -100,8 +100,8 @@ fn two_counts(alloc: Global) -> Result<Script, AllocError>
     one_phase(alloc, 2, &[(0, Call::Count), (1, Call::Count)])
 }
 
-/// `run_phase` has both workers at work at once, 100 times: each sees the other's flag before its call. A body that
-/// runs the workers one after another ends with a flag that was not seen, and fails here.
+/// `run_phase` runs both workers at once, 100 times: each sees the other's flag before its call. A body that runs the workers one after another ends
+/// with a flag that was not seen, and fails here.
 #[test]
 fn two_flags_by_run_phase(rt: HostRuntime) -> Result<(), Fail> {
     let script = two_counts(rt.alloc())?;
@@ -127,9 +127,8 @@ fn two_flags_by_run_phases(rt: HostRuntime) -> Result<(), Fail> {
     Ok(())
 }
 
-/// The gate stands round each call: a worker that waits at it until the other's call has ended is the second in the
-/// journal, whichever of them it is, 20 times each. A body that opens the gate before a call too late, or after it too
-/// soon, fails here.
+/// The gate is around each call: a worker that waits at it until the other's call has ended is the second in the journal, whichever of them it is, 20
+/// times each. A body that opens the gate before a call too late, or after it too soon, fails here.
 #[test]
 fn gate_round_each_call(rt: HostRuntime) -> Result<(), Fail> {
     let script = two_counts(rt.alloc())?;
@@ -151,7 +150,7 @@ fn gate_round_each_call(rt: HostRuntime) -> Result<(), Fail> {
     Ok(())
 }
 
-/// A gate at which so many workers wait for one another before their calls.
+/// A gate at which this many workers wait for one another before their calls.
 #[derive(Drop)]
 pub(super) struct Meeting {
     size: u64,
@@ -189,8 +188,7 @@ impl Gate for Meeting {
     fn after_call(&self, _worker: u8, _index: u32) {}
 }
 
-/// All workers are at work at once: eight of them wait at the gate until all have come. A body that runs fewer at a
-/// time fails here.
+/// All workers run at once: eight of them wait at the gate until all have come. A body that runs fewer at a time fails here.
 #[test]
 fn eight_workers_meet(rt: HostRuntime) -> Result<(), Fail> {
     let mut calls = [(0, Call::Count); 8];
@@ -204,8 +202,8 @@ fn eight_workers_meet(rt: HostRuntime) -> Result<(), Fail> {
     Ok(())
 }
 
-/// How often the gate was told of each of three workers that make three calls in each phase, and whether it was ever
-/// told of another call than the next one.
+/// How often the gate was called for each of three workers that make three calls in each phase, and whether it was ever called for another call than
+/// the next one.
 #[derive(Drop)]
 struct Told {
     zero: AtomicU64,
@@ -248,8 +246,7 @@ impl Gate for Told {
     }
 }
 
-/// The gate is told of each worker's calls in their order, counted from 0 in each phase: that it begins, and that it
-/// has ended.
+/// The gate is called for each worker's calls in their order, counted from 0 in each phase: when a call begins, and when it has ended.
 #[test]
 fn gate_told_of_each_call(rt: HostRuntime) -> Result<(), Fail> {
     let script = three_at_once(&rt, rt.alloc())?;

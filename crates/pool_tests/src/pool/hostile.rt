@@ -27,7 +27,7 @@ fn on_parabola(rt: &impl Abort, k: u8) -> Point {
     at(rt, x, x.wrapping_mul(x))
 }
 
-// 64 workers put a point of a parabola each into the set, and then the first asks for what came of it.
+// 64 workers add a point of a parabola each, and then the first asks questions about the result.
 fn sixty_four_points(rt: &impl Abort, alloc: Global) -> Result<Script, AllocError> {
     let mut adds = [(0, Call::Count); 64];
     for k in 0..64u8 {
@@ -46,7 +46,7 @@ fn is_parabola(rt: &impl Abort, points: &[Point]) -> bool {
     right
 }
 
-// Whether the first of 64 workers was answered of that parabola, by values worked out by hand.
+// Whether the first of 64 workers got the answers for that parabola, by values worked out by hand.
 fn told_of_parabola(rt: &impl Abort, answers: &[Vec<Answer>]) -> bool {
     let [zero, ..] = answers else { return false };
     match zero.as_slice() {
@@ -59,7 +59,7 @@ fn told_of_parabola(rt: &impl Abort, answers: &[Vec<Answer>]) -> bool {
     }
 }
 
-// Whether all lines behind the 64th are the first worker's.
+// Whether all lines after the 64th are the first worker's.
 fn asks_last(lines: &[Line]) -> bool {
     let mut all = true;
     for (k, line) in lines.iter().enumerate() {
@@ -68,8 +68,8 @@ fn asks_last(lines: &[Line]) -> bool {
     all
 }
 
-/// 64 workers race to put a point of a parabola each into the set, 100 times: each time all 64 are its corners, the
-/// doubled area is 83328, and the numbers run on without a gap.
+/// 64 workers race to add a point of a parabola each, 100 times: each time all 64 are its vertices, the doubled area is 83328, and the numbers go up
+/// without a gap.
 #[test]
 fn sixty_four_workers_on_a_parabola(rt: HostRuntime) -> Result<(), Fail> {
     let script = sixty_four_points(&rt, rt.alloc())?;
@@ -85,8 +85,7 @@ fn sixty_four_workers_on_a_parabola(rt: HostRuntime) -> Result<(), Fail> {
     Ok(())
 }
 
-/// All 64 workers of a phase are at work at once: they wait at the gate until all have come. A body that runs fewer at
-/// a time fails here.
+/// All 64 workers of a phase run at once: they wait at the gate until all have come. A body that runs fewer at a time fails here.
 #[test]
 fn sixty_four_workers_meet(rt: HostRuntime) -> Result<(), Fail> {
     let mut calls = [(0, Call::Count); 64];
@@ -100,7 +99,7 @@ fn sixty_four_workers_meet(rt: HostRuntime) -> Result<(), Fail> {
     Ok(())
 }
 
-/// One of two workers looks at its gate for the flag that the other raises behind its call.
+/// One of two workers looks at its gate for the flag that the other raises after its call.
 #[derive(Drop)]
 struct Flag {
     looker: u8,
@@ -148,8 +147,8 @@ fn added_and_counted(lines: &[Line], p: Point) -> bool {
     added && matches!(count.reply, Reply::PointCount(1)) && count.call == Call::Count
 }
 
-// Runs the script once, in which the looker counts behind the other's call: whether the looker saw the flag and the
-// point was added and then counted, the sum of the ledgers, and the numbers and seats of the two lines.
+// Runs the script once, in which the looker counts after the other's call. Returns whether the looker saw the flag and the point was added and then
+// counted, the sum of the ledgers, and the numbers and seats of the two lines.
 fn looks_once<R: Threads + Wait + Abort + Sync>(
     rt: &R,
     alloc: Global,
@@ -170,8 +169,8 @@ fn looks_once<R: Threads + Wait + Abort + Sync>(
     (seen, end.sum, marks)
 }
 
-/// Two flags: a worker whose gate looks for the flag that the other raises behind its call sees it, whichever of the
-/// two it is, 100 times each. A body that runs the workers one after another fails one of the two.
+/// Two flags: a worker whose gate looks for the flag that the other raises after its call sees it, whichever of the two it is, 100 times each. A body
+/// that runs the workers one after another fails one of the two.
 #[test]
 fn workers_one_after_another(rt: HostRuntime) -> Result<(), Fail> {
     let p = at(&rt, 5, 5);
@@ -191,7 +190,7 @@ fn workers_one_after_another(rt: HostRuntime) -> Result<(), Fail> {
 /// How many calls the long list has.
 const MANY: u32 = 70_000;
 
-/// How many calls the gate was told of, and whether it was ever told of another than the next one.
+/// How many calls the gate was called for, and whether it was ever called for another than the next one.
 #[derive(Drop)]
 struct Count {
     told: AtomicU64,
@@ -238,7 +237,7 @@ fn filled(answers: &[Vec<Answer>]) -> Option<(usize, bool)> {
     ))
 }
 
-/// The gate is told of every call of a list of 70000, each by its own index: a count in 16 bits fails here.
+/// The gate is called for every call of a list of 70000, each by its own index: a count in 16 bits fails here.
 #[test]
 fn gate_told_of_seventy_thousand_calls(rt: HostRuntime) -> Result<(), Fail> {
     let script = long_list(rt.alloc())?;

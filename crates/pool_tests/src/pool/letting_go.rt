@@ -1,4 +1,4 @@
-//! Two seats on a book whose lines are let go, which has room for one and is never full; and the whole flow of two seats.
+//! Two seats on a book whose lines are discarded, which has storage for one and is never full; and the whole flow of two seats.
 ghost use Rattle.std.specs.Prelude.{◌≡◌, ◌+◌, ◌<◌, [], All, vec_len, vec_capacity};
 ghost use Rattle.ticket_lock.specs.Tokens.{IsSeatOf, opening_book, seat_seen};
 ghost use Rattle.hull_book.specs.Kinds.{drained};
@@ -32,7 +32,7 @@ fn listed(
     answers
 }
 
-// Three calls of two members: the first adds a point, the second counts, and the first, which looks once, removes the point.
+// Makes three calls of two members: the first adds a point, the second counts, and the first, which looks once, removes the point.
 fn three_calls<R: Wait + Abort>(
     rt: &R,
     alloc: Global,
@@ -52,7 +52,7 @@ fn three_calls<R: Wait + Abort>(
     listed(rt, alloc, added, counted, removed)
 }
 
-// The answers of three calls of two seats, what is held then as a part, and how many have their line.
+// Returns the answers of three calls of two seats, the lines that the book has then as a segment, and how many calls have their line.
 fn all_let_go<R: Wait + Abort>(rt: &R, alloc: Global) -> (Vec<LongAnswer>, Journal, u64) {
     let (book, mut ledgers) = opened(rt, alloc, 7, 1, 2);
     let Ok(book) = LongBook::new(book) else {
@@ -138,7 +138,7 @@ fn last_member(
     hull_pool::Member { seat, ledger }
 }
 
-// What two seats took out of a book, how many lines its journal has, and how many it holds at the end.
+// Returns what two seats took out of a book, how many lines its journal has, and how many the book has at the end.
 fn both_share<R: Wait + Abort>(rt: &R, alloc: Global) -> (Option<Journal>, u64, usize) {
     let (book, mut ledgers) = opened(rt, alloc, 7, 4, 2);
     let Ok(book) = LongBook::new(book) else {

@@ -31,7 +31,7 @@ impl Calls {
         }
     }
 
-    // How many calls were begun, and how many have ended.
+    // Returns how many calls were begun, and how many have ended.
     fn counts(&self) -> (u64, u64) {
         let begun = self.begun.load(Ordering::SeqCst);
         (begun, self.ended.load(Ordering::SeqCst))
@@ -48,7 +48,7 @@ impl Gate for Calls {
     }
 }
 
-// The script of three corners. Where memory is refused, the second attempt has it.
+// Returns the script of three vertices. If memory is refused, the second attempt returns it.
 fn corners(rt: &impl Abort, alloc: Global) -> Result<Script, AllocError> {
     match three_corners(rt, alloc) {
         Ok(script) => Ok(script),
@@ -56,8 +56,7 @@ fn corners(rt: &impl Abort, alloc: Global) -> Result<Script, AllocError> {
     }
 }
 
-// Runs the phase. Where it is refused, the book has no line more and its turn is the same, no call was begun, and the
-// phase runs at the second attempt.
+// Runs the phase. If it is refused, the book has no line more and its turn is the same, no call was begun, and the phase runs at the second attempt.
 fn runs_again<R: Threads + Wait + Abort + Sync>(
     rt: &R,
     alloc: Global,
@@ -113,13 +112,12 @@ fn runs_first<R: Threads + Wait + Abort + Sync>(
     }
 }
 
-// Whether the journal is legal. Where the checker is refused memory, the second attempt has it.
+// Whether the journal is legal. If the checker is refused memory, the second attempt checks it.
 fn is_legal(alloc: Global, journal: &Journal) -> bool {
     check(alloc, journal) == CheckResult::Legal || check(alloc, journal) == CheckResult::Legal
 }
 
-/// A phase that is refused memory answers `NoMemory`: nothing of it ran, its book has no line more, and serves the
-/// phase at the second attempt.
+/// A phase that is refused memory fails with `NoMemory`: nothing of it ran, its book has no line more, and serves the phase at the second attempt.
 #[test]
 fn refused_phase(rt: HostRuntime) -> Result<(), Fail> {
     let script = corners(&rt, rt.alloc())?;
@@ -132,7 +130,7 @@ fn refused_phase(rt: HostRuntime) -> Result<(), Fail> {
     Ok(())
 }
 
-// The seat counts the points once more. How many lines the journal has then.
+// The seat counts the points once more. Returns how many lines the journal has then.
 fn count_on(rt: &impl Abort, book: &mut Book<PlainSet>, ledgers: &mut Vec<Ledger>) -> u64
     requires lawful { IsLawful plain_set book.old }
     requires ledgers { AreLedgers book.old ledgers.old.items }

@@ -1,4 +1,4 @@
-//! Scripts from tables of which worker makes which call: one table a phase, proved once for all tests.
+//! Scripts from tables of calls with their workers: one table for each phase, proved once for all tests.
 ghost use Rattle.std.specs.Prelude.{◌≡◌, ◌≤◌, ◌*◌, IfOk, length};
 ghost use Rattle.hull_book.specs.Scripts.{calls_in};
 
@@ -19,7 +19,7 @@ fn calls_of(alloc: Global, worker: u8, table: &[(u8, Call)]) -> Result<Vec<Call>
     Ok(own)
 }
 
-// A phase of so many workers, each of which makes its calls of the table.
+// Makes a phase of this many workers, each of which makes its calls of the table.
 fn phase_of(alloc: Global, workers: u8, table: &[(u8, Call)]) -> Result<Phase, AllocError>
     requires few { length table.now ≤ 64 }
     ensures { IfOk result (λ p. (length p ≡ workers) × (calls_in p ≤ 64 * workers)) }

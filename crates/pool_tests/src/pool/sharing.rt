@@ -1,4 +1,4 @@
-//! A book shared by two threads of one's own, from its opening to its end.
+//! A book shared by two threads of a program, from its opening to its end.
 ghost use Rattle.std.specs.Prelude.{◌≡◌, ◌+◌, ◌<◌, ◌≤◌, [], All, IsSome, IfSome, box_value, vec_len, vec_capacity};
 ghost use Rattle.ticket_lock.specs.Tokens.{seat_count, opening_book, IsSeatOf, seat_number, seat_seen};
 ghost use Rattle.hull_book.specs.Ledgers.{IsLedgerOf};
@@ -19,7 +19,7 @@ use std::thread;
 use std::thread::Threads;
 use ticket_lock::TicketLock;
 
-/// What a thread has: a seat, its ledger, and what it was answered.
+/// The state of a thread: a seat, its ledger, and the answer that it got.
 struct Caller {
     number: u8,
     seat: Option<BookSeat<PlainSet>>,
@@ -116,8 +116,8 @@ fn is_reply(answer: &Option<Answer>, reply: &Reply) -> bool {
     }
 }
 
-// Two threads make a call each on a book that they share: whether the point was added, whether none was counted and
-// whether one was, how many calls have their line, and the journal.
+// Two threads make a call each on a book that they share. Returns whether the point was added, whether none was counted and whether one was, how many
+// calls have their line, and the journal.
 fn two_share<R: Threads + Wait + Abort + Sync>(
     rt: &R,
     alloc: Global,

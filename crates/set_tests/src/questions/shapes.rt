@@ -90,7 +90,7 @@ impl Half for Small {
     ghost turned_fits = { λ p i. tt };
 }
 
-/// One half alone, or two with the bridges between them.
+/// A single half, or two with the bridges between them.
 #[derive(Copy)]
 pub struct Joined<A: Half> {
     left: A,
@@ -108,7 +108,7 @@ impl<A: Half> Clone for Joined<A> {
     }
 }
 
-/// A half alone.
+/// Makes a single half.
 fn alone<A: Half>(left: A) -> Joined<A>
     ensures { ⟦<Joined<A> as Half>⟧.tree result ≡ A.tree left }
 {
@@ -121,8 +121,8 @@ fn alone<A: Half>(left: A) -> Joined<A>
     }
 }
 
-/// Two halves with the bridges between them, or nothing where the left one does not end before the right one begins, or
-/// one is as high as a half may be.
+/// Returns two halves with the bridges between them, or nothing if the left one does not end before the right one begins, or one has the greatest
+/// height already.
 fn join<A: Half>(left: A, right: A) -> Option<Joined<A>>
     ensures { IfSome result
         (λ h. size_of (⟦<Joined<A> as Half>⟧.tree h) ≡ size_of (A.tree left) + size_of (A.tree right)) }
@@ -213,7 +213,7 @@ pub type Eight = Joined<Four>;
 /// Up to sixteen points.
 pub type Sixteen = Joined<Eight>;
 
-/// Small points, or nothing where the first does not stand before the second.
+/// Returns small points, or nothing if the first is not before the second.
 fn pair(left: Point, right: Point) -> Option<Small>
     ensures { IfSome result (λ h. size_of (⟦<Small as Half>⟧.tree h) ≤ 2) }
 {

@@ -9,7 +9,7 @@ use std::alloc::{AllocError, Global};
 use std::process::Abort;
 use std::test::Fail;
 
-/// Puts the points below a node, each with how often it is held, behind others, from left to right.
+/// Appends the points below a node, each with its multiplicity, from left to right.
 fn push_points(points: &mut Vec<(Point, u32)>, node: &Node) -> Result<(), AllocError> {
     if let Some((left, right)) = node.halves() {
         push_points(points, left)?;
@@ -21,7 +21,7 @@ fn push_points(points: &mut Vec<(Point, u32)>, node: &Node) -> Result<(), AllocE
     Ok(())
 }
 
-/// Whether these points are in order, and each of them is held as often by both.
+/// Whether these points are in order, and each of them has the same multiplicity in both.
 fn are_held_alike(points: &[(Point, u32)], tree: &HullTree, plain: &PlainSet) -> bool {
     for i in 0..points.len() {
         let (point, times) = points[i];
@@ -35,7 +35,7 @@ fn are_held_alike(points: &[(Point, u32)], tree: &HullTree, plain: &PlainSet) ->
     true
 }
 
-/// Whether all points of the tree are points of the plain set, in order and held as often, and no other is.
+/// Whether all points of the tree are points of the plain set, in order and with the same multiplicity, and no other is.
 fn has_same_points(alloc: Global, tree: &HullTree, plain: &PlainSet) -> Result<bool, AllocError> {
     let mut points = Vec::new(alloc);
     if let Some(root) = tree.root() {
@@ -65,12 +65,12 @@ fn has_same_hull(tree: &HullTree, plain: &PlainSet) -> bool {
     listed.is_ok() && listed == plain.vertices() && same && has_same_extremes(tree, plain)
 }
 
-/// Whether both see a point alike: where it lies, and its tangents.
+/// Whether a point has the same location and tangents in both.
 fn has_same_sight(tree: &HullTree, plain: &PlainSet, q: Point) -> bool {
     tree.place(q) == plain.place(q) && tree.tangents(q) == plain.tangents(q)
 }
 
-/// Makes a change on both. Whether they answer alike, and hold the point as often afterwards.
+/// Makes a change on both. Returns whether they answer alike, and the point has the same multiplicity in both afterwards.
 fn change(tree: &mut HullTree, plain: &mut PlainSet, p: Point, adds: bool) -> bool {
     let alike = if adds {
         tree.add(p) == plain.add(p)
@@ -86,7 +86,7 @@ fn change_near(rt: &impl Abort, tree: &mut HullTree, plain: &mut PlainSet, numbe
     change(tree, plain, p, number / 49 % 2 == 0)
 }
 
-/// Makes 300 changes on both. Whether they answer alike, and hold the same points after each.
+/// Makes 300 changes on both. Returns whether they answer alike, and have the same points after each.
 fn changes_alike(
     rt: &impl Abort,
     alloc: Global,
@@ -113,7 +113,7 @@ fn random_changes(rt: HostRuntime) -> Result<(), Fail> {
     Ok(())
 }
 
-/// Whether both see all points of a square of 9 by 9 alike.
+/// Whether all points of a square of 9 by 9 have the same location and tangents in both.
 fn has_same_sights(rt: &impl Abort, tree: &HullTree, plain: &PlainSet) -> bool {
     let mut alike = true;
     for x in -4i64..5 {
@@ -124,7 +124,7 @@ fn has_same_sights(rt: &impl Abort, tree: &HullTree, plain: &PlainSet) -> bool {
     alike
 }
 
-/// Makes 300 changes on both. Whether they answer alike, also to all questions after each ten.
+/// Makes 300 changes on both. Returns whether they answer alike, also to all questions after each ten.
 fn answers_alike(rt: &impl Abort, tree: &mut HullTree, plain: &mut PlainSet) -> bool {
     let mut numbers = Numbers::new();
     let mut alike = true;
@@ -147,8 +147,8 @@ fn same_answers(rt: HostRuntime) {
     assert!(rt; alike);
 }
 
-/// Makes so many changes on both at points of a grid of 201 by 201 that lie so far apart, half of them at the point of
-/// the change before. Which one they first answered differently, if any.
+/// Makes `changes` changes on both at points of a grid of 201 by 201 with this mesh, half of them at the point of the change before. Returns the
+/// first one that they answered differently, if any.
 fn first_difference(
     rt: &impl Abort,
     tree: &mut HullTree,
@@ -180,7 +180,7 @@ fn first_difference(
     None
 }
 
-/// Makes so many changes so on a tree and a plain set, which answer alike and hold the same points at the end.
+/// Makes `changes` such changes on a tree and a plain set, which answer alike and have the same points at the end.
 fn change_on_grid(rt: &impl Abort, alloc: Global, apart: i64, steps: u32) -> Result<(), Fail> {
     let mut tree = HullTree::new(alloc, POINT_LIMIT);
     let mut plain = PlainSet::new(alloc, POINT_LIMIT);

@@ -1,4 +1,4 @@
-//! Both trees and the plain set under the same changes, among them many points in line and many that are held twice.
+//! Both trees and the plain set under the same changes, among them many collinear points and many with multiplicity two.
 use super::at;
 use super::extends::are_entries;
 use crate::numbers::{Numbers, centred};
@@ -39,7 +39,7 @@ impl Sets {
         Ok(())
     }
 
-    /// Whether what both trees hold is what the plain set holds.
+    /// Whether both trees have the entries of the plain set.
     pub(super) fn has_same_entries(&self) -> Result<bool, NoMemory> {
         let searching = are_entries(&self.searching.entries()?, &self.plain);
         Ok(are_entries(&self.bucketed.entries()?, &self.plain) && searching)
@@ -57,7 +57,7 @@ impl Sets {
         alike && self.bucketed.multiplicity(p) == self.plain.multiplicity(p)
     }
 
-    /// Whether all three have the same corners.
+    /// Whether all three have the same vertices.
     fn has_same_corners(&self) -> bool {
         let corners = self.plain.vertices();
         corners.is_ok()
@@ -65,7 +65,7 @@ impl Sets {
             && self.searching.vertices() == corners
     }
 
-    /// Whether what `q` sees is alike, and the farthest point in this direction.
+    /// Whether `q` has the same location and tangents in all, and the farthest point in this direction is the same.
     fn has_same_sight(&self, q: Point, d: Direction) -> bool {
         let (bucketed, plain) = (&self.bucketed, &self.plain);
         bucketed.place(q) == plain.place(q)
@@ -73,7 +73,7 @@ impl Sets {
             && bucketed.extreme(d) == plain.extreme(d)
     }
 
-    /// Whether the corners, the area and what `q` sees are alike.
+    /// Whether the vertices, the area, and the location and tangents of `q` are alike.
     pub(super) fn are_alike(&self, q: Point, d: Direction) -> bool {
         let area = self.plain.area2();
         let areas = self.bucketed.area2() == area && self.searching.area2() == area;
@@ -82,7 +82,7 @@ impl Sets {
     }
 }
 
-/// A square grid with so many lines, as far apart.
+/// A square grid with this number of lines and this mesh.
 #[derive(Clone, Copy)]
 struct Grid {
     lines: u32,
@@ -99,8 +99,8 @@ impl Grid {
     }
 }
 
-/// Makes so many changes at points of a grid, and compares at every so many and at the end. Which one was first
-/// answered differently, if any.
+/// Makes `changes` changes at points of a grid, and compares at regular intervals and at the end. Returns the first change whose answers differed, if
+/// any.
 fn first_difference(
     rt: &impl Abort,
     sets: &mut Sets,
@@ -127,7 +127,7 @@ fn first_difference(
     }
 }
 
-/// All three answer so many changes alike.
+/// All three answer this many changes alike.
 fn change_on_grid(
     rt: &impl Abort,
     alloc: Global,

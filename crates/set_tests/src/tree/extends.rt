@@ -1,4 +1,4 @@
-//! Points that are added many at a time, beside a plain set to which they are added one by one.
+//! Points that are added many at a time, compared with a plain set to which they are added one by one.
 use super::both::Sets;
 use super::{add_again, at};
 use crate::numbers::{Numbers, centred};
@@ -12,7 +12,7 @@ use std::alloc::{AllocError, Global};
 use std::process::Abort;
 use std::test::Fail;
 
-/// So many points of a square grid with so many lines, some of them more than once.
+/// Returns points of a square grid with this number of lines, some of them more than once.
 fn drawn(
     rt: &impl Abort,
     alloc: Global,
@@ -29,7 +29,7 @@ fn drawn(
     Ok(points)
 }
 
-/// Whether the entries are the points of the plain set in order, each held as often.
+/// Whether the entries are the points of the plain set in order, each with the same multiplicity.
 pub(super) fn are_entries(entries: &[(Point, u32)], plain: &PlainSet) -> bool {
     for i in 0..entries.len() {
         let (point, times) = entries[i];
@@ -40,7 +40,7 @@ pub(super) fn are_entries(entries: &[(Point, u32)], plain: &PlainSet) -> bool {
     entries.len() == plain.count() as usize
 }
 
-/// Extends all three sets so many times, by fewer points than `most`. Whether they are alike each time.
+/// Extends all three sets this many times, by fewer points than `most`. Returns whether they are alike each time.
 fn extends_alike(
     rt: &impl Abort,
     alloc: Global,
@@ -85,7 +85,7 @@ fn extended_on_a_grid(rt: HostRuntime) -> Result<(), Fail> {
     extend_on_grid(&rt, rt.alloc(), 31, 100, 40)
 }
 
-/// A tree of the points (0, 0), (1, 1), (2, 4) and so on, with room for no other.
+/// Returns a tree of the points (0, 0), (1, 1), (2, 4) and so on, with capacity for no other.
 fn full_tree(rt: &impl Abort, alloc: Global, count: u32) -> Result<BucketTree, LoadFault> {
     let mut points = Vec::new(alloc);
     for k in 0..count {
@@ -97,7 +97,7 @@ fn full_tree(rt: &impl Abort, alloc: Global, count: u32) -> Result<BucketTree, L
     BucketTree::from_points(alloc, count.clamp(1, POINT_LIMIT), &points)
 }
 
-/// Whether an extension by these points is refused, and leaves what the tree holds.
+/// Whether an extension by these points is refused, and leaves the tree unchanged.
 fn is_refused(tree: &mut BucketTree, points: &[Point]) -> Result<bool, NoMemory> {
     let before = tree.entries()?;
     let fault = tree.extend(points).err();
@@ -105,7 +105,7 @@ fn is_refused(tree: &mut BucketTree, points: &[Point]) -> Result<bool, NoMemory>
     Ok(fault == Some(LoadFault::TooMany) && after.as_slice() == before.as_slice())
 }
 
-/// Whether a full tree refuses a new point, and takes two that it holds.
+/// Whether a full tree refuses a new point, and takes two that it contains already.
 fn takes_held_points(rt: &impl Abort, tree: &mut BucketTree) -> Result<bool, Fail> {
     let (origin, held, new) = (at(rt, 0, 0), at(rt, 1, 1), at(rt, -1, 7));
     let refused = is_refused(tree, &[held, new])?;
@@ -113,7 +113,7 @@ fn takes_held_points(rt: &impl Abort, tree: &mut BucketTree) -> Result<bool, Fai
     Ok(refused && tree.multiplicity(held) == 2 && tree.add(new) == AddReply::TooMany)
 }
 
-/// Of 40 points two are added one by one, of 2 points the tree is built anew; either way a fault leaves what was held.
+/// If there are 40 points, two are added one by one; if there are 2, the tree is built anew. Either way an error leaves the set unchanged.
 #[test]
 fn extended_past_the_limit(rt: HostRuntime) -> Result<(), Fail> {
     for count in [40u32, 2] {
@@ -125,7 +125,7 @@ fn extended_past_the_limit(rt: HostRuntime) -> Result<(), Fail> {
     Ok(())
 }
 
-/// A point so often.
+/// Returns a point this many times.
 fn repeated(alloc: Global, point: Point, times: u32) -> Result<Vec<Point>, AllocError> {
     let mut points = Vec::new(alloc);
     for _ in 0..times {
@@ -134,7 +134,7 @@ fn repeated(alloc: Global, point: Point, times: u32) -> Result<Vec<Point>, Alloc
     Ok(points)
 }
 
-/// Whether a tree takes a point that it holds as often as may be, and not once more after another point.
+/// Whether a point of a tree can be added up to its greatest multiplicity, and not once more after another point.
 fn takes_the_most(rt: &impl Abort, alloc: Global, tree: &mut BucketTree) -> Result<bool, Fail> {
     let (origin, other) = (at(rt, 0, 0), at(rt, 1, 1));
     tree.extend(&repeated(alloc, origin, MULTIPLICITY_LIMIT - 1)?)?;
@@ -153,8 +153,7 @@ fn once_more_than_a_point_may_be_held_after_others(rt: HostRuntime) -> Result<()
     Ok(())
 }
 
-/// Extends a tree; where memory is refused, it is extended at the second attempt. Whether it held what it held
-/// before that.
+/// Extends a tree; if memory is refused, it is extended at the second attempt. Returns whether it was unchanged before that.
 fn extend_again(tree: &mut HullTree, points: &[Point]) -> Result<bool, Fail> {
     let before = match tree.entries() {
         Ok(entries) => entries,
@@ -168,7 +167,7 @@ fn extend_again(tree: &mut HullTree, points: &[Point]) -> Result<bool, Fail> {
     Ok(fault == LoadFault::NoMemory && after.as_slice() == before.as_slice())
 }
 
-/// Whether the points (0, -1) to (59, -1) are added; where memory is refused, at the second attempt.
+/// Whether the points (0, -1) to (59, -1) are added; if memory is refused, at the second attempt.
 fn adds_a_row(rt: &impl Abort, tree: &mut HullTree) -> bool {
     let mut all = true;
     for k in 0i64..60 {
@@ -177,8 +176,8 @@ fn adds_a_row(rt: &impl Abort, tree: &mut HullTree) -> bool {
     all
 }
 
-/// Extends a tree by four points and by two, one of them held, adds 60 points, and extends it by three. Whether each
-/// refusal left what was held.
+/// Extends a tree by four points and by two, one of them already in the set, adds 60 points, and extends it by three. Returns whether each refusal
+/// left the set unchanged.
 fn extend_three_times(rt: &impl Abort, tree: &mut HullTree) -> Result<bool, Fail> {
     let (apex, twice) = (at(rt, 2, 3), at(rt, 9, 2));
     let four = [apex, at(rt, 0, 0), at(rt, 4, 0), at(rt, 2, 1)];
@@ -209,7 +208,7 @@ fn refused_extension(rt: HostRuntime) -> Result<(), Fail> {
     Ok(())
 }
 
-/// Extends an empty tree by nothing, by a point, and by nothing. Whether it was empty before the point.
+/// Extends an empty tree by nothing, by a point, and by nothing. Returns whether it was empty before the point.
 fn extend_by_one(tree: &mut HullTree, p: Point) -> Result<bool, LoadFault> {
     tree.extend(&[])?;
     let is_empty = tree.root().is_none();

@@ -9,7 +9,7 @@ use std::alloc::{AllocError, Global};
 use std::process::Abort;
 use std::test::Fail;
 
-/// Whether these are the vertices of a tree, where there is memory for them.
+/// Whether these are the vertices of a tree, if there is memory for them.
 fn has_vertices(tree: &BucketTree, corners: &[Point]) -> bool {
     match tree.vertices() {
         Ok(vertices) => vertices.as_slice() == corners,
@@ -52,7 +52,7 @@ fn one_point_more_than_the_limit(rt: HostRuntime) -> Result<(), Fail> {
     Ok(())
 }
 
-/// A point so often.
+/// Returns a point this many times.
 fn repeated(alloc: Global, point: Point, times: u32) -> Result<Vec<Point>, AllocError> {
     let mut points = Vec::new(alloc);
     for _ in 0..times {
@@ -102,7 +102,7 @@ fn whole_grid(rt: &impl Abort, alloc: Global) -> Result<Vec<Point>, AllocError> 
     Ok(points)
 }
 
-/// Where a full set has one point inside, and another on its boundary, and which it has farthest to the right and up.
+/// Returns the location of one point inside a full set and of one on its boundary, and the set's farthest points to the right and up.
 fn seen_of(
     rt: &impl Abort,
     tree: &BucketTree,
@@ -112,8 +112,8 @@ fn seen_of(
     (tree.place(inner), tree.place(below), tree.extreme(outwards))
 }
 
-/// A full set is loaded in an order that is not sorted, asked, and changed at its corners. As many points as the greatest limit
-/// allows are loaded by tests/embed.
+/// A full set is loaded in an order that is not sorted, asked, and changed at its vertices. As many points as the greatest limit allows are loaded by
+/// tests/embed.
 #[test]
 fn as_many_points_as_there_may_be(rt: HostRuntime) -> Result<(), Fail> {
     let (first, last) = (at(&rt, 0, 0), at(&rt, 63, 63));

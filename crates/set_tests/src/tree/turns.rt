@@ -1,4 +1,4 @@
-//! How many turns changes take, how deep the farthest point lies, and how many halves a search asks for.
+//! The turns of changes, the depth of the farthest point, and the number of halves that a search reads.
 ghost use Rattle.std.specs.Prelude.{◌≡◌};
 ghost use Rattle.lattice.specs.Plane as plane;
 ghost use Rattle.lattice.specs.Plane.{IsWithin, widest_side};
@@ -16,7 +16,7 @@ use std::test::Fail;
 /// Four points in no line.
 const CORNERS: [(i64, i64); 4] = [(0, 0), (1, 5), (2, 1), (3, 7)];
 
-/// The corner of this number.
+/// The vertex of this number.
 fn corner(rt: &impl Abort, number: usize) -> Point {
     match CORNERS.get(number) {
         Some((x, y)) => at(rt, *x, *y),
@@ -35,14 +35,14 @@ fn tree_of(rt: &impl Abort, alloc: Global, order: &[usize]) -> HullTree {
     tree
 }
 
-/// Whether a point that a tree holds once takes so many turns to be taken, and none to be held twice before.
+/// Whether a point of multiplicity one takes this many turns to be removed, and none to be added and removed a second time before.
 fn is_removed_by(tree: &mut HullTree, p: Point, turns: u32) -> bool {
     let again = tree.add_counted(p) == (AddReply::Again(2), 0);
     let left = tree.remove_counted(p) == (RemoveReply::Left(1), 0);
     tree.remove_counted(p) == (RemoveReply::Removed, turns) && again && left
 }
 
-/// Whether taking each of these points from the tree of all of them takes so many turns.
+/// Whether removing each of these points from the tree of all of them takes this many turns.
 fn are_removed_by(rt: &impl Abort, alloc: Global, order: &[usize], turns: u32) -> bool {
     let mut all = true;
     for i in order {
@@ -122,7 +122,7 @@ fn orders_after(rt: &impl Abort, alloc: Global, first: usize, second: usize) -> 
     all
 }
 
-/// A body of `remove_counted` that always tells no turns fails at four points.
+/// A body of `remove_counted` that always returns no turns fails at four points.
 #[test]
 fn turns_in_every_order(rt: HostRuntime) {
     for first in 0usize..4 {
@@ -258,7 +258,7 @@ impl<'a, H: Half> Half for Watched<'a, H> {
     ghost turned_fits = { H.turned_fits };
 }
 
-/// The upper bridge and its turns, where the one half ends before the other begins.
+/// The upper bridge and its turns, if the one half ends before the other begins.
 fn upper_found<H: Half>(u: H, w: H) -> Option<Counted> {
     if before(u.last(), w.first()) {
         Some(upper_bridge_counted(u, w))
@@ -267,7 +267,7 @@ fn upper_found<H: Half>(u: H, w: H) -> Option<Counted> {
     }
 }
 
-/// Both bridges and their turns, where the one half ends before the other begins.
+/// Both bridges and their turns, if the one half ends before the other begins.
 pub(crate) fn both_found<H: Half>(u: H, w: H) -> Option<(Counted, Counted)> {
     if before(u.last(), w.first()) {
         Some(both_bridges(u, w))
@@ -290,8 +290,8 @@ fn evenly_halved(rt: &impl Abort, alloc: Global, from: u32) -> HullTree {
     tree
 }
 
-/// The heights of two trees, the upper bridge of both and how often it asked for a half, and both bridges with how often
-/// they did; nothing where they are not in order.
+/// The heights of two trees, the upper bridge of both and how often its search read a half, and both bridges with these numbers; nothing if they are
+/// not in order.
 type Found = ((u32, u32), (Counted, u32), ((Counted, Counted), u32));
 
 fn found_between(left: &HullTree, right: &HullTree) -> Option<Found> {

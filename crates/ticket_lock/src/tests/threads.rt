@@ -23,7 +23,7 @@ struct Worker {
     signed: u64,
 }
 
-// Waits until so many numbers are taken, this one among them.
+// Waits until `crowd` numbers are taken, this one among them.
 fn wait_for_crowd<R: Wait>(rt: &R, lock: &TicketLock<Roll>, number: u64, crowd: u64) {
     for _ in rt.forever() {
         if lock.board.shared.peek(0).wrapping_sub(number) >= crowd {
@@ -33,7 +33,7 @@ fn wait_for_crowd<R: Wait>(rt: &R, lock: &TicketLock<Roll>, number: u64, crowd: 
     }
 }
 
-// Waits for the roll, signs it, and hands it on. Who has a number that 64 divides first waits for a crowd behind it.
+// Waits for the roll, signs it, and hands it on. A worker whose number is a multiple of 64 first waits until a crowd has taken numbers after it.
 fn work<R: Wait>(rt: &R, lock: &TicketLock<Roll>, worker: &mut Worker, crowd: u64)
     requires some { IsSome worker.old.seat × (worker.old.signed < 2 ^ 32) }
     requires own { IfSome worker.old.seat
@@ -59,7 +59,7 @@ fn work<R: Wait>(rt: &R, lock: &TicketLock<Roll>, worker: &mut Worker, crowd: u6
     let None = none else { unreachable!() };
 }
 
-// Each worker works once, in so many threads. In each round before it has signed once at most.
+// Each worker works once, in as many threads. In each round before it has signed at most once.
 fn all_work<R: Threads + Wait + Sync>(
     rt: &R,
     lock: &TicketLock<Roll>,
@@ -86,14 +86,14 @@ fn all_work<R: Threads + Wait + Sync>(
     );
 }
 
-/// What is left of a worker whose seat went back.
+/// The rest of a worker whose seat was returned.
 #[derive(Drop)]
 struct Tally {
     number: u8,
     signed: u64,
 }
 
-// The seats of workers that have done, and their tallies.
+// The seats of workers that are done, and their tallies.
 fn part(
     lock: &TicketLock<Roll>,
     mut workers: Vec<Worker>,
@@ -155,8 +155,7 @@ fn hire(lock: &TicketLock<Roll>, mut seats: Vec<Seat<Roll>>, workers: &mut Vec<W
     seats.destroy_empty();
 }
 
-// A lock with so many seats, whose workers sign once in each round. The roll, after what each has signed was compared
-// with it.
+// Opens a lock with this many seats, whose workers sign once in each round. Returns the roll, after comparing it with what each worker has signed.
 fn all_sign<R: Threads + Wait + Abort + Sync>(
     rt: &R,
     alloc: Global,
@@ -216,8 +215,8 @@ fn workers_sign_in_threads(rt: HostRuntime) -> Result<(), Fail> {
     Ok(())
 }
 
-// In each round the first to enter waits until all 64 numbers are out: all but a few of the others go to sleep, and
-// each is woken by who hands on before it. A wake-up that is lost leaves its worker asleep, and the test never ends.
+// In each round the first to enter waits until all 64 numbers are out: all but a few of the others go to sleep, and each is woken by the seat that
+// hands on before it. If a wake-up is lost, its worker stays asleep, and the test never ends.
 #[test]
 fn sixty_four_workers_sleep_and_wake(rt: HostRuntime) -> Result<(), Fail> {
     let first = u64::MAX - 63;
@@ -226,7 +225,7 @@ fn sixty_four_workers_sleep_and_wake(rt: HostRuntime) -> Result<(), Fail> {
     Ok(())
 }
 
-// Takes a number and looks once, where nothing may wait.
+// Takes a number and looks once, on runtimes that may not wait.
 fn take_and_look<'a, R: Threads>(
     rt: &R,
     lock: &'a TicketLock<Roll>,

@@ -1,4 +1,4 @@
--- a point is looked for where it would stand
+-- a point is searched in the half in which it would be
 use Rattle.std.proofs.Common.{true, false, ◌≡◌, ◌+◌, max, ◌∙◌, ap, subst, sym, arith, get_or, Ok, Err}
 use Rattle.lattice.specs.Plane.{IsBefore}
 use Rattle.hull_buckets.specs.Buckets.{BucketValue, IsBucket}

@@ -1,4 +1,4 @@
--- the point comes to one of two parts in a row, or goes from it
+-- the point is added to one of two subtrees in a row, or removed from it
 use Rattle.std.proofs.Common.{◌∙◌, true, false, refl, sym, arith}
 use Rattle.bucket_tree.proofs.Gained.{passed, failed}
 use Rattle.bucket_tree.proofs.InPlace.{changed_with, fork_at, leaf_changed, leaf_same, part_at, same_below, to_renew}

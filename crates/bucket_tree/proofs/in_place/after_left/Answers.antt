@@ -1,4 +1,4 @@
--- the fork's edges are as they were, and it keeps the points at its parting
+-- the fork's edges are as they were, and it keeps the points at its split
 use Rattle.std.proofs.Common.{refl}
 use Rattle.bucket_tree.proofs.Kept.{behind_as, same_edges}
 use Rattle.bucket_tree.proofs.in_place.after_left.Goals as goal

@@ -1,4 +1,4 @@
--- the point comes to one of two parts in a row
+-- the point is added to one of two subtrees in a row
 use Rattle.std.proofs.Common.{◌∙◌, true, false, ap, subst, sym, arith, List, length, length-append}
 use Rattle.std.specs.List.{Contains}
 use Rattle.std.proofs.lemmas.List.Elements.{Contains-append_right}
@@ -70,7 +70,7 @@ returns-then-before-clause-closed t c = λ r.
     (among_with true c.take_apart-left.result.0 c.take_apart-left.result.1 c.insert-change.result.node)
     (c.insert-change.ensures.closed r) c.balance-above.ensures.closes)
 
--- the change below and the fork above it take so many turns together
+-- the change below and the fork above it take this many turns together
 pub overflow_add-result : goal.overflow_add-result
 overflow_add-result t c =
     let e = c.take_apart-left.ensures.height in
@@ -170,7 +170,7 @@ returns-else-before-clause-closed t c = λ r.
     (among_with false c.take_apart-left.result.0 c.take_apart-left.result.1 c.insert-change-else-before.result.node)
     (c.insert-change-else-before.ensures.closed r) c.balance-above-else-before.ensures.closes)
 
--- the change below and the fork above it take so many turns together
+-- the change below and the fork above it take this many turns together
 pub overflow_add-result-else-before : goal.overflow_add-result-else-before
 overflow_add-result-else-before t c =
     let e = c.take_apart-left.ensures.height in

@@ -1,4 +1,4 @@
--- the parts of a bucket, of which one took the point in, stand in a row
+-- the parts of a bucket, of which one took the point in, are in a row
 use Rattle.std.proofs.Common.{◌++◌, ◌∙◌, ap, refl, subst, sym}
 use Rattle.lattice.specs.Covers.{IsPointSet}
 use Rattle.hull_geometry.proofs.SetLaws.{ordered_with}

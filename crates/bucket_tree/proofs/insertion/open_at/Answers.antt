@@ -1,4 +1,4 @@
--- on each side the bucket tells
+-- on each side, by the vertices of the bucket
 use Rattle.std.proofs.Common.{subst}
 use Rattle.lattice.specs.declared.side.Side.TheVariants.{Lower, Upper}
 use Rattle.hull_buckets.specs.Buckets.{IsCovered}

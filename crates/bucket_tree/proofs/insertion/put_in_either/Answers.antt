@@ -1,4 +1,4 @@
--- the point comes to one of two buckets in a row
+-- the point is added to one of two buckets in a row
 use Rattle.std.proofs.Common.{◌∙◌, ◌++◌, ap, subst, sym, arith, true, false}
 use Rattle.std.proofs.lemmas.List.Elements.{Contains-append_right}
 use Rattle.lattice.specs.Plane.{IsBefore}

@@ -1,4 +1,4 @@
--- the parts of a row stand in a row
+-- the parts of a row are in a row
 use Rattle.std.proofs.Common.{◌∙◌, sym}
 use Rattle.bucket_tree.specs.Nodes.{points_below}
 use Rattle.bucket_tree.proofs.NodeRows.{in_row, front, back, with_front, regrouped}

@@ -1,4 +1,4 @@
--- the corners of the one stand before those of the other
+-- the vertices of the one are before those of the other
 use Rattle.std.proofs.Common.{ap, arith, subst, sym}
 use Rattle.lattice.specs.Bridges.{IsAllBefore}
 use Rattle.bridge_search.specs.Trees.{On, height_of}

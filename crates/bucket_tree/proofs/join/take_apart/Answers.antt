@@ -1,4 +1,4 @@
--- the halves of a fork stand in a row
+-- the halves of a fork are in a row
 use Rattle.std.proofs.Common.{◌∙◌, ap, sym, subst}
 use Rattle.bucket_tree.specs.Nodes.{AreInRow}
 use Rattle.bucket_tree.proofs.Kept.{stored_apart}

@@ -1,4 +1,4 @@
--- there is room for both parts, whose entries in a row are those of the fork
+-- there is capacity for both subtrees, whose concatenated entries are those of the fork
 use Rattle.std.proofs.Common.{◌∙◌, sym, ap, arith, length, length-append, append_assoc, ◌++◌, List, ℕ}
 use Rattle.lattice.specs.Plane.{Pair}
 use Rattle.bucket_tree.specs.Lists.{entries_below}

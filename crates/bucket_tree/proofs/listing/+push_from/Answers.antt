@@ -1,4 +1,4 @@
--- the left part's behind what was there, or none of it, and then the right part's
+-- the left part's after what was there, or none of it, and then the right part's
 use Rattle.std.proofs.Common.{◌≤◌, ◌∙◌, refl, ap, arith, length, take, ◌++◌, List, ℕ, subst, vec_len, vec_capacity}
 use Rattle.std.proofs.lemmas.List.{length-take}
 use Rattle.lattice.specs.Plane.{Pair, IsBefore}

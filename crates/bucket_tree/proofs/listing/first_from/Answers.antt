@@ -1,4 +1,4 @@
--- what stands from the start's place on, or from where it would stand
+-- what is from the start's index on, or from the index at which it would be
 use Rattle.bucket_tree.proofs.ListedParts.{from_position, from_gap}
 use Rattle.bucket_tree.proofs.listing.first_from.Goals as goal
 

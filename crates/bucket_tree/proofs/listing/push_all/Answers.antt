@@ -1,4 +1,4 @@
--- one more point, with the number beside it
+-- one more point, with its number
 use Rattle.std.proofs.Common.{◌∙◌, arith}
 use Rattle.bucket_tree.proofs.Listed.{paired_more}
 use Rattle.bucket_tree.proofs.listing.push_all.Goals as goal

@@ -1,4 +1,4 @@
--- the points so far are behind what was there
+-- the points so far are after what was there
 use Rattle.std.proofs.Common.{◌≡◌, ◌+◌, ◌++◌, take, vec_len, vec_capacity}
 use Rattle.bucket_tree.specs.Lists.{paired}
 use Rattle.bucket_tree.proofs.listing.push_all.Given as goal

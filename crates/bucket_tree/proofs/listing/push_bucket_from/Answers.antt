@@ -1,4 +1,4 @@
--- those from the start's place on, as many as there is room for
+-- those from the start's index on, as many as there is capacity for
 use Rattle.std.proofs.Common.{◌∙◌, sym, ap, arith, length, take, drop, ◌++◌, List, ℕ}
 use Rattle.lattice.specs.Plane.{Pair}
 use Rattle.bucket_tree.specs.Lists.{paired}

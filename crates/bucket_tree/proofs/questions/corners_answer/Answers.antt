@@ -1,4 +1,4 @@
--- the corners are a fringe on both sides
+-- the vertices are a candidate list on both sides
 use Rattle.bucket_tree.proofs.NodeFringes.{node_answers}
 use Rattle.bucket_tree.proofs.questions.corners_answer.Goals as goal
 

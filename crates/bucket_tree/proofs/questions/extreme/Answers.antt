@@ -1,4 +1,4 @@
--- the first of the farthest corners is the first of the farthest points
+-- the first of the farthest vertices is the first of the farthest points
 use Rattle.std.proofs.Common.{subst}
 use Rattle.bridge_search.specs.Leaves.{points_of}
 use Rattle.hull_geometry.specs.Tangents.{IsFirstFarthest}

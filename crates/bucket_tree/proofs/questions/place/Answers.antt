@@ -1,4 +1,4 @@
--- the corners cover what the points cover
+-- the vertices cover what the points cover
 use Rattle.std.proofs.Common.{subst}
 use Rattle.bridge_search.specs.Leaves.{points_of}
 use Rattle.hull_set.specs.Replies.{LiesAt}

@@ -1,4 +1,4 @@
--- the tangents touch the corners where they touch the points
+-- the tangents touch the vertices at the points where they touch the points
 use Rattle.std.proofs.Common.{subst}
 use Rattle.bridge_search.specs.Leaves.{points_of}
 use Rattle.hull_set.specs.Replies.{AnswersTangents, reply_to_tangents}

@@ -1,4 +1,4 @@
--- a point is looked for where it stands
+-- a point is searched in the half in which it is
 use Rattle.std.proofs.Common.{true, false, ◌≡◌, ◌+◌, max, ap, subst, sym, arith, refl}
 use Rattle.lattice.specs.Plane.{IsBefore}
 use Rattle.hull_buckets.specs.Buckets.{BucketValue}

@@ -1,4 +1,4 @@
--- the count at the place of the point is another
+-- the count at the index of the point is another
 use Rattle.std.proofs.Common.{subst, arith}
 use Rattle.hull_geometry.specs.Positions.{IsPositionOf}
 use Rattle.bucket_tree.proofs.Lost.{count_none}

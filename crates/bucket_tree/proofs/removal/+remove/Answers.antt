@@ -1,4 +1,4 @@
--- the point goes from one of two parts in a row
+-- the point is removed from one of two subtrees in a row
 use Rattle.std.proofs.Common.{◌∙◌, true, false, ap, subst, arith, List, length, length-append, sym}
 use Rattle.std.specs.Prelude.{IfSome}
 use Rattle.lattice.specs.Plane.{Pair}
@@ -111,7 +111,7 @@ returns-in-Some-clause-closed t c =
     (among_with true c.take_apart-left.result.0 c.take_apart-left.result.1 c.in-Some.rest) closed
     c.settle-above.ensures.closes)
 
--- the change below and the fork above it take so many turns together
+-- the change below and the fork above it take this many turns together
 pub overflow_add-result : goal.overflow_add-result
 overflow_add-result t c =
     let e = c.take_apart-left.ensures.height in
@@ -247,7 +247,7 @@ returns-in-Some-rest-clause-closed t c =
     (among_with false c.take_apart-left.result.0 c.take_apart-left.result.1 c.in-Some-rest.rest) closed
     c.settle-above-else-before.ensures.closes)
 
--- the change below and the fork above it take so many turns together
+-- the change below and the fork above it take this many turns together
 pub overflow_add-result-else-before : goal.overflow_add-result-else-before
 overflow_add-result-else-before t c =
     let e = c.take_apart-left.ensures.height in

@@ -1,4 +1,4 @@
--- all points of the one bucket stand before those of the other, and the fork's edges are asked before they are merged
+-- all points of the one bucket are before those of the other, and the fork's edges are compared before they are merged
 use Rattle.std.proofs.Common.{◌≡◌, ◌⊎◌, ◌∙◌, ap, false, refl, subst, sym}
 use Rattle.std.specs.List.{Contains}
 use Rattle.hull_geometry.specs.Monotone.{IsInwards}

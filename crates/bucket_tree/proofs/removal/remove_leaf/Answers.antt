@@ -1,4 +1,4 @@
--- a point held once counts once
+-- a point of multiplicity one counts once
 use Rattle.std.proofs.Common.{◌+◌, ◌∙◌, length, ap, refl, subst, sym, arith, Ok, Err}
 use Rattle.lattice.specs.Covers.{without_point}
 use Rattle.hull_geometry.specs.Positions.{IsPositionOf, origin, point_at}

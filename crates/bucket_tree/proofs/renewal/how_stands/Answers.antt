@@ -1,4 +1,4 @@
--- what the tests told
+-- the results of the tests
 use Rattle.hull_geometry.proofs.Fringed.{strictly_inner}
 use Rattle.leaf_trees.proofs.Counting.{other_point}
 use Rattle.bucket_tree.proofs.Gained.{passed}

@@ -1,4 +1,4 @@
--- with its parts in it the fork is behind as it was, and then renewed
+-- with its subtrees in it the fork is stale as it was, and then renewed
 use Rattle.std.proofs.Common.{true, false, ◌≡◌, ◌∙◌, ap, subst, sym, arith}
 use Rattle.bucket_tree.specs.Changes.{IsBehind}
 use Rattle.bucket_tree.specs.Nodes.{forks_above}

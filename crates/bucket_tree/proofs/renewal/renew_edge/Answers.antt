@@ -1,4 +1,4 @@
--- an edge of a side that is closed is the bridge of all points, and so that of the corners
+-- an edge of a side that is closed is the bridge of all points, and so that of the vertices
 use Rattle.bucket_tree.specs.Changes.{edge_on}
 use Rattle.bucket_tree.proofs.Kept.{of_corners}
 use Rattle.bucket_tree.proofs.renewal.renew_edge.Goals as goal

@@ -1,4 +1,4 @@
--- an edge that stands is the bridge of all points, and so that of the corners
+-- an edge that stays valid is the bridge of all points, and so that of the vertices
 use Rattle.std.proofs.Common.{subst}
 use Rattle.lattice.specs.Plane.{Pair}
 use Rattle.hull_geometry.specs.Monotone.{IsInwards}

@@ -1,4 +1,4 @@
--- a tree's own invariant says that it is sound
+-- a tree's own invariant implies that it is sound
 use Rattle.std.proofs.Common.{ap, subst}
 use Rattle.bucket_tree.specs.Sets.{LimitedTree, IsSound}
 use Rattle.bucket_tree.proofs.Rooted.{sound}

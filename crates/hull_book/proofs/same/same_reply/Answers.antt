@@ -1,4 +1,4 @@
--- the derived test of two replies tells whether they are one
+-- the derived test of two replies returns whether they are one
 use Rattle.std.proofs.Common.{◌≡◌, ◌∙◌, ap, arith, refl, subst, sym, true}
 use Rattle.std.specs.Bool.{Decides}
 use Rattle.std.specs.Cmp.Lexicographic.{pointwise_decides}
@@ -12,7 +12,7 @@ use Rattle.hull_set.specs.declared.reply.Reply.{Reply}
 use Rattle.hull_set.specs.declared.reply.Reply.TheVariants.{TangentPoints, VertexList}
 use Rattle.hull_book.proofs.same.same_reply.Goals as goal
 
--- two points are told apart
+-- the test distinguishes two points
 same_pair : (p q : Pair) → Decides (is_same_pair p q) (p ≡ q)
 same_pair p q = (told_same p q, λ e. subst (λ z. is_same_pair p z ≡ true) e (same_true p))
 

@@ -1,4 +1,4 @@
--- the bridges of the corners are those of all points, of which they are a fringe
+-- the bridges of the vertices are those of all points, since the vertices are a candidate list
 use Rattle.std.proofs.Common.{◌≡◌, subst}
 use Rattle.std.specs.List.{Contains}
 use Rattle.lattice.specs.Bridges.{IsAllBefore, IsBridge}
@@ -12,7 +12,7 @@ use Rattle.hull_buckets.specs.Runs.{tree_of_run, all_of}
 use Rattle.hull_buckets.proofs.RunBridges.{corners_among, corners_fringe}
 use Rattle.hull_buckets.proofs.bridges.bridges_of.Goals as goal
 
--- the corners of two buckets stand in their order
+-- the vertices of two buckets are in their order
 in_order : (a b : BucketValue) (u w : Tree) → IsBucket a → IsBucket b → u ≡ tree_of_run a (all_of a)
     → w ≡ tree_of_run b (all_of b) → IsAllBefore (Contains a.points) (Contains b.points) → IsAllBefore (On u) (On w)
 in_order a b u w k h e f o p q i j =

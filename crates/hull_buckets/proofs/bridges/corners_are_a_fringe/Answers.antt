@@ -1,4 +1,4 @@
--- each chain is a fringe, and its corners are among those of both
+-- each chain is a candidate list, and its vertices are among those of both
 use Rattle.hull_buckets.proofs.RunBridges.{corners_fringe}
 use Rattle.hull_buckets.proofs.bridges.corners_are_a_fringe.Goals as goal
 

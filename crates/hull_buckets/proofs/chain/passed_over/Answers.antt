@@ -1,4 +1,4 @@
--- each step takes the lowest place that is left
+-- each step takes the lowest index that is left
 use Rattle.std.proofs.Common.{length, arith}
 use Rattle.hull_buckets.specs.Masks.{at_places}
 use Rattle.hull_buckets.proofs.Steps.{step, place_within, kept_before, rest_apart, next_within, none_left, passed_on}

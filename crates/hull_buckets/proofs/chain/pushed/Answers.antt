@@ -1,4 +1,4 @@
--- corners at which the chain does not bend go, and what is left of it bends
+-- vertices at which the chain does not bend are removed, and what is left of it bends
 use Rattle.std.proofs.Common.{◌≡◌, ◌<◌, ◌+◌, ◌-◌, ◌^◌, ◌++◌, ◌∷◌, [], List, ℕ, length, take, arith, sym, ap, subst, ◌∙◌}
 use Rattle.std.proofs.Common.{refl}
 use Rattle.lattice.specs.Covers.{IsPointSet}
@@ -11,7 +11,7 @@ use Rattle.hull_buckets.proofs.Ends.{thinned_twice, thinned_by}
 use Rattle.hull_buckets.proofs.Places.{set_at, pushed}
 use Rattle.hull_buckets.proofs.chain.pushed.Goals as goal
 
--- points at the places of a mask and one behind them are a set
+-- points at the indices of a mask and one after them are a set
 set_with : (S : List Pair) (mask k : ℕ) → IsPointSet S → mask < 2 ^ k → k < length S
     → IsPointSet (at_places mask S ++ point_at S k ∷ [])
 set_with S mask k s b l = subst IsPointSet (pushed S mask k b l) (set_at (mask + 2 ^ k) S s)

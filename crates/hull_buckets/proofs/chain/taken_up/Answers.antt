@@ -1,5 +1,4 @@
--- each step takes the lowest place that is left; where its corner stays behind the one before it, the others bend on
--- there
+-- each step takes the lowest index that is left; if its vertex stays after the one before it, the others bend on there
 use Rattle.std.proofs.Common.{◌≡◌, ℕ, ◌+◌, ◌-◌, ◌*◌, ◌^◌, ◌<◌, ◌≤◌, ◌++◌, ◌∷◌, [], List, length, arith, sym, ap}
 use Rattle.std.proofs.Common.{subst, ◌∙◌}
 use Rattle.std.proofs.Common.{suc}

@@ -1,5 +1,5 @@
--- what a pass leaves of the chain so far and the corners that are left, it leaves of all of them; behind the first step
--- the chain's last corner is the one before those that are left, at which these bend on
+-- what a pass leaves of the chain so far and the vertices that are left, it leaves of all of them; after the first step the chain's last vertex is
+-- the one before those that are left, at which these bend on
 use Rattle.std.proofs.Common.{◌≡◌, ℕ, ◌<◌, ◌^◌, ◌++◌, ◌∷◌, [], List, false}
 use Rattle.lattice.specs.Plane.{Pair}
 use Rattle.hull_geometry.specs.Monotone.{IsConvex, IsPassed}

@@ -1,4 +1,4 @@
--- the last two corners are at the two highest places
+-- the last two vertices are at the two highest indices
 use Rattle.std.proofs.Common.{◌≡◌, ◌<◌, ◌≤◌, ◌+◌, ◌-◌, ◌^◌, ◌++◌, ◌∷◌, [], ℕ, pos, List, length, take}
 use Rattle.std.proofs.Common.{arith, sym, ap, subst, ◌∙◌, inl, inr, get_or}
 use Rattle.std.proofs.lemmas.Nat.{pow_pos}
@@ -50,7 +50,7 @@ bounds-points-last c =
     let l = top_before c.args.chain c.highest-last.result c.args.place c.highest-last.ensures.there c.requires.before in
     omega (arith, l, c.requires.within)
 
--- the places of the last two corners are within the list, and these are the last two
+-- the indices of the last two vertices are within the list, and these are the last two
 record Read (side : Side) (S : List Pair) (chain front ahead last place : ℕ) (a b p : Pair) : Type 0 where
   whole : at_places chain S ≡ at_places (front - 2 ^ ahead) S ++ a ∷ b ∷ []
   less : front < chain

@@ -1,4 +1,4 @@
--- the lowest place stands within the bound
+-- the lowest index is within the bound
 use Rattle.std.proofs.Common.{arith}
 use Rattle.hull_buckets.proofs.Words.{top_before}
 use Rattle.hull_buckets.proofs.mask.ahead.Goals as goal

@@ -1,4 +1,4 @@
--- the places below one are the ones of the word before its own
+-- the indices below one are the ones of the word before its own
 use Rattle.std.proofs.Common.{◌-◌, ◌∙◌, ℕ, ap, bit_and}
 use Rattle.std.proofs.lemmas.Nat.{and_mask}
 use Rattle.hull_buckets.proofs.mask.below.Goals as goal

@@ -1,11 +1,11 @@
--- the first places up to one, without those up to another
+-- the first indices up to one, without those up to another
 use Rattle.std.proofs.Common.{◌≡◌, ◌<◌, ◌≤◌, ◌+◌, ◌-◌, ◌%◌, ◌^◌, ℕ, arith, inl, inr, ◌⊎◌}
 use Rattle.std.proofs.lemmas.Nat.{pow_pos}
 use Rattle.hull_buckets.specs.Masks.{AreApart}
 use Rattle.hull_buckets.proofs.Words.{power_le, lowest_from, top_before}
 use Rattle.hull_buckets.proofs.mask.between.Goals as goal
 
--- what stands before a bound and what stands behind it do not cross
+-- the indices before a bound and those after it do not overlap
 in_order : (low high count start end : ℕ) → AreApart low high → low < 2 ^ count → (start ≡ 0) ⊎ (2 ^ (start - 1) ≤ low)
     → (end ≡ count) ⊎ (high % 2 ^ (end + 1) ≡ 2 ^ end) → start ≤ end
 in_order low high count start end (k, l, e) within (inl s) f = omega (arith, s)

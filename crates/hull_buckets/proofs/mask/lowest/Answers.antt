@@ -1,4 +1,4 @@
--- the lowest bit is the only one up to its place
+-- the lowest bit is the only one up to its index
 use Rattle.std.proofs.Common.{◌≡◌, ◌<◌, ◌+◌, ◌*◌, ◌%◌, ◌^◌, ℕ, w64, arith, ap, ◌∙◌}
 use Rattle.std.specs.Int.{trailing_zeros}
 use Rattle.std.proofs.lemmas.Nat.Bits.{bit_at-trailing_zeros}
@@ -6,7 +6,7 @@ use Rattle.hull_buckets.proofs.Words.{one_more, none_below}
 use Rattle.std.proofs.lemmas.Nat.{shr_split}
 use Rattle.hull_buckets.proofs.mask.lowest.Goals as goal
 
--- up to its lowest bit a number has that bit alone
+-- up to its lowest bit a number has only that bit
 up_to_lowest : (n : ℕ) → 0 < n → n < 2 ^ 64 → n % 2 ^ (trailing_zeros w64 n + 1) ≡ 2 ^ trailing_zeros w64 n
 up_to_lowest n some fits =
     let b = bit_at-trailing_zeros w64 n some fits in

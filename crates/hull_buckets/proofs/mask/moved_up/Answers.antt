@@ -1,4 +1,4 @@
--- what is not below the place is a multiple of its power
+-- what is not below the index is a multiple of its power
 use Rattle.std.proofs.Common.{◌-◌, ◌*◌, ℕ, ap, ◌∙◌}
 use Rattle.hull_buckets.proofs.Words.{high_twice}
 use Rattle.hull_buckets.proofs.mask.moved_up.Goals as goal

@@ -1,4 +1,4 @@
--- all points are a fringe of their own set, and what a pass leaves of them is the chain
+-- all points are a candidate list of their own set, and what a pass leaves of them is the chain
 use Rattle.std.proofs.Common.{◌≡◌, ◌-◌, ◌^◌, ◌++◌, ℕ, List, length, arith, sym, ap, subst, ◌∙◌}
 use Rattle.std.proofs.lemmas.Nat.{pow_pos}
 use Rattle.lattice.specs.Plane.{Pair}

@@ -1,4 +1,4 @@
--- where a list is cut, its corners stay
+-- if a list is cut, its vertices stay
 use Rattle.std.proofs.Common.{ℕ, subst, sym, take}
 use Rattle.hull_buckets.specs.Buckets.{AreEnds}
 use Rattle.hull_buckets.proofs.Joined.{ends_before}

@@ -1,4 +1,4 @@
--- where a list is cut, its corners stay
+-- if a list is cut, its vertices stay
 use Rattle.std.proofs.Common.{◌/◌, ◌^◌, List, subst, sym}
 use Rattle.std.proofs.lemmas.List.{take_rest}
 use Rattle.lattice.specs.Plane.{Pair}

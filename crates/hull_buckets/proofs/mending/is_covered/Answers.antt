@@ -1,4 +1,4 @@
--- the corners beside the point are at the highest place before it and at the lowest behind it
+-- the vertices next to the point are at the highest index before it and at the lowest after it
 use Rattle.std.proofs.Common.{◌≡◌, ◌<◌, ◌≤◌, ◌+◌, ◌-◌, ◌%◌, ◌^◌, ◌++◌, ◌∷◌, [], ℕ, ℤ, pos, ◌≤ℤ◌, ◌<ℤ◌, List, length}
 use Rattle.std.proofs.Common.{arith, sym, ap, subst, ◌∙◌}
 use Rattle.std.proofs.Common.{Bool, true, false, not, inl, inr, get_or, refl}
@@ -20,7 +20,7 @@ use Rattle.hull_buckets.proofs.mending.is_covered.Goals as goal
 use Rattle.hull_buckets.proofs.mending.is_covered.Goals.{then-low-eq0-via-then-low-eq0}
 use Rattle.hull_buckets.proofs.mending.is_covered.Goals.{then-low-eq0-via-else-low-eq0+then-high-eq0}
 
--- nothing at no place
+-- nothing at no index
 none_there : (S : List Pair) (mask : ℕ) → mask ≡ 0 → at_places mask S ≡ []
 none_there S mask e = ap (λ (m : ℕ). at_places m S) e ∙ none_at S
 
@@ -55,7 +55,7 @@ pub bounds-points-lowest : goal.bounds-points-lowest
 bounds-points-lowest c =
     top_before c.args.high c.lowest.result (length c.args.points.now) c.lowest.ensures.least c.requires.high_within
 
--- the bend of the points that were read at three places, and what it tells
+-- the bend of the points that were read at three indices, and what it implies
 tells : (side : Side) (S : List Pair) (low high place h l : ℕ) (a b p : Pair) → low < 2 ^ place → place < length S
     → high < 2 ^ length S → 2 ^ h ≤ low → low < 2 ^ (h + 1) → 2 ^ l ≤ high → high % 2 ^ (l + 1) ≡ 2 ^ l
     → a ≡ get_or S h a → b ≡ get_or S l b → p ≡ get_or S place p

@@ -1,4 +1,4 @@
--- the places between the two ends have their own bounds
+-- the indices between the two ends have their own bounds
 use Rattle.std.proofs.Common.{◌<◌, ◌%◌, ◌^◌, ℕ, length, arith, ap, ◌∙◌}
 use Rattle.std.proofs.lemmas.Nat.{pow_pos}
 use Rattle.hull_buckets.specs.Masks.{IsGap}
@@ -6,7 +6,7 @@ use Rattle.hull_buckets.proofs.Joined.{gap_apart, joined_is}
 use Rattle.hull_buckets.proofs.Words.{power_le}
 use Rattle.hull_buckets.proofs.mending.joined.Goals as goal
 
--- the places between two bounds are below the upper one
+-- the indices between two bounds are below the upper one
 below_end : (low high count mask : ℕ) (g : IsGap low high count mask) → mask < 2 ^ g.end
 below_end low high count mask g =
     let a = pow_pos g.start in let b = power_le g.start g.end g.order in omega (arith, g.is, a, b)

@@ -1,4 +1,4 @@
--- the masks of the corners before the point and behind it are those of the old chain's parts
+-- the masks of the vertices before the point and after it are those of the old chain's parts
 use Rattle.std.proofs.Common.{◌+◌, length, arith, sym, ◌∙◌}
 use Rattle.std.proofs.lemmas.Bool.{false≢true}
 use Rattle.hull_buckets.specs.Masks.{without_place}

@@ -1,4 +1,4 @@
--- those up to `low` stand before p, and those from `high` on do not
+-- those up to `low` are before p, and those from `high` on are not
 use Rattle.std.proofs.Common.{◌-◌, ◌≤◌, length, take, drop}
 use Rattle.std.specs.List.{All}
 use Rattle.lattice.specs.Plane.{IsBefore}

@@ -1,4 +1,4 @@
--- the point behind those before p is p, or stands after it; then p is not in the list
+-- the point after those before p is p, or is after p; in that case p is not in the list
 use Rattle.std.proofs.Common.{List, refl, sym, subst, arith}
 use Rattle.std.proofs.lemmas.Bool.{false≢true}
 use Rattle.std.specs.List.{All}

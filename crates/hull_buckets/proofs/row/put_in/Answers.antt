@@ -1,4 +1,4 @@
--- what was copied up by one leaves room for the value
+-- what was copied up by one leaves an index for the value
 use Rattle.hull_buckets.proofs.Rows.{put}
 use Rattle.hull_buckets.proofs.row.put_in.Goals as goal
 

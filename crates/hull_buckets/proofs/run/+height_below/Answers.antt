@@ -15,7 +15,7 @@ halves_of-left-requires-clause-several t c =
     several_of c.args.mask c.lowest.result c.highest.result c.requires c.ranges.mask.fits c.lowest.ensures.value
     c.highest.ensures.value c.if-lowest-highest.false
 
--- neither half is the whole run, since the other has a place
+-- neither half is the whole slice, since the other has an index
 smaller : (mask low high left right : ℕ) → 0 < mask → mask < 2 ^ 64 → low ≡ lowest_of mask → high ≡ highest_of mask
     → ¬ (low ≡ high) → left ≡ left_run mask → right ≡ right_run mask
     → (left < mask) × (0 < left) × (right < mask) × (0 < right)
@@ -42,7 +42,7 @@ height_below-requires-2 t c =
     let d = h.2 in
     (omega (arith, d, c.decreases), h.3)
 
--- the height of a run of several places, by those of its halves
+-- the height of a slice of several indices, by those of its halves
 over : (b : BucketValue) (mask low high left right x y : ℕ) → 0 < mask → mask < 2 ^ 64 → low ≡ lowest_of mask
     → high ≡ highest_of mask → ¬ (low ≡ high) → left ≡ left_run mask → right ≡ right_run mask
     → x ≡ height_of (tree_of_run b left) → y ≡ height_of (tree_of_run b right)

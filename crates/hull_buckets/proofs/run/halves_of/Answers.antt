@@ -1,1 +1,1 @@
--- the parting stands behind the lowest place and not behind the highest
+-- the split is after the lowest index and not after the highest

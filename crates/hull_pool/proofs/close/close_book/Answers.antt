@@ -10,11 +10,11 @@ pub gather-sum-requires-clause-lawful : goal.gather-sum-requires-clause-lawful
 gather-sum-requires-clause-lawful g c =
     g.met.B.Journalled.is_lawful _ (rw c.into_inner-book.ensures c.close.ensures.lawful)
 
--- the book is lawful that the lock gives back
+-- the book that the lock returns is lawful
 pub returns-clause-lawful : goal.returns-clause-lawful
 returns-clause-lawful g c = g.met.B.Journalled.is_lawful _ (rw c.into_inner-book.ensures c.close.ensures.lawful)
 
--- the book that the lock gives back has in each seat's name just what it has seen in its name
+-- the book that the lock returns has in each seat's name exactly the lines that the seat has seen in its name
 pub returns-clause-own_lines : goal.returns-clause-own_lines
 returns-clause-own_lines g c = λ k d lt. let s = slice_index_or c.args.seats.items k d in rw c.into_inner-book.ensures
     (g.met.B.Journalled.same_own (seat_number s) _ (seat_seen s) (c.close.ensures.seen k d lt).own_lines)

@@ -1,4 +1,4 @@
--- the last worker's parts go behind those of the workers after it
+-- the last worker's parts go after those of the workers after it
 use Rattle.std.proofs.Common.{rules, ◌≡◌, reverse}
 use Rattle.std.specs.Prelude.{IsSome, IfSome, Some}
 use Rattle.std.proofs.lemmas.List.Elements.{All-pop}

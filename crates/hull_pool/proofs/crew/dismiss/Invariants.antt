@@ -1,4 +1,4 @@
--- the workers that are left and the parts of those taken apart are all workers
+-- the workers that are left and the fields of those already separated are all workers
 use Rattle.std.proofs.Common.{◌≡◌, ◌+◌, ◌≤◌, ◌++◌, length, reverse, vec_len, vec_capacity, All}
 use Rattle.std.specs.Prelude.{IsSome, IfSome}
 use Rattle.ticket_lock.specs.Tokens.{seat_number}

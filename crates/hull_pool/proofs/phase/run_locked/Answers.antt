@@ -1,4 +1,4 @@
--- every worker that was hired has run, came back with its parts, and stands in the closed journal
+-- every worker of the set has run, was separated into its fields, and is in the closed journal
 use Rattle.std.proofs.Common.{arith, ◌≡◌, ◌∙◌, sym}
 use Rattle.std.proofs.lemmas.Grind.{common_steps}
 use Rattle.std.specs.Prelude.{box_value, IsSome, IfSome}

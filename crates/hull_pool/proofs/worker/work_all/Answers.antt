@@ -1,4 +1,4 @@
--- what the threads leave at each place of the crew stands so in the crew read from its end
+-- what the threads leave at each index of the worker set is true in the set read from its end
 use Rattle.std.proofs.Common.{arith}
 use Rattle.std.proofs.lemmas.Grind.{common_steps}
 use Rattle.std.specs.Prelude.{box_value}

@@ -1,4 +1,4 @@
--- each worker so far has a list with room for its calls
+-- each worker so far has a list with space for its calls
 use Rattle.std.proofs.Common.{◌≡◌, ◌<◌, ◌≤◌, ℕ, [], length, map, vec_capacity}
 use Rattle.std.specs.Prelude.{slice_index_or}
 use Rattle.hull_book.specs.Scripts.{calls_of}

@@ -1,4 +1,4 @@
--- the half that the point goes to is well built with it, and so is the fork over it once it is rebalanced
+-- the half to which the point is added is well built with it, and so is the fork over it once it is rebalanced
 use Rattle.std.proofs.Common.{arith, refl, sym, ap, ◌∙◌, subst, inl, inr, ◌≡◌, Some, ◌++◌}
 use Rattle.std.specs.List.{Contains}
 use Rattle.std.proofs.lemmas.List.Elements.{Contains-append_right}

@@ -1,4 +1,4 @@
--- the point that parts the halves tells in which half the point can be; the other half stays
+-- the point at the split determines in which half the point can be; the other half stays
 use Rattle.std.proofs.Common.{refl, ◌≡◌, ◌∙◌, sym, Some, rules}
 use Rattle.hull_tree.specs.declared.node.Node as node
 use Rattle.hull_tree.specs.Nodes.{below_of}
@@ -29,7 +29,7 @@ returns-then-times-gt1-clause-lowered t c =
     λ h q. leaf_lowered c.args.node.now c.args.p q c.in-None.is
     (same_point c.args.p (node.out-Node c.args.node.now).upper.0 c.ne.ensures c.if-ne.false) h
 
--- the rules alone close these at once; what is tried first takes long
+-- the rules close these at once; the tactics that are tried first take long
 pub returns-then-ne-clause-lowered : goal.returns-then-ne-clause-lowered
 returns-then-ne-clause-lowered c = search rules
 

@@ -1,4 +1,4 @@
--- the point that parts the halves tells in which half the point can be; the other half stays
+-- the point at the split determines in which half the point can be; the other half stays
 use Rattle.std.proofs.Common.{refl, ◌≡◌, ◌∙◌, sym, Some}
 use Rattle.hull_tree.specs.declared.node.Node as node
 use Rattle.hull_tree.specs.Nodes.{below_of}

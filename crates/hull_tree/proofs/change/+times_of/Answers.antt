@@ -1,4 +1,4 @@
--- the point that parts the halves tells in which half the point can be
+-- the point at the split determines in which half the point can be
 use Rattle.std.proofs.Common.{refl, ◌≡◌, ◌∙◌, sym, Some}
 use Rattle.hull_tree.specs.Nodes.{below_of}
 use Rattle.hull_tree.proofs.HalfRows.{IsOver, over_halves}

@@ -1,4 +1,4 @@
--- what a well-built fork says of its halves, said of the halves that are taken out
+-- what is true of the halves of a well-built fork is true of the halves that are taken out
 use Rattle.std.proofs.Common.{refl, ◌≡◌, Some}
 use Rattle.hull_tree.specs.Nodes.{below_of}
 use Rattle.hull_tree.proofs.HalfRows.{over_halves}

@@ -1,4 +1,4 @@
--- entries cut in the middle are entries, and the nodes over both parts stand in a row and fit one another
+-- entries cut in the middle are entries, and the nodes over both halves are in a row and fit one another
 use Rattle.std.proofs.Common.{◌≡◌, ◌≤◌, ◌+◌, ◌/◌, length, arith, subst, max}
 use Rattle.std.specs.Prelude.{ℕ}
 use Rattle.leaf_trees.specs.Heights.{greatest_height}

@@ -1,4 +1,4 @@
--- there is room for both halves, whose entries in a row are those of the fork
+-- there is capacity for both halves, whose concatenated entries are those of the fork
 use Rattle.std.proofs.Common.{◌≡◌, ◌∙◌, refl, sym, ap, arith, length, length-append, append_assoc, Some, ◌++◌, List, ℕ}
 use Rattle.lattice.specs.Plane.{Pair}
 use Rattle.hull_tree.specs.declared.node.Halves as halves

@@ -1,4 +1,4 @@
--- the halves stand in the same order after a rotation, and each fork that it makes is built with its bridges
+-- the halves are in the same order after a rotation, and each fork that it makes is built with its bridges
 use Rattle.std.proofs.Common.{arith, append_assoc, sym, ◌∙◌}
 use Rattle.std.proofs.lemmas.Grind.{common_steps}
 use Rattle.hull_tree.proofs.Costs.{by_halves, looser, through}
@@ -66,7 +66,7 @@ returns-clause-cost_left c =
     (through _ _ _ _ _ _ c.join-first.ensures.cost_right c.join-whole-2.ensures.cost_left (omega arith))
     (through _ _ _ _ _ _ c.join-second-2.ensures.cost_left c.join-whole-2.ensures.cost_right (omega arith)))
 
--- grind closes these at once; what is tried first takes long
+-- grind closes these at once; the tactics that are tried first take long
 pub returns-then-height_of-clause-points : goal.returns-then-height_of-clause-points
 returns-then-height_of-clause-points c = grind (arith, common_steps)
 

@@ -1,4 +1,4 @@
--- the left half's behind what was there, or none of it, and then the right half's
+-- the entries of the left half are appended, or none of them, and then those of the right half
 use Rattle.std.proofs.Common.{◌≡◌, ◌∙◌, refl, sym, ap, take, ◌++◌, List, ℕ, Some}
 use Rattle.lattice.specs.Plane.{Pair}
 use Rattle.hull_tree.specs.declared.node.Halves as halves

@@ -1,4 +1,4 @@
--- what came goes again, so that each point is held as often as before; and all that came is what adding them leaves
+-- the added points are removed again, so the multiplicity of each is the old one; and if all were added, the set is the one after adding them
 use Rattle.std.proofs.Common.{◌+◌, ◌∙◌, ap, arith, [], take}
 use Rattle.std.proofs.lemmas.List.{take_all}
 use Rattle.hull_set.specs.Held.{Held, times_among}

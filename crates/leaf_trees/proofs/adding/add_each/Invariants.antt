@@ -1,4 +1,4 @@
--- the points so far came, as often as they stand among them
+-- the points so far were added, as often as they are among them
 use Rattle.std.proofs.Common.{◌≡◌, ◌+◌, take}
 use Rattle.lattice.specs.Plane.{Pair}
 use Rattle.hull_set.specs.Held.{times_among}

@@ -1,4 +1,4 @@
--- a point that is refused is one too many, and each answer leaves what is held the points
+-- a point that is refused is one too many, and each reply keeps the points those with a multiplicity
 use Rattle.std.proofs.Common.{subst, sym}
 use Rattle.hull_set.specs.declared.set.AddReply.TheVariants as add
 use Rattle.leaf_trees.specs.Entries.{IsTrueHeld}

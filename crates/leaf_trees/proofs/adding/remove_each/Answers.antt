@@ -1,4 +1,4 @@
--- a point that stands among the rest is held still
+-- a point that is among the rest is still in the set
 use Rattle.std.proofs.Common.{arith}
 use Rattle.leaf_trees.proofs.Counting.{counted_past}
 use Rattle.leaf_trees.proofs.adding.remove_each.Goals as goal

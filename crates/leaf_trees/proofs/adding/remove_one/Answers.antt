@@ -1,4 +1,4 @@
--- a point that is held is held once less
+-- removing a point of the set lowers its multiplicity by one
 use Rattle.std.proofs.Common.{subst, sym}
 use Rattle.leaf_trees.specs.Entries.{IsTrueHeld}
 use Rattle.leaf_trees.proofs.AddedSets.{removed_times, kept_by_remove}

@@ -1,4 +1,4 @@
--- the last entry comes out, and goes back with a greater number or with the point behind it
+-- the last entry is popped, and pushed again with a greater number or with the point after it
 use Rattle.std.proofs.Common.{inl, arith}
 use Rattle.std.proofs.lemmas.Grind.{common_steps}
 use Rattle.leaf_trees.specs.Entries.{IsMultiplicity}
@@ -31,7 +31,7 @@ returns-clause-entries c =
     (recounted _ _ _ _ h (same_point _ _ c.ne.ensures c.if-ne.false)
     (omega (arith, m.0), omega (arith, c.requires.times.1, c.if-last-entry.false)))
 
--- grind closes these at once; what is tried first takes long
+-- grind closes these at once; the tactics that are tried first take long
 pub returns-then-ne-clause-times : goal.returns-then-ne-clause-times
 returns-then-ne-clause-times c = grind (arith, common_steps)
 

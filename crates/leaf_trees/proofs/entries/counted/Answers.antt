@@ -1,4 +1,4 @@
--- each point is counted in behind those that stand before it
+-- each point is counted in after those before it
 use Rattle.std.proofs.Common.{◌≡◌, ◌≤◌, ◌<◌, ◌+◌, ◌∙◌, inl, inr, refl, subst, sym, arith, take, get_or, length}
 use Rattle.lattice.specs.Plane.{IsBefore}
 use Rattle.hull_set.specs.declared.TheConstants.{MULTIPLICITY_LIMIT}

@@ -1,4 +1,4 @@
--- the entries are those of the points so far, and no point that is left stands before one of them
+-- the entries are those of the points so far, and no point that is left is before one of them
 use Rattle.std.proofs.Common.{ℕ, ◌≡◌, ◌≤◌, ◌<◌, length, vec_len, vec_capacity, take, get_or}
 use Rattle.std.specs.List.{Contains}
 use Rattle.lattice.specs.Plane.{Pair, IsBefore}

@@ -1,4 +1,4 @@
--- a sort moves the points only, so each stands among them as often
+-- a sort only moves the points, so each is among them as often
 use Rattle.hull_set.proofs.OrderedMaps.{ascending}
 use Rattle.leaf_trees.proofs.entries.entries_of.Goals as goal
 

@@ -1,4 +1,4 @@
--- the entry that comes next is counted in behind those that stand before it
+-- the entry that comes next is counted in after those before it
 use Rattle.std.proofs.Common.{◌<◌, ◌+◌, refl, arith, ℕ}
 use Rattle.lattice.specs.Plane.{Pair}
 use Rattle.hull_set.specs.declared.TheConstants.{MULTIPLICITY_LIMIT}

@@ -1,4 +1,4 @@
--- the entries are those of both lists so far, and none that is left stands before one of them
+-- the entries are those of both lists so far, and none that is left is before one of them
 use Rattle.std.proofs.Common.{◌≡◌, ◌≤◌, ◌+◌, ◌-◌, length, vec_len, vec_capacity, take}
 use Rattle.lattice.specs.Plane.{Pair}
 use Rattle.leaf_trees.specs.Entries.{AreEntries, points_listed, times_listed}

@@ -1,4 +1,4 @@
--- what is merged is held as often as by the set and among the points together, which is what adding them leaves
+-- each multiplicity of the merged set is that of the set plus the number of times among the points, as after adding them
 use Rattle.std.proofs.Common.{◌+◌, ◌<◌, ap, ◌∙◌, subst, arith, inl, inr, length, rules}
 use Rattle.std.proofs.lemmas.Map.Entries.{length-keys_of}
 use Rattle.lattice.specs.Plane.{Pair}

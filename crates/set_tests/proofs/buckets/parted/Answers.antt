@@ -1,4 +1,4 @@
--- the points of a bucket are in order, so those of its first half stand before those of its second
+-- the points of a bucket are in order, so those of its first half are before those of its second
 use Rattle.std.proofs.Common.{◌≡◌, ◌++◌, ◌∙◌, List, subst}
 use Rattle.std.specs.List.{Contains}
 use Rattle.lattice.specs.Covers.{IsPointSet}

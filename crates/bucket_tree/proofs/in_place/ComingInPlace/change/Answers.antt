@@ -1,4 +1,4 @@
--- how often the point is held where it has a place, and that it is not where it has none
+-- the multiplicity of a point that has an index, and 0 for one that has none
 use Rattle.std.proofs.Common.{◌∙◌, ap, get_or, rules, subst, sym}
 use Rattle.hull_geometry.specs.Positions.{IsPositionOf}
 use Rattle.bucket_tree.proofs.Lost.{count_at, count_none}

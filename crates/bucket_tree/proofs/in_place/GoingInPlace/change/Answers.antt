@@ -1,4 +1,4 @@
--- a point held once counts once
+-- a point of multiplicity one counts once
 use Rattle.std.proofs.Common.{◌+◌, ◌∙◌, ap, get_or, refl, subst, sym}
 use Rattle.lattice.specs.Covers.{without_point}
 use Rattle.hull_geometry.specs.Positions.{IsPositionOf, origin}

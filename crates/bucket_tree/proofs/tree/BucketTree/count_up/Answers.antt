@@ -1,4 +1,4 @@
--- how often the point is held, and how many points there are, tells each answer
+-- the multiplicity of the point and the number of points determine each reply
 use Rattle.std.proofs.Common.{arith}
 use Rattle.bucket_tree.specs.Roots.{held_by}
 use Rattle.leaf_trees.proofs.Told.{answers_full, answers_again, answers_many}

@@ -1,4 +1,4 @@
--- how often the point is held tells each answer
+-- the multiplicity of the point determines each reply
 use Rattle.std.proofs.Common.{refl, sym, arith}
 use Rattle.bucket_tree.specs.Roots.{held_by}
 use Rattle.leaf_trees.proofs.Told.{answers_absent, answers_left, answers_removed}

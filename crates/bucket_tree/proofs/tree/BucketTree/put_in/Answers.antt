@@ -1,4 +1,4 @@
--- the root is well built and low, the point is not below it, and there is room for one more
+-- the root is well built and low, the point is not below it, and there is capacity for one more
 use Rattle.std.proofs.Common.{◌≡◌, ◌∙◌, ap, arith, length, subst, sym, Some}
 use Rattle.bucket_tree.specs.Counts.{HasGained}
 use Rattle.bucket_tree.specs.Nodes.{forks_above}

@@ -1,4 +1,4 @@
--- the root is well built and low, and there is room for one more point
+-- the root is well built and low, and there is capacity for one more point
 use Rattle.std.proofs.Common.{◌≡◌, ap, arith, length, Some, refl}
 use Rattle.bucket_tree.specs.Nodes.{forks_above}
 use Rattle.bucket_tree.specs.Roots.{points_of_root}

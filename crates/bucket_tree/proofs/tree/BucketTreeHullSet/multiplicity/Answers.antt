@@ -1,4 +1,4 @@
--- a point is held just where it is one of the points
+-- a point has a multiplicity exactly if it is one of the points
 use Rattle.bucket_tree.proofs.Rooted.{root_held}
 use Rattle.bucket_tree.proofs.tree.BucketTreeHullSet.multiplicity.Goals as goal
 

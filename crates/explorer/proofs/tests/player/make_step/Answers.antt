@@ -1,4 +1,4 @@
--- the look tells all that is asked of the guard, and the ledger counts the lines found as it counted those seen
+-- the look returns all that is required of the guard, and the ledger counts the lines found as it counted those seen
 use Rattle.std.proofs.Common.{rules, sym, ◌∙◌}
 use Rattle.explorer.proofs.Entered.{counts_found}
 use Rattle.explorer.proofs.tests.player.make_step.Goals as goal

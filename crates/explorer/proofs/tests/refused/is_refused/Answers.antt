@@ -1,4 +1,4 @@
--- the book that comes back is the one that was opened with these ledgers
+-- the book that is returned is the one that was opened with these ledgers
 use Rattle.std.proofs.Common.{◌≡◌, subst}
 use Rattle.hull_book.specs.Books.{BookValue}
 use Rattle.hull_book.specs.Ledgers.{AreLedgers}

@@ -1,4 +1,4 @@
--- the last player's seat and its ledger go behind those of the players after it, and the seat's number was looked at
+-- the last player's seat and its ledger are put after those of the players after it, and the seat's number was tested
 use Rattle.std.proofs.Common.{rules, ◌≡◌, length, arith}
 use Rattle.hull_tree.specs.contracts.tree.HullTreeHullSet.TheImpl.{ghosts}
 use Rattle.ticket_lock.specs.Tokens.{IsSeatOf, seat_number}

@@ -1,4 +1,4 @@
--- each seat is left, or has a player that sits on it
+-- each seat is left, or has a player
 use Rattle.std.proofs.Common.{◌≡◌, ◌+◌, ◌≤◌, [], All, vec_len, vec_capacity}
 use Rattle.ticket_lock.specs.Tokens.{IsSeatOf, seat_seen}
 use Rattle.hull_pool.specs.Crews.{book_head}

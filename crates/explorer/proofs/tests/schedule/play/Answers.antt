@@ -1,4 +1,4 @@
--- the player that made a step stands somewhere again, and the others stand where they stood
+-- the player that made a step has a state again, and the others have theirs
 use Rattle.std.proofs.Common.{rules}
 use Rattle.std.proofs.lemmas.List.Elements.{All-set}
 use Rattle.hull_tree.specs.contracts.tree.HullTreeHullSet.TheImpl.{ghosts}

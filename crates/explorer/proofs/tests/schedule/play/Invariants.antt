@@ -1,4 +1,4 @@
--- each player stands somewhere after every step, and none is lost
+-- each player has a state after every step, and none is lost
 use Rattle.std.proofs.Common.{◌≡◌, All, vec_len}
 use Rattle.hull_tree.specs.contracts.tree.HullTreeHullSet.TheImpl.{ghosts}
 use Rattle.explorer.specs.Places.{IsPlaced}

@@ -1,4 +1,4 @@
--- so many empty lists came to the lists of the phase
+-- this many empty lists were added to the lists of the phase
 use Rattle.std.proofs.Common.{◌≡◌, ◌≤◌, ◌+◌, ◌-◌, ◌++◌, [], length, replicate}
 use Rattle.hull_book.specs.Scripts.{lists_of}
 use Rattle.hull_book.proofs.script.Phase.widen.Given as goal

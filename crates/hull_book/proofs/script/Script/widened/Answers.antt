@@ -4,7 +4,7 @@ use Rattle.hull_book.specs.Scripts.{ScriptValue, with_idle}
 use Rattle.hull_book.proofs.Idle.{each_idle, wide_script}
 use Rattle.hull_book.proofs.script.Script.widened.Goals as goal
 
--- what the phases have come to
+-- all phases are widened after the loop
 all_wide : (c : goal.After-loop-i) → c.loop-i.phases.items ≡ map (with_idle c.max-wide.result) c.args.self.phases
 all_wide c =
     let own : length c.self.inside.phases.items ≡ length c.args.self.phases =

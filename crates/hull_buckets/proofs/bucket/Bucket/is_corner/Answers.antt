@@ -1,4 +1,4 @@
--- the mask of the side has no such place
+-- the mask of the side has no such index
 use Rattle.std.proofs.Common.{sym, ◌∙◌}
 use Rattle.std.proofs.lemmas.Bool.{false≢true}
 use Rattle.hull_buckets.proofs.Covered.{covered}

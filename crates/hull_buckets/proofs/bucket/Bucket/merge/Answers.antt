@@ -1,4 +1,4 @@
--- the second bucket's points stand behind the first's
+-- the second bucket's points are after the first's
 use Rattle.std.proofs.Common.{◌≡◌, ℕ, ◌≤◌, ◌+◌, List, length, take, sym, ap, subst, ◌∙◌, arith}
 use Rattle.std.proofs.lemmas.List.{length-take-le}
 use Rattle.std.specs.List.{Contains}

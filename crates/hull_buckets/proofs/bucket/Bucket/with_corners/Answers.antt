@@ -5,7 +5,7 @@ use Rattle.hull_buckets.specs.Buckets.{IsBucket}
 use Rattle.hull_buckets.proofs.Changed.{made}
 use Rattle.hull_buckets.proofs.bucket.Bucket.with_corners.Goals as goal
 
--- the first of what was written behind nothing
+-- the first of what was written after nothing
 first_written : {X : Type 0} (new more : List X) (n : ℕ) → n ≡ length more → take (0 + length more) new ≡ more
     → take n new ≡ more
 first_written {X} new more n e h =

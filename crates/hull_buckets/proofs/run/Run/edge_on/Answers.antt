@@ -1,4 +1,4 @@
--- a run of several places is a fork, whose edge on a side goes between two of its places
+-- a slice of several indices is a fork, whose edge on a side goes between two of its indices
 use Rattle.std.proofs.Common.{◌<◌, ℕ, true, false, sym, ap, subst, ◌∙◌, Some}
 use Rattle.lattice.specs.Plane.{Pair}
 use Rattle.hull_geometry.specs.Positions.{point_at}

@@ -1,4 +1,4 @@
--- all places of a bucket's masks are places of corners
+-- all indices of a bucket's masks are indices of vertices
 use Rattle.std.proofs.Common.{◌≡◌, ◌<◌, ◌≤◌, ◌^◌, ℕ, length, sym, ap, subst, ◌∙◌, arith}
 use Rattle.std.specs.Int.RustNames.{bit_or}
 use Rattle.bridge_search.specs.Trees.{IsBridged, height_of}
@@ -8,7 +8,7 @@ use Rattle.hull_buckets.proofs.RunBridges.{run_bridged, all_corners, some_corner
 use Rattle.hull_buckets.proofs.RunTrees.{mask_fits, low_enough}
 use Rattle.hull_buckets.proofs.run.Run.new.Goals as goal
 
--- what a run keeps
+-- what a slice keeps
 record Kept (b : BucketValue) (mask : ℕ) : Type 0 where
   some : 0 < mask
   within : mask < 2 ^ length b.points

@@ -1,4 +1,4 @@
--- the lowest place of a run is one of its bucket
+-- the lowest index of a slice is one of its bucket
 use Rattle.std.proofs.Common.{length, sym, ◌∙◌, arith}
 use Rattle.hull_buckets.specs.Masks.{lowest_of}
 use Rattle.hull_buckets.specs.Runs.{width_of}

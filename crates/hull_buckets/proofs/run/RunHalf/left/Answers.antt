@@ -1,4 +1,4 @@
--- the tree of a run of several places is a fork over the trees of its halves
+-- the tree of a slice of several indices is a fork over the trees of its halves
 use Rattle.std.proofs.Common.{true, sym, ap, ◌∙◌, arith}
 use Rattle.bridge_search.specs.Trees.{left_of}
 use Rattle.hull_buckets.specs.Runs.{tree_of_run}

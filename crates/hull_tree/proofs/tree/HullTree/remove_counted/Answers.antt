@@ -89,6 +89,6 @@ returns-clause-few c =
     let h : height_at c.lower-times.new.node ≤ greatest_height = (sound_after k).low in
     omega (arith, h, c.remove.ensures.few)
 
--- grind closes these at once; what is tried first takes long
+-- grind closes these at once; the tactics that are tried first take long
 pub returns-then-is_leaf-clause-effect : goal.returns-then-is_leaf-clause-effect
 returns-then-is_leaf-clause-effect c = grind (arith, common_steps)

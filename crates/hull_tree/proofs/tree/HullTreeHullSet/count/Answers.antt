@@ -1,4 +1,4 @@
--- the number that is kept is that of the points, which stand in order
+-- the number that is stored is that of the points, which are in order
 use Rattle.std.proofs.Common.{ap, subst}
 use Rattle.hull_tree.specs.Sets.{LimitedTree, IsSound}
 use Rattle.hull_tree.proofs.LimitedTrees.{sound}

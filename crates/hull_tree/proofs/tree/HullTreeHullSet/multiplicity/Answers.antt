@@ -1,4 +1,4 @@
--- the leaf that the way down finds has the number, and a point has one just where it is live
+-- the leaf at the end of the way down has the number, and a point has one exactly if it is in the set
 use Rattle.std.proofs.Common.{◌≡◌, ap, sym, ◌∙◌, Some, arith}
 use Rattle.hull_tree.specs.Sets.{LimitedTree}
 use Rattle.hull_tree.proofs.LimitedTrees.{built_root}

@@ -9,7 +9,7 @@ pub returns-clause-sound : goal.returns-clause-sound
 returns-clause-sound c =
     sound _ _ _ (limited_over _ _ _ c.in_ok-root.ensures c.requires.room c.requires.low c.requires.high)
 
--- grind closes these at once; what is tried first takes long
+-- grind closes these at once; the tactics that are tried first take long
 pub invariant_of-tree : goal.invariant_of-tree
 invariant_of-tree c = grind (arith, common_steps)
 

@@ -1,4 +1,4 @@
--- the first so many of what is listed, or all
+-- the first `most` of the entries, or all
 use Rattle.std.proofs.Common.{ap, arith, length}
 use Rattle.std.proofs.lemmas.Map.Entries.{length-keys_of}
 use Rattle.hull_set.specs.Held.{Held}

@@ -1,4 +1,4 @@
--- what is listed is the points
+-- the list is the set
 use Rattle.std.proofs.Common.{subst}
 use Rattle.leaf_trees.specs.Entries.{IsTrueHeld}
 use Rattle.leaf_trees.proofs.AddedSets.{entries_held}

@@ -1,5 +1,5 @@
--- more entries than the limit are more points; and what is held as often as it stands among the points is what adding
--- them leaves
+-- more entries than the limit are more points; and a set in which each multiplicity is the number of times among the points is the set after adding
+-- them
 use Rattle.std.proofs.Common.{ap, ◌∙◌, arith, inl, inr, length, rules, ◌<◌}
 use Rattle.std.proofs.lemmas.Grind.{common_steps}
 use Rattle.lattice.specs.Plane.{Pair}
@@ -34,6 +34,6 @@ returns-in_err-entries-clause-too_many g c = λ e.
     let f : (q : Pair) × (MULTIPLICITY_LIMIT < times_among c.args.points.now q) = search rules in
     inl (f.0, omega (arith, f.1, after_times c.args.points.now nothing_held f.0))
 
--- no points have no entries, and the set of none is never refused
+-- no points have no entries, and the empty set is never refused
 pub returns-in_err-from_entries-clause-refused : goal.returns-in_err-from_entries-clause-refused
 returns-in_err-from_entries-clause-refused g c = λ _. grind (arith, common_steps, c.in_ok-entries.ensures.none, c.in_err-from_entries.ensures.refused, c.deref.ensures.value)

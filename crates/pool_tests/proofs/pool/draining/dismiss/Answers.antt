@@ -1,4 +1,4 @@
--- the last member's seat and its ledger go behind those of the members after it, and the seat's number was looked at
+-- the last member's seat and its ledger are put after those of the members after it, and the seat's number was tested
 use Rattle.std.proofs.Common.{rules, ◌≡◌, ◌∙◌, length, arith}
 use Rattle.ticket_lock.specs.Tokens.{IsSeatOf, seat_number}
 use Rattle.ticket_lock.proofs.Gather.{last_of, front_of, all_push}

@@ -1,4 +1,4 @@
--- each member is left, or its seat and its ledger lie side by side at the place of the seat's number
+-- each member is left, or its seat and its ledger are both at the index of the seat's number
 use Rattle.std.proofs.Common.{◌≡◌, ◌+◌, ◌≤◌, All, vec_len, vec_capacity}
 use Rattle.std.specs.List.{AllZip}
 use Rattle.ticket_lock.specs.Tokens.{IsSeatOf, AreNumbered, seat_number, seat_seen}

@@ -1,4 +1,4 @@
--- each seat is left, or has a member that sits on it
+-- each seat is left, or has a member
 use Rattle.std.proofs.Common.{◌≡◌, ◌+◌, ◌≤◌, [], All, vec_len, vec_capacity}
 use Rattle.ticket_lock.specs.Tokens.{IsSeatOf, opening_book, seat_seen}
 use Rattle.hull_pool.specs.Long.{IsSeatedLong, long_book_head}

@@ -1,4 +1,4 @@
--- the member's seat is back after each call
+-- the member has its seat again after each call
 use Rattle.hull_pool.specs.Long.{IsSeatedLong}
 use Rattle.pool_tests.proofs.pool.draining.works.Given as goal
 

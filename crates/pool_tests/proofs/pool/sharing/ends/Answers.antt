@@ -1,4 +1,4 @@
--- two seats and their ledgers lie side by side, and each ledger is that of its seat
+-- two seats and their ledgers are at the same indices, and each ledger is that of its seat
 use Rattle.std.proofs.Common.{◌≡◌, ◌++◌, [], ◌∷◌, List, ap, ◌∙◌}
 use Rattle.std.specs.List.{AllZip}
 use Rattle.hull_book.specs.Ledgers.{IsLedgerOf}
@@ -9,7 +9,7 @@ use Rattle.pool_tests.proofs.pool.sharing.ends.Goals as goal
 both : {A : Type 0} (xs ys zs : List A) (x y : A) → xs ≡ [] → ys ≡ xs ++ x ∷ [] → zs ≡ ys ++ y ∷ [] → zs ≡ x ∷ y ∷ []
 both xs ys zs x y none one two = two ∙ ap (λ (l : List _). l ++ y ∷ []) (one ∙ ap (λ (l : List _). l ++ x ∷ []) none)
 
--- two lists that got two members each, side by side
+-- two lists that got two members each, at the same indices
 zipped : {A B : Type 0} (R : A → B → Type 0) (xs : List A) (ys : List B) (a b : A) (c d : B) → xs ≡ a ∷ b ∷ []
     → ys ≡ c ∷ d ∷ [] → R a c → R b d → AllZip R xs ys
 zipped R xs ys a b c d left right first second = rw (left, right) (first, (second, tt))

@@ -1,4 +1,4 @@
--- the last point of the one stands before the first of the other, so the bridges can be searched
+-- the last point of the one is before the first of the other, so the bridges can be searched
 use Rattle.lattice.specs.Plane.{IsBefore}
 use Rattle.bridge_search.proofs.Ends.{all_before}
 use Rattle.lattice.proofs.Tests.{passed}

@@ -1,4 +1,4 @@
--- the last point of the one half stands before the first of the other, so all points do
+-- the last point of the one half is before the first of the other, so all its points are
 use Rattle.lattice.specs.Plane.{IsBefore}
 use Rattle.bridge_search.proofs.Ends.{all_before}
 use Rattle.lattice.proofs.Tests.{passed}

@@ -1,4 +1,4 @@
--- the facts beside a guard's fields have one proof each, so the guard that gets the book back is the one with that book
+-- each fact about a guard's fields has one proof, so the guard that gets the book back is the one with that book
 use Rattle.std.proofs.Common.{refl}
 use Rattle.ticket_lock.proofs.Guards.{same_guard}
 use Rattle.ticket_lock.proofs.guard.Guard.book.Goals as goal

@@ -1,5 +1,4 @@
--- a load of the serving word is an event enter where it finds the number, which lends the book out of its slot, and
--- else a miss
+-- a load of the serving word is an event enter if it finds the number, which takes the book out of its slot, otherwise a miss
 use Rattle.ticket_lock.specs.Forms.{partitioned_form}
 use Rattle.ticket_lock.proofs.FormsKept.{partitioned_laws}
 use Rattle.std.proofs.Common.{rules, ◌≡◌, ◌∷◌, sym, ap, ◌∙◌, Some}

@@ -1,4 +1,4 @@
--- each worker is left, or its seat and its tally stand side by side
+-- each worker is left, or its seat and its tally are at the same index
 use Rattle.std.proofs.Common.{◌≡◌, ◌+◌, ◌≤◌, map, length, All, vec_len, vec_capacity}
 use Rattle.std.specs.Prelude.{IfSome, IsSome}
 use Rattle.ticket_lock.specs.World.{own}

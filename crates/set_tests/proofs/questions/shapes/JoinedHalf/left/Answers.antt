@@ -1,4 +1,4 @@
--- a half alone has the part of its own; of two joined it is the first
+-- a single half has its own left half; of two joined it is the first
 use Rattle.std.proofs.Common.{◌∙◌}
 use Rattle.set_tests.proofs.questions.shapes.JoinedHalf.left.Goals as goal
 

@@ -1,4 +1,4 @@
--- a half alone has the part of its own; of two joined it is the second
+-- a single half has its own right half; of two joined it is the second
 use Rattle.std.proofs.Common.{◌∙◌}
 use Rattle.set_tests.proofs.questions.shapes.JoinedHalf.right.Goals as goal
 
