@@ -157,7 +157,7 @@ hull_reply hull_python_safe(hull_python_desk *d, uint32_t waits) {
     return safe(d, waits ? HULL_PYTHON_SYNC : HULL_PYTHON_NOW, 0, HULL_SHARED_NEVER);
 }
 
-/* Closes the shared hull, and its journal file after no thread asks for durable lines any more. */
+/* Closes the shared hull and its journal file; IN_USE while a thread waits for durable lines. */
 static hull_reply closes(hull_python_desk *d) {
     hull_reply reply;
     memset(&reply, 0, sizeof reply);
@@ -421,7 +421,7 @@ void hull_python_reader_free(hull_python_reader *r) {
     }
 }
 
-/* Returns whether the snapshot is the newest; ENDED and VACANT if there is none to compare. */
+/* Returns 1 if the snapshot is the newest, else 0; VACANT if the storage has no reader. */
 static uint32_t is_newest(hull_python_reader *r) {
     return r->desk == NULL ? HULL_VACANT : hull_shared_is_newest(r->reader);
 }
