@@ -57,6 +57,6 @@ IsUnfit listed hull told =
     ⊎ (AreEntries listed × (((hull.limit < length listed) × IsBare code.TooMany told)
     ⊎ ((listed ≢ []) × IsBare code.NoMemory told))))
 
--- the array was loaded in the place of all points of the set, or it was refused, and the set is unchanged
+-- all points of the set were replaced by those of the array, or it was refused, and the set is unchanged
 abbrev pub AreLoaded : List (Pair × ℕ) → LimitedTree → LimitedTree → HullReply → Type 0
 AreLoaded listed old new told = HoldsListed listed old new told ⊎ ((new ≡ old) × IsUnfit listed old told)

@@ -1,4 +1,4 @@
-//! What a caller passes from thread to thread: no program in C can ask the compiler about it.
+//! The object that a caller passes from thread to thread: no program in C can ask the compiler about it.
 use super::hull::Hull;
 
 /// Requires a type whose values can be sent to another thread.

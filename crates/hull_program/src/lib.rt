@@ -1,4 +1,4 @@
-//! What the programs share: the reasons to refuse, the words on the command line, and the files that they open.
+//! The code that the programs share: the reasons to refuse, the words on the command line, and the files that they open.
 #![tactic(auto)]
 
 mod files;

@@ -92,7 +92,7 @@ module _ {M : Type 1} (𝓤 : Ura M) (𝓛 : Logic 𝓤) (𝓜 : Model 𝓤 𝓛
           await ! tt $ pick ! (λ u. split ! $ split ! $ drop ! $ peeks ! R (Is R) (shows 𝓛 R) u (v ∷ []) (λ is.
           lands_as ! refl refl (typed u v is) $
           move ! (1 ∷ []) $ pick ! (λ ws. split ! $ drop ! $ heard ! _ (λ holds.
-          -- [what the value owns; the room]
+          -- [what the value owns; the storage]
           first ! $ blocks ! $ sets ! (of_opd ! (get ! refl)) refl (typed u v is) $
           assigns_last ! (of_opd ! (get ! refl)) (through ! refl (stop !)) (init ! 1 refl (typed u v is)) $
           exec ! 𝓣.C 𝓣.Λ (env (making j).locals l) (after 3 (making j).body) (at_ret _ (Ends (block_ptr b o))) $

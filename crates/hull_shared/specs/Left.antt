@@ -1,4 +1,4 @@
--- What a call leaves in the storage of a shared hull and a seat.
+-- The state that a call leaves in the storage of a shared hull and a seat.
 use base.Fml.{Fml, fex, fsep, ftrue}
 use base.Fraction.{full_share}
 use denote.RattleType.{RattleType}

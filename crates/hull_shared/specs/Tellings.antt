@@ -1,4 +1,4 @@
--- What the publisher of a shared hull records: the changes of the journal's lines.
+-- The changes that the publisher of a shared hull records: those of the journal's lines.
 use Rattle.std.specs.Prelude.{◌≡◌, ◌∷◌, ◌++◌, List, [], false, map, Option, Some, None}
 use Rattle.hull_book.specs.Marks.{plain}
 use Rattle.hull_book.specs.declared.line.Line.{Line}

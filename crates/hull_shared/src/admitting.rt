@@ -1,4 +1,4 @@
-//! What a shared hull has for its readers.
+//! The publisher of a shared hull, and the registry of its readers.
 ghost use Rattle.std.specs.Prelude.{◌≤◌, IfOk};
 ghost use Rattle.hull_shared.specs.Gates.{IsGateFor};
 ghost use Rattle.hull_views.specs.declared.TheConstants.{READER_LIMIT};

@@ -16,7 +16,7 @@ pub(crate) enum DeskAnswer {
     Full,
 }
 
-/// What follows a call.
+/// The state after a call.
 #[derive(Clone, Copy)]
 pub(crate) struct Behind {
     /// The number of its line, if it has one.

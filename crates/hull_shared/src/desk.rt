@@ -39,7 +39,7 @@ impl FreshDesk {
     }
 }
 
-/// What is left of a closed shared hull.
+/// A closed shared hull.
 pub(crate) struct ClosedDesk {
     pub(crate) alloc: Global,
     pub(crate) part: Journal,

@@ -1,4 +1,4 @@
-//! What no contract can state: that calls which may be refused are served.
+//! A property that no contract can state: that calls which may be refused are served.
 use crate::closing::{close, end};
 use crate::desk::{Desk, FreshDesk};
 use crate::lending::{give_back, lend};

@@ -1,4 +1,4 @@
-//! What a caller passes from thread to thread: no program in C can ask the compiler about it.
+//! The objects that a caller passes from thread to thread: no program in C can ask the compiler about them.
 use crate::lock::{DeskSeat, DeskTicket, SharedLock};
 use crate::part::Part;
 use hull_book::{Journal, Ledger};

@@ -49,7 +49,7 @@ pub reads_on_line : {V : Type 0} (start mid new : Outlook V) (text kept line aft
     → ReadsOn mid new (kept ++ line ++ 10 ∷ []) [] → ReadsOn start new text (empty ++ after)
 reads_on_line start mid new text kept line after left empty on e none more = grind (arith, common_steps, around)
 
--- What is left is still the end of the text.
+-- The rest is still the end of the text.
 pub tail_on_line : (all kept line after left empty : List ℕ) → (front : List ℕ) × (all ≡ front ++ (kept ++ left))
     → left ≡ line ++ 10 ∷ after → empty ≡ [] → (front : List ℕ) × (all ≡ front ++ (empty ++ after))
 tail_on_line all kept line after left empty h e none = (

@@ -1,4 +1,4 @@
--- What the program knows of a field that should be a number.
+-- The program's knowledge of a field that should be a number.
 use Rattle.std.specs.Prelude.{◌≡◌, ℕ, ◌≤◌, Option, Some, None}
 use Rattle.hull_text.specs.declared.read.number.Number.{Number}
 use Rattle.hull_text.specs.declared.read.number.Number.TheVariants.{Unspelled, Value, Huge}
