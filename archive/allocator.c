@@ -1,7 +1,7 @@
-/* What the proved objects of the archives ask for memory, over the C library's malloc, realloc and free: the functions that the
+/* The memory of the proved objects of the archives, over the C library's malloc, realloc and free: the functions that the
  * toolchain's crate `libc` declares, for every processor. Weak, so that both archives can be linked into one object.
  *
- * `ok` is whether there is memory, and `block` where; where there is none, a byte that nobody owns. */
+ * `ok` is whether there is memory, and `block` its address; if there is none, the address of a byte that no block contains. */
 typedef __SIZE_TYPE__ size;
 
 extern void *malloc(size), *realloc(void *, size);
@@ -18,12 +18,12 @@ static struct tried answer(void *block) {
     return tried;
 }
 
-/* A block of `count` bytes; one of none has as many as its alignment, so that it has a place of its own. */
+/* Returns a block of `count` bytes; one of none has as many as its alignment, so that it has an address of its own. */
 __attribute__((weak)) struct tried rattle_alloc(size count, size alignment) {
     return answer(malloc(count ? count : alignment));
 }
 
-/* The block made one of `count` bytes, the first `kept` as they were; where it is refused, it is as it was. */
+/* Returns the block resized to `count` bytes, the first `kept` unchanged; if memory is refused, the old block is unchanged. */
 __attribute__((weak)) struct tried rattle_realloc(void *block, size kept, size count, size alignment) {
     (void)kept;
     return answer(realloc(block, count ? count : alignment));

@@ -42,7 +42,7 @@ void hull_check_arrays(int is_on) {
     __atomic_store_n(&is_checked, is_on, __ATOMIC_RELAXED);
 }
 
-/* the address of an array of so many elements, or one that is not null if it has none, which the proved functions require */
+/* returns the address of an array of so many elements, or one that is not null if it has none, which the proved functions require */
 static void *array(const void *elements, size_t count) {
     static const uint64_t none = 0;
     return (void *)(count == 0 ? (const void *)&none : elements);
@@ -52,7 +52,7 @@ static const hull_point *vertices_at(const hull_point *vertices, size_t count) {
     return (const hull_point *)array(vertices, count);
 }
 
-/* why an array may not be asked, if arrays are tested, else HULL_OK */
+/* returns why an array may not be asked, if arrays are tested, else HULL_OK */
 static uint32_t fault_of(const hull_point *vertices, size_t count) {
     hull_reply r;
     if (!__atomic_load_n(&is_checked, __ATOMIC_RELAXED)) {
@@ -86,7 +86,7 @@ const char *hull_library_version(void) {
     return HULL_VERSION;
 }
 
-/* (the kinds that only ask leave the set as it is) */
+/* (the kinds that only ask leave the set unchanged) */
 hull_reply hull_ask(const hull_set *h, uint32_t kind, int64_t x, int64_t y) {
     hull_set *set;
     memcpy(&set, &h, sizeof set);

@@ -1,35 +1,41 @@
-/* The line in which the calls of a desk's seats wait: the door, the numbers, and room (include/hull_shared.h, "waiting"). It is in the
- * archive of the proved calls, which neither sleep nor wake. What is proved of them holds however their callers wait; that nobody sleeps
- * for ever, and that nobody is passed for long, rests on what is said here, is tried step by step in tests/shared/door_model.c, and
- * tested in tests/shared.
+/* The admission gate of a shared hull (include/hull_shared.h, "waiting"): it bounds how many calls compete for the hull's ticket
+ * lock, and callers sleep in front of it, or at the slot of their number, or until the journal has space. It is in the archive of
+ * the proved calls, which neither sleep nor wake. What is proved of those calls holds however their callers wait. That no caller
+ * sleeps for ever, and that none is overtaken for long, rests on the argument below, which tests/shared/door_model.c tries step by
+ * step and tests/shared tests.
  *
- * The door is one word, so that its changes have one order: how many calls are inside, how many sleep outside, whether one of them is
- * named, and whether the door is closed to all but that one.
+ * The state of the gate is one word (`door`), so that its changes have one order: how many calls are inside, how many callers sleep
+ * outside, whether one of them is designated to enter next (NAMED), and whether the gate is closed to all but that one (CLOSED).
  *
- * 1. Who finds the door shut looks for a moment, and then lies down: under the lock of the queue it is counted as asleep, unless the
- *    door is open to it by then, and stands last in the queue. Who leaves while some sleep and none is named takes the first out of the
- *    queue and names it, in one change of the door with its leaving, and wakes that one alone. The named one looks until it comes in;
- *    it may lie down again where the door is full, in front of all, and is named no more.
- * 2. So long as some sleep, or the door is closed, one is named, who looks, or one is inside, who will leave and name the first: who
- *    lies down finds the door full, or closed to it, where one is named; the named one lies down only where it is full; one that is
- *    inside stays so until it leaves. So the first in the queue does not sleep for ever, as long as each call inside ends.
- * 3. Those who never sleep may pass until the turn is over: HULL_SHARED_TURN since a named one came in, or since the first of the queue
- *    lay down in an empty one. From then on who leaves, or names, closes the door in the same change, and the next to come in is the one
- *    that is named. A sleeper stands behind at most all others that lay down before it, and one of them comes in each turn.
- * 4. Who gives up (a deadline) takes itself out of the queue under its lock, or finds that it was named. The named one comes in if the
- *    door is open to it, and else is named no more, in one change of a door that is full: who leaves names the next.
+ * 1. A caller that finds the gate closed spins briefly, then enqueues itself: under the lock of the queue it is counted as asleep
+ *    and becomes the last in the queue, unless the gate is open to it by then. When a call leaves while callers sleep and none is
+ *    designated, it dequeues the first and designates it, in the same change of the word by which it leaves, and wakes only that
+ *    one. The designated caller spins until it enters; if the gate stays full it may enqueue itself again, in front of all, and then
+ *    is designated no more.
+ * 2. As long as callers sleep, or the gate is closed, there is a designated caller, which looks, or a call inside, which will leave
+ *    and designate the first. For a caller that enqueues itself finds the gate full, or closed to it, and then one is designated;
+ *    the designated caller enqueues itself only if the gate is full; and a call inside stays inside until it leaves. So the first in
+ *    the queue does not sleep for ever, as long as each call inside ends.
+ * 3. Callers that never sleep may enter first until the turn is over: HULL_SHARED_TURN after a designated caller entered, or after a
+ *    caller enqueued itself in an empty queue. From then on a call that leaves, or designates, closes the gate in the same change,
+ *    and the next caller to enter is the designated one. Before a sleeper in the queue there are at most all others that enqueued
+ *    themselves before it, and one of them enters in each turn.
+ * 4. A caller that gives up (a deadline) removes itself from the queue under its lock, or finds that it was designated. The
+ *    designated caller enters if the gate is open to it, and else gives up its designation, in one change of a word that is full:
+ *    the next call that leaves designates the next caller.
  *
- * 5. A seat with a number sleeps at the place of its number (modulo 64: at most 64 numbers are out, so that no two seats have one
- *    place). It announces itself there (waiters + 1), reads the place's epoch, and looks once more; only then it sleeps, unless the
- *    epoch has changed since. Who was served has handed the next number on; where it then finds an announcement at that number's
- *    place, it changes the epoch and wakes. All these steps have one order, in which each thread's keep theirs. If the last look did
- *    not see the number handed on, then the hand-over came behind that look, and so behind the announcement and the reading of the
- *    epoch: it finds the one and changes the other.
- * 6. A call that found no room, where the line waits for some, sleeps outside the door and with no number, by a word that each drain
- *    changes behind its look. It read that word before it took its number: a drain that came behind its call changes the word behind
- *    that reading. Who drained for the hook changes the word once more when the hook has ended, since another may have to drain then.
+ * 5. A seat with a number sleeps at the slot of its number (modulo 64: at most 64 numbers are out, so that no two seats share a
+ *    slot). It announces itself there (waiters + 1), reads the slot's epoch, and looks once more; only then it sleeps, unless the
+ *    epoch has changed since. A thread whose call was served has handed the next number on; if it then finds an announcement at that
+ *    number's slot, it changes the epoch and wakes the sleeper. All these steps have one order, in which each thread's steps keep
+ *    theirs. If the last look did not see the number handed on, then it was handed on after that look, and so after the announcement
+ *    and the reading of the epoch: the thread that hands it on finds the announcement and changes the epoch.
+ * 6. A call that found no space in the journal, if the gate waits for space, sleeps outside the gate and with no number, on a word
+ *    that each drain changes after its look. It read that word before it took its number: a drain after its call changes the word
+ *    after that reading. The thread that drained for the hook changes the word once more when the hook has ended, since another
+ *    thread may have to drain then.
  *
- * (Dice and Kogan, 2019, restrict in this way how many threads contend for a lock; that the first of the queue is handed it when its
+ * (Dice and Kogan, 2019, restrict in this way how many threads contend for a lock; handing it to the first of the queue when its
  * time has come is as in Go's sync.Mutex.) */
 #include "hull_shared.h"
 #include "sleeping.h"
@@ -37,40 +43,40 @@
 
 #include <errno.h>
 
-/* the proved functions below those of the same name here, as tools/product.sh names them: they know no line */
+/* the proved functions that those of the same name here call, as tools/product.sh names them: they know no gate */
 size_t hull_proved_shared_seat_size(void);
 void hull_proved_shared_make_seat(hull_shared_seat *room);
 uint32_t hull_proved_shared_lend(hull_shared_desk *desk, hull_shared_seat *room, uint32_t number);
 uint32_t hull_proved_shared_give_back(hull_shared_desk *desk, hull_shared_seat *room);
 
 enum {
-    INSIDE = 255,      /* the bits of the door that count who is inside */
-    NAMED = 256,       /* one who slept outside is to come in next, and awake */
-    CLOSED = 512,      /* nobody else may come in */
-    ASLEEP = 1024,     /* each who sleeps outside */
-    NEAR = 2,          /* so many numbers before its own a seat is near its turn */
-    LOOKS = 20,        /* so often one looks near its turn, or outside, before it sleeps */
-    NAMED_LOOKS = 200  /* and the named one, since who leaves has to wake one again */
+    INSIDE = 255,      /* the bits of the word that count the calls inside */
+    NAMED = 256,       /* a caller that slept outside is awake and designated to enter next */
+    CLOSED = 512,      /* only the designated caller may enter */
+    ASLEEP = 1024,     /* the unit in which the callers that sleep outside are counted */
+    NEAR = 2,          /* at most so many numbers before its own a seat is near its turn */
+    LOOKS = 20,        /* so often a caller looks near its turn, or outside, before it sleeps */
+    NAMED_LOOKS = 200  /* the same of the designated caller, which a leaving call has to wake again if it sleeps */
 };
 
 /* How long a thread waits before it drains again after memory was refused to a drain, in nanoseconds. */
 #define RETRY 10000000
 
-/* A place to sleep for who has a number; apart from the next one by a line of the cache. */
+/* A slot where a seat with a number sleeps; as large as a line of the cache. */
 struct place {
     uint32_t epoch;
     uint32_t waiters;
     unsigned char apart[56];
 };
 
-/* What a line keeps of one seat: where it sleeps outside, and since when its call has been inside. Seats in the queue are told by
- * their numbers plus 1, none by 0. */
+/* The wait node of one seat: where it sleeps outside, and since when its call has been inside. In the queue a seat is its number
+ * plus 1, and no seat is 0. */
 struct bed {
-    uint32_t is_named; /* the word that it sleeps by */
+    uint32_t is_named; /* the word that it sleeps on */
     uint32_t is_queued;
     uint32_t next;
     uint32_t before;
-    uint64_t since; /* 0 where no call of the seat is inside */
+    uint64_t since; /* 0 if no call of the seat is inside */
     uint64_t turn;
     uint32_t has_turn;
     unsigned char apart[20];
@@ -78,32 +84,32 @@ struct bed {
 
 struct line {
     /* set before calls are made */
-    const hull_shared_desk *desk; /* whose line it is, as long as seats are out */
+    const hull_shared_desk *desk; /* the shared hull of this gate, as long as seats are acquired */
     hull_shared_hook *hook;
     void *context;
     hull_shared_part *part;
-    uint32_t out;    /* the seats that were lent with it, and are not back */
-    uint32_t beside; /* how many calls may be inside at once, less one */
-    uint32_t waits;  /* whether a call that found no room waits for some */
+    uint32_t out;    /* the seats that were acquired with this gate and not released */
+    uint32_t beside; /* how many calls may be inside at once, minus 1 */
+    uint32_t waits;  /* whether a call that found no space waits for some */
     unsigned char apart_1[20];
     /* written by each call */
     uint64_t turn; /* the number that is served now, 0 before the first */
     uint32_t held;
     unsigned char apart_2[52];
-    /* the door and the queue */
+    /* the word of the gate, and the queue */
     uint32_t door;
-    uint32_t lock; /* of the queue, and of ASLEEP in the door */
+    uint32_t lock; /* of the queue, and of ASLEEP in the word */
     uint32_t first;
     uint32_t last;
-    uint64_t turn_ends; /* when the door is closed for the one that is named */
-    uint32_t named;     /* who was named last */
+    uint64_t turn_ends; /* the gate may be closed for the designated caller from then on */
+    uint32_t named;     /* the seat that was designated last */
     unsigned char apart_3[36];
-    /* room */
-    uint32_t drains;   /* changed when there may be room again; who waits for room sleeps by it */
-    uint32_t for_room; /* how many do */
+    /* space in the journal */
+    uint32_t drains;   /* changed when there may be space again; callers that wait for space sleep on it */
+    uint32_t for_room; /* how many callers wait for space */
     uint32_t draining; /* the seat that drains for the hook, plus 1, or 0 */
     uint64_t draining_since;
-    uint32_t refused; /* whether memory was refused to the drain before this one */
+    uint32_t refused; /* whether memory was refused to the previous drain */
     unsigned char apart_4[36];
     struct place places[HULL_SHARED_SEATS_MAX];
     struct bed beds[HULL_SHARED_SEATS_MAX];
@@ -111,7 +117,7 @@ struct line {
 
 typedef char line_has_room[sizeof(struct line) <= sizeof(hull_shared_line) ? 1 : -1];
 
-/* What stands behind a seat in its room. */
+/* The gate with which a seat was acquired, and its number; after the proved seat in its storage. */
 struct lent {
     struct line *line;
     uint32_t number;
@@ -135,7 +141,7 @@ void hull_shared_make_seat(hull_shared_seat *room) {
     memset(lent_of(room), 0, sizeof(struct lent));
 }
 
-/* Makes the line the desk's, unless it is another's. */
+/* Binds the gate to the shared hull, unless it is bound to another one; returns whether it is bound to this one. */
 static int is_bound(struct line *line, const hull_shared_desk *desk) {
     const hull_shared_desk *other = NULL;
     return __atomic_compare_exchange_n(&line->desk, &other, desk, 0, __ATOMIC_SEQ_CST, __ATOMIC_SEQ_CST) || other == desk;
@@ -249,7 +255,7 @@ static void leaves_queue(struct line *line, uint32_t seat) {
     *(bed->next == 0 ? &line->last : &bed_of(line, bed->next)->before) = bed->before;
 }
 
-/* ---- the door */
+/* ---- the word of the gate */
 
 static int is_open(const struct line *line, uint32_t door, int is_named) {
     return (door & INSIDE) <= line->beside && (is_named || (door & CLOSED) == 0);
@@ -267,13 +273,13 @@ static void begins_turn(struct line *line) {
     __atomic_store_n(&line->turn_ends, hull_now() + HULL_SHARED_TURN, __ATOMIC_RELAXED);
 }
 
-/* CLOSED where the turn is over. */
+/* Returns CLOSED if the turn is over, else 0. */
 static uint32_t closing(const struct line *line) {
     return hull_now() >= __atomic_load_n(&line->turn_ends, __ATOMIC_RELAXED) ? CLOSED : 0;
 }
 
-/* Makes the first of the sleepers the next, if some sleep and none is named: in the change by which who calls leaves, or where the door
- * is open. */
+/* If callers sleep and none is designated, dequeues the first, designates it and wakes it: if `leaving`, in the change by which the
+ * calling thread leaves; else only if the gate is open to it. */
 static void names_next(struct line *line, int leaving) {
     uint32_t door, next, seat = 0;
     hull_lock(&line->lock);
@@ -298,7 +304,7 @@ static void names_next(struct line *line, int leaving) {
     }
 }
 
-/* Comes in by the door, if it is open. It may fail where others change the door. */
+/* Enters if the gate is open to the caller; returns whether it did. It may fail because other threads change the word. */
 static int comes_in(struct line *line, int is_named) {
     uint32_t door = door_of(line), next = door + 1;
     if (!is_open(line, door, is_named)) {
@@ -319,7 +325,8 @@ static int comes_in(struct line *line, int is_named) {
     return 1;
 }
 
-/* Stands in the queue and is counted as asleep, if the door is not open to it; in front, if it was named, which it is no more then. */
+/* Enqueues the seat and counts it as asleep, unless the gate is open to it; returns whether it did. The designated caller becomes
+ * the first in the queue, and is designated no more. */
 static int lies_down(struct line *line, uint32_t seat, int is_named) {
     uint32_t door, next;
     hull_lock(&line->lock);
@@ -347,7 +354,7 @@ static int lies_down(struct line *line, uint32_t seat, int is_named) {
     return 1;
 }
 
-/* Takes itself out of the queue. Whether it stood there, and so is not named. */
+/* Removes the seat from the queue. Returns whether it was queued; if not, it is designated. */
 static int gets_up(struct line *line, uint32_t seat) {
     uint32_t door;
     int was_queued;
@@ -363,7 +370,8 @@ static int gets_up(struct line *line, uint32_t seat) {
     return was_queued;
 }
 
-/* Sleeps outside until it is named. Whether it is: not where the time is over before, and it stands in the queue no more. */
+/* Sleeps outside until the seat is designated. Returns whether it is; if not, the deadline passed first, and the seat is queued no
+ * more. */
 static int is_named_in_time(struct line *line, uint32_t seat, uint64_t until) {
     uint32_t *word = &bed_of(line, seat)->is_named;
     while (__atomic_load_n(word, __ATOMIC_SEQ_CST) == 0) {
@@ -376,7 +384,7 @@ static int is_named_in_time(struct line *line, uint32_t seat, uint64_t until) {
     return 1;
 }
 
-/* Is named no more, where the time is over: it comes in if the door is open. Whether it has. */
+/* Gives up the designation after the deadline, or enters if the gate is open. Returns whether it entered. */
 static int comes_in_at_last(struct line *line) {
     for (;;) {
         uint32_t door = door_of(line);
@@ -389,7 +397,7 @@ static int comes_in_at_last(struct line *line) {
     }
 }
 
-/* Comes in at once, if nobody is inside and the door is not closed. */
+/* Enters at once if no call is inside and the gate is not closed; returns whether it did. */
 static int comes_in_at_once(struct line *line) {
     uint32_t door;
     do {
@@ -401,7 +409,7 @@ static int comes_in_at_once(struct line *line) {
     return 1;
 }
 
-/* Waits at the door, and comes in. Whether it has, by that time. */
+/* Waits at the gate, and enters. Returns whether it did by the deadline. */
 static int enters(struct line *line, uint32_t seat, uint64_t until) {
     int is_named = 0;
     unsigned looks = 0;
@@ -429,8 +437,8 @@ static int enters(struct line *line, uint32_t seat, uint64_t until) {
     return 1;
 }
 
-/* Leaves by the door; names the first of the sleepers where some sleep and none is named, and closes the door where the turn is
- * over. */
+/* Leaves. If callers sleep and none is designated, designates the first of them; if the turn is over, closes the gate to all but the
+ * designated caller. */
 static void leaves(struct line *line) {
     for (;;) {
         uint32_t door = door_of(line), next = door - 1;
@@ -450,7 +458,7 @@ static void leaves(struct line *line) {
 
 /* ---- numbers */
 
-/* Keeps the number that is served: of two threads that tell theirs, where two may be inside, the later one. */
+/* Stores the number that is served: of two threads that store theirs, if two may be inside, the later number. */
 static void is_served(struct line *line, uint64_t number) {
     uint64_t seen = __atomic_load_n(&line->turn, __ATOMIC_RELAXED);
     if (line->beside == 0) {
@@ -475,7 +483,7 @@ void hull_shared_handed_on(hull_shared_line *waiting, uint64_t number) {
     errno = kept;
 }
 
-/* Wakes all who wait for room. */
+/* Wakes all threads that wait for space. */
 static void room_again(struct line *line) {
     __atomic_fetch_add(&line->drains, 1, __ATOMIC_SEQ_CST);
     if (__atomic_load_n(&line->for_room, __ATOMIC_SEQ_CST) != 0) {
@@ -483,8 +491,8 @@ static void room_again(struct line *line) {
     }
 }
 
-/* Sleeps until there may be room again, unless there has been a drain since the word of drains was `seen`. While drains are refused memory
- * nothing changes that word, so that the sleepers don't wake one another in turn: each tries to drain after a while. */
+/* Sleeps until there may be space again, unless there has been a drain since the word `drains` was `seen`. While drains are refused
+ * memory nothing changes that word, so that the sleepers don't wake one another in turn: each tries to drain after RETRY. */
 static void waits_for_drain(struct line *line, uint32_t seen, uint64_t until) {
     uint64_t again = __atomic_load_n(&line->refused, __ATOMIC_SEQ_CST) != 0 ? hull_now() + RETRY : HULL_NEVER;
     __atomic_fetch_add(&line->for_room, 1, __ATOMIC_SEQ_CST);
@@ -492,7 +500,7 @@ static void waits_for_drain(struct line *line, uint32_t seen, uint64_t until) {
     __atomic_fetch_sub(&line->for_room, 1, __ATOMIC_SEQ_CST);
 }
 
-/* Looks once; where the number was served, who waits for the next is woken. */
+/* Looks once; if the number was served, wakes the thread that waits for the next one. */
 static hull_shared_reply looks_and_wakes(struct line *line, hull_shared_seat *seat, hull_shared_target to) {
     hull_shared_reply reply = to.part != NULL ? hull_shared_look_and_drain(seat, to.part)
                               : to.out != NULL ? hull_shared_look_into(seat, to.out, to.room)
@@ -512,7 +520,7 @@ static hull_shared_reply looks_and_wakes(struct line *line, hull_shared_seat *se
     return reply;
 }
 
-/* Sleeps at the place of the seat's number, unless a last look finds it served. */
+/* Sleeps at the slot of the seat's number, unless a last look finds it served. Returns the reply of that look. */
 static hull_shared_reply sleeps_and_looks(struct line *line, hull_shared_seat *seat, uint64_t number, hull_shared_target to) {
     struct place *place = &line->places[number % HULL_SHARED_SEATS_MAX];
     hull_shared_reply reply;
@@ -529,7 +537,7 @@ static hull_shared_reply sleeps_and_looks(struct line *line, hull_shared_seat *s
     return reply;
 }
 
-/* Waits until the number that the seat has taken is served: the answer to its call. */
+/* Waits until the number that the seat has taken is served; returns the answer to its call. */
 static hull_shared_reply waits_for_turn(struct line *line, hull_shared_seat *seat, hull_shared_target to) {
     hull_shared_reply reply = looks_and_wakes(line, seat, to);
     unsigned looks = 0;
@@ -547,7 +555,7 @@ static hull_shared_reply waits_for_turn(struct line *line, hull_shared_seat *sea
 
 /* ---- calls */
 
-/* What a seat asks for, in its line. */
+/* A call of a seat at its gate. */
 struct call {
     struct line *line;
     hull_shared_seat *seat;
@@ -565,7 +573,7 @@ static hull_shared_reply refused(uint32_t code) {
     return none;
 }
 
-/* Makes a call once and waits for its answer. */
+/* Makes a call once, waits for its answer and returns it; returns BUSY if it could not enter by the deadline. */
 static hull_shared_reply made_once(const struct call *call, hull_shared_target to) {
     struct line *line = call->line;
     struct bed *bed = bed_of(line, call->number);
@@ -588,7 +596,7 @@ static hull_shared_reply made_once(const struct call *call, hull_shared_target t
     return reply;
 }
 
-/* Calls the hook, in which the thread is not cancelled. */
+/* Calls the hook; the thread is not cancelled meanwhile. */
 static void runs_hook(struct line *line) {
     int before;
     pthread_setcancelstate(PTHREAD_CANCEL_DISABLE, &before);
@@ -596,7 +604,7 @@ static void runs_hook(struct line *line) {
     pthread_setcancelstate(before, &before);
 }
 
-/* Drains by the seat of a call, and has the hook called: whether there is room again. */
+/* Drains by the seat of a call, and calls the hook. Returns whether there is space again. */
 static int is_drained(const struct call *call) {
     struct line *line = call->line;
     hull_shared_target to = {NULL, 0, line->part};
@@ -619,7 +627,7 @@ static int is_drained(const struct call *call) {
     return 1;
 }
 
-/* Whether this seat is the one that drains for the hook now: none where there is no hook, or another does. */
+/* Makes this seat the one that drains for the hook; returns whether it is. It is not if there is no hook, or another one drains. */
 static int is_drainer(const struct call *call) {
     struct line *line = call->line;
     uint32_t nobody = 0;
@@ -627,8 +635,9 @@ static int is_drainer(const struct call *call) {
            __atomic_compare_exchange_n(&line->draining, &nobody, call->number, 0, __ATOMIC_SEQ_CST, __ATOMIC_RELAXED);
 }
 
-/* Drains for the hook as the only thread that does: whether there is room again. After the hook the threads that wait for room are woken,
- * since another of them may have to drain; and so they are when memory is refused for the first time, to try again from then on. */
+/* Drains for the hook as the only thread that does; returns whether there is space again. After the hook it wakes the threads that
+ * wait for space, since another of them may have to drain; it also wakes them when memory is refused for the first time, to try
+ * again from then on. */
 static int drains_for_hook(const struct call *call) {
     struct line *line = call->line;
     int has_room, was_refused;
@@ -644,8 +653,8 @@ static int drains_for_hook(const struct call *call) {
     return has_room;
 }
 
-/* Makes a call, and where it found no room makes it again once there is some, if the line waits or drains by itself. The word that tells
- * of room is read before a number is taken: a drain behind the call changes it. */
+/* Makes a call. If it found no space, makes it again after a drain, if the gate waits for space or drains by itself. The word
+ * `drains` is read before a number is taken: a drain after the call changes it. */
 static hull_shared_reply made(const struct call *call, hull_shared_target to) {
     struct line *line = call->line;
     for (;;) {
@@ -741,14 +750,14 @@ hull_shared_reply hull_shared_vertices(hull_shared_line *line, hull_shared_seat 
     return hull_shared_call_into(line, seat, HULL_KIND_VERTICES, 0, 0, to, HULL_NEVER);
 }
 
-/* ---- how it stands */
+/* ---- the state */
 
 static uint64_t ago(uint64_t now, uint64_t since) {
     return now > since ? now - since : 0;
 }
 
-/* The seat whose call has the number that is served, or else the one that has been inside for longest, and since when; 0 where none
- * is. */
+/* Finds the seat whose call has the number that is served, or else the one that has been inside for longest; returns since when it
+ * has been inside, or 0 if none is. */
 static uint64_t holder_since(const struct line *line, uint64_t turn, uint32_t *seat) {
     uint64_t first = 0;
     uint32_t k;

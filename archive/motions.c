@@ -1,11 +1,11 @@
-/* Outlines that are moved, turned, and move straight to others, for C, C++, Rust and Python.
+/* Convex polygons that are translated, rotated, and move straight to others, for C, C++, Rust and Python.
  *
- * The first moment of a straight motion: two convex shapes that are apart and move
- * straight towards one another first meet at a corner of one of them. So that moment is the least of the ways that the corners of the one
- * that moves go to the other, and that the corners of the other go back to the one that moves, by the proved calls of the header. */
+ * The first moment of a straight motion: two disjoint convex shapes that move straight towards one another first meet at a vertex of
+ * one of them. So that moment is the least of the ways that the vertices of the moving one go to the other, and that the vertices of
+ * the other go back to the moving one, by the proved calls of the header. */
 #include "hull.h"
 
-/* The product of two numbers of 128 bits, from the least of its four words on. */
+/* Multiplies two numbers of 128 bits; the product has four words, the least first. */
 static void product(unsigned __int128 a, unsigned __int128 b, uint64_t words[4]) {
     const uint64_t ones[2] = {(uint64_t)a, (uint64_t)(a >> 64)}, others[2] = {(uint64_t)b, (uint64_t)(b >> 64)};
     memset(words, 0, 4 * sizeof *words);
@@ -24,7 +24,7 @@ static unsigned __int128 number(uint64_t high, uint64_t low) {
     return (unsigned __int128)high << 64 | low;
 }
 
-/* Whether the way of the one is shorter than that of the other. */
+/* Whether the way of `one` is shorter than that of `other`. */
 static int is_shorter(const hull_hit *one, const hull_hit *other) {
     uint64_t ones[4], others[4];
     product(number(one->high, one->low), number(other->divisor_high, other->divisor_low), ones);
@@ -37,7 +37,8 @@ static int is_shorter(const hull_hit *one, const hull_hit *other) {
     return ones[0] < others[0];
 }
 
-/* Takes the hits of corners that go by this direction to an outline, as far as it leads, where they are sooner than what was found. */
+/* Casts a ray in this direction from each vertex to a polygon. Keeps the hits that are no farther than the direction leads and
+ * sooner than what was found before. */
 static void sooner(hull_motion *found, const hull_point *outline, size_t count, const hull_point *corners, size_t corner_count, int64_t dx,
                    int64_t dy, uint32_t moves) {
     for (size_t i = 0; i < corner_count; i++) {
@@ -86,7 +87,7 @@ hull_reply hull_outline_moved(const hull_point *corners, size_t count, int64_t d
     return reply;
 }
 
-/* A point turned by the angle of (a, b), and magnified by its length: whether it is in range. */
+/* Rotates a point by the angle of (a, b), and scales it by its length; returns whether the result is in range. */
 static int turns(hull_point p, int64_t a, int64_t b, hull_point *out) {
     const __int128 x = (__int128)a * p.x - (__int128)b * p.y, y = (__int128)b * p.x + (__int128)a * p.y;
     const __int128 most = HULL_COORDINATE_MAX;

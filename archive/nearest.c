@@ -1,10 +1,11 @@
-/* The held point that is nearest to a point, for C, C++, Rust and Python, over the listing of the header, which is proved: what is held in
- * a strip round the point's x is looked through, at first a narrow one, and then one that is as wide as what was found there. */
+/* The nearest point of a set to a given point, for C, C++, Rust and Python, over the listing of the header, which is proved: it
+ * searches the points in a strip around the given x, at first a narrow one, and then one that is as wide as the distance to what was
+ * found there. */
 #include "hull.h"
 
 enum { AT_ONCE = 64 };
 
-/* What is asked for, and the nearest that was found by now; or that memory was refused. */
+/* The given point, and the nearest one that was found by now; or that memory was refused. */
 struct search {
     int64_t x, y;
     uint32_t code; /* HULL_EMPTY, HULL_POINT, HULL_NO_MEMORY */
@@ -16,7 +17,7 @@ static unsigned __int128 squared(int64_t d) {
     return (unsigned __int128)((__int128)d * d);
 }
 
-/* Keeps the point where it is nearer than what was found. Of several that are as near, the first by x and then y is kept. */
+/* Keeps the point if it is nearer than what was found, or as near and before that by x and then y. */
 static void meets(struct search *s, hull_held p) {
     const unsigned __int128 d = squared(p.x - s->x) + squared(p.y - s->y);
     const int is_first = p.x != s->nearest.x ? p.x < s->nearest.x : p.y < s->nearest.y;
@@ -25,7 +26,7 @@ static void meets(struct search *s, hull_held p) {
     }
 }
 
-/* Looks through the held points whose x is no farther than that. */
+/* Searches the points of the set whose x is at most `wide` away. */
 static void looks(const hull_set *h, struct search *s, int64_t wide) {
     const int64_t far = HULL_COORDINATE_MAX;
     const int64_t right = s->x > far - wide ? far : s->x + wide;

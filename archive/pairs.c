@@ -1,17 +1,17 @@
-/* Many outlines at once, for C, C++, Rust and Python: which of them are near one another, by a sweep over their boxes, and one beside
- * each of many. Each pair is asked by the proved calls of the header; a pair that is passed over has boxes farther apart than what was
- * asked for. */
+/* Many convex polygons at once, for C, C++, Rust and Python: the pairs that are near one another, by a sweep over their boxes, and
+ * the relations of one polygon to each of many. Each pair is asked by the proved calls of the header; a pair that is skipped has
+ * boxes farther apart than the given length. */
 #include "hull.h"
 
 #include <stdlib.h>
 
-/* An outline of some corners, where it lies among all, and the smallest box that holds it. */
+/* A polygon that has vertices: its index among all, and the smallest box that contains it. */
 struct boxed {
     int64_t left, right, bottom, top;
     size_t at;
 };
 
-/* The boxes of the outlines that have corners; how many they are. */
+/* Stores the boxes of the polygons that have vertices; returns how many they are. */
 static size_t boxes_of(const hull_corners *outlines, size_t count, struct boxed *boxes) {
     size_t found = 0;
     for (size_t i = 0; i < count; i++) {
@@ -35,14 +35,14 @@ static int by_places(const void *a, const void *b) {
                                       : (one->second > other->second) - (one->second < other->second);
 }
 
-/* A length in whole numbers that is no shorter, as far as coordinates go. */
+/* Returns a length in whole numbers that is no shorter, as far as coordinates go. */
 static int64_t no_shorter(uint64_t numerator, uint32_t denominator) {
     const uint64_t most = UINT64_C(4) * HULL_COORDINATE_MAX;
     const uint64_t length = denominator == 0 ? most : numerator / denominator + (numerator % denominator != 0);
     return (int64_t)(length < most ? length : most);
 }
 
-/* Whether the two are no farther apart than that. */
+/* Whether the distance of the two is at most that. */
 static int are_near(const hull_corners *a, const hull_corners *b, uint64_t numerator, uint32_t denominator) {
     const hull_reply told = numerator == 0 && denominator != 0
                                 ? hull_outline_meets(a->corners, a->count, b->corners, b->count)
@@ -99,8 +99,8 @@ size_t hull_outline_meets_segments(const hull_point *corners, size_t count, cons
     return segment_count;
 }
 
-/* The place among corners in the order of the header of a point, or `count`: along the lower chain points rise, along the upper one they
- * fall, and `last` is the greatest. */
+/* Returns the index of a point among vertices in the order of the header, or `count` if it is none of them: along the lower chain
+ * points rise, along the upper one they fall, and `last` is the index of the greatest. */
 static size_t place_among(const hull_point *corners, size_t count, size_t last, hull_point p) {
     size_t from = 0, to = last;
     for (int upper = 0; upper < 2; upper++) {

@@ -1,6 +1,6 @@
-/* How a thread sleeps by a word in memory and is woken, and a lock made of that: by futex, or where there is none (or with
- * HULL_SHARED_BY_PTHREADS) by mutexes and conditions of pthreads. Who wakes has changed the word before. No sleep here is a point at
- * which a thread is cancelled: its caller stands in the middle of what others wait for. */
+/* Sleeping on a word in memory and waking its sleepers, and a lock made of that: by futex, or, if there is none (or with
+ * HULL_SHARED_BY_PTHREADS), by mutexes and conditions of pthreads. The thread that wakes has changed the word before. No sleep here
+ * is a point at which a thread is cancelled: its caller is in the middle of something that others wait for. */
 #ifndef HULL_SLEEPING_H
 #define HULL_SLEEPING_H
 
@@ -15,7 +15,7 @@
 #include <unistd.h>
 #endif
 
-/* What tests put between two steps, to hold a thread up there. */
+/* Tests define this between two steps, to hold a thread up there. */
 #ifndef HULL_SHARED_STEP
 #define HULL_SHARED_STEP(name) ((void)0)
 #endif
@@ -32,7 +32,7 @@ static inline uint64_t hull_now(void) {
     return hull_clock(CLOCK_MONOTONIC);
 }
 
-/* The same to some milliseconds, which takes a third of the time. */
+/* Returns the same to some milliseconds, in a third of the time. */
 static inline uint64_t hull_lately(void) {
 #if defined(CLOCK_MONOTONIC_COARSE)
     return hull_clock(CLOCK_MONOTONIC_COARSE);
@@ -50,20 +50,21 @@ static inline struct timespec hull_timespec(uint64_t nanoseconds) {
 
 #if defined(SYS_futex)
 
-/* Sleeps until someone wakes who sleeps by this word, or until that time, unless the word is no longer `seen`; it may return before. */
+/* Sleeps until a thread wakes the sleepers of this word, or until that time, unless the word is no longer `seen`; it may return
+ * before. */
 static inline void hull_sleep(uint32_t *word, uint32_t seen, uint64_t until) {
     struct timespec t = hull_timespec(until);
     syscall(SYS_futex, word, FUTEX_WAIT_BITSET_PRIVATE, seen, until == HULL_NEVER ? NULL : &t, NULL, FUTEX_BITSET_MATCH_ANY);
 }
 
-/* Wakes so many who sleep by this word. */
+/* Wakes so many of the threads that sleep on this word. */
 static inline void hull_wake(uint32_t *word, int many) {
     syscall(SYS_futex, word, FUTEX_WAKE_PRIVATE, many, NULL, NULL, 0);
 }
 
 #else
 
-/* Where threads sleep: words share one, so that all are woken and look at their words. */
+/* What all threads sleep on: all words share it, so all sleepers are woken and look at their words. */
 static struct {
     pthread_mutex_t lock;
     pthread_cond_t changed;
@@ -126,7 +127,7 @@ static inline void hull_wake(uint32_t *word, int many) {
 
 #endif
 
-/* Waits a little between two looks: a pause, longer each time up to 64. */
+/* Pauses between two looks, longer each time up to 64 pauses. */
 static inline void hull_pause(unsigned looks) {
     unsigned i;
     for (i = 0; i < (1u << (looks < 6 ? looks : 6)); i++) {
@@ -138,8 +139,8 @@ static inline void hull_pause(unsigned looks) {
     }
 }
 
-/* A lock for a few instructions, all zero when it is free: 1 where one has it, 2 where others may sleep (Drepper, 2004, the second of
- * his mutexes). */
+/* Acquires a lock for a few instructions. It is 0 if it is free, 1 if a thread has it, 2 if others may sleep too (Drepper, 2004, the
+ * second of his mutexes). */
 static inline void hull_lock(uint32_t *lock) {
     uint32_t free = 0;
     unsigned looks;

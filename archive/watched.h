@@ -1,6 +1,6 @@
-/* What valgrind's helgrind is told of memory that threads order by atomic steps, which it does not see as order. Each is a request of
- * valgrind's, which does nothing elsewhere; the numbers are those of valgrind/valgrind.h and helgrind.h, which need not be on the
- * machine. */
+/* Describes to valgrind's helgrind the memory that threads order by atomic steps, which it does not see as order. Each call is a
+ * request of valgrind's, which does nothing elsewhere; the numbers are those of valgrind/valgrind.h and helgrind.h, which need not
+ * be on the machine. */
 #ifndef HULL_WATCHED_H
 #define HULL_WATCHED_H
 
@@ -9,7 +9,7 @@
 
 enum { HULL_RUNS_WATCHED = 0x1001, HULL_HELGRIND = 'H' << 24 | 'G' << 16 };
 
-/* Makes a request; 0 where nobody watches. */
+/* Makes a request; returns 0 if valgrind does not run the program. */
 static inline uintptr_t hull_request(uintptr_t number, uintptr_t first, uintptr_t second) {
     uintptr_t told = 0;
 #if !defined(HULL_SHARED_UNWATCHED) && defined(__linux__) && defined(__GNUC__)
@@ -35,7 +35,7 @@ static inline uintptr_t hull_request(uintptr_t number, uintptr_t first, uintptr_
     return told;
 }
 
-/* Whether valgrind runs the program, which is asked once. */
+/* Whether valgrind runs the program; valgrind is asked once. */
 static inline int hull_is_watched(void) {
     static int is_known, is_watched;
     if (!__atomic_load_n(&is_known, __ATOMIC_RELAXED)) {
@@ -51,7 +51,7 @@ static inline void hull_tells(uintptr_t number, const void *what, size_t bytes) 
     }
 }
 
-/* What this thread did is before what another does that tells hull_is_behind of the same. */
+/* Orders what this thread did before what another thread does after its hull_is_behind of the same. */
 static inline void hull_is_before(const void *what) {
     hull_tells(33, what, 0);
 }
@@ -60,7 +60,7 @@ static inline void hull_is_behind(const void *what) {
     hull_tells(34, what, 0);
 }
 
-/* So many bytes are read and written by atomic steps. */
+/* Declares that so many bytes are read and written by atomic steps. */
 static inline void hull_is_atomic(const void *at, size_t bytes) {
     hull_tells(39, at, bytes);
 }

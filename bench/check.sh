@@ -1,5 +1,5 @@
 #!/bin/sh
-# The checker beside the run that wrote its journal, on generated scripts of CALLS calls (200000 where none is given) by
+# The checker beside the run that wrote its journal, on generated scripts of CALLS calls (200000 if none is given) by
 # one worker, and on one of a million: whole runs of `run --journal` and of `check`, in processor seconds, and their ratio.
 . "$(dirname "$0")/tools.sh"
 calls=${1:-200000}

@@ -2,12 +2,12 @@
 //!
 //!     generate KIND CALLS WORKERS SEED [BITS]
 //!
-//! Kinds: `count` (counts alone), `small` (all calls on a grid of 8 by 8 points), `build` (adds alone), `churn` (adds,
-//! removes, extreme and place), `ask` (few adds, many questions), `mixed` (all calls but vertices). The last four take
-//! coordinates of at most 2^BITS in size (20 where none is given; the program takes 40). And those that are hard on who keeps
-//! corners: `parabola` (all points are corners, added and then removed in any order), `circle` (the same, and each one that
-//! goes comes again), `squares` (one within the other, removed from the outermost in), `comb` (points on two lines), `seesaw` (a
-//! corner in front of all points that comes and goes). The calls are dealt out to the workers in turn.
+//! Kinds: `count` (only counts), `small` (all calls on a grid of 8 by 8 points), `build` (only adds), `churn` (adds, removes,
+//! extreme and place), `ask` (few adds, many questions), `mixed` (all calls but vertices). The last four take coordinates of at most
+//! 2^BITS in size (20 if none is given; the program takes 40). And those that are hard on implementations that keep the vertices:
+//! `parabola` (all points are vertices, added and then removed in any order), `circle` (the same, and each one that is removed is
+//! added again), `squares` (one within the other, removed from the outermost in), `comb` (points on two lines), `seesaw` (a vertex
+//! in front of all points that is added and removed again). The calls are given to the workers in turn.
 use std::io::Write;
 
 /// A xorshift generator (Marsaglia, 2003).
@@ -119,7 +119,7 @@ fn circle(number: u64, random: &mut Random) -> Vec<(i64, i64)> {
     shuffled(angles.map(|a| ((radius * a.cos()) as i64, (radius * a.sin()) as i64)).collect(), random)
 }
 
-/// The calls of a kind that is hard on who keeps corners.
+/// Returns the calls of a kind that is hard on implementations that keep the vertices.
 fn hostile(kind: &str, calls: u64, random: &mut Random) -> Option<Vec<String>> {
     let number = calls as i64;
     Some(match kind {

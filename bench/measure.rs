@@ -5,7 +5,7 @@
 use std::process::{Command, Stdio};
 use std::time::Instant;
 
-/// What `wait4` tells of a child that ended: its own time and the system's for it, each in seconds and microseconds, then the
+/// The result of `wait4` for a child that ended: its own time and the system's for it, each in seconds and microseconds, then the
 /// peak resident memory, then what isn't read here.
 #[repr(C)]
 struct Usage {

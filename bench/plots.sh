@@ -3,8 +3,8 @@
 #
 #     plots.sh [FOLDER]
 #
-# FOLDER (bench/out) has the output of `tree.sh N` as tree-N.txt for several N, and that of `threads.sh` as threads.txt;
-# what is missing is measured first. Writes points.svg and workers.svg into docs/pictures. Skips with a word where there
+# FOLDER (bench/out) contains the output of `tree.sh N` as tree-N.txt for several N, and that of `threads.sh` as threads.txt;
+# missing output is measured first. Writes points.svg and workers.svg into docs/pictures. Skips, and reports that, if there
 # is no gnuplot.
 set -eu
 here=$(cd "$(dirname "$0")" && pwd)

@@ -1,12 +1,12 @@
-//! The rival: the same leaf tree with stored bridges (Overmars and van Leeuwen, 1981) as a Rust programmer would write
-//! it in an afternoon, nodes in an arena, the tree under `std::sync::Mutex`, one thread a worker. It reads the same
-//! scripts and writes the same reports as `hullbook run`, and proves nothing. `bench/embed` calls its tree.
+//! The rival: the same leaf tree with stored bridges (Overmars and van Leeuwen, 1981) as a Rust programmer would write it in an
+//! afternoon, nodes in an arena, the tree under `std::sync::Mutex`, one thread per worker. It reads the same scripts and writes the
+//! same reports as `hullbook run`, and proves nothing. `bench/embed` calls its tree.
 //!
 //! A call waits by that mutex, or by a fair lock of the rival's own, which serves first come, first served as the program does.
 //!
 //!     rival run SCRIPT [--capacity N]      the report of a script
 //!     rival fair SCRIPT [--capacity N]     the same under the fair lock
-//!     rival read SCRIPT                    reads a script, and no more
+//!     rival read SCRIPT                    only reads a script
 //!     rival parse JOURNAL                  splits each line of a journal and parses its numbers
 use std::cell::UnsafeCell;
 use std::fmt::Write as _;
@@ -37,13 +37,13 @@ pub type Edge = (Point, Point);
 
 #[derive(Clone, Copy)]
 enum Node {
-    /// A point, and how often it is held.
+    /// A point, and its multiplicity.
     Leaf(Point, u32),
     Fork { upper: Edge, lower: Edge, first: Point, last: Point, height: u32, left: u32, right: u32 },
 }
 
-/// Whether the lines through a, b and through c, d cross before m or at m; `s1` is the side of c, and a, b, c, d are
-/// in order, both turning right.
+/// Whether the lines through a, b and through c, d cross before m or at m; `s1` is the orientation of c, and a, b, c, d are in
+/// order, both turning right.
 fn crosses_at_or_before(s1: i128, a: Point, b: Point, c: Point, d: Point, m: Point) -> bool {
     let s2 = orient(b, a, d);
     let x = s1 * (d.x - m.x) as i128 + s2 * (c.x - m.x) as i128;
@@ -52,7 +52,7 @@ fn crosses_at_or_before(s1: i128, a: Point, b: Point, c: Point, d: Point, m: Poi
     if s > 0 { (x, y) <= (0, 0) } else { (x, y) >= (0, 0) }
 }
 
-/// How often a point is held at most.
+/// The greatest multiplicity of a point.
 const MULTIPLICITY_LIMIT: u32 = 65535;
 
 pub struct Tree {
@@ -123,7 +123,7 @@ impl Tree {
         }
     }
 
-    /// The upper bridge after a turn by 180 degrees.
+    /// Returns the upper bridge after a turn by 180 degrees.
     fn lower_bridge(&self, mut u: u32, mut w: u32) -> Edge {
         let m = self.last(u);
         loop {
@@ -200,7 +200,7 @@ impl Tree {
         self.join(n, left, right)
     }
 
-    /// The leaf of a point.
+    /// Returns the leaf of a point.
     fn leaf_of(&self, p: Point) -> Option<u32> {
         let mut n = self.root?;
         loop {
@@ -298,7 +298,7 @@ impl Tree {
         }
     }
 
-    /// The edge of a chain round q, which is at or after its start and before its end.
+    /// Returns the edge of a chain round q, which is at or after its start and before its end.
     fn lower_after(&self, q: Point) -> Edge {
         let mut n = self.root.unwrap();
         loop {
@@ -405,7 +405,7 @@ impl Tree {
     }
 }
 
-/// The crossing test of the turned halves: m is the last point of the left half.
+/// The crossing test of the rotated halves: m is the last point of the left half.
 fn lower_crosses(s1: i128, a: Point, b: Point, c: Point, d: Point, m: Point) -> bool {
     let s2 = orient(b, a, d);
     let x = s1 * (m.x - d.x) as i128 + s2 * (m.x - c.x) as i128;
@@ -491,14 +491,14 @@ impl Lock for Mutex<Book> {
     }
 }
 
-/// A ticket lock (Mellor-Crummey and Scott, 1991): who waits looks a hundred times, and then yields between two looks.
+/// A ticket lock (Mellor-Crummey and Scott, 1991): a waiting caller looks a hundred times, and then yields between two looks.
 struct TicketLock {
     next: AtomicU64,
     served: AtomicU64,
     book: UnsafeCell<Book>,
 }
 
-// SAFETY: the book is reached by `with` alone, from the turn of the caller's number to the store that ends it.
+// SAFETY: only `with` reaches the book, from the turn of the caller's number to the store that ends it.
 unsafe impl Sync for TicketLock {}
 
 impl Lock for TicketLock {

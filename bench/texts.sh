@@ -1,8 +1,8 @@
 #!/bin/sh
-# Reading and writing texts: a script and a journal of LINES lines (a million where none is given), made from a seed.
-# Prints lines and megabytes a second of the built program, beside the rival's on the same files. Reading alone is a run
-# on a text whose last line is wrong: it is read whole and refused. A journal is read with all its lines kept by `upgrade`,
-# and with none of them kept by `check`, which judges each as it is read.
+# Reading and writing texts: a script and a journal of LINES lines (a million if none is given), made from a seed.
+# Prints lines and megabytes per second of the built program, beside the rival's on the same files. Reading only is a run
+# on a text whose last line is wrong: it is read whole and refused. `upgrade` reads a journal and keeps all its lines; `check`
+# keeps none of them, and judges each as it is read.
 . "$(dirname "$0")/tools.sh"
 lines=${1:-1000000}
 rounds=${2:-3}

@@ -1,12 +1,12 @@
 #!/bin/sh
-# Threads: the built program beside the rival under std's mutex, which serves whoever runs, and under a fair lock of the
+# Threads: the built program beside the rival under std's mutex, which serves any running thread, and under a fair lock of the
 # rival's own, which serves first come, first served as the program's does. For 1, 2, 4, 8, 16 and 64 workers it prints wall
 # and processor seconds of each, the ratios of wall times, and the program's processor time over that of the fewest workers.
 #
 #     threads.sh [CALLS [ROUNDS [BUSY [KINDS [WORKERS]]]]]
 #
 # CALLS calls in all (60000), made from a seed; the least of ROUNDS rounds taken in turn (3), beside BUSY processes that spin
-# (none); scripts of KINDS ("small churn mixed"; see generate.rs) for each of WORKERS. A run is stopped after 20 s, and stands
+# (none); scripts of KINDS ("small churn mixed"; see generate.rs) for each of WORKERS. A run is stopped after 20 s, and counts
 # as 20.
 . "$(dirname "$0")/tools.sh"
 calls=${1:-60000}

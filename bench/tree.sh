@@ -1,11 +1,11 @@
 #!/bin/sh
-# The program beside the rival on generated scripts: whole runs, serving alone, and peak memory, for one worker and for
-# four. Serving alone is a whole run less one whose journal takes one line only: that reads the script, takes the lock for
+# The program beside the rival on generated scripts: whole runs, serving only, and peak memory, for one worker and for
+# four. Serving only is a whole run minus one whose journal has one line: that reads the script, takes the lock for
 # each call and writes a report, and serves nothing.
 #
 # tree.sh [CALLS [ROUNDS [BITS [OTHER]]]]: so many calls (200000), the least of so many rounds (5), coordinates of at most
 # 2^BITS in size (20; 40 is the whole range). OTHER is a build of the program from another commit: its whole runs are
-# taken in the same turns, and the ratio to them is printed too. The rival multiplies in 128 bits whatever the range.
+# taken in the same turns, and the ratio to them is printed too. The rival multiplies in 128 bits for any range.
 . "$(dirname "$0")/tools.sh"
 calls=${1:-200000}
 rounds=${2:-5}
@@ -24,7 +24,7 @@ for kind in build churn ask mixed; do
             "$hullbook" run "$room/script" --capacity "$calls" >"$room/ours"
             "$room/rival" run "$room/script" --capacity "$calls" | cmp - "$room/ours"
         fi
-        # shellcheck disable=SC2046 # the numbers stand apart by spaces
+        # shellcheck disable=SC2046 # the numbers are separated by spaces
         set -- $(race "$rounds" "$names" run "$room/script" --capacity "$calls")
         ours=$1
         rival=$2

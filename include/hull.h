@@ -157,7 +157,7 @@ size_t hull_calls(hull_set *h, const hull_request *requests, size_t request_coun
 
 /* Replaces all points by those of the array, in any order, each with the multiplicity that it has there: as adding them one by
  * one to an empty set, in a small part of the time. Returns HULL_NUMBER with the number of different points; or fails and leaves
- * the set as it was: HULL_OUT_OF_RANGE (any of them), else HULL_TOO_MANY (more different points than the limit, or a
+ * the set unchanged: HULL_OUT_OF_RANGE (any of them), else HULL_TOO_MANY (more different points than the limit, or a
  * multiplicity above HULL_MULTIPLICITY_MAX) or HULL_NO_MEMORY (old and new points are both in memory for a while). The array is
  * aligned. */
 hull_reply hull_load(hull_set *h, const hull_point *points, size_t count);
@@ -196,7 +196,7 @@ static inline hull_point hull_held_behind(hull_held last) {
 hull_reply hull_nearest_held(const hull_set *h, int64_t x, int64_t y);
 
 /* Replaces all points by those of the array, which are in order by x and then y, each once with its multiplicity. Returns
- * HULL_NUMBER with the number of points; or fails and leaves the set as it was: HULL_OUT_OF_RANGE (a coordinate, or a
+ * HULL_NUMBER with the number of points; or fails and leaves the set unchanged: HULL_OUT_OF_RANGE (a coordinate, or a
  * multiplicity of 0 or above HULL_MULTIPLICITY_MAX), else HULL_OUT_OF_ORDER, else HULL_TOO_MANY (more points than the limit) or
  * HULL_NO_MEMORY. The array is as for hull_load. */
 hull_reply hull_load_held(hull_set *h, const hull_held *held, size_t count);
@@ -209,7 +209,7 @@ static inline hull_reply hull_refusal(uint32_t code) {
 }
 
 /* Replaces all points of `to` by those of `from`, with their multiplicities. Returns HULL_NUMBER with the number of different
- * points; or fails and leaves `to` as it was: HULL_TOO_MANY (more points than its limit) or HULL_NO_MEMORY. It must be the only
+ * points; or fails and leaves `to` unchanged: HULL_TOO_MANY (more points than its limit) or HULL_NO_MEMORY. It must be the only
  * call on either set at a time. */
 static inline hull_reply hull_copy(hull_set *to, const hull_set *from) {
     hull_reply reply = hull_count(from);
@@ -549,7 +549,7 @@ hull_reply hull_is_outline(const hull_point *points, size_t count);
 
 /* Writes the vertices of any points to the front of the array of `room` points, as a convex polygon: those that hull_vertices
  * writes for a set of these points. Returns HULL_CORNERS; HULL_TOO_SMALL, and `number` points are needed; or fails and leaves
- * the array as it was: HULL_OUT_OF_RANGE (any of them), else HULL_TOO_MANY (more different points than HULL_LIMIT_MAX, or one
+ * the array unchanged: HULL_OUT_OF_RANGE (any of them), else HULL_TOO_MANY (more different points than HULL_LIMIT_MAX, or one
  * more often than HULL_MULTIPLICITY_MAX) or HULL_NO_MEMORY. `count` points always suffice. If the points are the vertices of a
  * convex polygon in order, from any vertex on and in either sense, it makes a few passes over them; else it sorts them. The
  * arrays are as for hull_vertices and do not overlap. */

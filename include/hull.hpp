@@ -80,7 +80,7 @@ enum class Refusal : std::uint32_t {
     seats_out = HULL_SEATS_OUT,             // a seat of the shared hull is acquired: it stays open
     full = HULL_FULL,                       // the journal is full: the call was not made
     vacant = HULL_VACANT,                   // the seat was released, or moved away
-    ended = HULL_ENDED,                     // the hull, shared hull or part was moved away
+    ended = HULL_ENDED,                     // the hull, shared hull or segment was moved away
     busy = HULL_BUSY,                       // the call was not admitted for as long as the seat waits
     no_journal = HULL_NO_JOURNAL,           // the text is not a journal: number() is its first wrong line, from 1
     old_rules = HULL_OLD_RULES,             // the journal is of version 1 or 2, which does not count points
@@ -986,7 +986,7 @@ struct Limits {
     std::uint32_t readers = 0; // how many readers it may have, 0 to HULL_SHARED_READERS_MAX
 };
 
-// A desk with its line: it ends when the hull and all seats have dropped it.
+// A shared hull with its gate: it ends when the hull and all seats have dropped it.
 class Desk {
 public:
     Desk() : at_(hull_shared_desk_new()) {
@@ -1011,8 +1011,8 @@ private:
     friend class SharedHull;
     friend class Seat;
     friend class Reader;
-    std::mutex lock_; // one call at a time on the desk; calls of seats don't take it
-    // Which lines of the journal file are durable, as a call of hull_shared_journal returns it.
+    std::mutex lock_; // one call at a time on the shared hull; calls of seats don't take it
+    // The result of a call of hull_shared_journal: which lines of the journal file are durable.
     template <class Ask> std::uint64_t safe(const Ask &ask) {
         std::unique_lock<std::mutex> first(before_journal_lock_);
         const std::shared_lock<std::shared_mutex> kept(journal_lock_);
@@ -1345,7 +1345,7 @@ public:
     }
 
     // Compacts such a file, of a hull that is not open: to the additions that leave the same points, up to the same number, which is
-    // returned. Fails with Refusal::no_file, damaged, illegal, no_memory, and the file is as it was, or leaves the same points
+    // returned. Fails with Refusal::no_file, damaged, illegal, no_memory, and the file is unchanged, or leaves the same points
     // (hull_shared_journal_compact).
     static std::uint64_t compact(const std::string &path) {
         const hull_reply r = hull_shared_journal_compact(path.c_str());
@@ -1416,7 +1416,7 @@ public:
     }
 
 private:
-    // Closes the desk, whose lock is taken, and its file, unless they are closed.
+    // Closes the shared hull, whose lock is taken, and its file, unless they are closed.
     void end() {
         const std::lock_guard<std::mutex> first(desk_->before_journal_lock_);
         const std::lock_guard<std::shared_mutex> kept(desk_->journal_lock_);
@@ -1437,7 +1437,7 @@ private:
 
     explicit SharedHull(std::shared_ptr<Desk> desk) : desk_(std::move(desk)) {}
 
-    // A desk that is not open, for so many readers.
+    // A shared hull that is not open, for so many readers.
     static std::shared_ptr<Desk> new_desk(std::uint32_t readers) {
         std::shared_ptr<Desk> desk = told::with_memory([] { return std::make_shared<Desk>(); });
         if (readers != 0) {

@@ -155,8 +155,7 @@ static inline const char *hull_version(void) {
     return HULL_VERSION;
 }
 
-/* The name of a code as it stands above, for messages: hull_code_name(9) is "HULL_ABSENT". "no code" where no code has the
- * number. */
+/* Returns the name of a code as above, for messages: hull_code_name(9) is "HULL_ABSENT"; "no code" if no code has the number. */
 static inline const char *hull_code_name(uint32_t code) {
     switch (code) {
     /* written by tools/table.py: names */

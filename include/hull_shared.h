@@ -4,13 +4,13 @@
  * hull. Threads change and query it at once; each call takes effect at one moment between its beginning and its end, in the
  * order of the numbers that the calls took, and has its line in a journal, which is a legal history from the empty set.
  *
- * A *desk* is the shared hull, with a *seat* for each thread. A thread has storage for a seat, acquires a seat into it
+ * A shared hull (hull_shared_desk) has a *seat* for each thread. A thread has storage for a seat, acquires a seat into it
  * (hull_shared_lend), makes its calls with it (hull_shared_call), and releases it (hull_shared_give_back). After all seats are
- * released, the desk is closed (hull_shared_close), its journal is written (hull_shared_text), and the desk is ended
- * (hull_shared_end). Calls wait in a hull_shared_line, one for each desk.
+ * released, the shared hull is closed (hull_shared_close), its journal is written (hull_shared_text), and the shared hull is
+ * ended (hull_shared_end). Calls wait at an admission *gate* (hull_shared_line), one for each shared hull.
  *
- * The calls on desks, seats and parts are proved. Those on lines and on files (hull_shared_journal) are C over them, tested and
- * not proved: archive/line.c and archive/journal.c, compiled into the archive.
+ * The calls on shared hulls, seats and segments are proved. Those on gates and on journal files (hull_shared_journal) are C
+ * over them, tested and not proved: archive/line.c and archive/journal.c, compiled into the archive.
  *
  *     hull_shared_desk *desk = hull_shared_desk_new();
  *     hull_shared_seat *seat = hull_shared_seat_new();          // one for each thread
@@ -19,25 +19,26 @@
  *     hull_shared_lend(desk, &line, seat, 0);
  *     hull_shared_call(&line, seat, HULL_KIND_ADD, 3, 4);       // in the thread of that seat
  *
- * A desk keeps at most as many lines of its journal as it was opened for. When it has as many, a call fails with FULL, and
- * changes nothing, until a call of one of its seats drains it (hull_shared_drain), for which one line is reserved: all lines go
- * into a *part*, a segment of the journal, whose text you write to a file (hull_shared_part_text). The parts in order, and last
- * the text of the closed desk, are the whole journal, with consecutive numbers. Calls can wait for space
- * (hull_shared_line_wait_for_room), and a desk can drain itself (hull_shared_line_on_half_full). If the program crashes, what
- * was not drained and written is lost; hull_shared_journal_start keeps the journal in a file. Or the desk keeps no lines
- * (hull_shared_open_without_journal).
+ * A shared hull keeps at most as many lines of its journal as it was opened for. When it has as many, a call fails with FULL,
+ * and changes nothing, until a call of one of its seats drains it (hull_shared_drain), for which one line is reserved: all
+ * lines go into a *segment* of the journal (hull_shared_part), whose text you write to a file (hull_shared_part_text). The
+ * segments in order, and last the text of the closed shared hull, are the whole journal, with consecutive numbers. Calls can
+ * wait for space (hull_shared_line_wait_for_room), and a shared hull can drain itself (hull_shared_line_on_half_full). If the
+ * program crashes, what was not drained and written is lost; hull_shared_journal_start keeps the journal in a file. Or the
+ * shared hull keeps no lines (hull_shared_open_without_journal).
  *
- * hull_shared_desk_new, hull_shared_seat_new and hull_shared_part_new make desks, seats and parts in memory from malloc. Or you
- * give the storage: hull_shared_desk_size() bytes at a multiple of hull_shared_desk_alignment(), and so for seats and parts;
- * hull_shared_make_desk, hull_shared_make_seat and hull_shared_make_part make them there, before any other call. Do not read,
- * write or move the storage. A desk that is not open and storage with no seat need nothing beyond their storage, which you may
- * then use for anything.
+ * hull_shared_desk_new, hull_shared_seat_new and hull_shared_part_new make shared hulls, seats and segments in memory from
+ * malloc. Or you give the storage: hull_shared_desk_size() bytes at a multiple of hull_shared_desk_alignment(), and so for
+ * seats and segments; hull_shared_make_desk, hull_shared_make_seat and hull_shared_make_part make them there, before any other
+ * call. Do not read, write or move the storage. A shared hull that is not open and storage with no seat need nothing beyond
+ * their storage, which you may then use for anything.
  *
  * You must ensure, and nothing checks:
- * - each desk, seat and part that you pass was made, and is where it was made;
- * - there is one call at a time on a desk, and so on the storage of a seat, and on a part. Different seats are independent. A
- *   desk or a seat's storage may pass from thread to thread, if the threads order that between them (a start, a join, a lock);
- * - a seat is released to the desk that it was acquired from;
+ * - each shared hull, seat and segment that you pass was made, and is where it was made;
+ * - there is one call at a time on a shared hull, and so on the storage of a seat, and on a segment. Different seats are
+ *   independent. A shared hull or a seat's storage may pass from thread to thread, if the threads order that between them (a
+ *   start, a join, a lock);
+ * - a seat is released to the shared hull that it was acquired from;
  * - an array that you pass has the length that you state, and overlaps nothing; an empty one may be null. One for vertices was
  *   written before (calloc does that);
  * - you make no call from a signal handler, nor in a forked child of a process with threads;
@@ -53,11 +54,11 @@
 extern "C" {
 #endif
 
-/* The greatest capacity and the greatest number of seats of a desk. */
+/* The greatest capacity and the greatest number of seats of a shared hull. */
 #define HULL_SHARED_CAPACITY_MAX 16777215
 #define HULL_SHARED_SEATS_MAX 64
 
-/* The greatest number of readers of a desk. */
+/* The greatest number of readers of a shared hull. */
 #define HULL_SHARED_READERS_MAX 64
 
 /* The result of a take or a look: a reply, and the number that the seat took, its turn. The turn is set with each reply of a
@@ -73,14 +74,14 @@ typedef struct hull_shared_reply {
     uint32_t has_line;
 } hull_shared_reply;
 
-/* A desk, the storage of a seat, and a part of a journal. */
+/* A shared hull, the storage of a seat, and a segment of a journal. */
 typedef struct hull_shared_desk hull_shared_desk;
 typedef struct hull_shared_seat hull_shared_seat;
 typedef struct hull_shared_part hull_shared_part;
 
-/* Where the calls of one desk wait. All zero, it is ready, as in `static hull_shared_line line;`; it needs no end, unless it has
- * a hook (hull_shared_line_end). Only the calls of this header read or write it, and it must not move while a seat is acquired
- * with it. */
+/* The gate at which the calls of one shared hull wait. All zero, it is ready, as in `static hull_shared_line line;`; it needs
+ * no end, unless it has a hook (hull_shared_line_end). Only the calls of this header read or write it, and it must not move
+ * while a seat is acquired with it. */
 #define HULL_SHARED_LINE_WORDS 1088
 typedef struct hull_shared_line {
     uint64_t words[HULL_SHARED_LINE_WORDS];
@@ -89,7 +90,7 @@ typedef struct hull_shared_line {
 /* Returns the version of the library, to compare with HULL_VERSION of the headers that a program was compiled with. */
 const char *hull_shared_library_version(void);
 
-/* Return the size in bytes of the storage of a desk, a seat and a part, and their alignments. */
+/* Return the size in bytes of the storage of a shared hull, a seat and a segment, and their alignments. */
 size_t hull_shared_desk_size(void);
 size_t hull_shared_desk_alignment(void);
 size_t hull_shared_seat_size(void);
@@ -97,7 +98,8 @@ size_t hull_shared_seat_alignment(void);
 size_t hull_shared_part_size(void);
 size_t hull_shared_part_alignment(void);
 
-/* Make a desk that is not open, storage with no seat, and an empty part. What was there is overwritten. They allocate nothing. */
+/* Make a shared hull that is not open, storage with no seat, and an empty segment. What was there is overwritten. They
+ * allocate nothing. */
 void hull_shared_make_desk(hull_shared_desk *room);
 void hull_shared_make_seat(hull_shared_seat *room);
 void hull_shared_make_part(hull_shared_part *room);
@@ -130,8 +132,8 @@ static inline hull_shared_part *hull_shared_part_new(void) {
     return part;
 }
 
-/* Free a desk that is not open (after hull_shared_end), storage with no seat, and an empty part (after hull_shared_part_end); do
- * nothing for null. */
+/* Free a shared hull that is not open (after hull_shared_end), storage with no seat, and an empty segment (after
+ * hull_shared_part_end); do nothing for null. */
 static inline void hull_shared_desk_free(hull_shared_desk *desk) {
     hull_room_free(desk);
 }
@@ -144,34 +146,35 @@ static inline void hull_shared_part_free(hull_shared_part *part) {
     hull_room_free(part);
 }
 
-/* Opens a desk with an empty set of up to `limit` points, whose calls are numbered from `first` on, with space for the lines of
- * `capacity` calls until they are drained, and with seats 0 to `seats` - 1. Returns OPEN; WAS_OPENED, OUT_OF_LIMITS, NO_MEMORY.
- * Everything is allocated here, except points, and the vertices that a call lists. */
+/* Opens a shared hull with an empty set of up to `limit` points, whose calls are numbered from `first` on, with space for the
+ * lines of `capacity` calls until they are drained, and with seats 0 to `seats` - 1. Returns OPEN; WAS_OPENED, OUT_OF_LIMITS,
+ * NO_MEMORY. Everything is allocated here, except points, and the vertices that a call lists. */
 uint32_t hull_shared_open(hull_shared_desk *desk, uint32_t limit, uint64_t first, uint32_t capacity, uint32_t seats);
 
-/* The same, but the desk answers questions also when the journal is full: such a question has no line. Only calls that add or
- * remove points fail with FULL. */
+/* The same, but the shared hull answers questions also when the journal is full: such a question has no line. Only calls that
+ * add or remove points fail with FULL. */
 uint32_t hull_shared_open_answering(hull_shared_desk *desk, uint32_t limit, uint64_t first, uint32_t capacity, uint32_t seats);
 
 /* The same, but each line is discarded after its reply is returned, so no call fails with FULL before 2^64 - 1 calls. What is
- * proved of the journal holds of the discarded lines too; the text of the closed desk has none. */
+ * proved of the journal holds of the discarded lines too; the text of the closed shared hull has none. */
 uint32_t hull_shared_open_without_journal(hull_shared_desk *desk, uint32_t limit, uint64_t first, uint32_t seats);
 
-/* Opens a desk that continues a journal, with the points that it left: `text` is the whole text of the journal, of `length`
- * bytes, as hull_shared_text or `hullbook` (run --journal, compact) wrote it, or its first part; it is read and replayed here.
- * The limit is the journal's, and the next call takes the number after its last line. The lines of the journal count as drained:
- * the desk has space for `capacity` others, its parts and its text have only those, and `hullbook check OLD NEW..` judges all in
- * order. Returns OPEN; WAS_OPENED, OUT_OF_LIMITS, NO_JOURNAL, OLD_RULES, TOO_FEW_SEATS, ILLEGAL; NO_MEMORY, at any of these. If
- * the desk is not open then, it is as it was. */
+/* Opens a shared hull that continues a journal, with the points that it left: `text` is the whole text of the journal, of
+ * `length` bytes, as hull_shared_text or `hullbook` (run --journal, compact) wrote it, or the first segment; it is read and
+ * replayed here. The limit is the journal's, and the next call takes the number after its last line. The lines of the journal
+ * count as drained: the shared hull has space for `capacity` others, its segments and its text have only those, and `hullbook
+ * check OLD NEW..` judges all in order. Returns OPEN; WAS_OPENED, OUT_OF_LIMITS, NO_JOURNAL, OLD_RULES, TOO_FEW_SEATS,
+ * ILLEGAL; NO_MEMORY, at any of these. If the shared hull is not open then, it is unchanged. */
 hull_reply hull_shared_reopen(hull_shared_desk *desk, const uint8_t *text, size_t length, uint32_t capacity, uint32_t seats);
 
-/* The same, and the desk answers questions as hull_shared_open_answering. */
+/* The same, and the shared hull answers questions as hull_shared_open_answering. */
 hull_reply hull_shared_reopen_answering(hull_shared_desk *desk, const uint8_t *text, size_t length, uint32_t capacity,
                                         uint32_t seats);
 
-/* Acquires seat `number` into the storage, for calls that wait in this line: returns LENT; OTHER_LINE if a seat of another desk
- * is acquired with this line, NOT_OPEN, ROOM_IN_USE, NO_SEAT, NO_MEMORY. The line is this desk's until the last seat that was
- * acquired with it is released. Pass null for the line if only you look for the seat's number (hull_shared_take). */
+/* Acquires seat `number` into the storage, for calls that wait at this gate (`line`): returns LENT; OTHER_LINE if a seat of
+ * another shared hull is acquired with this gate, NOT_OPEN, ROOM_IN_USE, NO_SEAT, NO_MEMORY. The gate is this shared hull's
+ * until the last seat that was acquired with it is released. Pass null for the gate if only you look for the seat's number
+ * (hull_shared_take). */
 uint32_t hull_shared_lend(hull_shared_desk *desk, hull_shared_line *line, hull_shared_seat *room, uint32_t number);
 
 /* Releases the seat in the storage: returns RETURNED; NOT_OPEN, VACANT, WAITING, PLACE_IN_USE. */
@@ -186,29 +189,30 @@ hull_shared_reply hull_shared_take(hull_shared_seat *seat, uint32_t kind, int64_
  * NOT_YET. For vertices it returns how many there are. */
 hull_shared_reply hull_shared_look(hull_shared_seat *seat);
 
-/* The same; if the call asked for vertices, they are written to the front of the array of `room` points, as hull_vertices writes
- * them. TOO_SMALL if they do not fit: the call was made all the same, and has its line, and the array is unchanged. For all
- * other calls and replies the array is unchanged. */
+/* The same; if the call asked for vertices, they are written to the front of the array of `room` points, as hull_vertices
+ * writes them. TOO_SMALL if they do not fit: the call was made nevertheless, and has its line, and the array is unchanged. For
+ * all other calls and replies the array is unchanged. */
 hull_shared_reply hull_shared_look_into(hull_shared_seat *seat, hull_point *out, size_t room);
 
-/* Returns how many lines the desk of the seat keeps at most; 0 if the storage has no seat. */
+/* Returns how many lines the shared hull of the seat keeps at most; 0 if the storage has no seat. */
 uint32_t hull_shared_capacity(const hull_shared_seat *seat);
 
 /* Allocates space for so many lines, before a drain: returns RESERVED; PART_IN_USE, NO_MEMORY. */
 uint32_t hull_shared_part_reserve(hull_shared_part *part, uint32_t lines);
 
-/* Returns for how many lines the part has space; 0 if it has none, or has lines. */
+/* Returns for how many lines the segment has space; 0 if it has none, or has lines. */
 uint32_t hull_shared_part_room(const hull_shared_part *part);
 
-/* Looks as hull_shared_look does. If the call is made, all lines of the journal then go into the part, which had space for them,
- * the call's own as the last; the desk gets the space. Nothing is copied, and nothing allocated but what the call allocates.
- * VACANT, NO_NUMBER; NO_ROOM if the part has space for fewer lines than hull_shared_capacity: no look was made, and the seat
- * still waits; NOT_YET. One line is reserved for it, so that it fails with FULL only if the whole journal has 2^64 - 1 lines,
- * and then nothing is drained. The part may have one line more than hull_shared_capacity. */
+/* Looks as hull_shared_look does. If the call is made, all lines of the journal then go into the segment, which had space for
+ * them, the call's own as the last; the shared hull gets the space. Nothing is copied, and nothing allocated but what the call
+ * allocates. VACANT, NO_NUMBER; NO_ROOM if the segment has space for fewer lines than hull_shared_capacity: no look was made,
+ * and the seat still waits; NOT_YET. One line is reserved for it, so that it fails with FULL only if the whole journal has
+ * 2^64 - 1 lines, and then nothing is drained. The segment may have one line more than hull_shared_capacity. */
 hull_shared_reply hull_shared_look_and_drain(hull_shared_seat *seat, hull_shared_part *part);
 
-/* Writes the text of the part's lines, with the number of the first of them as its first number, to the front of the array:
- * returns TEXT; NO_LINES, NO_MEMORY, TOO_SMALL with the `number` of bytes. `hullbook check` judges the texts of parts in order. */
+/* Writes the text of the segment's lines, with the number of the first of them as its first number, to the front of the array:
+ * returns TEXT; NO_LINES, NO_MEMORY, TOO_SMALL with the `number` of bytes. `hullbook check` judges the texts of segments in
+ * order. */
 hull_reply hull_shared_part_text(const hull_shared_part *part, uint8_t *out, size_t length);
 
 /* Writes that text in blocks, for which an array of some kilobytes is enough: whole lines, from line `line` on, counted from 0
@@ -217,14 +221,14 @@ hull_reply hull_shared_part_text(const hull_shared_part *part, uint8_t *out, siz
  * TOO_SMALL with the `number` of bytes of that one line. All blocks in a row are the text of hull_shared_part_text. */
 hull_reply hull_shared_part_text_from(const hull_shared_part *part, uint64_t line, uint8_t *out, size_t length);
 
-/* Frees the space or the lines of the part, so that it is empty: returns ENDED. */
+/* Frees the space or the lines of the segment, so that it is empty: returns ENDED. */
 uint32_t hull_shared_part_end(hull_shared_part *part);
 
-/* Closes the desk: returns CLOSED; NOT_OPEN, SEATS_OUT if a seat or a reader is acquired, and IN_USE only if another call on the
- * desk or its seats is under way. */
+/* Closes the shared hull: returns CLOSED; NOT_OPEN, SEATS_OUT if a seat or a reader is acquired, and IN_USE only if another
+ * call on the shared hull or its seats is under way. */
 uint32_t hull_shared_close(hull_shared_desk *desk);
 
-/* Writes the text of a closed desk's journal, the lines that were not drained, to the front of the array: returns TEXT;
+/* Writes the text of a closed shared hull's journal, the lines that were not drained, to the front of the array: returns TEXT;
  * NOT_CLOSED, NO_MEMORY, TOO_SMALL with the `number` of bytes. `hullbook check` judges it. */
 hull_reply hull_shared_text(const hull_shared_desk *desk, uint8_t *out, size_t length);
 
@@ -232,10 +236,11 @@ hull_reply hull_shared_text(const hull_shared_desk *desk, uint8_t *out, size_t l
  * bytes of one line. The text is whole only if the last block returned TEXT with `number` 0. */
 hull_reply hull_shared_text_from(const hull_shared_desk *desk, uint64_t line, uint8_t *out, size_t length);
 
-/* Ends a desk that is not open, and frees what it has: returns ENDED; NOT_CLOSED if it is open. It may be opened again. */
+/* Ends a shared hull that is not open, and frees what it has: returns ENDED; NOT_CLOSED if it is open. It may be opened again. */
 uint32_t hull_shared_end(hull_shared_desk *desk);
 
-/* Return the size of the text of a closed desk, or of a part, as the `number` of TOO_SMALL; else fail as those calls. */
+/* Return the size of the text of a closed shared hull, or of a segment, as the `number` of TOO_SMALL; else fail as those
+ * calls. */
 static inline hull_reply hull_shared_text_size(const hull_shared_desk *desk) {
     return hull_shared_text(desk, NULL, 0);
 }
@@ -246,10 +251,10 @@ static inline hull_reply hull_shared_part_text_size(const hull_shared_part *part
 
 /* ---- readers
  *
- * A thread that asks more than it changes has a reader, beside the seats. It takes snapshots (*views*), each the vertices as of
- * one line of the journal, with no lock, no line and no turn, by a few atomic steps. No call waits for a reader, and a reader
- * for no call. A snapshot stays as it is while the reader has it; its vertices are written to an array, a convex polygon, for
- * all calls of include/hull.h on outlines.
+ * A thread that asks more than it changes has a reader, beside the seats. It takes snapshots (*views*), each the vertices as
+ * of one line of the journal, with no lock, no gate and no turn, in a few atomic steps. No call waits for a reader, and a
+ * reader for no call. A snapshot never changes while the reader has it; its vertices are written to an array, a convex
+ * polygon, for all calls of include/hull.h on outlines.
  *
  *     hull_shared_admit(desk, 8);                               // before it is opened
  *     hull_shared_reader *reader = hull_shared_reader_new();    // one for each thread
@@ -259,16 +264,16 @@ static inline hull_reply hull_shared_part_text_size(const hull_shared_part *part
  *     hull_outline_place(vertices, view.count, 3, 4);           // true after line view.line
  *
  * A call that changes points publishes the vertices as of its line before it returns, so a snapshot that is taken then is of
- * that line or of a later one; questions of seats publish nothing. If the vertices stay, they are shared; else they are copied,
- * in time proportional to their number, so set no readers for a desk that has none. If memory for a snapshot is refused, the
- * call is made all the same, and the next change publishes: until then snapshots are of the line before. */
+ * that line or of a later one; questions of seats publish nothing. If the vertices stay, they are shared; else they are
+ * copied, in time proportional to their number, so set no readers for a shared hull that has none. If memory for a snapshot is
+ * refused, the call is made nevertheless, and the next change publishes: until then snapshots are of the line before. */
 
 /* The storage of a reader. One call at a time may use it. */
 typedef struct hull_shared_reader hull_shared_reader;
 
-/* A reader's snapshot: `code` is HULL_VIEWED, or HULL_OLD if it is the one before, since others were in the way a thousand
- * times. It has `count` vertices, as of `lines` lines of the whole journal; `line` is the number of the last of these, if
- * `has_line` is 1. HULL_VACANT, and no vertices, if the storage has no reader. */
+/* A reader's snapshot: `code` is HULL_VIEWED, or HULL_OLD if it is the one before, since other threads were in the way a
+ * thousand times. It has `count` vertices, as of `lines` lines of the whole journal; `line` is the number of the last of
+ * these, if `has_line` is 1. HULL_VACANT, and no vertices, if the storage has no reader. */
 typedef struct hull_shared_view {
     size_t count;
     uint64_t lines;
@@ -296,16 +301,16 @@ static inline void hull_shared_reader_free(hull_shared_reader *reader) {
     hull_room_free(reader);
 }
 
-/* Sets how many readers a desk may have, 1 to HULL_SHARED_READERS_MAX, before it is opened, in whichever way: returns ADMITTED;
- * WAS_OPENED, OUT_OF_LIMITS. It allocates nothing; opening allocates everything except snapshots. */
+/* Sets how many readers a shared hull may have, 1 to HULL_SHARED_READERS_MAX, before it is opened, in whichever way: returns
+ * ADMITTED; WAS_OPENED, OUT_OF_LIMITS. It allocates nothing; opening allocates everything except snapshots. */
 uint32_t hull_shared_admit(hull_shared_desk *desk, uint32_t readers);
 
 /* Acquires a reader into the storage: returns LENT; NOT_OPEN, ROOM_IN_USE, NO_SEAT if as many as were set are acquired,
  * NO_MEMORY. It has no vertices until it reads. */
 uint32_t hull_shared_lend_reader(hull_shared_desk *desk, hull_shared_reader *room);
 
-/* Releases a reader to the desk that it was acquired from, and drops its snapshot: returns RETURNED; NOT_OPEN, VACANT. The desk
- * closes after all readers are released. */
+/* Releases a reader to the shared hull that it was acquired from, and drops its snapshot: returns RETURNED; NOT_OPEN, VACANT.
+ * The shared hull closes after all readers are released. */
 uint32_t hull_shared_return_reader(hull_shared_desk *desk, hull_shared_reader *room);
 
 /* Takes the newest snapshot, if the reader does not have it, and drops the one before. */
@@ -320,18 +325,18 @@ uint32_t hull_shared_is_newest(hull_shared_reader *reader);
 
 /* ---- waiting
  *
- * Proved code neither sleeps nor wakes: a seat with a number looks, and in between the calls below wait in a line
- * (archive/line.c, which says why none of them sleeps for ever).
+ * Proved code neither sleeps nor wakes: a seat with a number looks, and in between the calls below wait at a gate
+ * (archive/line.c, which explains why none of them sleeps for ever).
  *
- * The thread whose number is served may have no processor. So a call waits at an admission gate before it takes its number, and
- * one call is admitted at a time (hull_shared_line_init sets another number). A caller that finds the gate closed spins briefly,
- * then enqueues itself and sleeps. New calls may pass those that sleep, which saves a wake-up for each call, but not for ever: a
- * caller that leaves designates the first sleeper, and when half a millisecond has passed since the last of them entered
- * (HULL_SHARED_TURN), the gate admits only that one. So a sleeper with k others before it enters after at most k + 1 such times,
- * each longer by the call that is admitted when it ends and by one wake-up.
+ * The thread whose number is served may have no processor. So a call waits at the gate before it takes its number, and one
+ * call is admitted at a time (hull_shared_line_init sets another number). A caller that finds the gate closed spins briefly,
+ * then enqueues itself and sleeps. New calls may pass those that sleep, which saves a wake-up for each call, but not for ever:
+ * a caller that leaves designates the first sleeper, and when half a millisecond has passed since the last of them entered
+ * (HULL_SHARED_TURN), the gate admits only that one. So a sleeper with k others before it enters after at most k + 1 such
+ * times, each longer by the call that is admitted when it ends and by one wake-up.
  *
  * Each of these calls
- * - leaves errno as it was;
+ * - leaves errno unchanged;
  * - is no cancellation point (pthread_cancel), neither while it sleeps nor in a hook: a cancelled thread meets that after the
  *   call. A thread with asynchronous cancellation must make none. To give up, use a call with a deadline;
  * - needs no library of threads: on Linux threads sleep by futex; elsewhere, or if line.c is compiled with
@@ -343,41 +348,42 @@ uint32_t hull_shared_is_newest(hull_shared_reader *reader);
 /* How long new calls may pass those that sleep, in nanoseconds. */
 #define HULL_SHARED_TURN 500000
 
-/* Sets how many calls of the line are admitted at once: returns 1; or 0 if `inside` is not 1 to 64, and the line is unchanged.
- * With 1, which all zero means, calls are fast and enter as described above; with as many as there are seats each call is served
- * in the order in which the calls began, and waits for every one before it to be made by its own thread. Call it again only when
- * no seat is acquired with the line. */
+/* Sets how many calls the gate admits at once: returns 1; or 0 if `inside` is not 1 to 64, and the gate is unchanged. With 1,
+ * which all zero means, calls are fast and enter as described above; with as many as there are seats each call is served in
+ * the order in which the calls began, and waits for every one before it to be made by its own thread. Call it again only when
+ * no seat is acquired with the gate. */
 int hull_shared_line_init(hull_shared_line *line, uint32_t inside);
 
 /* Decides whether a call that finds the journal full waits until a drain has made space, and is made then, instead of failing
- * with FULL. It has no number meanwhile, and is not admitted. Some thread has to drain, or the line has a hook. */
+ * with FULL. It has no number meanwhile, and is not admitted. Some thread has to drain, or the gate has a hook. */
 void hull_shared_line_wait_for_room(hull_shared_line *line, int waits);
 
-/* Has the desk drain itself: the thread whose call finds half of the lines used, or no space, drains by its seat, asking how
- * many points there are, and then calls `hook` with `context` and the part, beside the calls of others. One thread does so at a
- * time, so that the parts come in order; the part has its space again after that. The hook may read the part
- * (hull_shared_part_text, hull_shared_part_text_from) and no more, returns to its caller (no longjmp, no exception), and makes
- * no call by the seat of its thread. If calls outrun it, they fail with FULL, or wait (hull_shared_line_wait_for_room). Returns
- * 1, or 0 if memory for the part is refused; end a line that has a hook by hull_shared_line_end. Call it before a seat is
- * acquired with the line. If memory is refused to a drain, calls that wait for space try it again each ten milliseconds. */
+/* Has the shared hull drain itself: the thread whose call finds half of the lines used, or no space, drains by its seat,
+ * asking how many points there are, and then calls `hook` with `context` and the segment, beside the calls of others. One
+ * thread does so at a time, so that the segments come in order; the segment has its space again after that. The hook may read
+ * the segment (hull_shared_part_text, hull_shared_part_text_from) and no more, returns to its caller (no longjmp, no
+ * exception), and makes no call by the seat of its thread. If calls outrun it, they fail with FULL, or wait
+ * (hull_shared_line_wait_for_room). Returns 1, or 0 if memory for the segment is refused; end a gate that has a hook by
+ * hull_shared_line_end. Call it before a seat is acquired with the gate. If memory is refused to a drain, calls that wait for
+ * space try it again each ten milliseconds. */
 typedef void hull_shared_hook(void *context, const hull_shared_part *part);
 int hull_shared_line_on_half_full(hull_shared_line *line, hull_shared_hook *hook, void *context);
 
 /* Drains for the hook by this seat now, after a drain that is under way, however few lines there are: returns 1, or 0 if the
- * line has no hook or is not the seat's, or memory is refused. */
+ * gate has no hook or is not the seat's, or memory is refused. */
 int hull_shared_line_drain(hull_shared_line *line, hull_shared_seat *seat);
 
-/* Frees what a line with a hook has, when no seat is acquired with it. */
+/* Frees what a gate with a hook has, when no seat is acquired with it. */
 void hull_shared_line_end(hull_shared_line *line);
 
-/* Makes a call of a kind (hull_kind) by a seat that was acquired with this line, and waits for its reply, which is the kind's,
- * or FULL, unless the line waits for space. If no number was taken: OTHER_LINE if the seat was acquired with another line or
+/* Makes a call of a kind (hull_kind) by a seat that was acquired with this gate, and waits for its reply, which is the kind's,
+ * or FULL, unless the gate waits for space. If no number was taken: OTHER_LINE if the seat was acquired with another gate or
  * with none, else the code of hull_shared_take: VACANT, WAITING, UNKNOWN_KIND, OUT_OF_RANGE, ZERO_DIRECTION. For vertices it
- * returns how many there are. If the line has a hook, the call may drain for it after its reply. */
+ * returns how many there are. If the gate has a hook, the call may drain for it after its reply. */
 hull_shared_reply hull_shared_call(hull_shared_line *line, hull_shared_seat *seat, uint32_t kind, int64_t x, int64_t y);
 
 /* The same, but it does not wait: BUSY if another call is admitted, or the gate is closed for a sleeper; no number was taken
- * then, and no call made. FULL at once, also if the line waits for space. */
+ * then, and no call made. FULL at once, also if the gate waits for space. */
 hull_shared_reply hull_shared_try_call(hull_shared_line *line, hull_shared_seat *seat, uint32_t kind, int64_t x, int64_t y);
 
 /* The same, but it waits for admission and for space only until hull_shared_now() is `until`: BUSY if it was not admitted by
@@ -389,7 +395,7 @@ hull_shared_reply hull_shared_call_until(hull_shared_line *line, hull_shared_sea
 /* Returns the nanoseconds of a clock that never goes back, for deadlines. */
 uint64_t hull_shared_now(void);
 
-/* Where a call writes to: an array for vertices, or a part; neither, if both are null. */
+/* The target that a call writes to: an array for vertices, or a segment; neither, if both are null. */
 typedef struct hull_shared_target {
     hull_point *out;
     size_t room;
@@ -397,13 +403,15 @@ typedef struct hull_shared_target {
 } hull_shared_target;
 
 /* The call that all others here are made of: waits until `until`, HULL_SHARED_NEVER for no end, and not at all with 0. NO_ROOM
- * if the part has space for fewer lines than the desk of the seat keeps at most: no number was taken, and no call made. */
+ * if the segment has space for fewer lines than the shared hull of the seat keeps at most: no number was taken, and no call
+ * made. */
 #define HULL_SHARED_NEVER UINT64_MAX
 hull_shared_reply hull_shared_call_into(hull_shared_line *line, hull_shared_seat *seat, uint32_t kind, int64_t x, int64_t y,
                                         hull_shared_target to, uint64_t until);
 
-/* Makes a call as hull_shared_call, and drains all lines of the journal then into the part: the call's own is the last of them.
- * NO_ROOM if the part has space for fewer lines than the desk of the seat keeps at most: no number was taken, and no call made. */
+/* Makes a call as hull_shared_call, and drains all lines of the journal then into the segment: the call's own is the last of
+ * them. NO_ROOM if the segment has space for fewer lines than the shared hull of the seat keeps at most: no number was taken,
+ * and no call made. */
 hull_shared_reply hull_shared_drain(hull_shared_line *line, hull_shared_seat *seat, hull_shared_part *part, uint32_t kind, int64_t x,
                                     int64_t y);
 
@@ -416,13 +424,13 @@ hull_shared_reply hull_shared_vertices(hull_shared_line *line, hull_shared_seat 
  * after each reply and HULL_FULL, with the turn of the reply plus one. */
 void hull_shared_handed_on(hull_shared_line *line, uint64_t number);
 
-/* The state of a line at one moment, to watch a service; while calls go on, its numbers may be of different moments. */
+/* The state of a gate at one moment, to watch a service; while calls go on, its numbers may be of different moments. */
 typedef struct hull_shared_state {
     uint32_t out;       /* how many seats are acquired with it */
     uint32_t inside;    /* how many calls are admitted */
     uint32_t sleepers;  /* how many sleep and wait for admission */
     uint32_t for_room;  /* how many sleep and wait for space */
-    uint32_t held;      /* how many lines the journal had after the last call of this line */
+    uint32_t held;      /* how many lines the journal had after the last call at this gate */
     uint64_t turn;      /* the number that is served now, the one after that call's; 0 before the first, and if no seat is acquired */
     uint32_t seat;      /* the seat whose admitted call has that number, or is to take it; HULL_SHARED_SEATS_MAX if there is none */
     uint32_t named;     /* the seat that is designated to enter next; HULL_SHARED_SEATS_MAX if there is none */
@@ -431,7 +439,7 @@ typedef struct hull_shared_state {
     uint64_t drains_for; /* how many nanoseconds that one has drained, to some milliseconds */
 } hull_shared_state;
 
-/* Returns the state of the line. It takes no number and waits for nothing; any thread may call it, with or without a seat. */
+/* Returns the state of the gate. It takes no number and waits for nothing; any thread may call it, with or without a seat. */
 hull_shared_state hull_shared_stats(const hull_shared_line *line);
 
 /* ---- a journal in a file
@@ -445,55 +453,55 @@ hull_shared_state hull_shared_stats(const hull_shared_line *line);
  *     hull_shared_give_back(desk, seat);
  *     hull_shared_journal_close(journal);
  *
- * The file is a row of segments, each the text of a part of a journal (hull_shared_part_text), which continues the one before
- * it. A segment is appended, followed by one fsync, and only then its lines are reported durable (*safe*). So however the
- * process ends, or the machine, the file has all that was reported durable, and after it at most one segment more, which may be
- * torn. Calls not yet reported durable may be lost, but only as a suffix, never from the middle. (`csplit FILE '/^hullbook/'
- * '{*}'` takes the segments apart for `hullbook check`.)
+ * The file is a row of segments, each a text as hull_shared_part_text writes it, which continues the one before it. A segment
+ * is appended, followed by one fsync, and only then its lines are reported durable (*safe*). So however the process ends, or
+ * the machine, the file has all that was reported durable, and after it at most one segment more, which may be torn. Calls not
+ * yet reported durable may be lost, but only as a suffix, never from the middle. (`csplit FILE '/^hullbook/' '{*}'` separates
+ * the segments for `hullbook check`.)
  *
- * The calls of this section need a POSIX file system and a library of threads. One process has a file at a time (flock), and no
- * other program may write, replace or remove it. The signals of a process do not come to the journal's thread. The path is
+ * The calls of this section need a POSIX file system and a library of threads. One process has a file at a time (flock), and
+ * no other program may write, replace or remove it. The signals of a process do not come to the journal's thread. The path is
  * resolved once, when it is opened: a symbolic link names the file that it leads to, and one that leads to none is refused. */
 typedef struct hull_shared_journal hull_shared_journal;
 
-/* Opens the file, or makes one with no segment: returns OPEN, with the number of the next line (0 if the file has no segment) as
- * `number`, and how many bytes of a torn segment were cut off its end as `high`. Torn is what a crash can leave of the segment
- * that was being appended: its first bytes, of which whole sectors of 512 bytes may be zeros; it is kept in the file PATH.torn
- * (PATH.torn.1 and so on if there is one), except zeros at its end. The last whole segment is written again, and the file and
- * its folder are synced, before the call returns: the lines before line `number` are durable then. It takes time proportional to
- * the file.
+/* Opens the file, or makes one with no segment: returns OPEN, with the number of the next line (0 if the file has no segment)
+ * as `number`, and how many bytes of a torn segment were cut off its end as `high`. Torn is what a crash can leave of the
+ * segment that was being appended: its first bytes, of which whole sectors of 512 bytes may be zeros; it is kept in the file
+ * PATH.torn (PATH.torn.1 and so on if there is one), except zeros at its end. The last whole segment is written again, and the
+ * file and its folder are synced, before the call returns: the lines before line `number` are durable then. It takes time
+ * proportional to the file.
  *
- * NO_FILE, with errno as `number`, if the system refuses a call on it (EWOULDBLOCK: another process has it; EINVAL: it is not a
- * regular file); DAMAGED, with the line `number` of the file, from 1, if a line has not the form of a journal's, and no crash
- * can have left it so: the file is as it was; NO_MEMORY. The journal is null except with OPEN. */
+ * NO_FILE, with errno as `number`, if the system refuses a call on it (EWOULDBLOCK: another process has it; EINVAL: it is not
+ * a regular file); DAMAGED, with the line `number` of the file, from 1, if a line has not the form of a journal's, and no
+ * crash can have left it so: the file is unchanged; NO_MEMORY. The journal is null except with OPEN. */
 hull_reply hull_shared_journal_open(const char *path, hull_shared_journal **journal);
 
 /* Compacts the file of a journal that no process has open: one segment, of additions that leave the same points with the same
- * multiplicities, and end with the same number, so that the next line is the one that it would have been. Returns SAFE with that
- * number; else as hull_shared_journal_open and hull_shared_journal_start refuse the file, which is as it was then; so is one
- * with several names (hard links): NO_FILE with EMLINK. Another file, PATH.new (PATH.new.1 and so on if there is one), of the
- * same owner and mode, is written and synced, and takes its name: however the process ends, one of the two is there, whole.
- * NO_FILE with `high` 1 if it has the name, but its folder could not be synced: either of the two may be there after a loss of
- * power, and both leave the same points. A process that is killed meanwhile may leave PATH.new, which nothing needs. The
- * compacted file does not have the old calls and replies. */
+ * multiplicities, and end with the same number, so that the next line is the one that it would have been. Returns SAFE with
+ * that number; else as hull_shared_journal_open and hull_shared_journal_start refuse the file, which is unchanged then; so is
+ * one with several names (hard links): NO_FILE with EMLINK. Another file, PATH.new (PATH.new.1 and so on if there is one), of
+ * the same owner and mode, is written and synced, and takes its name: however the process ends, one of the two is there,
+ * whole. NO_FILE with `high` 1 if it has the name, but its folder could not be synced: either of the two may be there after a
+ * loss of power, and both leave the same points. A process that is killed meanwhile may leave PATH.new, which nothing needs.
+ * The compacted file does not have the old calls and replies. */
 hull_reply hull_shared_journal_compact(const char *path);
 
-/* Opens the desk with what the file has, and keeps its journal there from then on. If the file has no segment the desk is a new
- * one for `limit` points; else it has the points that the segments left, their limit, and its next line has the number after
- * theirs. It has seats 0 to `seats` - 1 for you, and seat `seats` for the journal, whose thread drains it when a thread waits
- * for a line, and if there are lines each `every` nanoseconds, unless that is 0. The line drains when it is half full, waits for
- * space, and has no hook but this one. No other thread may drain it.
+/* Opens the shared hull with what the file has, and keeps its journal there from then on. If the file has no segment the
+ * shared hull is a new one for `limit` points; else it has the points that the segments left, their limit, and its next line
+ * has the number after theirs. It has seats 0 to `seats` - 1 for you, and seat `seats` for the journal, whose thread drains it
+ * when a thread waits for a line, and if there are lines each `every` nanoseconds, unless that is 0. The gate drains when the
+ * journal is half full, waits for space, and has no hook but this one. No other thread may drain it.
  *
  * Returns OPEN; NO_FILE, DAMAGED or ILLEGAL with the line `number` of the file, from 1, if a change in it can't have had its
- * reply; OUT_OF_LIMITS, also if the multiplicities sum to more than HULL_SHARED_CAPACITY_MAX; WAS_OPENED; OTHER_LINE; NO_MEMORY.
- * The desk and the journal are as they were then. The line must not have a hook. */
+ * reply; OUT_OF_LIMITS, also if the multiplicities sum to more than HULL_SHARED_CAPACITY_MAX; WAS_OPENED; OTHER_LINE;
+ * NO_MEMORY. The shared hull and the journal are unchanged then. The gate must not have a hook. */
 hull_reply hull_shared_journal_start(hull_shared_journal *journal, hull_shared_desk *desk, hull_shared_line *line, uint32_t limit,
                                      uint32_t capacity, uint32_t seats, uint64_t every);
 
 /* Returns which lines are durable: SAFE, with the number of the first that is not as `number`. NO_FILE if a write or an fsync
- * failed, with errno as `high` (ENOMEM: memory was refused for ten seconds; ESTALE: another program has cut, extended, replaced,
- * renamed or removed the file, which is noticed at the next drain), or ILLEGAL if another thread drained the line: no later line
- * will be durable, and the file stays as it is. Calls still return. */
+ * failed, with errno as `high` (ENOMEM: memory was refused for ten seconds; ESTALE: another program has cut, extended,
+ * replaced, renamed or removed the file, which is noticed at the next drain), or ILLEGAL if another thread drained the shared
+ * hull: no later line will be durable, and the file stays unchanged. Calls still return. */
 hull_reply hull_shared_journal_safe(hull_shared_journal *journal);
 
 /* Waits until the line of this number, whose call has returned, is durable: returns SAFE, as above, NO_FILE or ILLEGAL; BUSY if
@@ -504,11 +512,11 @@ hull_reply hull_shared_journal_wait(hull_shared_journal *journal, uint64_t line,
 /* Waits until the lines of all calls that have returned are durable: as above. */
 hull_reply hull_shared_journal_sync(hull_shared_journal *journal, uint64_t until);
 
-/* Ends the journal: closes its desk, after all your seats and readers are released, appends the last lines, and closes the file.
- * Returns CLOSED with the number of the next line; NO_FILE or ILLEGAL as above, and everything is closed, but not all is in the
- * file; SEATS_OUT or IN_USE, as hull_shared_close, and nothing is closed: the journal goes on, and may be closed later. Then end
- * the desk. Calls of other threads on the journal that began before (safe, wait, sync) return first; none may begin meanwhile. A
- * journal that was not started is only closed. */
+/* Ends the journal: closes its shared hull, after all your seats and readers are released, appends the last lines, and closes
+ * the file. Returns CLOSED with the number of the next line; NO_FILE or ILLEGAL as above, and everything is closed, but not
+ * all is in the file; SEATS_OUT or IN_USE, as hull_shared_close, and nothing is closed: the journal continues, and may be
+ * closed later. Then end the shared hull. Calls of other threads on the journal that began before (safe, wait, sync) return
+ * first; none may begin meanwhile. A journal that was not started is only closed. */
 hull_reply hull_shared_journal_close(hull_shared_journal *journal);
 
 #ifdef __cplusplus

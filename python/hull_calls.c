@@ -1,4 +1,4 @@
-/* The calls of include/hull.h on one hull as functions of libhull.so for python/hull.py, one at a time on each. ctypes lets go of the
+/* The calls of include/hull.h on one set as functions of libhull.so for python/hull.py, one at a time on each. ctypes releases the
  * interpreter's lock meanwhile. */
 #include "hull.h"
 #include "hull_owned.h"
@@ -27,7 +27,7 @@ void hull_python_free(hull_python *h) {
     }
 }
 
-/* A call; a question that the corners answer is counted before. */
+/* Makes a call; counts a question that the vertices answer before it. */
 static hull_reply hull_counted_call(hull_set *h, uint32_t kind, int64_t x, int64_t y) {
     if (kind >= HULL_KIND_PLACE && kind <= HULL_KIND_AREA && kind != HULL_KIND_VERTICES) {
         hull_settle(h);
@@ -39,7 +39,7 @@ hull_reply hull_python_call(hull_python *h, uint32_t kind, int64_t x, int64_t y)
     HULL_REPLY_OF(h, hull_counted_call(h->hull, kind, x, y));
 }
 
-/* How many replies were written; SIZE_MAX where the hull is ended. */
+/* Returns how many replies were written, or SIZE_MAX if the set is ended. */
 size_t hull_python_calls(hull_python *h, const hull_request *requests, hull_reply *replies, size_t count) {
     size_t made = SIZE_MAX;
     if (hull_enters(&h->owned)) {
@@ -69,7 +69,7 @@ hull_reply hull_python_nearest_held(hull_python *h, int64_t x, int64_t y) {
     HULL_REPLY_OF(h, hull_nearest_held(h->hull, x, y));
 }
 
-/* `to` is new, so that nobody else makes calls on it. */
+/* `to` is new, so no other thread makes calls on it. */
 hull_reply hull_python_copy(hull_python *to, hull_python *from) {
     HULL_REPLY_OF(from, hull_copy(to->hull, from->hull));
 }

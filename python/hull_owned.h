@@ -1,9 +1,9 @@
-/* What python/hull_calls.c and python/hull_shared_calls.c have in common: a lock beside each hull, desk, seat and part that Python
- * owns. It is held while the library is in one, and no longer, so that neither a signal's handler nor a finalizer of the same thread,
- * which run between two calls, meets a lock that is held.
+/* The part that python/hull_calls.c and python/hull_shared_calls.c share: a lock beside each set, shared hull, seat and segment that
+ * Python owns. A thread has it only while the library is in one of their calls, so that neither a signal's handler nor a finalizer
+ * of the same thread, which run between two calls, finds the lock taken.
  *
- * A child of a fork has what its parent had, but of its threads only the one that forked. What another thread was in just then is
- * torn: it is ended in the child, and so is whatever threads share. Its memory stays. */
+ * A child of a fork has what its parent had, but of its threads only the one that forked. An object that another thread was using
+ * then is torn: it is ended in the child, and so is everything that threads share. Its memory is not freed. */
 #ifndef HULL_OWNED_H
 #define HULL_OWNED_H
 
@@ -11,8 +11,8 @@
 
 typedef struct hull_owned {
     pthread_mutex_t lock;
-    int stays;    /* a child of a fork may go on with it */
-    int is_ended; /* it lies in a child of a fork, which may not */
+    int stays;    /* a child of a fork may continue to use it */
+    int is_ended; /* it is in a child of a fork, which may not use it */
     struct hull_owned *before;
     struct hull_owned *next;
 } hull_owned;
@@ -56,7 +56,7 @@ static void hull_begins(hull_owned *one, int stays) {
     hull_unlock_all();
 }
 
-/* Whether its memory may go back: nobody has it any more, and it did not end by a fork. */
+/* Whether its memory may be freed: no reference to it is left, and it did not end by a fork. */
 static int hull_goes(hull_owned *one) {
     if (one->is_ended) {
         return 0;

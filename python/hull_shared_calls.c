@@ -1,35 +1,35 @@
-/* The calls of include/hull_shared.h as functions of libhull_shared.so for python/hull.py: desks, seats and parts that own what they
- * use, with one call at a time on each. ctypes lets go of the interpreter's lock while one of them waits. */
+/* The calls of include/hull_shared.h as functions of libhull_shared.so for python/hull.py: shared hulls, seats and segments that own
+ * what they use, with one call at a time on each. ctypes releases the interpreter's lock while one of them waits. */
 #include "hull_shared.h"
 #include "hull_owned.h"
 
-/* A desk with its line; it ends when the hull and all seats that are out let it go. */
+/* A shared hull with its gate; it ends when the Python object and all acquired seats have dropped it. */
 typedef struct hull_python_desk {
     hull_owned owned;
     hull_shared_line line;
     hull_shared_desk *desk;
-    uint64_t out; /* bit k: seat k is out */
+    uint64_t out; /* bit k: seat k is acquired */
     uint32_t owners;
-    uint32_t asking; /* how many wait for what is safe in the file of the journal */
-    hull_shared_journal *journal; /* null where it keeps none */
+    uint32_t asking; /* how many threads wait for durable lines of the journal file */
+    hull_shared_journal *journal; /* null if it has no journal file */
 } hull_python_desk;
 
-/* A room for a seat. */
+/* The storage of a seat. */
 typedef struct hull_python_seat {
     hull_owned owned;
     hull_shared_seat *seat;
-    hull_python_desk *desk; /* null where it has none */
+    hull_python_desk *desk; /* null if it has none */
     uint32_t number;
     uint32_t has_turn;
     uint64_t turn;     /* the number of the line of the last call that was served */
     uint64_t patience; /* for how many nanoseconds a call waits, HULL_SHARED_NEVER for ever */
 } hull_python_seat;
 
-/* A room for a reader. */
+/* The storage of a reader. */
 typedef struct hull_python_reader {
     hull_owned owned;
     hull_shared_reader *reader;
-    hull_python_desk *desk; /* null where it has none */
+    hull_python_desk *desk; /* null if it has none */
 } hull_python_reader;
 
 typedef struct hull_python_part {
@@ -79,7 +79,7 @@ uint32_t hull_python_open_answering(hull_python_desk *d, uint32_t limit, uint64_
     HULL_CODE_OF(d, hull_shared_open_answering(d->desk, limit, first, capacity, seats));
 }
 
-/* Whether calls wait for room; before any seat is lent. */
+/* Decides whether calls wait for space; before any seat is acquired. */
 uint32_t hull_python_wait_for_room(hull_python_desk *d, uint32_t waits) {
     hull_shared_line_wait_for_room(&d->line, waits != 0);
     return 0;
@@ -97,7 +97,7 @@ hull_reply hull_python_compact(const char *path) {
     return hull_shared_journal_compact(path);
 }
 
-/* Opens the desk by the file of a journal, which is kept from then on. */
+/* Opens the shared hull with a journal file, to which its journal is written from then on. */
 static hull_reply keep(hull_python_desk *d, const char *path, uint32_t limit, uint32_t capacity, uint32_t seats, uint64_t every) {
     hull_shared_journal *journal;
     hull_reply reply = hull_shared_journal_open(path, &journal);
@@ -117,7 +117,7 @@ hull_reply hull_python_keep(hull_python_desk *d, const char *path, uint32_t limi
     HULL_REPLY_OF(d, keep(d, path, limit, capacity, seats, every));
 }
 
-/* The journal of a desk, which is not closed until stops_asking; null where it has none. */
+/* Returns the journal of a shared hull, which is not closed until stops_asking; null if it has none. */
 static hull_shared_journal *asks(hull_python_desk *d) {
     hull_shared_journal *journal = NULL;
     if (hull_enters(&d->owned)) {
@@ -135,8 +135,8 @@ static void stops_asking(hull_python_desk *d) {
     }
 }
 
-/* What is safe in the file: of now, behind all calls that were answered (sync), or behind a line (wait), for so many nanoseconds. NOT_OPEN
- * where no file is kept. */
+/* Return which lines of the file are durable: now, after all calls that were answered (sync), or after a line (wait), for so many
+ * nanoseconds. NOT_OPEN if there is no journal file. */
 enum { HULL_PYTHON_NOW, HULL_PYTHON_SYNC, HULL_PYTHON_WAIT };
 static hull_reply safe(hull_python_desk *d, uint32_t how, uint64_t line, uint64_t time) {
     hull_shared_journal *journal = asks(d);
@@ -157,7 +157,7 @@ hull_reply hull_python_safe(hull_python_desk *d, uint32_t waits) {
     return safe(d, waits ? HULL_PYTHON_SYNC : HULL_PYTHON_NOW, 0, HULL_SHARED_NEVER);
 }
 
-/* Closes the desk, and the file of its journal once nobody asks for what is safe. */
+/* Closes the shared hull and its journal file; IN_USE while a thread waits for durable lines. */
 static hull_reply closes(hull_python_desk *d) {
     hull_reply reply;
     memset(&reply, 0, sizeof reply);
@@ -186,13 +186,13 @@ hull_reply hull_python_text_from(hull_python_desk *d, uint64_t line, uint8_t *ou
     HULL_REPLY_OF(d, hull_shared_text_from(d->desk, line, out, length));
 }
 
-/* How the calls of the seats stand, which waits for nothing. */
+/* Returns the state of the calls of the seats; waits for nothing. */
 uint32_t hull_python_stats(hull_python_desk *d, hull_shared_state *state) {
     *state = hull_shared_stats(&d->line);
     return 0;
 }
 
-/* Which seats are out: bit k for seat k. */
+/* Returns which seats are acquired: bit k for seat k. */
 uint64_t hull_python_out(hull_python_desk *d) {
     uint64_t out = 0;
     if (hull_enters(&d->owned)) {
@@ -215,7 +215,7 @@ hull_python_seat *hull_python_seat_new(void) {
     return s;
 }
 
-/* For how many nanoseconds calls of the seat wait. */
+/* Sets for how many nanoseconds calls of the seat wait. */
 uint32_t hull_python_wait_at_most(hull_python_seat *s, uint64_t nanoseconds) {
     if (hull_enters(&s->owned)) {
         s->patience = nanoseconds;
@@ -224,13 +224,13 @@ uint32_t hull_python_wait_at_most(hull_python_seat *s, uint64_t nanoseconds) {
     return 0;
 }
 
-/* Until when a call that begins now waits. */
+/* Returns until when a call that begins now waits. */
 static uint64_t until(const hull_python_seat *s) {
     uint64_t now = hull_shared_now();
     return s->patience == 0 ? 0 : s->patience < HULL_SHARED_NEVER - now ? now + s->patience : HULL_SHARED_NEVER;
 }
 
-/* Moves seat `number` into the room, which owns the desk from then on. */
+/* Acquires seat `number` into the storage, which owns the shared hull from then on. */
 static uint32_t lend(hull_python_seat *s, hull_python_desk *d, uint32_t number) {
     uint32_t code = hull_shared_lend(d->desk, &d->line, s->seat, number);
     if (code == HULL_LENT) {
@@ -246,7 +246,7 @@ uint32_t hull_python_lend(hull_python_seat *s, hull_python_desk *d, uint32_t num
     HULL_CODE_OF(d, lend(s, d, number));
 }
 
-/* Moves the seat back, and lets its desk go. */
+/* Releases the seat, and drops its shared hull. */
 static void give_back(hull_python_seat *s) {
     hull_python_desk *d = s->desk;
     s->desk = NULL;
@@ -275,7 +275,7 @@ void hull_python_seat_free(hull_python_seat *s) {
     }
 }
 
-/* A call that waits for its turn: VACANT where the room has no seat. */
+/* Makes a call that waits for its turn: VACANT if the storage has no seat. */
 static hull_reply ask(hull_python_seat *s, uint32_t kind, int64_t x, int64_t y, hull_shared_target to) {
     hull_shared_reply reply;
     memset(&reply, 0, sizeof reply);
@@ -312,13 +312,13 @@ static hull_reply drain(hull_python_seat *s, hull_python_part *p) {
     HULL_REPLY_OF(s, ask(s, HULL_KIND_COUNT, 0, 0, to));
 }
 
-/* Asks how many points there are, and drains into the part, which has room for as many lines as the desk holds at most. */
+/* Asks how many points there are, and drains into the segment, which has space for as many lines as the shared hull keeps at most. */
 hull_reply hull_python_drain(hull_python_seat *s, hull_python_part *p) {
     HULL_REPLY_OF(p, drain(s, p));
 }
 
-/* What is safe in the file of the seat's desk, behind the line of its last call, for as long as its calls wait: VACANT where it has no
- * desk. The seat may be given back meanwhile, so that it keeps its desk. */
+/* Waits until the line of the seat's last call is durable in the file of its shared hull, for as long as its calls wait: VACANT if
+ * it has no shared hull. The seat may be released meanwhile, so the call keeps the seat's shared hull. */
 hull_reply hull_python_wait_safe(hull_python_seat *s) {
     hull_python_desk *d = NULL;
     uint64_t line = 0, time = 0;
@@ -351,7 +351,7 @@ uint32_t hull_python_capacity(hull_python_seat *s) {
     return lines;
 }
 
-/* Whether a call of the seat was served, and the number of the last by way of `turn`. */
+/* Returns whether a call of the seat was served, and stores the number of the last one in `turn`. */
 uint32_t hull_python_turn(hull_python_seat *s, uint64_t *turn) {
     uint32_t has = 0;
     if (hull_enters(&s->owned)) {
@@ -362,7 +362,7 @@ uint32_t hull_python_turn(hull_python_seat *s, uint64_t *turn) {
     return has;
 }
 
-/* Says for how many readers the desk is opened. */
+/* Sets for how many readers the shared hull is opened. */
 uint32_t hull_python_admit(hull_python_desk *d, uint32_t readers) {
     HULL_CODE_OF(d, hull_shared_admit(d->desk, readers));
 }
@@ -379,7 +379,7 @@ hull_python_reader *hull_python_reader_new(void) {
     return r;
 }
 
-/* Moves a reader into the room, which owns the desk from then on. */
+/* Acquires a reader into the storage, which owns the shared hull from then on. */
 static uint32_t lend_reader(hull_python_reader *r, hull_python_desk *d) {
     const uint32_t code = hull_shared_lend_reader(d->desk, r->reader);
     if (code == HULL_LENT) {
@@ -393,7 +393,7 @@ uint32_t hull_python_lend_reader(hull_python_reader *r, hull_python_desk *d) {
     HULL_CODE_OF(d, lend_reader(r, d));
 }
 
-/* Moves the reader back, and lets its desk go. */
+/* Releases the reader, and drops its shared hull. */
 static void return_reader(hull_python_reader *r) {
     hull_python_desk *d = r->desk;
     r->desk = NULL;
@@ -421,7 +421,7 @@ void hull_python_reader_free(hull_python_reader *r) {
     }
 }
 
-/* Whether the view is the newest; ENDED and VACANT tell why it can't be said. */
+/* Returns 1 if the snapshot is the newest, else 0; VACANT if the storage has no reader. */
 static uint32_t is_newest(hull_python_reader *r) {
     return r->desk == NULL ? HULL_VACANT : hull_shared_is_newest(r->reader);
 }
@@ -430,7 +430,8 @@ uint32_t hull_python_is_newest(hull_python_reader *r) {
     HULL_CODE_OF(r, is_newest(r));
 }
 
-/* Copies the newest view into the array, if it has room: CORNERS, with how many; x tells whether it has a line, and `high` which. */
+/* Copies the newest snapshot into the array, if it fits: CORNERS, with how many vertices; x is whether it has a line, and `high`
+ * which. */
 static hull_reply read_into(hull_python_reader *r, hull_point *out, size_t room) {
     hull_reply reply;
     memset(&reply, 0, sizeof reply);
@@ -448,7 +449,7 @@ hull_reply hull_python_read(hull_python_reader *r, hull_point *out, size_t room)
     HULL_REPLY_OF(r, read_into(r, out, room));
 }
 
-/* A part with room for so many lines. */
+/* Makes a segment with space for so many lines. */
 hull_python_part *hull_python_part_new(uint32_t lines) {
     hull_python_part *p = (hull_python_part *)malloc(sizeof *p);
     hull_shared_part *part = p == NULL ? NULL : hull_shared_part_new();

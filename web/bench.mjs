@@ -1,12 +1,13 @@
-// What calls cost beside plain JavaScript: points kept in order, whose corners a chain makes anew at each change of all points (so
-// that is what each row of changes is beside), and places by bisection over the corners: node web/bench.mjs [POINTS]. Calls a second.
+// The cost of calls beside plain JavaScript: points kept in order, whose vertices a chain computes again at each change of all points
+// (so each row of changes is beside that), and locations by binary search over the vertices: node web/bench.mjs [POINTS]. Calls per
+// second.
 import { chainOf, order, placeIn, pointsOf, rate, turn } from "./chain.mjs";
 import { load } from "./hull.js";
 
 const number = Number(process.argv[2] ?? 10000);
 const { Hull } = await load();
 
-/** Whether a point is left of the diagonals from the first corner, and then of one edge. */
+/** Whether a point is left of the diagonals from the first vertex, and then of one edge. */
 function plainPlace(corners, point) {
     let low = 1, high = corners.length - 1;
     if (turn(corners[0], corners[low], point) < 0 || turn(corners[0], corners[high], point) > 0) return false;

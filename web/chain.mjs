@@ -1,5 +1,5 @@
-// What the benches measure beside: points kept in order, whose corners the chain of Andrew (1979) makes anew, in doubles.
-/** Points in a disc or on a circle, in order neither by x nor by y. */
+// The baseline of the benchmarks: points kept in order, whose vertices the chain of Andrew (1979) computes again, in doubles.
+/** Returns points in a disc or on a circle, in order neither by x nor by y. */
 export function pointsOf(shape, number) {
     return Array.from({ length: number }, () => {
         const angle = 2 * Math.PI * Math.random(), far = 1e6 * (shape === "circle" ? 1 : Math.sqrt(Math.random()));
@@ -20,12 +20,12 @@ function half(points) {
 
 export const order = (a, b) => a[0] - b[0] || a[1] - b[1];
 
-/** The corners of points in order, by the chain of Andrew (1979). Numbers are exact for points of this size. */
+/** Returns the vertices of points in order, by the chain of Andrew (1979). Numbers are exact for points of this size. */
 export function chainOf(sorted) {
     return [...half(sorted), ...half(sorted.toReversed())];
 }
 
-/** Where a point stands among points in order, or would stand. */
+/** Returns the index of a point among points in order, or the one at which it would be. */
 export function placeIn(sorted, point) {
     let low = 0, high = sorted.length;
     while (low < high) {
@@ -36,7 +36,7 @@ export function placeIn(sorted, point) {
     return low;
 }
 
-/** Calls a second, of the quickest of some rounds. */
+/** Returns calls per second, of the quickest of some rounds. */
 export function rate(calls, run, rounds = 5) {
     const seconds = Array.from({ length: rounds }, () => {
         const began = performance.now();

@@ -1,15 +1,15 @@
-// What the page opens on: points that come and go, a second hull beside them with how far it is and what parts the two, and a
-// planner's segment that can be dragged. All that it tells is asked of the module, in each frame.
-const ROOM = [-1000, -620, 1000, 620]; // what is seen, two corners
+// The example that the page opens with: points that come and go, a second hull beside them with its distance and what separates the
+// two, and a planner's segment that can be dragged. The module computes all that it shows, in each frame.
+const ROOM = [-1000, -620, 1000, 620]; // the visible range, two corners
 const POINTS = 34;
 const EACH = 300; // milliseconds until a point comes or goes
 const GRIP = 24; // pixels round an end of the segment
 const OTHER = [[0, 150], [-120, 90], [-150, -40], [-60, -140], [80, -130], [150, -20], [110, 100]];
-const LONG = 4000; // how far the parting line goes
+const LONG = 4000; // how far the separating line extends
 
 const apartFrom = ([ax, ay], [bx, by]) => Math.hypot(ax - bx, ay - by);
 
-/** The points of two places that are nearest to one another: a place of two points is the foot on their edge. */
+/** Returns the points of two features that are nearest to one another: a feature of two points is the foot on their edge. */
 function nearestOf(places) {
     const foot = ([from, to], [x, y]) => {
         const [dx, dy] = [to[0] - from[0], to[1] - from[1]], along = ((x - from[0]) * dx + (y - from[1]) * dy) / (dx * dx + dy * dy);
@@ -25,7 +25,7 @@ export class Example {
         this.other = new Hull();
         this.points = []; // in the order in which they came
         this.segment = [[-880, 440], [520, -430]];
-        this.isTaken = false; // the segment sways until somebody takes it
+        this.isTaken = false; // the segment sways until the user takes it
         this.time = this.ticks = 0;
         for (let i = 0; i < POINTS; i++) this.#comes();
         this.move(0);
@@ -59,14 +59,14 @@ export class Example {
         }
         const t = this.time / 1000, [x, y] = [420 + 330 * Math.cos(t / 3), 320 * Math.sin(t / 2.1)], turn = t / 4;
         const [cos, sin] = [Math.cos(turn), Math.sin(turn)];
-        // (few points: to load them at once would want code of its own in the module)
+        // (few points: loading them at once would need code of its own in the module)
         this.other.clear();
         for (const [px, py] of OTHER) this.other.add(Math.round(x + px * cos - py * sin), Math.round(y + px * sin + py * cos));
         if (!this.isTaken) this.segment[1] = [520, Math.round(-430 + 420 * Math.sin(t / 1.7))];
         this.ask();
     }
 
-    /** Asks the module all that is shown. */
+    /** Asks the module for all that is shown. */
     ask() {
         this.outline?.free();
         this.beside?.free();
@@ -80,7 +80,7 @@ export class Example {
         });
     }
 
-    /** What is told, by the names of the rows. */
+    /** Returns the values of the rows, by the names of the rows. */
     readings() {
         const { numerator, denominator } = this.square, meets = numerator === 0n;
         const square = denominator === 1n ? `${numerator}` : `${numerator}/${denominator}`;
@@ -113,7 +113,7 @@ export class Example {
         picture.word(isFree ? "free" : "hits", picture.view.toScreen(to), color);
     }
 
-    /** The distance as a line, and what shows that they are apart or meet. */
+    /** Draws the distance as a line, and a witness that they are disjoint or intersect. */
     #drawWitness(picture) {
         const { shows, points } = this.witness;
         if (shows === "apart") {
@@ -128,7 +128,7 @@ export class Example {
         }
     }
 
-    /** Takes the segment by an end or between them: what moves it to where the pointer is, or null. */
+    /** Takes the segment by an end or between them: returns what moves it to the pointer, or null. */
     taken(place, view) {
         const ends = this.segment.map((it) => view.toScreen(it)), middle = [0, 1].map((i) => (ends[0][i] + ends[1][i]) / 2);
         const end = ends.findIndex((it) => apartFrom(it, place) <= GRIP);

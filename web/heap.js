@@ -1,17 +1,17 @@
-// The heap of hull.wasm, in the place of malloc, realloc and free. No proof reads it.
+// The heap of hull.wasm, in place of malloc, realloc and free. It is not proved.
 //
-// A block has a whole number of sixteens of bytes up to 512, or else a power of two of them; which of these stands in the 16 bytes
-// before it. A block that was given back is the first of the list of its size, and the next taken.
+// A block has a multiple of sixteen bytes up to 512, or else a power of two of them; the 16 bytes before it contain which. A freed
+// block becomes the first of the list of its size, and is the next one taken.
 
 const HEAD = 16;
 const SMALL = 512;
 const HALF = 2 ** 32;
 const PAGE = 65536;
 const PAGES_AT_ONCE = 64;
-// no block is greater: sizes above are not told apart from faults
+// no block is greater: greater sizes are treated as faults
 const GREATEST = 2 ** 40;
 
-/** Which size a block of so many bytes has: 1 to 32 for the sixteens, and then one for each power of two. */
+/** Returns the size class of a block of so many bytes: 1 to 32 for the multiples of sixteen, and then one for each power of two. */
 function class_of(bytes) {
     return bytes <= SMALL ? Math.max(1, Math.ceil(bytes / 16)) : 23 + Math.ceil(Math.log2(bytes));
 }
@@ -33,14 +33,14 @@ export class Heap {
         this.#limit = limit;
     }
 
-    /** Begins behind what the module's own data and stack take. */
+    /** Begins after the module's own data and stack. */
     begin(memory, base) {
         this.#memory = memory;
         this.#top = Math.ceil(base / 16) * 16;
         this.#look();
     }
 
-    /** The memory as it is now: its buffer is another one once it has grown, and the old one has no bytes. */
+    /** The memory at present: its buffer is another one after it has grown, and the old one has no bytes. */
     get view() {
         if (this.#bytes.length === 0) this.#look();
         return this.#view;
@@ -51,7 +51,7 @@ export class Heap {
         this.#bytes = new Uint8Array(this.#memory.buffer);
     }
 
-    /** A block of so many bytes at a multiple of 16, or 0. */
+    /** Returns a block of so many bytes at a multiple of 16, or 0. */
     take(bytes) {
         if (bytes > GREATEST) return 0;
         const its = class_of(bytes), kept = this.#given_back[its];
@@ -67,14 +67,15 @@ export class Heap {
         return at;
     }
 
-    /** Gives a block back. */
+    /** Frees a block. */
     give(at) {
         const its = this.view.getUint32(at - HEAD, true);
         this.view.setFloat64(at, this.#given_back[its], true);
         this.#given_back[its] = at;
     }
 
-    /** A block of another size with the first `kept` bytes of the one given, which is gone; or 0, and it is as it was. */
+    /** Returns a block of another size with the first `kept` bytes of the one passed, which is freed; or 0, and that one is
+     * unchanged. */
     resize(at, kept, bytes) {
         if (class_of(bytes) === this.view.getUint32(at - HEAD, true)) return at;
         const to = this.take(bytes);
@@ -95,7 +96,7 @@ export class Heap {
         };
     }
 
-    /** Writes whether there is a block, and its address: one that is not null where there is none. */
+    /** Writes whether there is a block, and its address: one that is not null if there is none. */
     #tell(answer, at) {
         const to = Number(answer), { view } = this;
         view.setUint32(to, at ? 1 : 0, true);

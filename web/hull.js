@@ -1,4 +1,4 @@
-// The hull for pages and Node: hull.wasm, whose calls are proved, with numbers in and values out. Its types are in hull.d.ts.
+// The hull for pages and Node: hull.wasm, whose calls are proved; it takes numbers and returns values. Its types are in hull.d.ts.
 import { Heap } from "./heap.js";
 
 export const COORDINATE_LIMIT = 2 ** 40;
@@ -50,17 +50,17 @@ const BRIDGE = { size: 72, upper: 8, lower: 40 };
 const WITNESS = { size: 72, first: 8 };
 const CLEARANCE = { shift: 4, lower: 8, upper: 16, numerator: 24, denominator: 48 };
 const HIT = { first: 8, numerator: 40, denominator: 56 };
-// what a witness shows, with how many of its points belong to it
+// the kinds of witnesses, each with how many of its points belong to it
 const SHOWN = {
     [CODE.apart]: ["apart", 2], [CODE.covered]: ["covered", 1], [CODE.within]: ["within", 1], [CODE.crossing]: ["crossing", 4],
 };
-// how one outline stands to another, by its number
+// the relations of two convex polygons, by their numbers
 const RELATIONS = [
     // written by tools/table.py: relations
     "apart", "touching", "overlapping", "within", "covers", "equal",
     // end of what tools/table.py writes
 ];
-// how many points of a distance are the place on this outline, and on the other
+// how many points of a distance are the feature of this polygon, and of the other
 const PLACES_OF = { [CODE.points]: [1, 1], [CODE.corner]: [1, 2], [CODE.edge]: [2, 1] };
 const REQUESTS_AT_ONCE = 1024;
 const HALF = 2 ** 32;
@@ -74,7 +74,7 @@ function checked(value) {
     return value;
 }
 
-/** The coordinates of pairs, or of an array that has those of each point beside one another; all of them checked. */
+/** Returns the coordinates of pairs, or of an array that has the two of each point next to one another; all of them checked. */
 function flat(points) {
     const numbers = numbersOf(points);
     if (numbers.length % 2 !== 0) throw new OutOfRange("a point has two coordinates, and the array an odd number of them");
@@ -82,10 +82,10 @@ function flat(points) {
     return numbers instanceof Float64Array ? numbers : new Float64Array(numbers);
 }
 
-/** A whole number of the module's. */
+/** Returns an integer of the module. */
 const whole = (value) => BigInt(checked(value));
 
-/** A copy of what an array tells: nobody writes it during a call. */
+/** Returns a copy of an array's numbers, which no other code writes during a call. */
 function numbersOf(points) {
     if (typeof points?.[Symbol.iterator] !== "function" || typeof points === "string") {
         throw new NoPoints("points are an iterable of pairs, or an array of numbers");
@@ -103,7 +103,7 @@ function pairOf(point) {
     return [point[0], point[1]];
 }
 
-/** Writes a whole number in two halves: quicker than a BigInt. */
+/** Writes an integer in two halves: quicker than a BigInt. */
 function writeWhole(view, at, value) {
     view.setInt32(at, value | 0, true);
     view.setInt32(at + 4, Math.floor(value / HALF), true);
@@ -113,7 +113,7 @@ function readWhole(view, at) {
     return view.getInt32(at + 4, true) * HALF + view.getUint32(at, true);
 }
 
-/** One instance of the module, its heap, and the rooms that all calls share. */
+/** One instance of the module, its heap, and the storage that all calls share. */
 class Instance {
     #cause = null;
 
@@ -121,15 +121,15 @@ class Instance {
         this.wasm = exports;
         this.heap = heap;
         this.requests = this.take(REQUESTS_AT_ONCE * REQUEST.size);
-        // (the first reply is that of a call of its own, too)
+        // (its first reply is also that of a single call)
         this.reply = this.take(REQUESTS_AT_ONCE * REPLY.size);
         this.requestsAt = BigInt(this.requests);
         this.replyAt = BigInt(this.reply);
-        this.witness = this.take(WITNESS.size); // and a clearance
+        this.witness = this.take(WITNESS.size); // and a distance
         this.out = { at: this.take(BRIDGE.size), bytes: BRIDGE.size };
     }
 
-    /** Calls an export. A trap ends the instance: what lies in its memory is not to be used again. */
+    /** Calls an export. A trap ends the instance: its memory must not be used again. */
     call(name, ...words) {
         if (this.#cause !== null) this.#stopped(name);
         try {
@@ -144,7 +144,7 @@ class Instance {
         throw new Trapped(`the module stopped in ${name}, or before, and serves no call any more: load it anew`, { cause });
     }
 
-    /** Writes a request to the room of requests. */
+    /** Writes a request to the storage of requests. */
     request(at, kind, x, y) {
         const { view } = this.heap;
         view.setInt32(at, kind, true);
@@ -152,19 +152,19 @@ class Instance {
         writeWhole(view, at + REQUEST.y, y);
     }
 
-    /** The code of the last reply; a fault is thrown. */
+    /** Returns the code of the last reply; throws a fault. */
     code() {
         const code = this.heap.view.getInt32(this.reply, true), fault = FAULTS[code];
         if (fault !== undefined) throw fault();
         return code;
     }
 
-    /** Gives memory back, for which there is no need after a trap. */
+    /** Frees memory, which is not necessary after a trap. */
     end(name, ...words) {
         if (this.#cause === null) this.call(name, ...words);
     }
 
-    /** Makes a call that replies, and returns its code; a fault is thrown. */
+    /** Makes a call that replies, and returns its code; throws a fault. */
     ask(name, ...words) {
         this.call(name, this.replyAt, ...words);
         return this.code();
@@ -176,7 +176,7 @@ class Instance {
         return at;
     }
 
-    /** The array that calls write to, with so many bytes at least. */
+    /** Returns the array that calls write to, with at least so many bytes. */
     outOf(bytes) {
         if (bytes > this.out.bytes) {
             const at = this.take(2 * bytes);
@@ -186,7 +186,7 @@ class Instance {
         return this.out.at;
     }
 
-    /** Makes a call that writes to an array with room for all that it has to tell; returns how many elements. */
+    /** Makes a call that writes to an array, with space for all that it writes; returns how many elements it wrote. */
     filled(size, name, ...words) {
         for (;;) {
             const { at, bytes } = this.out;
@@ -202,19 +202,19 @@ class Instance {
         return [readWhole(view, at), readWhole(view, at + POINT.y)];
     }
 
-    /** The two points of the last reply. */
+    /** Returns the two points of the last reply. */
     pair() {
         return [this.point(this.reply + REPLY.x), this.point(this.reply + REPLY.otherX)];
     }
 
-    /** Makes a call that tells a witness, and returns its code and its four points. */
+    /** Makes a call that returns a witness; returns its code and its four points. */
     witnessed(name, ...words) {
         this.call(name, BigInt(this.witness), ...words);
         const at = this.witness + WITNESS.first;
         return [this.heap.view.getUint32(this.witness, true), [0, 1, 2, 3].map((i) => this.point(at + i * POINT.size))];
     }
 
-    /** Makes a call that tells how far something is: its square as a fraction, and the doubles next to it; null where that is nothing. */
+    /** Makes a call that returns a distance: its square as a fraction, and the doubles next to it; null if there is none. */
     measured(name, ...words) {
         this.call(name, BigInt(this.witness), ...words);
         const { view } = this.heap, at = this.witness, fault = FAULTS[view.getUint32(at, true)];
@@ -229,7 +229,7 @@ class Instance {
         };
     }
 
-    /** Makes a call that tells where a way comes in; null where it does not. */
+    /** Makes a call that returns where a ray or a segment enters; null if it does not. */
     met(name, ...words) {
         this.call(name, BigInt(this.witness), ...words);
         const { view } = this.heap, at = this.witness, code = view.getUint32(at, true);
@@ -245,25 +245,25 @@ class Instance {
         return readWhole(this.heap.view, this.reply + offset);
     }
 
-    /** What the last reply tells as `number`. */
+    /** Returns `number` of the last reply. */
     number() {
         return this.whole(REPLY.number);
     }
 
-    /** `number` and `high` of the last reply. */
+    /** Returns `number` and `high` of the last reply. */
     wide() {
         const { view } = this.heap;
         return (view.getBigUint64(this.reply + REPLY.high, true) << 64n) + view.getBigUint64(this.reply + REPLY.number, true);
     }
 
-    /** A block with the points in it. */
+    /** Returns a block with the points in it. */
     placed(coordinates) {
         const at = this.take(Math.max(1, coordinates.length / 2) * POINT.size), { view } = this.heap;
         coordinates.forEach((value, i) => writeWhole(view, at + 8 * i, value));
         return at;
     }
 
-    /** So many points from an address, as [x0, y0, x1, y1, ..]. */
+    /** Returns so many points from an address, as [x0, y0, x1, y1, ..]. */
     points(at, count) {
         const { view } = this.heap;
         const coordinates = new Float64Array(2 * count);
@@ -272,10 +272,10 @@ class Instance {
     }
 }
 
-/** Ends what nothing refers to any more and was not freed. */
+/** Ends an object that has no reference any more and was not freed. */
 const forgotten = new FinalizationRegistry((end) => end());
 
-/** What a hull and an outline have in common: the questions, and the end. */
+/** The part that a hull and a convex polygon share: the questions, and the end. */
 class Questions {
     #instance;
     #end;
@@ -287,13 +287,13 @@ class Questions {
         forgotten.register(this, end, this);
     }
 
-    /** The instance, of what was not freed. */
+    /** Returns the instance, if this was not freed. */
     _live() {
         if (this.#ended) throw new Ended("it was freed");
         return this.#instance;
     }
 
-    /** Makes one call by that for many: no number of it crosses as a BigInt, which takes longer than a question. */
+    /** Makes one call through the call for many: no number of it passes as a BigInt, which takes longer than a question. */
     _ask(kind, x, y) {
         const instance = this._live();
         instance.request(instance.requests, kind, x, y);
@@ -337,7 +337,7 @@ class Questions {
         return found;
     }
 
-    /** Makes one kind of call at each of the points; tells index, code, number and points of each reply. */
+    /** Makes one kind of call at each of the points; passes index, code, number and points of each reply to `tell`. */
     _serve(kind, coordinates, tell) {
         const count = coordinates.length / 2;
         for (let from = 0; from < count; from += REQUESTS_AT_ONCE) {
@@ -535,19 +535,19 @@ class OutlineOfInstance extends Questions {
         return this._live().points(this.#at, this.#count);
     }
 
-    /** Makes a call of this outline's that replies; the code. */
+    /** Makes a call of this polygon that replies; returns the code. */
     #found(name, ...words) {
         return this._live().ask(name, this.#address, this.#corners, ...words);
     }
 
-    /** The same of this outline and another one, or that tells a witness. */
+    /** Makes such a call of this polygon and another one, or one that returns a witness. */
     #beside(call, name, other, ...words) {
         const instance = this._live();
         if (!(other instanceof OutlineOfInstance) || other._live() !== instance) throw new NoOutline("the other one is no outline of the same module");
         return instance[call](name, this.#address, this.#corners, other.#address, other.#corners, ...words);
     }
 
-    /** The number that a call with another outline tells. */
+    /** Returns the number of a call with another polygon. */
     #numberBeside(name, other, ...words) {
         this.#beside("ask", name, other, ...words);
         return this._live().number();
@@ -662,14 +662,14 @@ class OutlineOfInstance extends Questions {
         return this.#measuredTo(ax, ay, bx, by)?.bounds ?? null;
     }
 
-    /** How far a segment is. */
+    /** Returns the distance of a segment. */
     #measuredTo(ax, ay, bx, by) {
         const ends = [whole(ax), whole(ay), whole(bx), whole(by)];
         return this._live().measured("hull_outline_clearance_to_segment", this.#address, this.#corners, ...ends);
     }
 }
 
-/** The two numbers of a length, as the module takes them. */
+/** Returns the two numbers of a length, as the module takes them. */
 function lengthOf(numerator, denominator) {
     const isWhole = (value) => Number.isSafeInteger(value) && value >= 0;
     if (!isWhole(numerator) || !isWhole(denominator) || denominator < 1 || denominator >= HALF) {
@@ -678,7 +678,7 @@ function lengthOf(numerator, denominator) {
     return [BigInt(numerator), denominator];
 }
 
-/** The squared distance of two places, each a point or an edge; 0 where both are none. */
+/** Returns the squared distance of two features, each a point or an edge; 0 if both are none. */
 function squaredDistanceOf(places) {
     if (places[0].length === 0) return { numerator: 0n, denominator: 1n };
     const [[point], [from, to]] = places.toSorted?.((a, b) => a.length - b.length) ?? [...places].sort((a, b) => a.length - b.length);
@@ -689,10 +689,10 @@ function squaredDistanceOf(places) {
     return { numerator: side * side, denominator: square(edge) };
 }
 
-/** Whether the engine has 64-bit memories: of a module with nothing else it says so. */
+/** Whether the engine has 64-bit memories, tested by a module with nothing else. */
 const HAS_WIDE_MEMORY = globalThis.WebAssembly?.validate(new Uint8Array([0, 97, 115, 109, 1, 0, 0, 0, 5, 3, 1, 4, 1]));
 
-/** Where the module stands: as it was proved, or for engines with 32-bit memories alone as that was lowered. */
+/** Returns where the module is: as it was proved, or, for engines with only 32-bit memories, as it was lowered. */
 function moduleBeside() {
     try {
         return HAS_WIDE_MEMORY ? new URL("./out/hull.wasm", import.meta.url) : new URL("./out/hull32.wasm", import.meta.url);
@@ -701,7 +701,7 @@ function moduleBeside() {
     }
 }
 
-/** The bytes of what `load` is passed. Node's fetch reads no files. */
+/** Returns the bytes of the source that `load` is passed. Node's fetch reads no files. */
 async function bytesOf(source) {
     const given = await source;
     if (given instanceof ArrayBuffer || ArrayBuffer.isView(given)) return given;
@@ -716,7 +716,7 @@ async function bytesOf(source) {
     return response.arrayBuffer();
 }
 
-/** Those bytes, or why they can't be had, as a fault. */
+/** Returns those bytes; throws a fault with the reason if it can't. */
 async function bytesOrFault(source) {
     try {
         return await bytesOf(source);
@@ -725,10 +725,8 @@ async function bytesOrFault(source) {
     }
 }
 
-/**
- * Loads the module: from its bytes, a URL, or a Response (or a promise of one), or else from out/ beside this file, hull.wasm or,
- * where the engine has no 64-bit memories, hull32.wasm. At most `memory` bytes of its memory are used, where that is given.
- */
+/** Loads the module: from its bytes, a URL, or a Response (or a promise of one), or else from out/ beside this file, hull.wasm or, if
+ * the engine has no 64-bit memories, hull32.wasm. At most `memory` bytes of its memory are used, if that is given. */
 export async function load(source = moduleBeside(), { memory = Infinity } = {}) {
     if (!globalThis.WebAssembly) throw new Unsupported("this engine has no WebAssembly");
     if (typeof memory !== "number" || !(memory > 0)) throw new OutOfRange("memory is a number of bytes above 0");

@@ -1,12 +1,12 @@
-// What the browser keeps, so that a reload loses nothing: the journal, the place in it, and what takes its deeds back.
+// The data that the browser stores, so that a reload loses nothing: the journal, the position in it, and how to undo its deeds.
 //
-// Short journals stand in the tab's own store and in that of all tabs, at once. Of a long one the browser's data base has the first lines,
+// Short journals are in the tab's own store and in that of all tabs, at once. Of a long one the browser's database has the first lines,
 // which do not change any more, and the store has the rest.
 import { journalText, readJournal } from "./journal.js";
 
 const NAME = "hullbook", TABLE = "journals";
 const LONG = 20000; // lines
-const BASES = 4; // so many long journals stay in the data base
+const BASES = 4; // so many long journals stay in the database
 
 const done = (request) => new Promise((good, bad) => {
     request.onsuccess = () => good(request.result);
@@ -35,9 +35,9 @@ const deedsBy = (change, { done, undone }) => {
 };
 
 export class Keeper {
-    #base = null; // { journal, id, lines }: the lines that stand in the data base
+    #base = null; // { journal, id, lines }: the lines that are in the database
 
-    /** Keeps what a work is at, with what else `more` has; a long journal's first lines when there is time for it. */
+    /** Stores the state of a work, with `more`; the first lines of a long journal when there is time for it. */
     keep(work, more, isEnding = false) {
         const { here } = work, { length } = here.journal.lines, before = this.#base?.journal === here.journal ? this.#base.lines : 0;
         if (length - before > LONG && !isEnding) {
@@ -60,7 +60,7 @@ export class Keeper {
         this.#tried(() => localStorage.setItem(NAME, text));
     }
 
-    /** Does what a browser that keeps nothing refuses: there Save does it. */
+    /** Does what a browser that stores nothing refuses: there Save does it. */
     #tried(run) {
         try {
             run();
@@ -76,7 +76,7 @@ export class Keeper {
         this.#base = { journal, id, lines: length };
     }
 
-    /** What was kept, or null. */
+    /** Returns what was stored, or null. */
     async read() {
         try {
             const text = sessionStorage.getItem(NAME) ?? localStorage.getItem(NAME);

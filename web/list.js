@@ -1,8 +1,8 @@
-// The journal as a list of which only the lines that are seen stand in the document. A line that is pressed goes to its place.
+// The journal as a list of which only the visible lines are in the document. Pressing a line goes to its position.
 import { lineText } from "./journal.js";
 
 const ROW = 20; // pixels
-const TALLEST = 2e6; // pixels that every browser makes; in a longer list the bar stands for the lines in proportion
+const TALLEST = 2e6; // pixels that every browser supports; in a longer list the bar represents the lines in proportion
 const KEYS = { ArrowUp: -1, ArrowDown: 1, PageUp: -20, PageDown: 20, Home: -Infinity, End: Infinity };
 
 export class List {
@@ -34,7 +34,7 @@ export class List {
         this.draw();
     }
 
-    /** How many pixels of the list are above what is seen, were it as tall as it is long. */
+    /** Returns how many pixels of the list are above the visible ones, if it were as tall as it is long. */
     #above() {
         const { length } = this.replay.journal.lines, room = this.box.clientHeight, { scrollTop } = this.box;
         return ROW * length <= TALLEST ? scrollTop : (scrollTop / (TALLEST - room)) * (ROW * length - room);

@@ -1,7 +1,7 @@
-// Many outlines at once, and outlines that move: loops over what hull.js asks of one or of two.
+// Many convex polygons at once, and polygons that move: loops over the questions of hull.js about one or two.
 import { COORDINATE_LIMIT, OutOfRange, ZeroDirection } from "./hull.js";
 
-/** The numbers, each of which is whole and at most `limit` in size; else OutOfRange. */
+/** Returns the numbers, each of which must be an integer of at most `limit` in size; else throws OutOfRange. */
 function checked(numbers, limit = COORDINATE_LIMIT) {
     for (const value of numbers) {
         if (!(Number.isInteger(value) && Math.abs(value) <= limit)) {
@@ -11,24 +11,24 @@ function checked(numbers, limit = COORDINATE_LIMIT) {
     return numbers;
 }
 
-/** What an element of an iterable has to be: so many coordinates. */
+/** Returns an element of an iterable, which must be so many coordinates. */
 function row(numbers, count) {
     if (numbers?.length !== count) throw new OutOfRange(`${count} coordinates were wanted, and not ${String(numbers)}`);
     return checked(Array.from(numbers));
 }
 
-/** How the outline stands to each of the others, in their order. */
+/** Returns the relations of the polygon to each of the others, in their order. */
 export function relations(outline, others) {
     return Array.from(others, (other) => outline.relation(other));
 }
 
-/** Whether the outline meets each of the segments [ax, ay, bx, by], in their order. */
+/** Returns whether the polygon intersects each of the segments [ax, ay, bx, by], in their order. */
 export function meetsSegments(outline, segments) {
     return Array.from(segments, (segment) => outline.meetsSegment(...row(segment, 4)));
 }
 
-/** The pairs [i, j], i < j, of outlines that are no farther apart than numerator / denominator, exactly; with 0, that have a point in
- * common. By a sweep over their boxes. */
+/** Returns the pairs [i, j], i < j, of polygons whose distance is at most numerator / denominator, exactly; with 0, that have a point
+ * in common. By a sweep over their boxes. */
 export function pairsWithin(outlines, numerator = 0, denominator = 1) {
     const isWhole = (value) => Number.isSafeInteger(value) && value >= 0;
     if (!isWhole(numerator) || !isWhole(denominator) || denominator < 1 || denominator >= 2 ** 32) {
@@ -50,7 +50,7 @@ export function pairsWithin(outlines, numerator = 0, denominator = 1) {
     return pairs.sort(([a, b], [c, d]) => a - c || b - d);
 }
 
-/** For each corner the place of the first of the points that is there; -1 where none is. */
+/** Returns for each vertex the index of the first of the points that is equal to it; -1 if none is. */
 export function indices(outline, points) {
     const places = new Map();
     Array.from(points).forEach((point, place) => {
@@ -63,7 +63,7 @@ export function indices(outline, points) {
 
 const isSooner = (one, other) => one.numerator * other.denominator < other.numerator * one.denominator;
 
-/** The soonest of the hits of corners that go this way to an outline, as far as it leads, and of one found before. */
+/** Returns the soonest of the hits of vertices that go this way to a polygon, as far as it leads, and of one found before. */
 function soonest(found, outline, corners, dx, dy, moves) {
     for (const corner of corners) {
         const hit = outline.castRay(...corner, dx, dy);
@@ -74,8 +74,8 @@ function soonest(found, outline, corners, dx, dy, moves) {
     return found;
 }
 
-/** When an outline that moves straight by (dx, dy) first meets one that stands; null where they don't meet. Two convex shapes first meet at
- * a corner of one of them. */
+/** Returns when a polygon that moves straight by (dx, dy) first intersects one that does not move; null if they never do. Two convex
+ * shapes first meet at a vertex of one of them. */
 export function firstMeeting(standing, moving, dx, dy) {
     checked([dx, dy]);
     if (standing.meets(moving)) return { part: { numerator: 0n, denominator: 1n }, points: [], corner: null, moves: false };
@@ -84,19 +84,20 @@ export function firstMeeting(standing, moving, dx, dy) {
     return soonest(found, moving, standing.vertices(), -dx, -dy, false);
 }
 
-/** Points, all in range. */
+/** Returns points, all in range. */
 function placed(corners) {
     checked(corners.flat());
     return corners;
 }
 
-/** The corners of the outline moved by (dx, dy), of which another one can be made. OutOfRange. */
+/** Returns the vertices of the polygon translated by (dx, dy), of which another one can be made. Throws OutOfRange. */
 export function moved(outline, dx, dy) {
     checked([dx, dy], 2 * COORDINATE_LIMIT);
     return placed(outline.vertices().map(([x, y]) => [x + dx, y + dy]));
 }
 
-/** The corners of the outline turned about (0, 0) by the angle of (a, b), and magnified by its length. OutOfRange, ZeroDirection. */
+/** Returns the vertices of the polygon rotated about (0, 0) by the angle of (a, b), and scaled by its length. Throws OutOfRange,
+ * ZeroDirection. */
 export function turned(outline, a, b) {
     checked([a, b]);
     if (a === 0 && b === 0) throw new ZeroDirection("a direction is zero");
@@ -107,8 +108,8 @@ export function turned(outline, a, b) {
     return placed([...corners.slice(from), ...corners.slice(0, from)]);
 }
 
-/** The held point nearest to (x, y), of several the first by x and then y, and the square of how far it is; null where none is held. One look
- * at each held point. */
+/** Returns the point of the set that is nearest to (x, y), of several the first by x and then y, and the square of its distance; null
+ * if the set is empty. One look at each point. */
 export function nearestHeld(hull, x, y) {
     checked([x, y]);
     let found = null;

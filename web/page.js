@@ -1,4 +1,4 @@
-// The page round the hull: what is drawn, what follows the pointer, and what is opened, saved and kept.
+// The page round the hull: drawing, the pointer, and opening, saving and storing.
 import { emptyJournal, joinJournals, journalText, lineText, readJournal } from "./journal.js";
 import { toFloat } from "./exchange.js";
 import { addressOf, callsOf, kindOf, readAddress, readRows, writeRows } from "./texts.js";
@@ -9,10 +9,10 @@ import { Picture } from "./picture.js";
 import { View, clamped } from "./view.js";
 import { Work } from "./work.js";
 
-const NEAR = { mouse: 9, touch: 18, pen: 12 }; // from so many pixels on, a pointer is not at a point
+const NEAR = { mouse: 9, touch: 18, pen: 12 }; // a pointer is at a point if it is within so many pixels
 const STILL = 4; // so many pixels a pointer may move in a click
-const HOLD = 400; // milliseconds after which a finger that stays asks and does not draw
-const REST = 300; // milliseconds without a change until the journal is kept
+const HOLD = 400; // milliseconds after which a finger that stays asks instead of drawing
+const REST = 300; // milliseconds without a change until the journal is stored
 const STEPS = { ArrowLeft: [-1, 0], ArrowRight: [1, 0], ArrowUp: [0, 1], ArrowDown: [0, -1] };
 const NOTHING = { move() {}, end() {} }; // a drag of nothing
 
@@ -23,14 +23,14 @@ const tell = (id, text) => {
 
 export class Page {
     #drag = null;
-    #fingers = new Map(); // of each pointer that is down its place
+    #fingers = new Map(); // the position of each pointer that is down
     #holding = 0;
     #drawing = false;
     #listed = null; // the state that the list shows
     #keeping = 0;
     #before = null; // the time of the last frame of the example
 
-    /** Goes on with what the browser kept, or with the points of the address, or opens on the example. */
+    /** Continues with what the browser stored, or with the points of the address, or opens with the example. */
     static async start(library) {
         const keeper = new Keeper();
         return new Page(library, keeper, await keeper.read());
@@ -47,7 +47,7 @@ export class Page {
         if (kept) this.work.takeUp(kept.deeds);
         this.#enter(kept && kept.mode === "draw" ? "draw" : "example");
         if (kept?.view && this.mode === "draw") Object.assign(this.view, kept.view);
-        // (an address that the page wrote itself may be older than what is kept)
+        // (an address that the page wrote itself may be older than what is stored)
         if (location.hash !== kept?.address) this.linked();
         this.listen();
         new ResizeObserver(() => this.resized()).observe(element("plane"));
@@ -85,7 +85,7 @@ export class Page {
         this.view.fit(mode === "example" ? this.example.room : this.hull.vertexArray(), mode === "example" ? 1 : 0.8);
     }
 
-    /** From the example to a plane to draw on, and back. */
+    /** Changes from the example to a plane to draw on, and back. */
     turn() {
         this.#enter(this.mode === "example" ? "draw" : "example");
         this.point(null);
@@ -99,30 +99,30 @@ export class Page {
         this.show();
     }
 
-    /** Has what is there kept when it has rested for a while. */
+    /** Stores the journal after it has not changed for a while. */
     #rested() {
         clearTimeout(this.#keeping);
         this.#keeping = setTimeout(() => this.keep(), REST);
     }
 
-    /** Keeps all for the next time. */
+    /** Stores all for the next time. */
     keep(isEnding = false) {
         const { mode, view: { scale, middle } } = this;
         if (mode === "draw" && !isEnding) this.#address();
         return this.keeper.keep(this.work, { mode, view: { scale, middle }, address: location.hash }, isEnding);
     }
 
-    /** Has the address hold the points, where they are few. */
+    /** Puts the points into the address, if they are few. */
     #address() {
         const address = addressOf(this.replay.held, this.work.power);
         try {
             if (location.hash !== address) history.replaceState(null, "", address || location.href.replace(/#.*/, ""));
         } catch {
-            // (a browser that leaves the addresses of files alone)
+            // (a browser that does not change the addresses of files)
         }
     }
 
-    /** Takes up the points that the address holds, where they are others than those that are there. */
+    /** Takes the points of the address, if they differ from the present ones. */
     linked() {
         this.#tried("the address", () => {
             const found = readAddress(location.hash);
@@ -132,7 +132,7 @@ export class Page {
         });
     }
 
-    /** Shows what was opened, all of it. */
+    /** Shows all that was opened. */
     #shown() {
         if (this.mode === "example") this.#enter("draw");
         this.view.fit(this.hull.vertexArray());
@@ -140,7 +140,7 @@ export class Page {
         this.show();
     }
 
-    /** Does what may be refused: why it was is told, with the line of a text that is wrong. */
+    /** Does what may be refused: shows the reason, with the line of a text that is wrong. */
     #tried(name, run) {
         this.fault = null;
         try {
@@ -152,7 +152,7 @@ export class Page {
         this.show();
     }
 
-    /** Runs a deed of the user's, and shows what came of it. */
+    /** Runs a deed of the user's, and shows its result. */
     deed(run) {
         this.fault = null;
         run(this.work);
@@ -168,7 +168,7 @@ export class Page {
         this.deed((work) => work.go(to));
     }
 
-    /** The point that is held next to a place on the screen, or null. */
+    /** Returns the point of the set nearest to a position on the screen, or null. */
     near(place, reach) {
         const { coordinates, size } = this.replay.held, [x, y] = this.view.exact(place);
         let least = (reach / this.view.scale) ** 2, found = null;
@@ -179,7 +179,7 @@ export class Page {
         return found;
     }
 
-    /** Draws and tells in the next frame. */
+    /** Draws and updates in the next frame. */
     show() {
         if (this.#drawing) return;
         this.#drawing = true;
@@ -212,12 +212,12 @@ export class Page {
         if (!this.isPaused) this.show();
     }
 
-    /** A point as it was opened: its coordinates divided by the power of two that they were multiplied by. */
+    /** Returns a point as it was opened: its coordinates divided by the power of two that they were multiplied by. */
     #text(point) {
         return `(${point.map((it) => toFloat(it, this.work.power)).join(", ")})`;
     }
 
-    /** What stands still on the picture; its numbers are told too. */
+    /** Draws the still part of the picture, and updates its numbers. */
     #drawScene(picture) {
         const { hull, replay, work: { power } } = this, corners = hull.vertexArray(), doubled = hull.doubledArea();
         tell("count", `${hull.count()}, ${corners.length / 2} of them corners`);
@@ -229,7 +229,7 @@ export class Page {
         picture.corners(corners);
     }
 
-    /** The stored bridges of as many levels as are asked for and there are. */
+    /** Returns the stored bridges of as many levels as are requested and exist. */
     levels() {
         const asked = Number(element("levels").value), levels = [];
         for (let level = 0; level < asked; level++) {
@@ -249,7 +249,8 @@ export class Page {
         this.#listed = this.work.state;
     }
 
-    /** A fault of the text that was to be opened, or of the journal that is: the line, what stands there, and what should. */
+    /** Shows a fault of the text that was to be opened, or of the journal that is: the line, the text that is there, and the one that
+     * should be. */
     #showFault() {
         const { wrong, journal } = this.replay;
         let { fault } = this;
@@ -261,7 +262,7 @@ export class Page {
         for (const name of fault ? ["where", "stands", "should"] : []) tell(`wrong-${name}`, fault[name]);
     }
 
-    /** Speaks what is told now: only when asked. */
+    /** Speaks what is shown now: only on request. */
     speak() {
         const rows = [...document.querySelectorAll(this.mode === "example" ? "#shown > *" : "#told > *")];
         const text = rows.map((it) => it.textContent.trim()).filter(Boolean).join(", ");
@@ -269,7 +270,7 @@ export class Page {
         requestAnimationFrame(() => tell("spoken", text));
     }
 
-    /** Moves the cross, and writes its questions where that is wanted. */
+    /** Moves the cross, and writes its questions if requested. */
     point(cursor) {
         if (cursor?.join() === this.cursor?.join()) return;
         this.cursor = cursor;
@@ -342,7 +343,7 @@ export class Page {
         try {
             this.picture.canvas.setPointerCapture(event.pointerId);
         } catch {
-            // (a pointer that is gone already)
+            // (a pointer that has left already)
         }
         this.#fingers.set(event.pointerId, place);
         if (this.#fingers.size > 1) {
@@ -365,7 +366,8 @@ export class Page {
         return move ? { move, end() {} } : this.#pan();
     }
 
-    /** A press on a point takes it along, or away where it does not move; elsewhere it moves the view, or adds a point. */
+    /** Handles a press on a point, which moves it, or removes it if the pointer does not move; elsewhere it moves the view, or adds a
+     * point. */
     #dragPlane(place, { pointerType }) {
         const held = this.near(place, NEAR[pointerType] ?? NEAR.mouse), deed = this.work.begin();
         let at = held;
@@ -374,7 +376,7 @@ export class Page {
             move: (to, last) => {
                 if (!held) return this.#pan().move(to, last);
                 const next = this.view.toLattice(to);
-                // (both calls or none: a full journal keeps the point)
+                // (both calls or none: if the journal is full the point stays)
                 if (next.join() === at.join() || !this.work.hasRoom(2)) return;
                 this.work.make(deed, [`remove ${at.join(" ")}`, `add ${next.join(" ")}`]);
                 at = next;
@@ -411,7 +413,7 @@ export class Page {
         this.show();
     }
 
-    /** A pointer is gone. */
+    /** Handles a pointer that has left. */
     left(event) {
         this.#fingers.delete(event.pointerId);
         if (this.#fingers.size === 0) this.#dropped();
@@ -426,7 +428,7 @@ export class Page {
         drag.end(event, drag.isMoved);
     }
 
-    /** Ends a drag where it is: all of it is taken back as one. */
+    /** Ends a drag as it is: all of it is undone as one. */
     #dropped() {
         clearTimeout(this.#holding);
         const drag = this.#drag;
@@ -440,7 +442,7 @@ export class Page {
         this.show();
     }
 
-    /** Undo and redo by the keys that all programs have for them. */
+    /** Undoes and redoes by the keys that all programs have for them. */
     commanded(event) {
         const key = event.key.toLowerCase();
         if (!(event.ctrlKey || event.metaKey) || !["z", "y"].includes(key) || this.mode !== "draw") return;
@@ -462,7 +464,7 @@ export class Page {
         run();
     }
 
-    /** Calls that add points at random to what is seen, most of them near its middle. */
+    /** Returns calls that add points at random to the visible range, most of them near its middle. */
     random(number) {
         const [width, height] = this.view.size;
         return Array.from({ length: number }, () => {
@@ -493,12 +495,12 @@ export class Page {
         this.fitted();
     }
 
-    /** Opens files: one, or the parts of a journal, or several of points. */
+    /** Opens files: one, or the segments of a journal, or several of points. */
     async opened(files) {
         this.open(await Promise.all(Array.from(files, async (file) => ({ name: file.name, text: await file.text() }))));
     }
 
-    /** Opens texts with their names, in the place of all that there is; where one is wrong, that is told and nothing changes. */
+    /** Opens texts with their names, in place of all that there is; if one is wrong, that is shown and nothing changes. */
     open(texts) {
         if (texts.length === 0) return;
         this.#tried(texts.map((it) => it.name).join(", "), () => {

@@ -9,7 +9,7 @@ import { bundled, cut, minified, shaken } from "./shrink.mjs";
 const file = (name) => new URL(name, import.meta.url);
 const [name, to = file("out/index.html")] = process.argv.slice(2);
 
-/** What a step gives, or the end of the command with what it needs. */
+/** Returns the result of a step, or ends the command with what it needs. */
 function needing(what, step) {
     try {
         return step();

@@ -1,10 +1,10 @@
-// What is drawn: a hull with its points, its stored bridges, and what moves above them.
+// The picture: a hull with its points, its stored bridges, and what moves above them.
 import { pointOf } from "./texts.js";
 
-const LABELS = 400; // up to so many points are drawn as discs, with how often they are held; more are written as pixels, all at once
-const APART = 1.5; // corners nearer to one another, in pixels, are drawn as one
+const LABELS = 400; // up to so many points are drawn as discs, with their multiplicities; more are written as pixels, all at once
+const APART = 1.5; // vertices nearer to one another, in pixels, are drawn as one
 
-/** The corners [x0, y0, x1, ..] on the screen, less those that nobody could tell from the one before. */
+/** Yields the vertices [x0, y0, x1, ..] on the screen, except those that look the same as the one before. */
 function* seenOf(corners, view, apart) {
     let [left, top] = [NaN, NaN];
     for (let i = 0; i < corners.length; i += 2) {
@@ -20,9 +20,9 @@ export class Picture {
         this.canvas = canvas;
         this.view = view;
         this.front = this.pen = canvas.getContext("2d");
-        this.still = document.createElement("canvas"); // what moves only with the view
+        this.still = document.createElement("canvas"); // the layer that moves only with the view
         this.dots = document.createElement("canvas"); // points as pixels
-        this.drawn = null; // what the still layer shows
+        this.drawn = null; // the state that the still layer shows
     }
 
     resize() {
@@ -42,7 +42,7 @@ export class Picture {
         return this.style.getPropertyValue(`--${name}`);
     }
 
-    /** Draws all: what `scene` draws stands still, and is drawn anew where it is another `state` or seen from elsewhere; `over` moves. */
+    /** Draws all: `scene` draws the still layer, again only for another `state` or view; `over` draws what moves. */
     draw({ state, scene, over }) {
         const shown = JSON.stringify([state, this.view]);
         if (shown !== this.drawn) {
@@ -66,7 +66,7 @@ export class Picture {
         this.lines(lines, "grid", 1);
     }
 
-    /** Segments of one color; the dashes are lengths of strokes and gaps. */
+    /** Draws segments of one color; the dashes are lengths of strokes and gaps. */
     lines(segments, color, width, dashes = []) {
         const { pen, view } = this;
         pen.beginPath();
@@ -108,14 +108,14 @@ export class Picture {
         pen.fill();
     }
 
-    /** The stored bridges of a level: the deeper, the thinner. The lower ones are dashed. */
+    /** Draws the stored bridges of a level: the deeper, the thinner. The lower ones are dashed. */
     bridges(bridges, level) {
         for (const side of ["upper", "lower"]) {
             this.lines(bridges.map((it) => it[side]), side, Math.max(0.5, 3 - level / 3), side === "lower" ? [6, 3] : []);
         }
     }
 
-    /** The points that are held, as the replay of a journal keeps them. */
+    /** Draws the points of the set, as the replay of a journal keeps them. */
     points(held) {
         if (held.size > LABELS) return this.plotted(held.coordinates, held.size);
         this.discs(Array.from(held.keys(), (key) => this.view.toScreen(pointOf(key))), 2.5, "point");
@@ -128,7 +128,7 @@ export class Picture {
         this.pen.fillText(text, left + 7, top - 7);
     }
 
-    /** Many points, each a square of pixels in an image that is put in place at once. */
+    /** Draws many points, each a square of pixels in an image that is put in place at once. */
     plotted(coordinates, count) {
         const { width, height } = this.dots, { view, ratio } = this, pen = this.dots.getContext("2d");
         this.pixels ??= pen.createImageData(width, height);
@@ -146,7 +146,7 @@ export class Picture {
         this.pen.drawImage(this.dots, 0, 0, ...view.size);
     }
 
-    /** A color as the word that stands for a pixel of it. */
+    /** Returns a color as the word of a pixel of it. */
     ink(color) {
         const pen = Object.assign(document.createElement("canvas"), { width: 1, height: 1 }).getContext("2d");
         pen.fillStyle = this.color(color);
@@ -154,7 +154,7 @@ export class Picture {
         return new Uint32Array(pen.getImageData(0, 0, 1, 1).data.buffer)[0];
     }
 
-    /** A cross, and the lines from it to the tangent points: the one to the right is dashed. */
+    /** Draws a cross, and the lines from it to the tangent points: the one to the right is dashed. */
     pointer(cursor, seen) {
         if (seen !== null) {
             this.lines([[cursor, seen.left]], "left", 2);

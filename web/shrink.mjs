@@ -1,6 +1,6 @@
-// What makes the page small: of the library only the methods that the page names, of the script only what is called, with short names,
-// and of the module only the exports that the script names. No proof reads these steps: esbuild and Binaryen's wasm-metadce are trusted,
-// and tests/web runs the page that comes of them.
+// Makes the page small: of the library only the methods that the page names, of the script only what is called, with short names, and
+// of the module only the exports that the script names. These steps are not proved: esbuild and Binaryen's wasm-metadce are trusted,
+// and tests/web runs the resulting page.
 import { execFileSync } from "node:child_process";
 import { mkdtempSync, readFileSync, rmSync, writeFileSync } from "node:fs";
 import { tmpdir } from "node:os";
@@ -14,13 +14,13 @@ const METHOD = /^( *)(?:static )?(?:async )?(get )?(#?\w+)\(.*\) \{$/;
 
 const esbuild = (text, ...words) => execFileSync("esbuild", [...COMMON, ...words], { input: text, cwd: HERE, encoding: "utf8" });
 
-/** A script with all that it imports from this folder, in one. */
+/** Returns a script with all that it imports from this folder, in one. */
 export const bundled = (text) => esbuild(text);
 
-/** The same script, as short as esbuild makes it. */
+/** Returns the same script, as short as esbuild makes it. */
 export const minified = (text) => esbuild(text, "--minify").trim();
 
-/** The methods of all classes: their names, and the lines from the first to the one behind the last. */
+/** Returns the methods of all classes: their names, and the lines from the first to the one after the last. */
 function methodsOf(lines) {
     const found = [], classes = [];
     lines.forEach((line, i) => {
@@ -35,14 +35,15 @@ function methodsOf(lines) {
     return found;
 }
 
-/** What a script calls of an object: behind a point, or by its name as the first word of a call that passes it on; what it reads of one. */
+/** Returns what a script calls of an object: after a point, or by its name as the first word of a call that passes it on; what it
+ * reads of one. */
 function calledIn(text) {
     const found = [...text.matchAll(/\.(#?\w+)(?=\()|\("(\w+)",/g)].map((it) => it[1] ?? it[2]);
     const read = [...text.matchAll(/\.(#?\w+)|[{,] (\w+)(?=,| \})/g)].map((it) => it[1] ?? it[2]);
     return { called: new Set(found), read: new Set(read) };
 }
 
-/** A bundle without the methods that nothing left in it names. */
+/** Returns a bundle without the methods that nothing left in it names. */
 export function shaken(text) {
     for (let lines = text.split("\n"); ; ) {
         const { called, read } = calledIn(lines.join("\n"));
@@ -52,13 +53,13 @@ export function shaken(text) {
     }
 }
 
-/** Of a bundle what comes of some files. */
+/** Returns the part of a bundle that comes from some files. */
 export function part(text, files) {
     const [, ...parts] = text.split(/^\/\/ (\S+\.js)\n/m);
     return parts.filter((_, i) => i % 2 && files.includes(parts[i - 1])).join("");
 }
 
-/** A module without the exports that a script does not name, and what they alone need. */
+/** Returns a module without the exports that a script does not name, and what only they need. */
 export function cut(module, script) {
     const words = new Set(script.match(/\w+/g)), room = mkdtempSync(`${tmpdir()}/shrink-`);
     const named = WebAssembly.Module.exports(new WebAssembly.Module(module)).map((it) => it.name).filter((it) => words.has(it));

@@ -1,4 +1,4 @@
-// Where the page begins: with the module, which stands in it as gzip packs it.
+// The beginning of the page: it loads the module, which is in the page packed by gzip.
 import { load } from "./hull.js";
 import { Page } from "./page.js";
 

@@ -1,5 +1,5 @@
-// The two tables of README.md: how many hulls come out wrong in doubles, and what a change costs with all its corners beside a chain
-// made anew: node web/tables.mjs. d3.polygonHull is Debian's (node-d3-polygon), and left out where it is not there.
+// The two tables of README.md: how many hulls are wrong in doubles, and the cost of a change with all its vertices beside a chain that
+// computes them again: node web/tables.mjs. d3.polygonHull is Debian's (node-d3-polygon), and left out if it is not there.
 import { createRequire } from "node:module";
 import { chainOf, order, placeIn, pointsOf, rate } from "./chain.mjs";
 import { load } from "./hull.js";
@@ -13,7 +13,7 @@ try {
     console.log("(d3-polygon is not there)");
 }
 
-/** Whole numbers below a bound, the same for the same seed. */
+/** Returns a function of integers below a bound, the same for the same seed. */
 function randomOf(seed) {
     let state = BigInt(seed);
     return (bound) => {
@@ -22,7 +22,7 @@ function randomOf(seed) {
     };
 }
 
-/** Whole numbers c and d with a * d - b * c = gcd(a, b), by Euclid. */
+/** Returns integers c and d with a * d - b * c = gcd(a, b), by Euclid. */
 function bezout(a, b) {
     let [old, rest, s, t, u, v] = [a, b, 1n, 0n, 0n, 1n];
     while (rest !== 0n) {
@@ -32,7 +32,8 @@ function bezout(a, b) {
     return [old, -u, s];
 }
 
-/** Four corners of a parallelogram whose edges have a cross product of 1, which reaches over half of all coordinates up to `limit`. */
+/** Returns the four corners of a parallelogram whose edges have a cross product of 1, which reaches over half of all coordinates up
+ * to `limit`. */
 function sliver(random, limit) {
     for (;;) {
         const [a, b] = [limit + random(limit), limit + random(limit)].map(BigInt), [divisor, c, d] = bezout(a, b);
@@ -57,7 +58,8 @@ for (const power of [27, 30]) {
     console.log(`| 2^${power} | ${wrong[0]} | ${polygonHull ? wrong[1] : "-"} | ${wrong[2]} |`);
 }
 
-/** Microseconds of a change with all corners afterwards: ours, and a chain made anew of points kept in order. */
+/** Returns the microseconds of a change with all vertices afterwards: ours, and those of a chain that computes them again from points
+ * kept in order. */
 function costOf(shape, number) {
     const points = pointsOf(shape, number), others = pointsOf(shape, CHANGES), hull = new Hull(), list = points.toSorted(order);
     hull.addAll(points);

@@ -1,26 +1,26 @@
-// Points as texts of others: CSV, GeoJSON, SVG and the page's address. A document is needed for SVG alone.
+// Points as texts of other programs: CSV, GeoJSON, SVG and the page's address. Only SVG needs a document.
 import { COORDINATE_LIMIT, MULTIPLICITY_LIMIT } from "./hull.js";
 import { exponentOf, fromFloat, scaled, toFloat } from "./exchange.js";
 import { TextError } from "./journal.js";
 
-const CALLS_LIMIT = 2 ** 22; // so many calls are made of a text at most
+const CALLS_LIMIT = 2 ** 22; // at most so many calls are made from a text
 const ADDRESS_LIMIT = 16000; // an address is no longer, so that it can be sent
 
-/** The point of a key "x y". */
+/** Returns the point of a key "x y". */
 export const pointOf = (key) => key.split(" ").map(Number);
 
-/** What stands in a text: "journal", "geojson", "svg" or "csv". */
+/** Returns the kind of a text: "journal", "geojson", "svg" or "csv". */
 export function kindOf(text) {
     const begin = text.trimStart();
     return text.startsWith("hullbook journal") ? "journal" : /^[{[]/.test(begin) ? "geojson" : begin.startsWith("<") ? "svg" : "csv";
 }
 
-/** The rows [x, y, times] of a text of points, in doubles. */
+/** Returns the rows [x, y, times] of a text of points, in doubles. */
 export function readRows(text) {
     return { csv: rowsOfTable, geojson: rowsOfGeometry, svg: rowsOfDrawing }[kindOf(text)](text);
 }
 
-/** Rows of a table: x, y and how often, parted by a comma, semicolon, tab or space; the first may be names. */
+/** Returns the rows of a table: x, y and multiplicity, separated by a comma, semicolon, tab or space; the first may be names. */
 function rowsOfTable(text) {
     const rows = [];
     text.replace(/^\ufeff/, "").split(/\r?\n/).forEach((line, i) => {
@@ -37,14 +37,14 @@ function rowsOfTable(text) {
 
 const isTimes = (times) => Number.isInteger(times) && times >= 1 && times <= MULTIPLICITY_LIMIT;
 
-/** Each place once, with how often it is held where that is told. */
+/** Returns each position once, with its multiplicity if one is given. */
 function once(rows) {
     const found = new Map();
     for (const [x, y, times] of rows) found.set(`${x} ${y}`, [x, y, Math.max(times, found.get(`${x} ${y}`)?.[2] ?? 1)]);
     return [...found.values()];
 }
 
-/** Positions of GeoJSON (RFC 7946), of whatever geometry. */
+/** Returns the positions of GeoJSON (RFC 7946), of any geometry. */
 function rowsOfGeometry(text) {
     let read;
     try {
@@ -70,10 +70,10 @@ function rowsOfGeometry(text) {
 
 const numbersIn = (text) => (text?.match(/[-+]?(\d+\.?\d*|\.\d+)(e[-+]?\d+)?/gi) ?? []).map(Number);
 const pairsIn = (numbers) => Array.from({ length: numbers.length >> 1 }, (_, i) => [numbers[2 * i], numbers[2 * i + 1]]);
-// how many numbers stand behind a letter of a path; the last two are where it leads
+// how many numbers follow a letter of a path; the last two are its end
 const OF_PATH = { m: 2, l: 2, t: 2, h: 1, v: 1, c: 6, s: 4, q: 4, a: 7 };
 
-/** Where the steps of a path lead. */
+/** Returns the ends of the steps of a path. */
 function placesOfPath(text) {
     const places = [];
     let at = [0, 0], begun = [0, 0];
@@ -90,7 +90,7 @@ function placesOfPath(text) {
     return places;
 }
 
-/** The places of one shape, before its transforms. */
+/** Returns the positions of one shape, before its transforms. */
 function placesOf(shape) {
     const number = (name) => numbersIn(shape.getAttribute(name))[0] ?? 0;
     switch (shape.localName) {
@@ -110,7 +110,7 @@ function placesOf(shape) {
     }
 }
 
-/** Middles of circles, corners of polygons, ends of lines and of the steps of paths, each once; y goes down there. */
+/** Returns middles of circles, vertices of polygons, ends of lines and of the steps of paths, each once; y goes down there. */
 function rowsOfDrawing(text) {
     const drawing = new DOMParser().parseFromString(text, "image/svg+xml"), fault = drawing.querySelector("parsererror");
     if (fault) throw new TextError(1, "it is no SVG", fault.textContent.slice(0, 100), "an SVG document");
@@ -130,7 +130,7 @@ function rowsOfDrawing(text) {
     return once(rows);
 }
 
-/** The matrix of a `transform`, whose lengths have no units and whose angles are degrees. */
+/** Returns the matrix of a `transform`, whose lengths have no units and whose angles are degrees. */
 function matrixOf(text) {
     let matrix = new DOMMatrix();
     for (const [, word, words] of text.matchAll(/(\w+)\s*\(([^)]*)\)/g)) {
@@ -148,7 +148,7 @@ function matrixOf(text) {
     return matrix;
 }
 
-/** The power of two by which all numbers are whole, or the greatest by which all are coordinates. */
+/** Returns the power of two by which all numbers are integers, or the greatest by which all are coordinates. */
 export function powerFor(numbers) {
     let most = 1000, wanted = 0;
     for (const value of numbers) {
@@ -160,7 +160,8 @@ export function powerFor(numbers) {
     return Math.min(wanted, most);
 }
 
-/** Rows in doubles as calls that add them, with the power of two that took them to the lattice, and how many numbers were rounded. */
+/** Returns rows in doubles as calls that add them, with the power of two that scaled them to the lattice, and how many numbers were
+ * rounded. */
 export function callsOf(rows) {
     const power = powerFor((function* () {
         for (const [x, y] of rows) yield* [x, y];
@@ -178,7 +179,7 @@ export function callsOf(rows) {
     return { calls, power, rounded };
 }
 
-/** The points that a replay holds, in order, with how often: [x, y, times], divided by 2^power. */
+/** Returns the points of a replay's set, in order, with multiplicities: [x, y, times], divided by 2^power. */
 function rowsHeld(held, power) {
     const rows = Array.from(held, ([key, times]) => [...pointOf(key), times]).sort((a, b) => a[0] - b[0] || a[1] - b[1]);
     return rows.map(([x, y, times]) => [toFloat(x, power), toFloat(y, power), times]);
@@ -188,7 +189,7 @@ const geometryOf = (corners) => (corners.length === 0 ? { type: "GeometryCollect
     : corners.length === 1 ? { type: "Point", coordinates: corners[0] }
     : corners.length === 2 ? { type: "LineString", coordinates: corners } : { type: "Polygon", coordinates: [[...corners, corners[0]]] });
 
-/** Texts of the points and their corners, by the names of their kinds. */
+/** Texts of the points and their vertices, by the names of their kinds. */
 export const WRITTEN = {
     csv: (rows) => `x,y,times\n${rows.map((row) => `${row.join(",")}\n`).join("")}`,
     geojson: (rows, corners) => {
@@ -208,12 +209,13 @@ export const WRITTEN = {
     },
 };
 
-/** What is held, as a text of a kind. */
+/** Returns the set as a text of a kind. */
 export function writeRows(kind, held, corners, power) {
     return WRITTEN[kind](rowsHeld(held, power), corners.map((corner) => corner.map((it) => toFloat(it, power))));
 }
 
-/** The fragment of an address that holds the points: "points=0,0;8,0*2" and the power where it is not 0; "" where it would be too long. */
+/** Returns the fragment of an address that contains the points: "points=0,0;8,0*2" and the power if it is not 0; "" if it would be
+ * too long. */
 export function addressOf(held, power) {
     const points = [];
     let length = 0;
@@ -225,7 +227,7 @@ export function addressOf(held, power) {
     return points.length === 0 ? "" : `#points=${points.sort().join(";")}${power ? `&power=${power}` : ""}`;
 }
 
-/** The calls of such a fragment and its power, or null where it holds no points; a TextError where one is wrong. */
+/** Returns the calls of such a fragment and its power, or null if it has no points; throws a TextError if one is wrong. */
 export function readAddress(fragment) {
     const found = /^#points=([^&]*)(?:&power=(-?\d{1,4}))?$/.exec(decodeURIComponent(fragment));
     if (!found) return null;

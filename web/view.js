@@ -1,4 +1,4 @@
-// Where the lattice lies on the canvas, in pixels: y goes up.
+// The position of the lattice on the canvas, in pixels: y goes up.
 import { COORDINATE_LIMIT } from "./hull.js";
 
 const SCALE = 8; // pixels for each unit of the lattice, to begin with
@@ -17,17 +17,17 @@ export class View {
         return [this.size[0] / 2 + (x - this.middle[0]) * this.scale, this.size[1] / 2 - (y - this.middle[1]) * this.scale];
     }
 
-    /** Where a place of the screen lies, between the points of the lattice. */
+    /** Returns the position on the lattice of a position on the screen, also between points. */
     exact([left, top]) {
         return [this.middle[0] + (left - this.size[0] / 2) / this.scale, this.middle[1] - (top - this.size[1] / 2) / this.scale];
     }
 
-    /** The point of the lattice next to a place of the screen. */
+    /** Returns the point of the lattice next to a position on the screen. */
     toLattice(place) {
         return this.exact(place).map((it) => clamped(Math.round(it)) + 0);
     }
 
-    /** Shows all of the points, [x0, y0, x1, ..], with a margin; the first view where there are none. */
+    /** Shows all of the points, [x0, y0, x1, ..], with a margin; the first view if there are none. */
     fit(coordinates, part = 0.8) {
         if (coordinates.length === 0) return Object.assign(this, { scale: SCALE, middle: [0, 0] });
         let [left, right, low, high] = [Infinity, -Infinity, Infinity, -Infinity];
@@ -40,7 +40,7 @@ export class View {
         this.scale = Math.min(40, part * Math.min(wide, tall));
     }
 
-    /** Zooms, with what is seen at a place of the screen left there. */
+    /** Zooms, with a position of the screen unchanged. */
     zoom(factor, [left, top] = this.size.map((it) => it / 2)) {
         const before = this.scale;
         this.scale = Math.min(GREATEST, Math.max(LEAST, this.scale * factor));
@@ -48,7 +48,7 @@ export class View {
         this.middle = [this.middle[0] + (left - this.size[0] / 2) * moved, this.middle[1] - (top - this.size[1] / 2) * moved];
     }
 
-    /** Moves what is seen by so many pixels. */
+    /** Moves the view by so many pixels. */
     pan(left, top) {
         this.middle = [this.middle[0] - left / this.scale, this.middle[1] + top / this.scale].map(clamped);
     }

@@ -1,9 +1,10 @@
-// A journal with all that was done to it: each deed is taken back, and done again. No document is needed for it.
+// A journal with all that was done to it: each deed can be undone and redone. No document is needed for it.
 import { Replay, emptyJournal, inverse, lineText } from "./journal.js";
 
 const inverses = (lines) => lines.map(inverse).filter((it) => it !== null).reverse();
 
-/** What a deed left: of calls those that take them back, of a step the place before it, else all that was there: { calls, at or was }. */
+/** What a deed left: for calls those that undo them, for a step the position before it, else all that was there: { calls, at or was
+ * }. */
 export class Work {
     #Hull;
     #done = [];
@@ -18,7 +19,7 @@ export class Work {
         this.#take(was);
     }
 
-    /** A journal, the place in it, and the power of two that its points were multiplied by. */
+    /** Returns a journal, the position in it, and the power of two that its points were multiplied by. */
     get here() {
         return { journal: this.replay.journal, at: this.replay.at, power: this.power };
     }
@@ -42,7 +43,7 @@ export class Work {
         this.told = this.replay.at > 0 ? lineText(journal.lines[this.replay.at - 1]) : "";
     }
 
-    /** Whether the journal has room for so many calls; where not, that is told. */
+    /** Whether the journal has space for so many calls; if not, reports that. */
     hasRoom(calls) {
         const { at, journal } = this.replay;
         if (at + calls <= journal.capacity) return true;
@@ -62,12 +63,13 @@ export class Work {
         return lines;
     }
 
-    /** Begins a deed of calls that is not yet at its end. */
+    /** Begins a deed of calls that is not finished yet. */
     begin() {
         return { was: this.here, isCut: !this.isAtTheEnd, lines: [] };
     }
 
-    /** Makes calls of a deed. From an earlier place they go on in a journal of their own: the later lines stand in the one before. */
+    /** Makes calls of a deed. From an earlier position they continue in a journal of their own: the later lines are in the one
+     * before. */
     make(deed, calls) {
         const { replay } = this, { wrong } = replay, { was } = deed;
         if (deed.isCut && replay.journal === was.journal) {
@@ -98,19 +100,19 @@ export class Work {
         this.end(deed);
     }
 
-    /** Writes questions, which change nothing, behind all calls alone: from an earlier place they would cut the later ones off. */
+    /** Writes questions, which change nothing, only after all calls: from an earlier position they would cut the later ones off. */
     ask(calls) {
         if (this.isAtTheEnd && this.hasRoom(calls.length)) this.#make(calls);
     }
 
-    /** Takes a journal in the place of the one there was. */
+    /** Takes a journal in place of the present one. */
     open(journal, power = 0) {
         const was = this.here;
         this.#take({ journal, power });
         this.#remember({ was });
     }
 
-    /** Takes the points that calls add in the place of all that there was. */
+    /** Takes the points that calls add in place of all that there was. */
     openCalls(calls, power) {
         const was = this.here;
         this.#take({ journal: emptyJournal(), power });
@@ -118,7 +120,7 @@ export class Work {
         this.#remember({ was });
     }
 
-    /** Goes to a number of calls. Steps in a row are taken back as one. */
+    /** Goes to a number of calls. Consecutive steps are undone as one. */
     go(to) {
         const { at } = this.replay, last = this.#done.at(-1);
         this.#to(to);
@@ -136,7 +138,7 @@ export class Work {
         this.#turn(this.#undone, this.#done);
     }
 
-    /** Takes the last deed of one list back, and takes up in the other what does so again. */
+    /** Undoes the last deed of one list, and puts into the other what does it again. */
     #turn(from, to) {
         const deed = from.at(-1), back = deed && this.#back(deed);
         if (!back) return;
@@ -152,12 +154,12 @@ export class Work {
         return was ? { was: here } : { at: here.at };
     }
 
-    /** What a page keeps to go on here: the deeds of `kept` are those of this. */
+    /** Returns what a page stores to continue here: the deeds of `kept` are those of this. */
     get deeds() {
         return { done: this.#done, undone: this.#undone };
     }
 
-    /** Goes on with deeds that were kept. */
+    /** Continues with deeds that were stored. */
     takeUp({ done, undone }) {
         [this.#done, this.#undone] = [done, undone];
     }

@@ -2,8 +2,8 @@
 //!
 //!     beside_rival POINTS ROUNDS
 //!
-//! Adds so many random points, asks about as many places, and removes them again. Of each the least time of the rounds, in
-//! nanoseconds a call, and the ratio of the library's to the rival's. The answers are compared.
+//! Adds so many random points, asks about as many locations, and removes them again. For each the least time of the rounds, in
+//! nanoseconds per call, and the ratio of the library's to the rival's. The answers are compared.
 use hull::{Hull, Place, Point, POINT_LIMIT};
 use std::hint::black_box;
 use std::time::Instant;
@@ -29,7 +29,7 @@ impl Iterator for Numbers {
     }
 }
 
-/// So many nanoseconds a call, over calls at all the points.
+/// Returns nanoseconds per call, over calls at all the points.
 fn timed<T>(points: &[Point], mut call: impl FnMut(Point) -> T) -> f64 {
     let start = Instant::now();
     for point in points {
@@ -59,7 +59,7 @@ fn of_rival(points: &[Point], asked: &[Point]) -> [f64; 3] {
     [add, place, remove]
 }
 
-/// Both answer alike.
+/// Compares the answers of both.
 fn compare(points: &[Point], asked: &[Point]) {
     let mut hull = Hull::new(POINT_LIMIT).unwrap();
     let mut tree = rival::Tree::new(POINT_LIMIT as usize);

@@ -1,8 +1,8 @@
-/* Questions a second on a small hull, one thread: each call of the header by itself, and `hull_calls` on an array.
+/* Questions per second on a small set, one thread: each call of the header by itself, and `hull_calls` on an array.
  *
  *     questions POINTS ROUNDS
  *
- * The hull's points lie on a circle, and those asked about in the square round it, most of them inside. Of each question the
+ * The set's points are on a circle, and those asked about in the square round it, most of them inside. For each question the
  * least time of the rounds, which are taken in turn. */
 #include "hull.h"
 #include <stdio.h>
@@ -53,7 +53,7 @@ int main(int words, char **word) {
         return 1;
     }
     const int64_t size = 1000000;
-    /* a whole number of turns by the angle of (4/5, 3/5), which never come back to the first point */
+    /* an integer number of turns by the angle of (4/5, 3/5), which never come back to the first point */
     double x = (double)size, y = 0;
     for (long i = 0; i < points; i++) {
         hull_add(h, (int64_t)x, (int64_t)y);

@@ -1,8 +1,8 @@
 #!/bin/sh
-# The library inside other programs, timed: questions a second in C on a small hull, and changes in Rust beside the rival's
-# tree in one process. Wants cc and rustc.
+# The library inside other programs, timed: questions per second in C on a small set, and changes in Rust beside the rival's
+# tree in one process. Needs cc and rustc.
 #
-# run.sh [ROUNDS]: the least of so many rounds (30 for questions, 9 for changes where none is given)
+# run.sh [ROUNDS]: the least of so many rounds (30 for questions, 9 for changes if none is given)
 set -eu
 here=$(cd "$(dirname "$0")" && pwd)
 top=$(cd "$here/../.." && pwd)

@@ -1,13 +1,13 @@
-// Points that come and go, one thread: this library (hull.h) beside CGAL's Delaunay hierarchy (Devillers, 2002), whose edges at
-// infinity are the hull, and beside corners kept in an array that is made anew where one of them changes.
+// Points that are added and removed, one thread: this library (hull.h) beside CGAL's Delaunay hierarchy (Devillers, 2002), whose
+// edges at infinity are the hull, and beside vertices in an array that is computed again if one of them changes.
 //
 //     changes SHAPE POINTS ROUNDS
 //
-// SHAPE is `square` (random points of a square), `circle` or `parabola` (every point a corner), `spike` (a parabola, over which one
-// point comes and goes) or `outermost` (a parabola whose points go from its ends inward). Each round inserts the points in a random
-// order, and then makes steps of churn: one point goes, one place is asked, the point comes again. Each line tells nanoseconds a
-// change, the least of the rounds, the peers in turns with the library, in processor time of the thread; a ratio above 1 says
-// that the library is the faster one.
+// SHAPE is `square` (random points of a square), `circle` or `parabola` (every point a vertex), `spike` (a parabola, over which one
+// point is added and removed) or `outermost` (a parabola whose points are removed from its ends inward). Each round inserts the
+// points in a random order, and then makes steps of churn: one point is removed, one place is asked, the point is added again. Each
+// line shows nanoseconds per change, the least of the rounds, the peers in turns with the library, in processor time of the thread;
+// a ratio above 1 means that the library is the faster one.
 #include <CGAL/Delaunay_triangulation_2.h>
 #include <CGAL/Exact_predicates_inexact_constructions_kernel.h>
 #include <CGAL/Triangulation_hierarchy_2.h>
@@ -83,7 +83,7 @@ class Cgal {
     }
 };
 
-// The corners of the ordered points, lower chain and upper chain, made anew where one comes or goes (Andrew, 1979).
+// The vertices of the ordered points, lower chain and upper chain, computed again if one is added or removed (Andrew, 1979).
 class Corners {
     std::set<Point> points;
     std::vector<Point> lower, upper;
@@ -102,7 +102,7 @@ class Corners {
         make(upper, [](__int128 turn) { return turn < 0; });
     }
     static bool holds(const std::vector<Point> &chain, Point p) { return std::binary_search(chain.begin(), chain.end(), p); }
-    // the sign of orient of the chain's edge over or under p, or 2 where none is
+    // returns the sign of orient of the chain's edge over or under p, or 2 if there is none
     static int side(const std::vector<Point> &chain, Point p) {
         auto right = std::lower_bound(chain.begin(), chain.end(), p);
         if (right == chain.end()) {
@@ -153,7 +153,7 @@ struct Times {
     double insert = 1e300, churn = 1e300;
 };
 
-// What goes, one after the other, and whether it comes again.
+// The points to remove, one after the other, and whether each is added again.
 struct Churn {
     std::vector<Point> points;
     bool comes_again;
@@ -171,7 +171,7 @@ Churn churn_of(const std::string &shape, std::vector<Point> points, size_t steps
     return churn;
 }
 
-// Inserts the points and churns them; returns how often the place was covered, which all have to agree on.
+// Inserts the points and churns them; returns how often the place was covered, on which all must agree.
 template <class Set> size_t round_of(const std::vector<Point> &points, const Churn &churn, size_t steps, bool inserts, Times &least) {
     Set set;
     const double start = now();
@@ -212,7 +212,7 @@ int main(int argc, char **argv) {
     const size_t count = std::strtoull(argv[2], nullptr, 10);
     const int rounds = std::atoi(argv[3]);
     const size_t steps = shape == "outermost" ? count - 8 : std::min<size_t>(20000, count);
-    // corners that are all made anew at each change are tried on fewer steps
+    // if all vertices are computed again at each change, fewer steps are made
     const size_t few = shape == "square" ? steps : std::min<size_t>(steps, 200);
     const bool tries_corners = shape == "square" || (count <= 10000 && shape != "spike" && shape != "outermost");
     std::mt19937_64 random(12345);

@@ -1,9 +1,9 @@
-"""Which points are the corners, of arrays of numpy: hull.Outline.of and its indices beside SciPy's ConvexHull (Qhull).
+"""Which points are the vertices, of arrays of numpy: hull.Outline.of and its indices beside SciPy's ConvexHull (Qhull).
 
     indices.py [ROUNDS]
 
-Each line tells milliseconds, the least of the rounds, in which the two come in turns, in processor time; a ratio above 1 says that the
-library is the faster one. SciPy's corners have to be the same, but for those that its rounding merges, which are counted.
+Each line shows milliseconds, the least of the rounds, in which the two come in turns, in processor time; a ratio above 1 means that the
+library is the faster one. SciPy's vertices must be the same, except for those that its rounding merges, which are counted.
 """
 import sys
 import time

@@ -1,5 +1,5 @@
-// How many bytes a point takes in this library, by what the allocator has given out: after points were inserted one by one, in
-// random order and in order, and after nine in ten are gone again.
+// How many bytes a point takes in this library, by the allocator's count: after points were inserted one by one, in random order
+// and in order, and after nine in ten are removed again.
 //
 //     memory POINTS
 #include <algorithm>

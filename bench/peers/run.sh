@@ -1,10 +1,10 @@
 #!/bin/sh
-# This library in C++ beside its peers, in one process, in turns: changes beside CGAL's Delaunay hierarchy and corners kept in an
-# array, what a set that stands is asked beside sort and chain, CGAL, GEOS and Boost, shapes two at a time beside Box2D and libccd, and
-# which input a corner is beside SciPy. Wants c++ and the headers of the peers (Debian: libcgal-dev libgeos-dev libboost-dev libbox2d-dev
-# libccd-dev python3-scipy), and says so where they are not there.
+# This library in C++ beside its peers, in one process, in turns: changes beside CGAL's Delaunay hierarchy and vertices kept in an
+# array, questions about a set that does not change beside sort and chain, CGAL, GEOS and Boost, shapes two at a time beside Box2D and
+# libccd, and the indices of the vertices beside SciPy. Needs c++ and the headers of the peers (Debian: libcgal-dev libgeos-dev libboost-dev libbox2d-dev
+# libccd-dev python3-scipy), and reports if they are not there.
 #
-# run.sh [ROUNDS]: the least of so many rounds (3 where none is given)
+# run.sh [ROUNDS]: the least of so many rounds (3 if none is given)
 set -eu
 here=$(cd "$(dirname "$0")" && pwd)
 top=$(cd "$here/../.." && pwd)

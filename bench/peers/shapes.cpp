@@ -1,12 +1,12 @@
-// Shapes that are asked two at a time, as planners and games ask them: this library (hull.h) beside Box2D, in floats, and libccd, which is
-// below FCL, in doubles.
+// Shapes that are asked two at a time, as planners and games ask them: this library (hull.h) beside Box2D, in floats, and libccd,
+// which is below FCL, in doubles.
 //
 //     shapes CORNERS ROUNDS
 //
-// Convex shapes of so many random points (at most 8, Box2D's limit) lie in a square by chance, so that some tenth of neighbouring pairs meet.
-// Each line tells nanoseconds a question, the least of the rounds, in which the peers come in turns with the library, in processor time
-// of the thread; a ratio above 1 says that the library is the faster one; and how many answers of a peer are others, since its numbers
-// are rounded.
+// Convex shapes of so many random points (at most 8, Box2D's limit) are placed in a square at random, so that some tenth of
+// neighbouring pairs intersect. Each line shows nanoseconds per question, the least of the rounds, in which the peers come in turns
+// with the library, in processor time of the thread; a ratio above 1 means that the library is the faster one; and how many answers
+// of a peer differ, since its numbers are rounded.
 #include <algorithm>
 #include <box2d/b2_distance.h>
 #include <box2d/box2d.h>
@@ -39,7 +39,7 @@ struct Shape {
     b2PolygonShape polygon;
 };
 
-// Corners by chance, in whole numbers that floats have exactly.
+// Returns random vertices, in integers that floats represent exactly.
 std::vector<Shape> drawn(int corners) {
     std::mt19937_64 chance(7);
     std::uniform_int_distribution<std::int64_t> place(-5000, 5000), part(-90, 90);
@@ -67,7 +67,7 @@ std::vector<Shape> drawn(int corners) {
     return all;
 }
 
-// Pairs of shapes that lie near one another, in no order.
+// Returns pairs of shapes that are near one another, in no order.
 std::vector<std::pair<const Shape *, const Shape *>> neighbours(const std::vector<Shape> &all) {
     std::vector<std::pair<const Shape *, const Shape *>> near;
     std::vector<hull_corners> corners;
@@ -96,7 +96,7 @@ void support(const void *object, const ccd_vec3_t *direction, ccd_vec3_t *out) {
     }
 }
 
-// A shape three dimensions thick, as FCL has it.
+// Tests a shape three dimensions thick, as FCL has it.
 bool by_ccd(const Shape &a, const Shape &b) {
     static const ccd_t ccd = [] {
         ccd_t c;
@@ -130,7 +130,7 @@ bool by_box2d(const Shape &a, const Shape &b) {
     return b2TestOverlap(&a.polygon, 0, &b.polygon, 0, still, still);
 }
 
-// How much of its way the second has gone when it meets the first; 2 where it does not.
+// Returns how much of its way the second has gone when it meets the first; 2 if it does not.
 double by_box2d_cast(const Shape &a, const Shape &b, hull_point way) {
     b2ShapeCastInput in;
     in.proxyA = proxy(a), in.proxyB = proxy(b);
@@ -193,7 +193,7 @@ struct Tree : b2DynamicTree {
     }
 };
 
-// All pairs of shapes that meet, by Box2D's tree of boxes: how many.
+// Returns the number of pairs of shapes that intersect, by Box2D's tree of boxes.
 std::size_t all_by_box2d(const std::vector<Shape> &all) {
     Tree tree;
     b2Transform still;

@@ -1,12 +1,13 @@
-// A set that stands: loading it, its corners, and questions about it, and of its outline, the last by several threads at once; this library (hull.h) beside the usual lines of
-// C++ (a sort, a monotone chain, an array of corners and bisection), CGAL, GEOS and Boost.Geometry.
+// A set that does not change: loading it, its vertices, and questions about it, and about its convex polygon, the last by several
+// threads at once; this library (hull.h) beside the usual lines of C++ (a sort, a monotone chain, an array of vertices and binary
+// search), CGAL, GEOS and Boost.Geometry.
 //
 //     standing SHAPE POINTS ROUNDS
 //
-// SHAPE is `square` (random points of a square) or `parabola` (every point a corner). Each line tells nanoseconds, a point for a
-// load and a corner list, a question for questions: the least of the rounds, in which the peers come in turns with the library, in
-// processor time of the thread. A ratio above 1 says that the library is the faster one. Places are those of random points in the
-// square round the set, and all peers have to agree on how many of them are covered; motions and triangles begin there.
+// SHAPE is `square` (random points of a square) or `parabola` (every point a vertex). Each line shows nanoseconds, per point for a
+// load and a vertex list, per question for questions: the least of the rounds, in which the peers come in turns with the library,
+// in processor time of the thread. A ratio above 1 means that the library is the faster one. Locations are those of random points
+// in the square round the set, and all peers must agree on how many of them are covered; motions and triangles begin there.
 #include <CGAL/Delaunay_triangulation_2.h>
 #include <CGAL/Exact_predicates_inexact_constructions_kernel.h>
 #include <CGAL/Polygon_2_algorithms.h>
@@ -54,7 +55,7 @@ double now() {
     return 1e9 * static_cast<double>(time.tv_sec) + static_cast<double>(time.tv_nsec);
 }
 
-// The corners counterclockwise from the first, and where the last of them stands (Andrew, 1979).
+// The vertices counterclockwise from the first, and the index of the last of them (Andrew, 1979).
 struct Chain {
     Points corners;
     size_t last = 0;
@@ -127,7 +128,7 @@ std::vector<Kernel::Point_2> to_cgal(const Points &points) {
     return all;
 }
 
-// A polygon of GEOS, prepared, and a point, a segment or a polygon for each of the questions, by how many points it has.
+// A polygon of GEOS, prepared, and a point, a segment or a polygon for each of the questions, by its number of points.
 class Geos {
     GEOSContextHandle_t context = GEOS_init_r();
     GEOSGeometry *polygon = nullptr;
@@ -178,7 +179,7 @@ class Geos {
     }
     bool within(size_t i, double far) const { return GEOSPreparedDistanceWithin_r(context, prepared, shapes[i], far) == 1; }
     bool touches(size_t i) const { return GEOSPreparedTouches_r(context, prepared, shapes[i]) == 1; }
-    // the relation, of the nine intersections of inside, boundary and outside
+    // returns the relation, from the nine intersections of inside, boundary and outside
     hull_relation relation(size_t i) const {
         char *nine = GEOSRelate_r(context, polygon, shapes[i]);
         const auto none = [&](int a, int b) { return nine[a] == 'F' && nine[b] == 'F'; };
@@ -193,7 +194,7 @@ class Geos {
     }
 };
 
-// each of the points by itself
+// returns each of the points by itself
 std::vector<Points> alone(const Points &points) {
     std::vector<Points> all;
     for (Point p : points) {
@@ -213,13 +214,13 @@ Points points_of(const std::string &shape, size_t count, std::mt19937_64 &random
     return points;
 }
 
-// What is timed, by its row and its name: the least of the rounds, divided by how many points or questions it was for.
+// The timings, by row and name: the least of the rounds, divided by how many points or questions it was for.
 class Table {
     std::map<std::string, std::vector<std::pair<std::string, double>>> rows;
     std::vector<std::string> order;
 
   public:
-    // times the work, and returns what it gave back
+    // times the work, and returns its result
     size_t time(const std::string &row, const std::string &name, size_t parts, const std::function<size_t()> &work) {
         if (rows.find(row) == rows.end()) {
             order.push_back(row);
@@ -236,7 +237,7 @@ class Table {
         rows[row].emplace_back(name, took);
         return result;
     }
-    // one line a name, beside the library's, which stands first in its row
+    // prints one line per name, beside the library's, which comes first in its row
     void print() const {
         for (const std::string &row : order) {
             const auto &names = rows.at(row);
@@ -247,7 +248,7 @@ class Table {
     }
 };
 
-// What one writes by hand, behind a call that replies as the library does.
+// The code that one writes by hand, in a call that replies as the library does.
 __attribute__((noinline)) hull_reply place_behind_a_call(const Chain &chain, int64_t x, int64_t y) {
     hull_reply reply = {};
     reply.code = chain.covers({x, y}) ? HULL_INSIDE : HULL_OUTSIDE;
@@ -344,7 +345,7 @@ void time_places(Table &table, const Ours &ours, const Ours &known, const Chain 
     }
 }
 
-// How far two outlines are apart, from what is told of them.
+// Returns the distance of two convex polygons from a witness.
 double distance_of(const hull_witness &w) {
     const auto far = [](Point p, Point q) { return std::hypot(static_cast<double>(q.x - p.x), static_cast<double>(q.y - p.y)); };
     const auto beside = [&](Point a, Point b, Point c) {
@@ -359,8 +360,8 @@ double distance_of(const hull_witness &w) {
     }
 }
 
-// Whether a segment meets the polygon of these corners, as Box2D casts a ray at a polygon (Catto): it is cut by the half plane of each
-// edge, in doubles. All edges are asked.
+// Whether a segment intersects the polygon of these vertices, as Box2D casts a ray at a polygon (Catto): it is cut by the half
+// plane of each edge, in doubles. All edges are asked.
 bool cut_by_half_planes(const Points &corners, Point a, Point b) {
     double lower = 0, upper = 1;
     for (size_t i = 0; i < corners.size(); i++) {
@@ -382,7 +383,7 @@ bool cut_by_half_planes(const Points &corners, Point a, Point b) {
     return true;
 }
 
-// The square of a way to the left, cut in half, on the way from each of the points an eighth to the next, moved to the right.
+// Returns triangles: half of the square to the left of the way from each point, an eighth of that to the next, moved to the right.
 std::vector<Points> triangles_of(const Points &asked, int64_t right) {
     std::vector<Points> triangles;
     for (size_t i = 0; i < asked.size(); i++) {
@@ -393,8 +394,8 @@ std::vector<Points> triangles_of(const Points &asked, int64_t right) {
     return triangles;
 }
 
-// Motions from each of the points an eighth of the way to the next, and triangles there, that may meet the outline. GEOS multiplies
-// doubles, so how often it differs is told.
+// Times motions from each of the points an eighth of the way to the next, and triangles there, that may intersect the polygon. GEOS
+// multiplies doubles, so the number of its answers that differ is printed.
 void time_meetings(Table &table, const Chain &chain, const Points &asked) {
     const size_t n = asked.size(), h = chain.corners.size();
     const Point *corners = chain.corners.data();
@@ -444,8 +445,8 @@ void time_meetings(Table &table, const Chain &chain, const Points &asked) {
     }
 }
 
-// The same triangles, and then beside the outline, to the right of it by its width: how far they are apart. GEOS has doubles, so how
-// many of its distances are others is told.
+// Times the distances of the same triangles, and then of those beside the polygon, to the right of it by its width. GEOS has
+// doubles, so the number of its distances that differ is printed.
 void time_distances(Table &table, const Chain &chain, const Points &asked) {
     const size_t n = asked.size(), h = chain.corners.size();
     const Point *corners = chain.corners.data();
@@ -472,8 +473,8 @@ void time_distances(Table &table, const Chain &chain, const Points &asked) {
     }
 }
 
-// How the triangles stand to the outline: touching, overlapping, one within the other. GEOS tells it by all of the outline's edges, so
-// fewer are asked.
+// Times the relation of the triangles to the polygon: touching, overlapping, one within the other. GEOS computes it from all of the
+// polygon's edges, so it is asked fewer.
 void time_relations(Table &table, const Chain &chain, const Points &asked) {
     const size_t h = chain.corners.size(), n = asked.size() / (h < 10000 ? 10 : 1000);
     const Points some(asked.begin(), asked.begin() + static_cast<std::ptrdiff_t>(n));
@@ -495,7 +496,8 @@ void time_relations(Table &table, const Chain &chain, const Points &asked) {
     }
 }
 
-// Whether triangles to the right of the outline by its width are within three halves of it, which about half of them are.
+// Times whether the distance of the polygon and triangles to the right of it by its width is at most three halves of that, which
+// holds for about half of them.
 void time_lengths(Table &table, const Chain &chain, const Points &asked) {
     const size_t n = asked.size(), h = chain.corners.size();
     const Point *corners = chain.corners.data();
@@ -515,7 +517,8 @@ void time_lengths(Table &table, const Chain &chain, const Points &asked) {
     }
 }
 
-// The places of an outline by so many threads at once, in time of the clock: the least of the rounds for one question, over all.
+// Returns the time of the locations of a polygon by so many threads at once, in time of the clock: the least of the rounds for one
+// question, over all.
 double place_time(const Chain &chain, const Points &asked, size_t threads, int rounds) {
     double least = 1e300;
     for (int round = 0; round < rounds; round++) {
@@ -583,7 +586,7 @@ int main(int argc, char **argv) {
     for (int i = 0; i < 100000; i++) {
         asked.push_back({x(random), y(random)});
     }
-    // of an outline of many corners fewer, since what looks at all of its edges takes a millisecond a question there
+    // fewer for a polygon of many vertices, since a question that looks at all of its edges takes a millisecond there
     const Points some(asked.begin(), chain.corners.size() < 10000 ? asked.end() : asked.begin() + 1000);
     // as many directions to each side of the set
     Points directions;

@@ -1,7 +1,7 @@
-/* drained THREADS CALLS MODE: so many threads make so many calls each over one hull, and one line tells MODE, nanoseconds a call, and the
- * most memory that the process had, in megabytes. MODE is `held` (the journal has room for all lines), `drained` (the first thread
- * takes the lines out each time that 100,000 are held, and lets them go), `written` (and writes their text to /dev/null before) or
- * `none` (no line is kept). */
+/* drained THREADS CALLS MODE: so many threads make so many calls each over one hull. Prints one line with MODE, nanoseconds per
+ * call, and the most memory that the process had, in megabytes. MODE is `held` (the journal has space for all lines), `drained`
+ * (the first thread drains the lines each time that there are 100,000, and drops them), `written` (and writes their text to
+ * /dev/null before) or `none` (no line is kept). */
 #include "hull_shared.h"
 
 #include <pthread.h>

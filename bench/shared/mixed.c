@@ -1,11 +1,11 @@
-/* Mixed calls from 1, 2, 4, 8 and 64 threads: through hull_shared, beside a mutex round a hull of one thread.
+/* Mixed calls from 1, 2, 4, 8 and 64 threads: through hull_shared, beside a mutex round a set of one thread.
  *
  *     mixed POINTS CALLS ROUNDS BUSY
  *
- * Each round makes each hull anew, puts so many random points in, and has the threads make so many calls in all: half
- * of them questions, the others additions and removals of random points in turn. The mutex, seats whose calls are made
- * one inside at a time, and seats that all have numbers at once (first come, first served) take turns; of each the least
- * and the median time of the rounds. Beside them BUSY processes spin. */
+ * Each round makes each set again, adds so many random points, and has the threads make so many calls in all: half of them
+ * questions, the others additions and removals of random points in turn. The mutex, seats of whose calls one is admitted at a
+ * time, and seats that all have numbers at once (first come, first served) take turns; of each the least and the median time of
+ * the rounds. Beside them BUSY processes spin. */
 #include "hull.h"
 #include "hull_shared.h"
 #include <pthread.h>
@@ -18,7 +18,7 @@
 
 enum { SIZE = 1 << 20, MOST_THREADS = 64, MOST_ROUNDS = 100, MOST_BUSY = 64, KINDS = 8 };
 
-/* what a thread calls: the numbers of both headers are the same for these */
+/* the calls of a thread: the numbers of both headers are the same for these */
 static const uint32_t KIND[KINDS] = {HULL_KIND_ADD,   HULL_KIND_PLACE,   HULL_KIND_REMOVE, HULL_KIND_EXTREME,
                                      HULL_KIND_ADD,   HULL_KIND_TANGENTS, HULL_KIND_REMOVE, HULL_KIND_PLACE};
 
@@ -36,7 +36,7 @@ static double now(void) {
     return (double)t.tv_sec + (double)t.tv_nsec * 1e-9;
 }
 
-/* a random coordinate that is not 0 (xorshift; Marsaglia, 2003) */
+/* returns a random coordinate that is not 0 (xorshift; Marsaglia, 2003) */
 static int64_t coordinate(uint64_t *state) {
     *state ^= *state << 13, *state ^= *state >> 7, *state ^= *state << 17;
     return ((int64_t)(*state % (2 * SIZE)) - SIZE) | 1;
@@ -81,7 +81,7 @@ static void *work(void *given) {
     return NULL;
 }
 
-/* the seconds from the first thread's beginning to the last one's end */
+/* returns the seconds from the first thread's beginning to the last one's end */
 static double timed(unsigned threads, one_call call) {
     pthread_t ids[MOST_THREADS];
     worker workers[MOST_THREADS];
@@ -147,7 +147,7 @@ static double through_seats(unsigned threads, long points, unsigned inside) {
     return took;
 }
 
-/* what is timed */
+/* the ways that are timed */
 static const struct {
     const char *name;
     double (*through)(unsigned threads, long points, unsigned inside);
@@ -160,7 +160,7 @@ static int rises(const void *a, const void *b) {
     return (x > y) - (x < y);
 }
 
-/* processes that spin */
+/* starts processes that spin */
 static void begin(pid_t *busy, long count) {
     for (long i = 0; i < count; i++) {
         busy[i] = fork();

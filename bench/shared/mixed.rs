@@ -2,9 +2,9 @@
 //!
 //!     mixed POINTS CALLS ROUNDS BUSY
 //!
-//! Each round makes either hull anew, puts so many random points in, and has the threads make so many calls in all:
-//! half of them questions, the others additions and removals of random points in turn. Both take turns; of each the
-//! least and the median time of the rounds. Beside them BUSY processes spin.
+//! Each round makes either hull again, adds so many random points, and has the threads make so many calls in all: half of them
+//! questions, the others additions and removals of random points in turn. Both take turns; of each the least and the median time of
+//! the rounds. Beside them BUSY processes spin.
 use hull::{Fault, Hull, Limits, Point, Seat, SharedHull, POINT_LIMIT};
 use std::hint::{black_box, spin_loop};
 use std::process::{Child, Command};
@@ -34,7 +34,7 @@ impl Iterator for Points {
     }
 }
 
-/// Has an answer, which no compiler leaves out.
+/// Uses an answer, so that no compiler leaves it out.
 fn kept<T>(answer: Result<T, Fault>) -> Result<(), Fault> {
     answer.map(|answer| {
         black_box(answer);
@@ -62,8 +62,7 @@ fn by_seat(seat: &mut Seat, kind: usize, at: Point) -> Result<(), Fault> {
     }
 }
 
-/// The seconds from the first thread's beginning to the last one's end, each of which makes its calls by what it is made
-/// from.
+/// Returns the seconds from the first thread's beginning to the last one's end. Each makes its calls by what `caller` makes for it.
 fn timed<C>(threads: u32, calls: usize, caller: impl Fn(u32) -> C) -> f64
 where
     C: FnMut(usize, Point) -> Result<(), Fault> + Send,
@@ -115,13 +114,13 @@ fn through_seats(threads: u32, points: usize, calls: usize) -> f64 {
     })
 }
 
-/// The least and the median of the rounds' times.
+/// Returns the least and the median of the rounds' times.
 fn least_and_median(mut times: Vec<f64>) -> (f64, f64) {
     times.sort_by(f64::total_cmp);
     (times[0], times[times.len() / 2])
 }
 
-/// A process that spins.
+/// Starts a process that spins.
 fn busy() -> Child {
     Command::new(std::env::current_exe().unwrap()).arg("spin").spawn().unwrap()
 }

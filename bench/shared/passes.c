@@ -1,5 +1,5 @@
-/* passes THREADS SECONDS: so many threads make calls at a desk for so long, one after the other; written is how long a call waited at
- * most, by how many others one was passed at most, and the least and the most calls of a thread. */
+/* passes THREADS SECONDS: so many threads make calls on a shared hull for so long, one after the other. Prints how long a call
+ * waited at most, by how many others one was overtaken at most, and the least and the most calls of a thread. */
 #include "hull_shared.h"
 
 #include <pthread.h>
@@ -11,7 +11,7 @@ static hull_shared_line line;
 static hull_shared_desk *desk;
 static hull_shared_seat *seats[HULL_SHARED_SEATS_MAX];
 static struct { uint64_t waited, passed, made; } told[HULL_SHARED_SEATS_MAX];
-static uint64_t turn; /* behind the call that was told last */
+static uint64_t turn; /* the number after the last call that was answered */
 static int stops;
 
 static void *work(void *own) {

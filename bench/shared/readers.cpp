@@ -1,12 +1,12 @@
-// Threads that ask while one thread changes: readers of a shared hull, beside a std::shared_mutex round a hull of one thread, copies of
-// the corners behind a std::atomic<std::shared_ptr> (C++20), and seats.
+// Threads that ask while one thread changes: readers of a shared hull, beside a std::shared_mutex round a set of one thread, copies
+// of the vertices under a std::atomic<std::shared_ptr> (C++20), and seats.
 //
 //     readers [POINTS [CHANGES [MILLISECONDS [ROUNDS]]]]
 //
-// A square of 2^21 a side has so many random points at first (1000). One thread adds and removes random points in turn, so many a second
-// (10000), and one, two or four others ask where random points lie, for so long (300). The ways take turns, in so many rounds (5); of
-// each the best. Then what a change takes alone that leaves the corners, with readers and with none, where the desk keeps its journal and
-// where it keeps none; and a view, taken and let go.
+// A square of side 2^21 has so many random points at first (1000). One thread adds and removes random points in turn, so many per
+// second (10000), and one, two or four others ask for the location of random points, for so long (300). The ways take turns, in so
+// many rounds (5); of each the best. Then the cost of only a change that leaves the vertices, with readers and with none, if the
+// shared hull keeps its journal and if it keeps none; and of a snapshot, taken and dropped.
 #include "hull.h"
 #include "hull_shared.h"
 
@@ -36,16 +36,16 @@ struct Points {
     }
 };
 
-// What the threads share, and how it is changed and asked.
+// The state that the threads share, and how it is changed and asked.
 class Way {
 public:
     virtual ~Way() = default;
     virtual void change(bool adds, std::int64_t x, std::int64_t y) = 0;
-    // One thread's questions, until it is told to stop: how many.
+    // Asks in one thread until `stops`; returns how many questions it asked.
     virtual unsigned long ask(unsigned me, const std::atomic<bool> &stops, Points points) = 0;
 };
 
-// Asks until it is told to stop, looking every 64 questions whether it is; `place` gives a code.
+// Asks until `stops`, which is tested every 64 questions; `place` returns a code.
 template <class Place> unsigned long asked(const std::atomic<bool> &stops, Points points, Place place) {
     unsigned long count = 0, inside = 0;
     while (!stops.load(std::memory_order_relaxed)) {
@@ -57,8 +57,8 @@ template <class Place> unsigned long asked(const std::atomic<bool> &stops, Point
     return inside == 0 ? 0 : count; // so that no answer is left out
 }
 
-// The seats of a desk, which keeps so many lines of its journal or no journal: one for who changes, and one for each who asks; and the
-// readers.
+// The seats of a shared hull, which keeps so many lines of its journal or no journal: one for the thread that changes, and one for
+// each thread that asks; and the readers.
 class Shared : public Way {
 public:
     explicit Shared(unsigned readers, std::uint32_t lines = 0) {
@@ -108,7 +108,7 @@ public:
     }
 };
 
-// Each question takes the newest view, and copies its corners.
+// Each question takes the newest snapshot, and copies its vertices.
 class Views : public Shared {
 public:
     Views() : Shared(most_threads) {}
@@ -122,7 +122,7 @@ public:
     }
 };
 
-// Each question looks first whether the view is the newest.
+// Each question tests first whether the snapshot is the newest.
 class Looks : public Shared {
 public:
     Looks() : Shared(most_threads) {}
@@ -141,7 +141,7 @@ public:
     }
 };
 
-// A hull of one thread, behind a lock that who asks takes to read.
+// A set of one thread, under a lock that threads take shared to ask.
 class Locked : public Way {
 public:
     ~Locked() override { hull_free(set_); }
@@ -161,7 +161,7 @@ private:
     std::shared_mutex lock_;
 };
 
-// Copies of the corners, made at each change that moves one, which who asks takes by a pointer that is counted.
+// Copies of the vertices, made at each change that moves one, which the asking threads take by a counted pointer.
 class Copied : public Way {
 public:
     using Corners = std::vector<hull_point>;
@@ -184,7 +184,7 @@ private:
     std::atomic<std::shared_ptr<const Corners>> newest_{std::make_shared<const Corners>()};
 };
 
-// Corners that nobody changes: as fast as it may be.
+// Vertices that no thread changes: the fastest possible.
 class Bare : public Way {
 public:
     ~Bare() override { hull_free(set_); }
@@ -214,7 +214,7 @@ void fill(Way &way, long count) {
     }
 }
 
-// Makes changes at this rate until it is told to stop: a point comes, and goes again.
+// Makes changes at this rate until `stops`: a point is added, and removed again.
 void changes(Way &way, const std::atomic<bool> &stops, long a_second) {
     Points points{88172645463325252u};
     std::int64_t x = 0, y = 0;
@@ -228,7 +228,7 @@ void changes(Way &way, const std::atomic<bool> &stops, long a_second) {
     }
 }
 
-// How many questions a second so many threads have answered, beside so many changes a second.
+// Returns how many questions per second so many threads have answered, beside so many changes per second.
 double rate(Way &way, unsigned threads, long a_second, std::chrono::milliseconds time) {
     std::atomic<bool> stops{false};
     std::vector<unsigned long> counts(threads);
@@ -258,14 +258,14 @@ double processor_seconds() {
     return static_cast<double>(t.tv_sec) + static_cast<double>(t.tv_nsec) * 1e-9;
 }
 
-// A desk that nobody asks.
+// A shared hull that no thread asks.
 struct Unasked : Shared {
     using Shared::Shared;
     unsigned long ask(unsigned, const std::atomic<bool> &, Points) override { return 0; }
 };
 
-// Nanoseconds of a change that leaves the corners, of one thread: a point comes well inside, and goes. With so many readers, and with room
-// for so many lines.
+// Returns the nanoseconds of a change that leaves the vertices, in one thread: a point well inside is added, and removed. With so
+// many readers, and with space for so many lines.
 double inner_change(unsigned readers, std::uint32_t lines, long points, long count) {
     Unasked way(readers, lines);
     Points random{99};
@@ -281,7 +281,8 @@ double inner_change(unsigned readers, std::uint32_t lines, long points, long cou
     return (processor_seconds() - begin) * 1e9 / static_cast<double>(count);
 }
 
-// Nanoseconds of a view that is taken anew, with the one before let go, behind a change: what such a row takes more than one without.
+// Returns the nanoseconds of taking a new snapshot after a change, with the one before dropped: how much longer such a row takes
+// than one without.
 double view(long count, bool reads) {
     struct Reading : Unasked {
         using Unasked::Unasked;

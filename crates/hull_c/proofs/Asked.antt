@@ -1,4 +1,4 @@
--- A question that is served by a function of its own is answered as its kind asks.
+-- A question that is served by a function of its own is answered as the call of its kind.
 use Rattle.std.proofs.Common.{◌≡◌, ℤ, Ok, Err, inl, refl}
 use Rattle.bucket_tree.specs.Roots.{held_by}
 use Rattle.bucket_tree.specs.Sets.{LimitedTree, bucket_set}
@@ -14,7 +14,7 @@ use Rattle.hull_reply.specs.declared.kind.Kind.{Kind}
 use Rattle.hull_reply.specs.declared.reply.HullReply.{HullReply}
 use Rattle.hull_reply.specs.declared.request.Request.TheVariants.{Call}
 
--- with a reply that is allowed and changes nothing
+-- the reply is allowed and changes nothing
 pub asked : (k : Kind) (x y : ℤ) (call : plain.Call) (t : LimitedTree) (reply : Reply) (told : HullReply)
     → IsRequestAs k x y (Ok (Call call)) → Answers Counted (held_by t.root) t.limit call reply
     → held_by t.root ≡ after (held_by t.root) call reply → Tells told reply
@@ -25,7 +25,7 @@ asked k x y call t reply told r a e n = (
   record { reply = reply; tells = n; allowed = a; effect = e; same_limit = refl; sound = λ s. s },
 )
 
--- or with why nothing is asked for
+-- a refusal states why there is no call
 pub not_asked : (k : Kind) (x y : ℤ) (fault : Code) (t : LimitedTree) (told : HullReply) → IsRequestAs k x y (Err fault)
     → IsBare fault told → IsAnswered bucket_set (kind_number k) x y t t told
 not_asked k x y fault t told r n = (Err fault, inl (k, refl, r), (refl, n))

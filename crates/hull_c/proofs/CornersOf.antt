@@ -1,4 +1,4 @@
--- Points in another order have the same corners.
+-- Points in another order have the same vertices.
 use Rattle.std.proofs.Common.{◌≡◌, ℕ, zero, suc, ◌++◌, List, [], ◌∷◌, take, drop, inl, inr, sym, subst, arith}
 use Rattle.std.specs.Prelude.{◌⊎◌}
 use Rattle.std.specs.List.{Contains}
@@ -15,12 +15,12 @@ use Rattle.hull_set.specs.Held.{Held, nothing_held, with_new}
 use Rattle.leaf_trees.specs.Entries.{held_after_adds}
 use Rattle.hull_c.specs.CornersOf.{AreCornersOf, HaveSamePoints}
 
--- points that are added leave a set
+-- adding points leaves a point set
 added_set : (ps : List Pair) (h : Held) → IsPointSet h.points → IsPointSet (held_after_adds h ps).points
 added_set [] h s = s
 added_set (p ∷ ps) h s = added_set ps (with_new p h) (with_point_law h.points p s).0
 
--- of those that were there and those that were added
+-- the points after the additions are those that were there and those that were added
 added_from : (ps : List Pair) (h : Held) (t : Pair) → IsPointSet h.points
     → Contains (held_after_adds h ps).points t → Contains h.points t ⊎ Contains ps t
 added_from [] h t s m = inl m
@@ -33,7 +33,7 @@ added_from (p ∷ ps) h t s m =
       | inr k ↦ inr (Contains-append_right (p ∷ []) ps t k)
     ]
 
--- all of them
+-- the points after the additions contain all of them
 added_all : (ps : List Pair) (h : Held) (t : Pair) → IsPointSet h.points → Contains h.points t ⊎ Contains ps t
     → Contains (held_after_adds h ps).points t
 added_all [] h t s (inl m) = m
@@ -51,7 +51,7 @@ added_all (p ∷ ps) h t s (inr m) =
     only p t (zero, l, e) = sym e
     only p t (suc i, l, e) = absurd (omega (arith, l))
 
--- an outline of its own points is that of those points in another order
+-- a convex polygon with vertices of its own points is also that of those points in another order
 pub own_corners : (points corners : List Pair) → IsOwnOutline corners → HaveSamePoints corners points
     → AreCornersOf points corners
 own_corners points corners own same =
@@ -62,7 +62,7 @@ own_corners points corners own same =
       λ m. added_all points nothing_held t AllPairs-none (inr ((same t).0 m)),
     ))
 
--- a list that is cut in two, the parts exchanged, has the same points
+-- a list whose two parts are exchanged has the same points
 pub turned_same : (k : ℕ) (xs ys : List Pair) → ys ≡ drop k xs ++ take k xs → HaveSamePoints ys xs
 turned_same k xs ys e = λ t. (
   λ m. subst (λ (z : List Pair). Contains z t) (take-append-drop k xs)
@@ -78,7 +78,7 @@ turned_same k xs ys e = λ t. (
       ]),
 )
 
--- one after another
+-- having the same points is transitive
 pub same_after : (xs ys zs : List Pair) → HaveSamePoints ys xs → HaveSamePoints zs ys → HaveSamePoints zs xs
 same_after xs ys zs f g = λ t. (λ m. (f t).0 ((g t).0 m), λ m. (g t).1 ((f t).1 m))
 

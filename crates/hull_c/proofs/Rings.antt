@@ -1,4 +1,4 @@
--- A ring of an outline, turned to its first point, is that outline.
+-- A ring of a convex polygon, rotated to its first point, is that convex polygon.
 use Rattle.std.proofs.Common.{◌≡◌, ◌∙◌, ℕ, ◌+◌, ◌-◌, ◌<◌, ◌⊎◌, List, length, ap, arith, inl, inr, subst, sym}
 use Rattle.std.specs.Prelude.{slice_index_or}
 use Rattle.std.specs.List.{ReversedBelow, RotatedLeft}
@@ -12,18 +12,18 @@ use Rattle.hull_outline.specs.Rounds.{corner}
 use Rattle.hull_outline.proofs.Corners.{first_before}
 use Rattle.hull_c.specs.CornersOf.{GoesBackFrom, GoesRoundFrom}
 
--- none stands before the point at f
+-- no point is before the point at f
 abbrev pub IsLeastAt : List Pair → ℕ → Type 0
 IsLeastAt P f = (i : ℕ) → i < length P → ¬ IsBefore (point_at P i) (point_at P f)
 
--- the first corner stands before each other
+-- the first vertex is before each other one
 first_corner : (V : List Pair) (m : ℕ) → IsShortOutline V → 0 < m → m < length V → IsBefore (point_at V 0) (point_at V m)
 first_corner V m o p l =
     subst (λ (z : Pair). IsBefore z (point_at V m)) (get_or_free V 0 (point_at V 0) origin (omega (arith, p, l)))
     (subst (λ (z : Pair). IsBefore (corner V 0) z) (get_or_free V m (point_at V 0) origin l)
     (first_before o.0.0 V m o.0.1.1 p l))
 
--- so where it stands among points, and none of these stands before the point at f, which is a corner, that is the first
+-- if no point is before the point at f, and that point is a vertex, it is the first vertex
 is_first : (V P : List Pair) (f m j : ℕ) → IsShortOutline V → IsLeastAt P f → m < length V → j < length P
     → point_at P f ≡ point_at V m → point_at P j ≡ point_at V 0 → m ≡ 0
 is_first V P f m j o least l k at_f at_j = elim (cases_lt 0 m) [
@@ -35,7 +35,7 @@ is_first V P f m j o least l k at_f at_j = elim (cases_lt 0 m) [
 
 -- ---- round
 
--- where the first corner stands, and that it is the least
+-- the index of the first vertex, and that it is the least point
 round_first : (V P : List Pair) (k f : ℕ) → IsShortOutline V → length P ≡ length V → k < length V → f < length P
     → GoesRoundFrom V P k → IsLeastAt P f → (f + k ≡ length V) ⊎ ((f ≡ 0) × (k ≡ 0))
 round_first V P k f o n kn fn r least = elim (cases_lt (f + k) (length V)) [
@@ -52,7 +52,7 @@ round_first V P k f o n kn fn r least = elim (cases_lt (f + k) (length V)) [
           (r.0 0 origin (omega (arith, kn)) ∙ ap (point_at V) (omega (arith, p)))
     ]
 
--- a ring that goes round, turned to its least point
+-- a ring in the order of the vertices, rotated to its least point, is the vertices
 pub turned_round : (V P R : List Pair) (k f : ℕ) → IsShortOutline V → length P ≡ length V → k < length V → f < length P
     → GoesRoundFrom V P k → IsLeastAt P f → length R ≡ length P → RotatedLeft P R (length P) f → R ≡ V
 turned_round V P R k f o n kn fn r least m t = same_lists R V (m ∙ n) (λ i d l. at i d (omega (arith, l, m, n)))
@@ -71,7 +71,7 @@ turned_round V P R k f o n kn fn r least m t = same_lists R V (m ∙ n) (λ i d 
 
 -- ---- back
 
--- where the first corner stands, and that it is the least
+-- the index of the first vertex, and that it is the least point
 back_first : (V P : List Pair) (k f : ℕ) → IsShortOutline V → length P ≡ length V → k < length V → f < length P
     → GoesBackFrom V P k → IsLeastAt P f → f ≡ k
 back_first V P k f o n kn fn r least = elim (cases_lt k f) [
@@ -85,7 +85,7 @@ back_first V P k f o n kn fn r least = elim (cases_lt k f) [
     by m l at = is_first V P f m k o least l (omega (arith, n, kn)) at
         ((r k origin kn).0 (omega arith) ∙ ap (point_at V) (omega arith))
 
--- a ring that goes back, turned to its least point, then by one more, and reversed
+-- a ring in the reverse order, rotated to its least point, then by one more, and reversed, is the vertices
 pub turned_back : (V P R Q W : List Pair) (k f : ℕ) → IsShortOutline V → length P ≡ length V → k < length V → f < length P
     → GoesBackFrom V P k → IsLeastAt P f → length R ≡ length P → RotatedLeft P R (length P) f
     → length Q ≡ length R → RotatedLeft R Q (length R) 1 → length W ≡ length Q → ReversedBelow Q W (length Q) → W ≡ V

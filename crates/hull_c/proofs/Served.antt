@@ -8,13 +8,13 @@ use Rattle.hull_c.specs.Requests.{AnswersRequest, AreServed, IsBad}
 use Rattle.std.proofs.lemmas.List.{drop_all, drop_more, drop-drop, drop-set, drop-set-lt, take-set, take_more_set}
 use Rattle.std.proofs.lemmas.List.{take-append-drop, append_assoc}
 
--- i requests were served: whatever serves the requests behind them serves them all
+-- i requests were served: what serves the requests after them serves all
 abbrev pub GoesOn : List HullRequest → List HullReply → LimitedTree → LimitedTree → List HullReply → ℕ → Type 0
 GoesOn qs before old now out i =
     (new : LimitedTree) (after : List HullReply) (m : ℕ) → AreServed (drop i qs) (drop i before) now new after m
     → AreServed qs before old new (take i out ++ after) (i + m)
 
--- with no room for a reply nothing is served
+-- without space for a reply nothing is served
 pub no_room : (qs : List HullRequest) (now : LimitedTree) → AreServed qs [] now now [] 0
 no_room [] now = (refl, refl, refl)
 no_room (q ∷ qs) now = (refl, refl, refl)
@@ -55,7 +55,7 @@ module _ (qs : List HullRequest) (before : List HullReply) (old now : LimitedTre
         subst (λ (l : List HullRequest). AreServed l (drop i before) now new after m) (sym next)
         (subst (λ (l : List HullReply). AreServed (q ∷ drop (i + 1) qs) l now new after m) (sym here) s)
 
-    -- the array is as it was behind the reply, too
+    -- the array is also unchanged after the reply
     pub rest_on : drop (i + 1) (set out i r) ≡ drop (i + 1) before
     rest_on = drop-set-lt (i + 1) out i r (search rules) ∙ sym (drop-drop 1 i out)
         ∙ ap (λ (l : List HullReply). drop 1 l) rest ∙ drop-drop 1 i before

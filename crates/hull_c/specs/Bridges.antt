@@ -1,4 +1,4 @@
--- What writing the stored bridges of a level to an array comes to.
+-- The result of writing the stored bridges of a level to an array.
 use Rattle.std.specs.Prelude.{◌≡◌, ◌⊎◌, ◌≢◌, ◌≤◌, ◌<◌, ℕ, List, [], ◌++◌, drop, length}
 use Rattle.bucket_tree.specs.Levels.{bridges_at}
 use Rattle.bucket_tree.specs.Roots.{held_by}
@@ -8,15 +8,15 @@ use Rattle.hull_reply.specs.Told.{IsBare, IsNumber}
 use Rattle.hull_reply.specs.declared.code.Code.TheVariants as code
 use Rattle.hull_reply.specs.declared.reply.HullReply.{HullReply}
 
--- they stand at the front of the array, whose rest is as it was; or the array, which is as it was, is too short for them; how
--- many they are is told either way
+-- they are at the front of the array, whose rest is unchanged; or the array is too short for them and unchanged; the
+-- reply has their number in either case
 abbrev pub TellsBridges : List Bridge → List Bridge → List Bridge → HullReply → Type 0
 TellsBridges bridges before after told =
     ((length bridges ≤ length before) × (after ≡ bridges ++ drop (length bridges) before)
     × IsNumber code.Number (length bridges) told)
     ⊎ ((length before < length bridges) × (after ≡ before) × IsNumber code.TooSmall (length bridges) told)
 
--- the hull stays; the bridges of the level were told, or memory was refused, which nothing held would not ask for
+-- the set is unchanged; the reply has the bridges of the level, or memory was refused (an empty set needs none)
 abbrev pub AreBridges : LimitedTree → LimitedTree → ℕ → List Bridge → List Bridge → HullReply → Type 0
 AreBridges old new level before after told =
     (new ≡ old)

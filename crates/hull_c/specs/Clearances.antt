@@ -1,5 +1,5 @@
--- How far two outlines are apart, and an outline and a segment, in numbers that a caller compares; and how an outline stands to a
--- segment as another outline.
+-- The distance of two convex polygons, or of a convex polygon and a segment, in numbers that a caller compares; and
+-- the relation of a convex polygon to a segment.
 use Rattle.std.specs.Prelude.{◌≡◌, ◌⊎◌, ◌*◌, ℤ, pos, neg_ℤ, List, [], Bool, cond, Option, Some, None, MatchOption, Result, MatchResult}
 use Rattle.std.specs.declared.cmp.Ordering.{Ordering}
 use Rattle.std.specs.declared.cmp.Ordering.TheVariants.{Less, Equal, Greater}
@@ -24,7 +24,7 @@ use Rattle.hull_reply.specs.declared.reply.HullReply.{HullReply}
 use Rattle.hull_c.specs.Pairs.{relation_number}
 use Rattle.hull_c.specs.declared.clearances.HullClearance.{HullClearance}
 
--- a code, and nothing with it
+-- a code and no other number
 abbrev pub IsNoClearance : Code → HullClearance → Type 0
 IsNoClearance fault told = told ≡ record {
   code = code_number fault;
@@ -52,37 +52,37 @@ square_of told = record {
 abbrev pub rounded_of : HullClearance → Rounded
 rounded_of told = record { lower = told.lower; upper = told.upper; shift = told.shift }
 
--- how far that is, if they are nearest anywhere: the square of it as a fraction, and the doubles next to it
+-- the distance, if there is one: its square as a fraction, and the doubles next to it
 abbrev pub IsClearanceTold : Option Distance → HullClearance → Type 0
 IsClearanceTold None told = IsNoClearance code.Empty told
 IsClearanceTold (Some found) told =
     (told.code ≡ code_number code.Number) × IsSquareOf found (square_of told) × IsRounded found (rounded_of told)
 
--- that is so of each two sets with these corners
+-- this holds of each two sets with these vertices
 abbrev pub TellsClearance : List Pair → List Pair → HullClearance → Type 0
 TellsClearance corners others told =
     (found : Option Distance) × IsClearanceTold found told
     × HoldsOfBoth corners others (λ S T. MatchOption found ((S ≡ []) ⊎ (T ≡ [])) (λ x. IsDistance S T x))
 
--- of each set with these corners, and the segment from a to b
+-- this holds of each set with these vertices, and the segment from a to b
 abbrev pub TellsClearanceTo : List Pair → Pair → Pair → HullClearance → Type 0
 TellsClearanceTo corners a b told =
     (found : Option Distance) × IsClearanceTold found told
     × HoldsOfSetsOf corners (λ S. MatchOption found (S ≡ []) (λ x. IsDistance S (ends a b) x))
 
--- the two numbers are a point and it was answered, or it was told why they are none
+-- the two numbers are a point and it was answered, or the reply has the reason why they are none
 abbrev pub IsClearanceOf : ℤ → ℤ → (Pair → HullClearance → Type 0) → HullClearance → Type 0
 IsClearanceOf x y P told =
     (asked : Result Pair Code) × IsPointOf x y asked
     × MatchResult asked (λ p. P p told) (λ fault. IsNoClearance fault told)
 
--- how each set stands to the segment, by the number of the relation
+-- the relation of each set to the segment, by its number
 abbrev pub TellsRelationTo : List Pair → Pair → Pair → HullReply → Type 0
 TellsRelationTo corners a b told =
     (found : Relation) × IsNumber code.Number (relation_number found) told
     × HoldsOfSetsOf corners (λ S. IsRelation S (ends a b) found)
 
--- whether the segment is within a length of each set: 1 or 0
+-- whether the distance of the segment to each set is at most a length: 1 or 0
 abbrev pub TellsWithinOf : Length → List Pair → Pair → Pair → HullReply → Type 0
 TellsWithinOf length corners a b told =
     (is_within : Bool) × IsNumber code.Number (cond is_within 1 0) told
@@ -94,7 +94,7 @@ order_number Less = neg_ℤ (pos 1)
 order_number Equal = pos 0
 order_number Greater = pos 1
 
--- how the first fraction stands to the second, by that number
+-- the order of two fractions, by that number
 abbrev pub ComparesAs : SquaredDistance → SquaredDistance → ℤ → Type 0
 ComparesAs this that told =
     (order : Ordering) × (told ≡ order_number order)

@@ -1,8 +1,8 @@
--- What a call leaves that ends a value.
+-- The state after a call that ends a value.
 use base.Fml.{Fml, fex, fsep, ftrue}
 use denote.RattleType.{RattleType}
 use denote.RawPtr.{Ptr, room_at}
 
--- room for a value of the type lies at p, and this holds
+-- storage for a value of the type is at p, and this holds
 abbrev pub leaves_room : RattleType → Ptr → Type 0 → Fml
 leaves_room R p holds = fsep (room_at R p) (fex holds (λ _. ftrue))

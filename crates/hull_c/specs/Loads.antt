@@ -1,4 +1,4 @@
--- What it comes to that a hull is loaded with an array of points.
+-- The result of loading a set with an array of points.
 use Rattle.std.specs.Prelude.{◌≡◌, ◌⊎◌, ◌≢◌, List, [], length}
 use Rattle.std.specs.List.{All}
 use Rattle.lattice.specs.Plane.{Pair}
@@ -21,21 +21,21 @@ abbrev pub IsUnread : List Pair → Code → Type 0
 IsUnread points fault =
     (¬ All HasCoordinates points × (fault ≡ code.OutOfRange)) ⊎ (All HasCoordinates points × (fault ≡ code.NoMemory))
 
--- what adding the points one by one to an empty hull would leave is held, the limit stays, and the number of different
--- points was told
+-- the set is what adding the points one by one to an empty set would leave, the limit is unchanged, and the reply has
+-- the number of different points
 pub record HoldsAll (points : List Pair) (old new : LimitedTree) (told : HullReply) : Type 0 where
   pub held : held_by new.root ≡ held_after_adds nothing_held points
   pub sound : IsSound new.root
   pub same_limit : new.limit ≡ old.limit
   pub tells : IsNumber code.Number (length (held_by new.root).points) told
 
--- there are too many points, or memory was refused, which no points would not ask for
+-- there are too many points, or memory was refused (no points need none)
 abbrev pub IsRefused : List Pair → LimitedTree → HullReply → Type 0
 IsRefused points old told =
     (AreTooMany nothing_held points old.limit × IsBare code.TooMany told) ⊎ ((points ≢ []) × IsBare code.NoMemory told)
 
--- all points were loaded; or the hull is as it was: some point is out of range, and only then is that told, or the
--- points were refused
+-- All points were loaded; or the set is unchanged: some point is out of range (only then does the reply have that
+-- reason), or the points were refused.
 abbrev pub IsLoaded : List Pair → LimitedTree → LimitedTree → HullReply → Type 0
 IsLoaded points old new told =
     (¬ All HasCoordinates points × (new ≡ old) × IsBare code.OutOfRange told)

@@ -1,4 +1,4 @@
--- What asking an outline about another one comes to, or where it is least wide, in numbers.
+-- The results of asking a convex polygon about another one, or for its least width, in numbers.
 use Rattle.std.specs.Prelude.{◌≡◌, ◌⊎◌, ◌↔◌, ℕ, List, [], Bool, cond, IsTrue, Option, Some, None, MatchOption}
 use Rattle.lattice.specs.Plane.{Pair}
 use Rattle.hull_geometry.specs.Positions.{origin}
@@ -25,13 +25,13 @@ use Rattle.hull_reply.specs.declared.code.Code.TheVariants as code
 use Rattle.hull_reply.specs.declared.reply.HullReply.{HullReply}
 use Rattle.hull_c.specs.declared.pairs.HullWitness.{HullWitness}
 
--- whether they meet: 1 or 0
+-- whether they intersect: 1 or 0
 abbrev pub TellsMeets : List Pair → List Pair → HullReply → Type 0
 TellsMeets corners others told =
     (meets : Bool) × IsNumber code.Number (cond meets 1 0) told
     × HoldsOfBoth corners others (λ S T. TellsMeeting meets S T)
 
--- whether the first covers whatever the second covers: 1 or 0
+-- whether the first covers all that the second covers: 1 or 0
 abbrev pub TellsContains : List Pair → List Pair → HullReply → Type 0
 TellsContains corners others told =
     (holds : Bool) × IsNumber code.Number (cond holds 1 0) told
@@ -49,19 +49,19 @@ relation_number relation.Equal = 5
 
 -- end of what tools/table.py writes
 
--- how the first stands to the second, by its number
+-- the relation of the first to the second, by its number
 abbrev pub TellsRelation : List Pair → List Pair → HullReply → Type 0
 TellsRelation corners others told =
     (found : Relation) × IsNumber code.Number (relation_number found) told
     × HoldsOfBoth corners others (λ S T. IsRelation S T found)
 
--- whether whatever the second covers lies inside the first: 1 or 0
+-- whether all that the second covers is inside the first: 1 or 0
 abbrev pub TellsContainsInside : List Pair → List Pair → HullReply → Type 0
 TellsContainsInside corners others told =
     (holds : Bool) × IsNumber code.Number (cond holds 1 0) told
     × HoldsOfBoth corners others (λ S T. IsTrue holds ↔ HoldsInside S T)
 
--- whether they are within a length of one another: 1 or 0
+-- whether their distance is at most a length: 1 or 0
 abbrev pub TellsWhetherWithin : List Pair → List Pair → Length → HullReply → Type 0
 TellsWhetherWithin corners others length told =
     (is_within : Bool) × IsNumber code.Number (cond is_within 1 0) told
@@ -71,7 +71,7 @@ TellsWhetherWithin corners others length told =
 abbrev pub IsShown : Code → Pair → Pair → Pair → Pair → HullWitness → Type 0
 IsShown e a b c d w = w ≡ record { code = code_number e; a = a; b = b; c = c; d = d }
 
--- what shows how they stand to each other
+-- a witness of their relation
 abbrev pub IsWitnessTold : Option Witness → HullWitness → Type 0
 IsWitnessTold None told = IsShown code.Empty origin origin origin origin told
 IsWitnessTold (Some (witness.Meets (meeting.OfOther t))) told =
@@ -83,7 +83,7 @@ IsWitnessTold (Some (witness.Meets (meeting.Crossing a b c d))) told =
 IsWitnessTold (Some (witness.Apart w)) told =
     IsShown code.Apart w.farthest w.direction origin origin told
 
--- that is so of each two sets with these corners
+-- this holds of each two sets with these vertices
 abbrev pub TellsWitness : List Pair → List Pair → HullWitness → Type 0
 TellsWitness corners others told =
     (found : Option Witness) × IsWitnessTold found told
@@ -94,13 +94,13 @@ abbrev pub IsStripTold : Option Strip → HullWitness → Type 0
 IsStripTold None told = IsShown code.Empty origin origin origin origin told
 IsStripTold (Some w) told = IsShown code.Edge w.from w.to w.farthest origin told
 
--- that is where each set with these corners is least wide
+-- this is the least width of each set with these vertices
 abbrev pub TellsLeastWidth : List Pair → HullWitness → Type 0
 TellsLeastWidth corners told =
     (found : Option Strip) × IsStripTold found told
     × HoldsOfSetsOf corners (λ S. MatchOption found (IsOnePoint S) (λ w. IsLeastWidth S w))
 
--- where they are nearest: they meet, or a corner of each, or a corner of the one and an edge of the other
+-- the nearest features: they intersect, or a vertex of each, or a vertex of the one and an edge of the other
 abbrev pub IsDistanceTold : Option Distance → HullWitness → Type 0
 IsDistanceTold None told = IsShown code.Empty origin origin origin origin told
 IsDistanceTold (Some distance.Zero) told =
@@ -109,7 +109,7 @@ IsDistanceTold (Some (distance.Corners c d)) told = IsShown code.Points c d orig
 IsDistanceTold (Some (distance.CornerAndEdge c a b)) told = IsShown code.Corner c a b origin told
 IsDistanceTold (Some (distance.EdgeAndCorner a b d)) told = IsShown code.Edge a b d origin told
 
--- that is so of each two sets with these corners
+-- this holds of each two sets with these vertices
 abbrev pub TellsDistance : List Pair → List Pair → HullWitness → Type 0
 TellsDistance corners others told =
     (found : Option Distance) × IsDistanceTold found told

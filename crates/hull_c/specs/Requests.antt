@@ -1,4 +1,4 @@
--- What many requests in an array are answered.
+-- The results of many requests in an array.
 use Rattle.std.specs.Prelude.{◌≡◌, ◌⊎◌, ℕ, ◌+◌, List, ◌∷◌}
 use Rattle.bucket_tree.specs.Sets.{LimitedTree, bucket_set}
 use Rattle.hull_reply.specs.Served.{IsAnswered}
@@ -7,7 +7,7 @@ use Rattle.hull_reply.specs.declared.code.Code.TheVariants as code
 use Rattle.hull_reply.specs.declared.reply.HullReply.{HullReply}
 use Rattle.hull_c.specs.declared.requests.HullRequest.{HullRequest}
 
--- what the request asks for was served
+-- the request was served
 abbrev pub AnswersRequest : HullRequest → LimitedTree → LimitedTree → HullReply → Type 0
 AnswersRequest q old new told = IsAnswered bucket_set q.kind q.x q.y old new told
 
@@ -16,9 +16,9 @@ abbrev pub IsBad : ℕ → Type 0
 IsBad n = (n ≡ code_number code.OutOfRange)
     ⊎ ((n ≡ code_number code.ZeroDirection) ⊎ (n ≡ code_number code.UnknownKind))
 
--- the requests were served in their order, each at what those before it left, up to the end of the shorter array or
--- the first request that can't be served; so many replies were written to the front of the array, whose rest is as it
--- was
+-- The requests were served in their order, each at the set that those before it left, up to the end of the shorter
+-- array or the first request that can't be served. Each served request has its reply at the front of the array, whose
+-- rest is unchanged.
 abbrev pub AreServed : List HullRequest → List HullReply → LimitedTree → LimitedTree → List HullReply → ℕ → Type 0
 AreServed (q ∷ qs) (_ ∷ rest) old new after made =
     (told : HullReply) × (behind : List HullReply) × (mid : LimitedTree) × (after ≡ told ∷ behind)

@@ -1,4 +1,4 @@
-//! The bridges that a hull stores, a level at a time, in an array of the caller's.
+//! The bridges that a set's tree stores, a level at a time, in an array of the caller's.
 ghost use Rattle.std.specs.Prelude.{◌≡◌, ◌≤◌, ◌++◌, length, drop};
 ghost use Rattle.hull_c.specs.Bridges.{AreBridges, TellsBridges};
 
@@ -8,11 +8,11 @@ use hull_reply::{Code, HullPoint, HullReply};
 use leaf_trees::Bridge;
 use std::marker::Model;
 
-/// What a fork of the tree stores: its two bridges, each by its ends in the left and in the right half.
+/// The two bridges that a fork of the tree stores, each by its ends in the left and in the right half.
 #[repr(C)]
 #[derive(Clone, Copy)]
 pub struct HullBridge {
-    /// How many forks stand above this one.
+    /// How many forks there are above this one: its depth.
     pub level: u32,
     /// The left end of the upper bridge.
     pub upper_left: HullPoint,
@@ -45,7 +45,7 @@ impl Model for HullBridge {
 }
 
 impl HullBridge {
-    /// The bridges of a fork, with their coordinates open.
+    /// Returns the bridges of a fork, with their coordinates open.
     fn of(bridge: Bridge) -> HullBridge
         ensures { result ≡ bridge }
     {
@@ -69,7 +69,7 @@ fn write_bridges(bridges: &[Bridge], out: &mut [HullBridge])
     }
 }
 
-/// Writes the bridges to the front of the array, if it has room for all of them, and tells how many they are.
+/// Writes the bridges to the front of the array, if all of them fit, and returns their number.
 fn put_bridges(bridges: &[Bridge], out: &mut [HullBridge]) -> HullReply
     ensures { TellsBridges bridges.now out.old out.new result }
 {

@@ -1,4 +1,4 @@
-//! Where a ray or a segment first comes into an array of corners.
+//! The entry of a ray or a segment into a convex polygon, given as an array of vertices, and its exit.
 ghost use Rattle.std.specs.Prelude.{◌≡◌, ◌+◌, ◌*◌, ◌^◌};
 ghost use Rattle.hull_geometry.specs.Positions.{origin};
 ghost use Rattle.hull_outline.specs.Outlines.{IsShortOutline};
@@ -12,22 +12,22 @@ use lattice::{Direction, Point};
 /// The base of words, 2^64.
 const WORD: u128 = 18446744073709551616;
 
-/// Where a way first comes into an outline: the number of a code, with an edge or a corner, and how far on the way that
-/// is; all else is 0.
+/// The entry of a ray or segment into a convex polygon: the number of a code, with an edge or a vertex, and how far
+/// along the way it is; all else is 0.
 #[repr(C)]
 #[derive(Clone, Copy)]
 pub struct HullHit {
     /// The number.
     pub code: u32,
-    /// A corner.
+    /// A vertex.
     pub x: i64,
     /// Its other coordinate.
     pub y: i64,
-    /// The next corner.
+    /// The next vertex.
     pub other_x: i64,
     /// Its other coordinate.
     pub other_y: i64,
-    /// So far on the way, the higher word
+    /// How far along the way, the higher word
     pub high: u64,
     /// and the lower,
     pub low: u64,
@@ -37,7 +37,7 @@ pub struct HullHit {
     pub divisor_low: u64,
 }
 
-/// A code alone.
+/// Makes a reply with only a code.
 fn bare(code: Code) -> HullHit
     ensures { IsNoHit code result }
 {
@@ -54,7 +54,7 @@ fn bare(code: Code) -> HullHit
     }
 }
 
-/// A code with two points.
+/// Makes a reply with a code and two points.
 fn at(code: Code, p: Point, q: Point) -> HullHit
     ensures { IsHitAt code p q result }
 {
@@ -66,7 +66,7 @@ fn at(code: Code, p: Point, q: Point) -> HullHit
     hit
 }
 
-/// A code with a corner.
+/// Makes a reply with a code and a vertex.
 fn at_corner(c: Point) -> HullHit
     ensures { IsHitAt Code.Corner c origin result }
 {
@@ -76,7 +76,7 @@ fn at_corner(c: Point) -> HullHit
     hit
 }
 
-/// Where a way comes in.
+/// Makes the reply for an entry.
 fn place(entry: Entry) -> HullHit
     ensures { IsEntryTold entry result }
 {
@@ -87,14 +87,14 @@ fn place(entry: Entry) -> HullHit
     }
 }
 
-/// The words of a number.
+/// Returns the words of a number.
 fn words(number: u128) -> (u64, u64)
     ensures { result.0 * 2 ^ 64 + result.1 ≡ number }
 {
     ((number / WORD) as u64, (number % WORD) as u64)
 }
 
-/// Where a way comes in, and how far on it that is.
+/// Makes the reply for an entry, and how far along the way it is.
 fn way_in(found: Hit) -> HullHit
     ensures place { IsEntryTold found.place result }
     ensures part { IsPart found.numerator found.denominator result }
@@ -109,7 +109,7 @@ fn way_in(found: Hit) -> HullHit
     hit
 }
 
-/// The same, if it does.
+/// Makes the reply for an entry, or a miss.
 fn hit_of(found: Option<Hit>) -> HullHit
     ensures { IsHitTold found result }
 {
@@ -119,7 +119,7 @@ fn hit_of(found: Option<Hit>) -> HullHit
     }
 }
 
-/// Where a ray comes in.
+/// Finds the entry of a ray.
 fn ray(corners: &[Point], start: Point, direction: Direction) -> HullHit
     requires { IsShortOutline corners.now }
     ensures { TellsRay corners.now start direction result }
@@ -130,7 +130,7 @@ fn ray(corners: &[Point], start: Point, direction: Direction) -> HullHit
     hit_of(Outline::of_vertices(corners).cast_ray(start, direction))
 }
 
-/// Where a ray goes out.
+/// Finds the exit of a ray.
 fn last(corners: &[Point], start: Point, direction: Direction) -> HullHit
     requires { IsShortOutline corners.now }
     ensures { TellsLastOnRay corners.now start direction result }
@@ -141,7 +141,7 @@ fn last(corners: &[Point], start: Point, direction: Direction) -> HullHit
     hit_of(Outline::of_vertices(corners).last_on_ray(start, direction))
 }
 
-/// Where a segment comes in.
+/// Finds the entry of a segment.
 fn segment(corners: &[Point], a: Point, b: Point) -> HullHit
     requires { IsShortOutline corners.now }
     ensures { TellsSegmentHit corners.now a b result }
@@ -152,7 +152,7 @@ fn segment(corners: &[Point], a: Point, b: Point) -> HullHit
     hit_of(Outline::of_vertices(corners).cast_segment(a, b))
 }
 
-/// Where a ray in the direction of two numbers comes in.
+/// Finds the entry of a ray in the direction of two numbers.
 fn ray_along(corners: &[Point], start: Point, dx: i64, dy: i64) -> HullHit
     requires { IsShortOutline corners.now }
     ensures { IsHitAlong dx dy (TellsRay corners.now start) result }
@@ -163,7 +163,7 @@ fn ray_along(corners: &[Point], start: Point, dx: i64, dy: i64) -> HullHit
     }
 }
 
-/// Where a ray in the direction of two numbers goes out.
+/// Finds the exit of a ray in the direction of two numbers.
 fn last_along(corners: &[Point], start: Point, dx: i64, dy: i64) -> HullHit
     requires { IsShortOutline corners.now }
     ensures { IsHitAlong dx dy (TellsLastOnRay corners.now start) result }
@@ -174,7 +174,7 @@ fn last_along(corners: &[Point], start: Point, dx: i64, dy: i64) -> HullHit
     }
 }
 
-/// Where a segment to the point of two numbers comes in.
+/// Finds the entry of a segment to the point of two numbers.
 fn segment_to(corners: &[Point], a: Point, x: i64, y: i64) -> HullHit
     requires { IsShortOutline corners.now }
     ensures { IsHitOf x y (TellsSegmentHit corners.now a) result }
@@ -185,7 +185,7 @@ fn segment_to(corners: &[Point], a: Point, x: i64, y: i64) -> HullHit
     }
 }
 
-/// Where the ray of four numbers comes in: of a point and a direction.
+/// Finds the entry of the ray of four numbers: a point and a direction.
 pub(crate) fn cast_ray(corners: &[Point], x: i64, y: i64, dx: i64, dy: i64) -> HullHit
     requires { IsShortOutline corners.now }
     ensures { IsHitOf x y (λ a. IsHitAlong dx dy (TellsRay corners.now a)) result }
@@ -196,7 +196,7 @@ pub(crate) fn cast_ray(corners: &[Point], x: i64, y: i64, dx: i64, dy: i64) -> H
     }
 }
 
-/// Where the ray of four numbers goes out.
+/// Finds the exit of the ray of four numbers.
 pub(crate) fn last_on_ray(corners: &[Point], x: i64, y: i64, dx: i64, dy: i64) -> HullHit
     requires { IsShortOutline corners.now }
     ensures { IsHitOf x y (λ a. IsHitAlong dx dy (TellsLastOnRay corners.now a)) result }
@@ -207,7 +207,7 @@ pub(crate) fn last_on_ray(corners: &[Point], x: i64, y: i64, dx: i64, dy: i64) -
     }
 }
 
-/// Where the segment between the points of four numbers comes in.
+/// Finds the entry of the segment between the points of four numbers.
 pub(crate) fn cast_segment(corners: &[Point], ax: i64, ay: i64, bx: i64, by: i64) -> HullHit
     requires { IsShortOutline corners.now }
     ensures { IsHitOf ax ay (λ a. IsHitOf bx by (TellsSegmentHit corners.now a)) result }

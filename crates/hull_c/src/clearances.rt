@@ -1,4 +1,4 @@
-//! How far arrays of corners are apart, and from a segment, in numbers that a caller compares.
+//! The distance of two convex polygons, and of one from a segment, in numbers that a caller compares.
 ghost use Rattle.std.specs.Prelude.{◌≡◌, Some};
 ghost use Rattle.hull_outline.specs.Outlines.{IsShortOutline};
 ghost use Rattle.hull_c.specs.Clearances.{IsClearanceOf, IsClearanceTold, IsNoClearance, TellsClearance, TellsClearanceTo};
@@ -11,8 +11,8 @@ use hull_reply::{Code, HullReply, point_of};
 use lattice::Point;
 use std::cmp::Ordering;
 
-/// How far two outlines are apart: the number of a code, the two doubles next to the distance, and its square as a fraction; all else
-/// is 0.
+/// The distance of two convex polygons: the number of a code, the two doubles next to the distance, and its square as
+/// a fraction; all else is 0.
 #[repr(C)]
 #[derive(Clone, Copy)]
 pub struct HullClearance {
@@ -36,7 +36,7 @@ pub struct HullClearance {
     pub divisor_low: u64,
 }
 
-/// A code alone.
+/// Makes a reply with only a code.
 fn bare(code: Code) -> HullClearance
     ensures { IsNoClearance code result }
 {
@@ -53,7 +53,7 @@ fn bare(code: Code) -> HullClearance
     }
 }
 
-/// A distance in numbers.
+/// Returns a distance in numbers.
 fn clearance(found: Distance) -> HullClearance
     ensures { IsClearanceTold (Some found) result }
 {
@@ -71,7 +71,7 @@ fn clearance(found: Distance) -> HullClearance
     }
 }
 
-/// A distance in numbers, if there is one.
+/// Returns a distance in numbers, if there is one.
 fn clearance_of(found: Option<Distance>) -> HullClearance
     ensures { IsClearanceTold found result }
 {
@@ -81,7 +81,7 @@ fn clearance_of(found: Option<Distance>) -> HullClearance
     }
 }
 
-/// How far two outlines are apart.
+/// Returns the distance of two convex polygons.
 pub(crate) fn between(corners: &[Point], others: &[Point]) -> HullClearance
     requires this { IsShortOutline corners.now }
     requires that { IsShortOutline others.now }
@@ -90,7 +90,7 @@ pub(crate) fn between(corners: &[Point], others: &[Point]) -> HullClearance
     clearance_of(Outline::of_vertices(corners).distance(&Outline::of_vertices(others)))
 }
 
-/// How far an outline is from the segment from `a` to `b`.
+/// Returns the distance of a convex polygon and the segment from `a` to `b`.
 fn between_segment(corners: &[Point], a: Point, b: Point) -> HullClearance
     requires { IsShortOutline corners.now }
     ensures { TellsClearanceTo corners.now a b result }
@@ -98,7 +98,7 @@ fn between_segment(corners: &[Point], a: Point, b: Point) -> HullClearance
     clearance_of(Outline::of_vertices(corners).distance_to_segment(a, b))
 }
 
-/// How far an outline is from the segment from `a` to the point of two numbers.
+/// Returns the distance of a convex polygon and the segment from `a` to the point of two numbers.
 fn between_segment_to(corners: &[Point], a: Point, x: i64, y: i64) -> HullClearance
     requires { IsShortOutline corners.now }
     ensures { IsClearanceOf x y (TellsClearanceTo corners.now a) result }
@@ -109,7 +109,7 @@ fn between_segment_to(corners: &[Point], a: Point, x: i64, y: i64) -> HullCleara
     }
 }
 
-/// How far an outline is from the segment between the points of four numbers.
+/// Returns the distance of a convex polygon and the segment between the points of four numbers.
 pub(crate) fn to_segment(corners: &[Point], ax: i64, ay: i64, bx: i64, by: i64) -> HullClearance
     requires { IsShortOutline corners.now }
     ensures { IsClearanceOf ax ay (λ a. IsClearanceOf bx by (TellsClearanceTo corners.now a)) result }
@@ -120,7 +120,7 @@ pub(crate) fn to_segment(corners: &[Point], ax: i64, ay: i64, bx: i64, by: i64) 
     }
 }
 
-/// How an outline stands to the segment from `a` to `b`.
+/// Returns the relation of a convex polygon to the segment from `a` to `b`.
 fn relation(corners: &[Point], a: Point, b: Point) -> HullReply
     requires { IsShortOutline corners.now }
     ensures { TellsRelationTo corners.now a b result }
@@ -129,7 +129,7 @@ fn relation(corners: &[Point], a: Point, b: Point) -> HullReply
     HullReply::numbered(Code::Number, number_of(found))
 }
 
-/// How an outline stands to the segment from `a` to the point of two numbers.
+/// Returns the relation of a convex polygon to the segment from `a` to the point of two numbers.
 fn relation_to(corners: &[Point], a: Point, x: i64, y: i64) -> HullReply
     requires { IsShortOutline corners.now }
     ensures { IsToldOf x y (TellsRelationTo corners.now a) result }
@@ -140,7 +140,7 @@ fn relation_to(corners: &[Point], a: Point, x: i64, y: i64) -> HullReply
     }
 }
 
-/// How an outline stands to the segment between the points of four numbers.
+/// Returns the relation of a convex polygon to the segment between the points of four numbers.
 pub(crate) fn relation_to_segment(
     corners: &[Point],
     ax: i64,
@@ -157,7 +157,7 @@ pub(crate) fn relation_to_segment(
     }
 }
 
-/// Whether the segment from `a` to `b` is within a length of an outline.
+/// Whether the distance of a convex polygon and the segment from `a` to `b` is at most a length.
 fn is_within(corners: &[Point], a: Point, b: Point, length: Length) -> HullReply
     requires { IsShortOutline corners.now }
     ensures { TellsWithinOf length corners.now a b result }
@@ -166,7 +166,7 @@ fn is_within(corners: &[Point], a: Point, b: Point, length: Length) -> HullReply
     HullReply::numbered(Code::Number, u64::from(is_within))
 }
 
-/// Whether the segment from `a` to the point of two numbers is within a length of an outline.
+/// Whether the distance of a convex polygon and the segment from `a` to the point of two numbers is at most a length.
 fn is_within_to(corners: &[Point], a: Point, x: i64, y: i64, length: Length) -> HullReply
     requires { IsShortOutline corners.now }
     ensures { IsToldOf x y (TellsWithinOf length corners.now a) result }
@@ -177,7 +177,7 @@ fn is_within_to(corners: &[Point], a: Point, x: i64, y: i64, length: Length) -> 
     }
 }
 
-/// Whether the segment between the points of four numbers is within a length of an outline.
+/// Whether the distance of a convex polygon and the segment between the points of four numbers is at most a length.
 pub(crate) fn is_within_of_segment(
     corners: &[Point],
     ax: i64,
@@ -195,7 +195,7 @@ pub(crate) fn is_within_of_segment(
     }
 }
 
-/// The fraction of a distance.
+/// Returns the fraction of a distance.
 fn square(told: &HullClearance) -> SquaredDistance
     ensures { result ≡ square_of told.now }
 {
@@ -208,7 +208,7 @@ fn square(told: &HullClearance) -> SquaredDistance
     }
 }
 
-/// The number of an order.
+/// Returns the number of an order.
 fn number_of_order(order: Ordering) -> i32
     ensures { result ≡ order_number order }
 {
@@ -219,7 +219,7 @@ fn number_of_order(order: Ordering) -> i32
     }
 }
 
-/// How one distance stands to another, by their fractions.
+/// Compares two distances by their fractions.
 pub(crate) fn compare(this: &HullClearance, that: &HullClearance) -> i32
     ensures { ComparesAs (square_of this.now) (square_of that.now) result }
 {

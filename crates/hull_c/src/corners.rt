@@ -1,11 +1,11 @@
-//! The corners of a hull, in an array of the caller's.
+//! The vertices of a set, in an array of the caller's.
 ghost use Rattle.hull_c.specs.Calls.{AreCorners};
 
 use super::hull::Hull;
 use hull_reply::{Code, HullPoint, HullReply, put_corners};
 use hull_set::HullSet;
 
-/// Writes the corners of the hull to the front of the array, if it has room for all of them.
+/// Writes the vertices of the set to the front of the array, if all of them fit.
 pub(crate) fn vertices(hull: &mut Hull, out: &mut [HullPoint]) -> HullReply
     ensures { AreCorners hull.old hull.new out.old out.new result }
 {

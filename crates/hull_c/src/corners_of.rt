@@ -1,4 +1,4 @@
-//! The corners of any points, in an array of the caller's.
+//! The vertices of any points, in an array of the caller's.
 ghost use Rattle.std.specs.Prelude.{ℕ, ◌≡◌, ◌<◌, ◌⊎◌, IfNone, MatchOption, length, true};
 ghost use Rattle.lattice.specs.Plane.{IsBefore};
 ghost use Rattle.hull_geometry.specs.Positions.{point_at};
@@ -15,7 +15,7 @@ use hull_set::{HullSet, POINT_LIMIT};
 use lattice::{Point, before};
 use leaf_trees::{Listed, LoadFault};
 
-/// The place of a point before which no other stands, by x and then y.
+/// Returns the index of a point before which there is no other, by x and then y.
 fn first_place(points: &[Point]) -> usize
     requires { 0 < length points.now }
     ensures within { result < length points.now }
@@ -30,7 +30,7 @@ fn first_place(points: &[Point]) -> usize
     first
 }
 
-/// Whether the points are an outline.
+/// Whether the points are a convex polygon.
 fn are_outline(points: &[Point]) -> bool
     ensures own { result ≡ true → IsOwnOutline points.now }
     ensures each { IsShortOutline points.now → result ≡ true }
@@ -42,8 +42,8 @@ fn are_outline(points: &[Point]) -> bool
     }
 }
 
-/// Turns a ring of points so that it begins with its first one, and goes round counterclockwise where it is convex; and
-/// tells whether it is an outline then.
+/// Rotates a ring of points so that it begins with its first one, and goes counterclockwise if it is convex. Returns
+/// whether it is a convex polygon then.
 fn turn_to_outline(points: &mut Vec<Point, Heap>) -> bool
     requires { 0 < length points.old.items }
     ensures same { HaveSamePoints points.new.items points.old.items }
@@ -60,7 +60,7 @@ fn turn_to_outline(points: &mut Vec<Point, Heap>) -> bool
     are_outline(points)
 }
 
-/// The corners of points that make a hull, by that hull.
+/// Writes the vertices of points by building a set of them.
 fn by_a_hull(alloc: Heap, points: &[Point], out: &mut [HullPoint]) -> HullReply
     requires { 0 < length points.now }
     ensures { WritesCornersOf points.now out.old out.new result
@@ -77,7 +77,7 @@ fn by_a_hull(alloc: Heap, points: &[Point], out: &mut [HullPoint]) -> HullReply
     put_corners(&corners, out)
 }
 
-/// Writes the corners where the points are a ring of an outline; else tells nothing.
+/// Writes the vertices if the points are a ring of a convex polygon; else returns `None`.
 fn by_their_ring(ring: &mut Vec<Point, Heap>, out: &mut [HullPoint]) -> Option<HullReply>
     requires { 0 < length ring.old.items }
     ensures told { MatchOption result (out.new ≡ out.old) (λ told. WritesCornersOf ring.old.items out.old out.new told) }
@@ -90,8 +90,8 @@ fn by_their_ring(ring: &mut Vec<Point, Heap>, out: &mut [HullPoint]) -> Option<H
     }
 }
 
-/// Writes the corners of the points to the front of the array, if it has room for all of them. Where the points are a ring
-/// of an outline, from whatever corner on and in either sense, that takes a few passes, and else a hull of them is built.
+/// Writes the vertices of the points to the front of the array, if all of them fit. If the points are a ring of a
+/// convex polygon, from any vertex on and in either direction, this takes a few passes; else it builds a set of them.
 pub(crate) fn corners_of(alloc: Heap, array: &[HullPoint], out: &mut [HullPoint]) -> HullReply
     ensures { TellsCornersOf array.now out.old out.new result }
 {

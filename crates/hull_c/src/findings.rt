@@ -1,4 +1,4 @@
-//! Segments, boxes, nearest points and extents of an array of corners.
+//! Segments, boxes, nearest points and extents of an array of vertices.
 ghost use Rattle.std.specs.Prelude.{Some};
 ghost use Rattle.hull_outline.specs.Outlines.{IsShortOutline};
 ghost use Rattle.hull_reply.specs.Told.{ArePoints};
@@ -10,7 +10,7 @@ use hull_outline::{Nearest, Outline, Separation};
 use hull_reply::{Code, HullReply, direction_of, point_of};
 use lattice::{Direction, Point};
 
-/// A direction that parts, with the farthest point in it.
+/// Returns the reply with a separating direction and the farthest point in it.
 fn parted(found: Separation) -> HullReply
     ensures { ArePoints Code.Apart found.farthest found.direction result }
 {
@@ -20,7 +20,7 @@ fn parted(found: Separation) -> HullReply
     reply
 }
 
-/// Whether the outline and the segment from `a` to `b` meet.
+/// Whether the convex polygon and the segment from `a` to `b` intersect.
 fn whether(corners: &[Point], a: Point, b: Point) -> HullReply
     requires { IsShortOutline corners.now }
     ensures { TellsWhether corners.now a b result }
@@ -29,7 +29,7 @@ fn whether(corners: &[Point], a: Point, b: Point) -> HullReply
     HullReply::numbered(Code::Number, u64::from(meets))
 }
 
-/// What parts the outline from the segment from `a` to `b`.
+/// Separates the convex polygon from the segment from `a` to `b`.
 fn parting(corners: &[Point], a: Point, b: Point) -> HullReply
     requires { IsShortOutline corners.now }
     ensures { TellsParting corners.now a b result }
@@ -43,7 +43,7 @@ fn parting(corners: &[Point], a: Point, b: Point) -> HullReply
     }
 }
 
-/// Whether the corners and the segment from `a` to the point of two numbers meet.
+/// Whether the convex polygon and the segment from `a` to the point of two numbers intersect.
 fn whether_to(corners: &[Point], a: Point, x: i64, y: i64) -> HullReply
     requires { IsShortOutline corners.now }
     ensures { IsToldOf x y (TellsWhether corners.now a) result }
@@ -54,7 +54,7 @@ fn whether_to(corners: &[Point], a: Point, x: i64, y: i64) -> HullReply
     }
 }
 
-/// What parts the corners from the segment from `a` to the point of two numbers.
+/// Separates the convex polygon from the segment from `a` to the point of two numbers.
 fn parting_to(corners: &[Point], a: Point, x: i64, y: i64) -> HullReply
     requires { IsShortOutline corners.now }
     ensures { IsToldOf x y (TellsParting corners.now a) result }
@@ -65,7 +65,7 @@ fn parting_to(corners: &[Point], a: Point, x: i64, y: i64) -> HullReply
     }
 }
 
-/// Whether the corners and the segment between the points of four numbers meet.
+/// Whether the convex polygon and the segment between the points of four numbers intersect.
 pub(crate) fn meets_segment(corners: &[Point], ax: i64, ay: i64, bx: i64, by: i64) -> HullReply
     requires { IsShortOutline corners.now }
     ensures { IsToldOf ax ay (λ a. IsToldOf bx by (TellsWhether corners.now a)) result }
@@ -76,7 +76,7 @@ pub(crate) fn meets_segment(corners: &[Point], ax: i64, ay: i64, bx: i64, by: i6
     }
 }
 
-/// What parts the corners from the segment between the points of four numbers.
+/// Separates the convex polygon from the segment between the points of four numbers.
 pub(crate) fn apart(corners: &[Point], ax: i64, ay: i64, bx: i64, by: i64) -> HullReply
     requires { IsShortOutline corners.now }
     ensures { IsToldOf ax ay (λ a. IsToldOf bx by (TellsParting corners.now a)) result }
@@ -87,7 +87,7 @@ pub(crate) fn apart(corners: &[Point], ax: i64, ay: i64, bx: i64, by: i64) -> Hu
     }
 }
 
-/// Where a nearest point is, in numbers.
+/// Returns the location of a nearest point in numbers.
 fn place_told(place: Nearest) -> HullReply
     ensures { IsNearestTold (Some place) result }
 {
@@ -98,7 +98,7 @@ fn place_told(place: Nearest) -> HullReply
     }
 }
 
-/// Where the nearest point is, if there is one.
+/// Returns the location of the nearest point, if there is one.
 fn nearest_told(place: Option<Nearest>) -> HullReply
     ensures { IsNearestTold place result }
 {
@@ -108,7 +108,7 @@ fn nearest_told(place: Option<Nearest>) -> HullReply
     }
 }
 
-/// Where the point is that is nearest to `q`.
+/// Finds the location of the point that is nearest to `q`.
 fn nearest_to(corners: &[Point], q: Point) -> HullReply
     requires { IsShortOutline corners.now }
     ensures { TellsNearest corners.now q result }
@@ -116,7 +116,7 @@ fn nearest_to(corners: &[Point], q: Point) -> HullReply
     nearest_told(Outline::of_vertices(corners).nearest(q))
 }
 
-/// Where the point is that is nearest to the point of two numbers.
+/// Finds the location of the point that is nearest to the point of two numbers.
 pub(crate) fn nearest(corners: &[Point], x: i64, y: i64) -> HullReply
     requires { IsShortOutline corners.now }
     ensures { IsToldOf x y (TellsNearest corners.now) result }
@@ -127,7 +127,7 @@ pub(crate) fn nearest(corners: &[Point], x: i64, y: i64) -> HullReply
     }
 }
 
-/// Two points, if there are any.
+/// Returns the reply with two points, if there are any.
 fn ends_told(code: Code, ends: Option<(Point, Point)>) -> HullReply
     ensures { AreEndsTold code ends result }
 {
@@ -137,7 +137,7 @@ fn ends_told(code: Code, ends: Option<(Point, Point)>) -> HullReply
     }
 }
 
-/// The box of the corners.
+/// Returns the box of the vertices.
 pub(crate) fn bounding_box(corners: &[Point]) -> HullReply
     requires { IsShortOutline corners.now }
     ensures { TellsBox corners.now result }
@@ -145,7 +145,7 @@ pub(crate) fn bounding_box(corners: &[Point]) -> HullReply
     ends_told(Code::Box, Outline::of_vertices(corners).bounding_box())
 }
 
-/// The two corners that are farthest from one another.
+/// Returns the two vertices that are farthest from one another.
 pub(crate) fn diameter(corners: &[Point]) -> HullReply
     requires { IsShortOutline corners.now }
     ensures { TellsDiameter corners.now result }
@@ -153,7 +153,7 @@ pub(crate) fn diameter(corners: &[Point]) -> HullReply
     ends_told(Code::Points, Outline::of_vertices(corners).diameter())
 }
 
-/// How far a hull reaches, if it has points.
+/// Returns the reply with an extent, if there are points.
 fn width_told(width: Option<u128>) -> HullReply
     ensures { IsWidthTold width result }
 {
@@ -163,7 +163,7 @@ fn width_told(width: Option<u128>) -> HullReply
     }
 }
 
-/// How far the corners reach in a direction.
+/// Returns the extent of the vertices in a direction.
 fn width_along(corners: &[Point], d: Direction) -> HullReply
     requires { IsShortOutline corners.now }
     ensures { TellsWidth corners.now d result }
@@ -171,7 +171,7 @@ fn width_along(corners: &[Point], d: Direction) -> HullReply
     width_told(Outline::of_vertices(corners).width_along(d))
 }
 
-/// How far the corners reach in the direction of two numbers.
+/// Returns the extent of the vertices in the direction of two numbers.
 pub(crate) fn width(corners: &[Point], x: i64, y: i64) -> HullReply
     requires { IsShortOutline corners.now }
     ensures { IsToldAlong x y (TellsWidth corners.now) result }

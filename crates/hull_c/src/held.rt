@@ -1,4 +1,4 @@
-//! The points that a hull holds, with how often, out of it and into it.
+//! The points of a set with their multiplicities, out of it and into it.
 ghost use Rattle.std.specs.Prelude.{◌≡◌, ◌↔◌, ◌⊎◌, ◌≤◌, ◌++◌, IsTrue, IfOk, IfErr, [], length, drop};
 ghost use Rattle.std.specs.List.{All};
 ghost use Rattle.lattice.specs.Covers.{IsPointSet};
@@ -16,7 +16,7 @@ use lattice::Point;
 use leaf_trees::Listed;
 use std::marker::Model;
 
-/// A point that is held, and how often.
+/// A point of a set, and its multiplicity.
 #[repr(C)]
 #[derive(Clone, Copy)]
 pub struct HullHeld {
@@ -24,7 +24,7 @@ pub struct HullHeld {
     pub x: i64,
     /// The second coordinate.
     pub y: i64,
-    /// How often it is held.
+    /// Its multiplicity.
     pub times: u32,
 }
 
@@ -40,7 +40,7 @@ impl Model for HullHeld {
 }
 
 impl HullHeld {
-    /// The entry, with its coordinates open.
+    /// Returns the entry, with its coordinates open.
     fn of(entry: (Point, u32)) -> HullHeld
         ensures { result ≡ entry }
     {
@@ -62,7 +62,7 @@ fn write_entries(entries: &[(Point, u32)], out: &mut [HullHeld])
     }
 }
 
-/// Writes the points from a start on, in order, until the array is full, and tells how many they are.
+/// Writes the points from a start on, in order, until the array is full, and returns their number.
 fn list_from(hull: &Hull, start: Point, out: &mut [HullHeld]) -> HullReply
     ensures { IsWritten hull.now start out.old out.new result }
 {
@@ -73,7 +73,7 @@ fn list_from(hull: &Hull, start: Point, out: &mut [HullHeld]) -> HullReply
     HullReply::numbered(Code::Number, entries.len() as u64)
 }
 
-/// The same from a start that two numbers are.
+/// Does the same from the start that two numbers are.
 pub(crate) fn list(hull: &mut Hull, x: i64, y: i64, out: &mut [HullHeld]) -> HullReply
     ensures { IsListed hull.old hull.new x y out.old out.new result }
 {
@@ -83,7 +83,7 @@ pub(crate) fn list(hull: &mut Hull, x: i64, y: i64, out: &mut [HullHeld]) -> Hul
     }
 }
 
-/// The entry of these numbers; [`Code::OutOfRange`] where one of them is none.
+/// Returns the entry of these numbers. Fails with [`Code::OutOfRange`] if one of them is out of range.
 fn entry_of(asked: HullHeld) -> Result<(Point, u32), Code>
     ensures entry { IfOk result (λ entry. (entry ≡ asked) × IsEntry asked) }
     ensures fault { IfErr result (λ fault. ¬ IsEntry asked × (fault ≡ Code.OutOfRange)) }
@@ -102,14 +102,14 @@ fn are_entries(array: &[HullHeld]) -> bool
     array.iter().all(|asked| entry_of(*asked).is_ok())
 }
 
-/// Whether a point stands before another.
+/// Whether a point is before another.
 fn stands_before(first: HullHeld, second: HullHeld) -> bool
     ensures { IsTrue result ↔ IsBefore first.0 second.0 }
 {
     first.x < second.x || (first.x == second.x && first.y < second.y)
 }
 
-/// Whether each point of an array stands before the next one.
+/// Whether each point of an array is before the next one.
 fn are_in_order(array: &[HullHeld]) -> bool
     ensures { IsTrue result ↔ IsPointSet (points_listed array.now) }
 {
@@ -121,7 +121,7 @@ fn are_in_order(array: &[HullHeld]) -> bool
     true
 }
 
-/// The entries of an array; memory may be refused.
+/// Returns the entries of an array. Memory may be refused.
 fn entries_of(alloc: Heap, array: &[HullHeld]) -> Result<Vec<(Point, u32), Heap>, Code>
     requires { All IsEntry array.now }
     ensures all { IfOk result (λ entries. entries.items ≡ array.now) }
@@ -139,7 +139,7 @@ fn entries_of(alloc: Heap, array: &[HullHeld]) -> Result<Vec<(Point, u32), Heap>
     Ok(entries)
 }
 
-/// Lets all points go.
+/// Removes all points.
 fn load_nothing(hull: &mut Hull, alloc: Heap) -> HullReply
     ensures { HoldsListed [] hull.old hull.new result }
 {
@@ -147,7 +147,7 @@ fn load_nothing(hull: &mut Hull, alloc: Heap) -> HullReply
     HullReply::numbered(Code::Number, 0)
 }
 
-/// Holds the points of an array that fits, in the place of all that was held; or memory was refused.
+/// Replaces all points by those of an array that fits. Memory may be refused.
 fn load_fitting(hull: &mut Hull, alloc: Heap, array: &[HullHeld]) -> HullReply
     requires read { All IsEntry array.now }
     requires entries { AreEntries array.now }
@@ -165,7 +165,7 @@ fn load_fitting(hull: &mut Hull, alloc: Heap, array: &[HullHeld]) -> HullReply
     HullReply::numbered(Code::Number, array.len() as u64)
 }
 
-/// Holds the points of an array, each as often as it says, in the place of all that was held.
+/// Replaces all points by those of an array, each with its multiplicity there.
 pub(crate) fn load(hull: &mut Hull, alloc: Heap, array: &[HullHeld]) -> HullReply
     ensures { AreLoaded array.now hull.old hull.new result }
 {

@@ -1,4 +1,4 @@
-//! What lies in the room of a hull.
+//! The content of a set's storage.
 ghost use Rattle.std.specs.Prelude.{◌≡◌, ◌≤◌};
 ghost use Rattle.hull_set.specs.declared.TheConstants.{POINT_LIMIT};
 
@@ -7,7 +7,7 @@ use hull_set::HullSet;
 use settled_set::Settled;
 use std::marker::Model;
 
-/// A tree, and its corners in an array while they are known. Contracts see the tree alone.
+/// A tree, and its vertices in an array while they are known. Contracts see only the tree.
 #[derive(Drop)]
 pub(crate) struct Hull {
     pub(crate) set: Settled<BucketTree>,
@@ -25,7 +25,7 @@ impl Model for Hull {
 }
 
 impl Hull {
-    /// This tree, of whose corners nothing is known.
+    /// Makes a set of this tree, of whose vertices nothing is known.
     pub(crate) fn new(tree: BucketTree) -> Hull
         ensures { result ≡ tree }
     {
@@ -34,14 +34,14 @@ impl Hull {
         }
     }
 
-    /// The tree.
+    /// Returns the tree.
     pub(crate) fn tree(&self) -> &BucketTree
         ensures { result.now ≡ self.now }
     {
         self.set.set()
     }
 
-    /// How many points it takes.
+    /// Returns how many points it takes.
     pub(crate) fn limit(&self) -> u32
         ensures limit { result ≡ self.now.limit }
         ensures low { 1 ≤ result }

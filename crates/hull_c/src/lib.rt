@@ -1,11 +1,11 @@
-//! A convex hull for C: a static library over a [`Settled`](settled_set::Settled) [`BucketTree`](bucket_tree::BucketTree), whose header is
-//! `include/hull.h`.
+//! A convex hull for C: a static library over a [`Settled`](settled_set::Settled)
+//! [`BucketTree`](bucket_tree::BucketTree), whose header is `include/hull.h`.
 //!
-//! A hull lies in room that the caller gives. Changes and questions are one export, [`hull_call`], by their kind; the
-//! header has a function for each over it, but for the three questions that are asked most, which are exports of their own.
-//! An export lends the hull at the pointer to one plain function (`calls.rt`, `corners.rt`, `requests.rt`) and gives back its
-//! reply: what it promises is that function's contract. Its walk (`proofs/hull_*/Proof.antt`) shows that it lends the hull and
-//! takes it back.
+//! A set is in storage that the caller provides. Changes and questions are one export, [`hull_call`], by their kind;
+//! the header has a function for each over it, except for the three most frequent questions, which are exports of
+//! their own. An export passes a reference to the set at the pointer to one plain function (`calls.rt`, `corners.rt`,
+//! `requests.rt`) and returns its reply: the export promises that function's contract. Its walk
+//! (`proofs/hull_*/Proof.antt`) shows that it lends the set to the function and takes it back.
 #![tactic(auto)]
 
 ghost use Rattle.std.specs.Prelude.{◌≡◌};
@@ -63,11 +63,11 @@ pub use pairs::HullWitness;
 pub use requests::HullRequest;
 pub use threads::hulls_go_to_any_thread;
 
-/// Makes the call that a kind and two numbers ask for: a point or a direction, or nothing of them.
+/// Makes the call of a kind with two numbers: a point or a direction, or no meaning.
 ///
 /// # Safety
 ///
-/// A hull lies at `at`, and no other call on it is under way.
+/// `at` points to a set, and no other call on it is under way.
 #[unsafe(no_mangle)]
 pub unsafe extern "C" fn hull_call(at: *mut u8, kind: u32, x: i64, y: i64) -> HullReply
     ghost t: { the_row.Denot }
@@ -78,11 +78,11 @@ pub unsafe extern "C" fn hull_call(at: *mut u8, kind: u32, x: i64, y: i64) -> Hu
     calls::call(unsafe { &mut *hull }, kind, x, y)
 }
 
-/// Where the point (x, y) lies: what [`hull_call`] answers of that kind, in less time.
+/// Locates the point (x, y): the answer of [`hull_call`] for that kind, in less time.
 ///
 /// # Safety
 ///
-/// A hull lies at `at`, and no other call on it is under way.
+/// `at` points to a set, and no other call on it is under way.
 #[unsafe(no_mangle)]
 pub unsafe extern "C" fn hull_place(at: *mut u8, x: i64, y: i64) -> HullReply
     ghost t: { the_row.Denot }
@@ -93,11 +93,11 @@ pub unsafe extern "C" fn hull_place(at: *mut u8, x: i64, y: i64) -> HullReply
     calls::place(unsafe { &mut *hull }, x, y)
 }
 
-/// The tangent points seen from (x, y): what [`hull_call`] answers of that kind, in less time.
+/// Finds the tangent points seen from (x, y): the answer of [`hull_call`] for that kind, in less time.
 ///
 /// # Safety
 ///
-/// A hull lies at `at`, and no other call on it is under way.
+/// `at` points to a set, and no other call on it is under way.
 #[unsafe(no_mangle)]
 pub unsafe extern "C" fn hull_tangents(at: *mut u8, x: i64, y: i64) -> HullReply
     ghost t: { the_row.Denot }
@@ -108,11 +108,11 @@ pub unsafe extern "C" fn hull_tangents(at: *mut u8, x: i64, y: i64) -> HullReply
     calls::tangents(unsafe { &mut *hull }, x, y)
 }
 
-/// The farthest point in the direction (x, y): what [`hull_call`] answers of that kind, in less time.
+/// Finds the farthest point in the direction (x, y): the answer of [`hull_call`] for that kind, in less time.
 ///
 /// # Safety
 ///
-/// A hull lies at `at`, and no other call on it is under way.
+/// `at` points to a set, and no other call on it is under way.
 #[unsafe(no_mangle)]
 pub unsafe extern "C" fn hull_extreme(at: *mut u8, x: i64, y: i64) -> HullReply
     ghost t: { the_row.Denot }
@@ -123,12 +123,12 @@ pub unsafe extern "C" fn hull_extreme(at: *mut u8, x: i64, y: i64) -> HullReply
     calls::extreme(unsafe { &mut *hull }, x, y)
 }
 
-/// Counts a question to come: gathers the corners of the hull, where they are not known and are few beside the questions since
-/// the last change of them. Tells how many corners are known, or 0.
+/// Counts a question to come: gathers the vertices of the set if they are not known and are few compared with the
+/// questions since they last changed. Returns how many vertices are known, or 0.
 ///
 /// # Safety
 ///
-/// A hull lies at `at`, and no other call on it is under way.
+/// `at` points to a set, and no other call on it is under way.
 #[unsafe(no_mangle)]
 pub unsafe extern "C" fn hull_settle(at: *mut u8) -> HullReply
     ghost t: { the_row.Denot }
@@ -139,11 +139,11 @@ pub unsafe extern "C" fn hull_settle(at: *mut u8) -> HullReply
     calls::settle(unsafe { &mut *hull })
 }
 
-/// Writes the corners of the hull to the front of the array, counterclockwise from the first by x and then y.
+/// Writes the vertices of the set to the front of the array, counterclockwise from the first by x and then y.
 ///
 /// # Safety
 ///
-/// A hull lies at `at`, and no other call on it is under way.
+/// `at` points to a set, and no other call on it is under way.
 #[unsafe(no_mangle)]
 pub unsafe extern "C" fn hull_vertices(at: *mut u8, out: &mut [HullPoint]) -> HullReply
     ghost t: { the_row.Denot }
@@ -155,11 +155,11 @@ pub unsafe extern "C" fn hull_vertices(at: *mut u8, out: &mut [HullPoint]) -> Hu
 }
 
 /// Makes the calls of the requests in their order, up to the end of the shorter array or the first request that can't
-/// be served, and tells how many replies were written.
+/// be served, and returns how many replies were written.
 ///
 /// # Safety
 ///
-/// A hull lies at `at`, and no other call on it is under way.
+/// `at` points to a set, and no other call on it is under way.
 #[unsafe(no_mangle)]
 pub unsafe extern "C" fn hull_calls(
     at: *mut u8,
@@ -174,12 +174,11 @@ pub unsafe extern "C" fn hull_calls(
     requests::calls_of(unsafe { &mut *hull }, requests, replies)
 }
 
-/// Holds the points of the array, each as often as it stands there, in the place of all that the hull held; or leaves
-/// the hull as it was.
+/// Replaces all points of the set by those of the array, each as often as it is there; or leaves the set unchanged.
 ///
 /// # Safety
 ///
-/// A hull lies at `at`, and no other call on it is under way.
+/// `at` points to a set, and no other call on it is under way.
 #[unsafe(no_mangle)]
 pub unsafe extern "C" fn hull_load(at: *mut u8, alloc: Heap, points: &[HullPoint]) -> HullReply
     ghost t: { the_row.Denot }
@@ -190,12 +189,12 @@ pub unsafe extern "C" fn hull_load(at: *mut u8, alloc: Heap, points: &[HullPoint
     load::load(unsafe { &mut *hull }, alloc, points)
 }
 
-/// Holds the points of the array, which are in order by x and then y, each as often as it says, in the place of all that the
-/// hull held; or leaves the hull as it was.
+/// Replaces all points of the set by those of the array, which are in order by x and then y, each with its
+/// multiplicity; or leaves the set unchanged.
 ///
 /// # Safety
 ///
-/// A hull lies at `at`, and no other call on it is under way.
+/// `at` points to a set, and no other call on it is under way.
 #[unsafe(no_mangle)]
 pub unsafe extern "C" fn hull_load_held(at: *mut u8, alloc: Heap, held: &[HullHeld]) -> HullReply
     ghost t: { the_row.Denot }
@@ -206,12 +205,12 @@ pub unsafe extern "C" fn hull_load_held(at: *mut u8, alloc: Heap, held: &[HullHe
     held::load(unsafe { &mut *hull }, alloc, held)
 }
 
-/// Writes the points from (`x`, `y`) on by x and then y, each with how often it is held, to the front of the array, until
+/// Writes the points from (`x`, `y`) on by x and then y, each with its multiplicity, to the front of the array, until
 /// it is full or there are no more.
 ///
 /// # Safety
 ///
-/// A hull lies at `at`, and no other call on it is under way.
+/// `at` points to a set, and no other call on it is under way.
 #[unsafe(no_mangle)]
 pub unsafe extern "C" fn hull_held_from(
     at: *mut u8,
@@ -227,12 +226,12 @@ pub unsafe extern "C" fn hull_held_from(
     held::list(unsafe { &mut *hull }, x, y, out)
 }
 
-/// Writes the bridges that the forks of a level of the tree store to the front of the array, from left to right; the root
-/// stands on level 0.
+/// Writes the bridges that the forks of a level of the tree store to the front of the array, from left to right; the
+/// root is on level 0.
 ///
 /// # Safety
 ///
-/// A hull lies at `at`, and no other call on it is under way.
+/// `at` points to a set, and no other call on it is under way.
 #[unsafe(no_mangle)]
 pub unsafe extern "C" fn hull_bridges(at: *mut u8, level: u32, out: &mut [HullBridge]) -> HullReply
     ghost t: { the_row.Denot }
@@ -243,11 +242,11 @@ pub unsafe extern "C" fn hull_bridges(at: *mut u8, level: u32, out: &mut [HullBr
     bridges::bridges(unsafe { &mut *hull }, level, out)
 }
 
-/// Takes all points out of the hull.
+/// Removes all points from the set.
 ///
 /// # Safety
 ///
-/// A hull lies at `at`, and no other call on it is under way.
+/// `at` points to a set, and no other call on it is under way.
 #[unsafe(no_mangle)]
 pub unsafe extern "C" fn hull_clear(at: *mut u8, alloc: Heap) -> HullReply
     ghost t: { the_row.Denot }
@@ -258,11 +257,11 @@ pub unsafe extern "C" fn hull_clear(at: *mut u8, alloc: Heap) -> HullReply
     calls::clear(unsafe { &mut *hull }, alloc)
 }
 
-/// How many points the hull takes.
+/// Returns how many points the set takes.
 ///
 /// # Safety
 ///
-/// A hull lies at `at`, and no other call on it is under way.
+/// `at` points to a set, and no other call on it is under way.
 #[unsafe(no_mangle)]
 pub unsafe extern "C" fn hull_limit(at: *mut u8) -> HullReply
     ghost t: { the_row.Denot }
@@ -273,8 +272,8 @@ pub unsafe extern "C" fn hull_limit(at: *mut u8) -> HullReply
     calls::limit(unsafe { &mut *hull })
 }
 
-/// Asks an array of corners, as [`hull_vertices`] writes them, what a kind and two numbers ask of the set that they are of.
-/// Nothing is written, so that any number of threads may ask one array at once.
+/// Asks an array of vertices, as [`hull_vertices`] writes them, what a kind and two numbers ask of the set that they
+/// are of. Nothing is written, so any number of threads may ask one array at once.
 #[unsafe(no_mangle)]
 pub extern "C" fn hull_outline_call(corners: &[Point], kind: u32, x: i64, y: i64) -> HullReply
     requires { IsShortOutline corners.now }
@@ -283,7 +282,7 @@ pub extern "C" fn hull_outline_call(corners: &[Point], kind: u32, x: i64, y: i64
     outline::ask(corners, kind, x, y)
 }
 
-/// Asks an array of corners what each of the requests asks for, up to the end of the shorter array, and tells how many replies
+/// Asks an array of vertices each of the requests, up to the end of the shorter array, and returns how many replies
 /// were written.
 #[unsafe(no_mangle)]
 pub extern "C" fn hull_outline_calls(
@@ -297,7 +296,8 @@ pub extern "C" fn hull_outline_calls(
     outline::ask_all(corners, requests, replies)
 }
 
-/// Tells whether the hull of these corners and the segment from (ax, ay) to (bx, by) have a point in common: 1, or 0.
+/// Returns 1 if the convex polygon of these vertices and the segment from (ax, ay) to (bx, by) have a point in
+/// common, else 0.
 #[unsafe(no_mangle)]
 pub extern "C" fn hull_outline_meets_segment(
     corners: &[Point],
@@ -312,8 +312,8 @@ pub extern "C" fn hull_outline_meets_segment(
     findings::meets_segment(corners, ax, ay, bx, by)
 }
 
-/// A direction that parts the hull of these corners from the segment from (ax, ay) to (bx, by), with the farthest of the
-/// corners in it; or that they meet.
+/// Finds a direction that separates the convex polygon of these vertices from the segment from (ax, ay) to (bx, by),
+/// with the farthest vertex in it; or finds that they intersect.
 #[unsafe(no_mangle)]
 pub extern "C" fn hull_outline_apart(
     corners: &[Point],
@@ -328,7 +328,7 @@ pub extern "C" fn hull_outline_apart(
     findings::apart(corners, ax, ay, bx, by)
 }
 
-/// The corner or the edge of these corners' hull that is nearest to (x, y); or that it covers that point.
+/// Finds the vertex or the edge of the convex polygon that is nearest to (x, y); or finds that it covers that point.
 #[unsafe(no_mangle)]
 pub extern "C" fn hull_outline_nearest(corners: &[Point], x: i64, y: i64) -> HullReply
     requires { IsShortOutline corners.now }
@@ -337,7 +337,8 @@ pub extern "C" fn hull_outline_nearest(corners: &[Point], x: i64, y: i64) -> Hul
     findings::nearest(corners, x, y)
 }
 
-/// The least and the greatest point of the smallest box, with sides along the axes, that holds the corners.
+/// Returns the least and the greatest point of the smallest box, with sides along the axes, that contains the
+/// vertices.
 #[unsafe(no_mangle)]
 pub extern "C" fn hull_outline_box(corners: &[Point]) -> HullReply
     requires { IsShortOutline corners.now }
@@ -346,7 +347,7 @@ pub extern "C" fn hull_outline_box(corners: &[Point]) -> HullReply
     findings::bounding_box(corners)
 }
 
-/// How far the hull of these corners reaches in the direction (x, y): the greatest product less the least.
+/// Returns the extent of the convex polygon in the direction (x, y): the greatest product minus the least.
 #[unsafe(no_mangle)]
 pub extern "C" fn hull_outline_width(corners: &[Point], x: i64, y: i64) -> HullReply
     requires { IsShortOutline corners.now }
@@ -355,7 +356,7 @@ pub extern "C" fn hull_outline_width(corners: &[Point], x: i64, y: i64) -> HullR
     findings::width(corners, x, y)
 }
 
-/// The two corners that are farthest from one another.
+/// Returns the two vertices that are farthest from one another.
 #[unsafe(no_mangle)]
 pub extern "C" fn hull_outline_diameter(corners: &[Point]) -> HullReply
     requires { IsShortOutline corners.now }
@@ -364,7 +365,7 @@ pub extern "C" fn hull_outline_diameter(corners: &[Point]) -> HullReply
     findings::diameter(corners)
 }
 
-/// The edge and the corner between whose parallels the hull of these corners is least wide.
+/// Returns the edge and the vertex between whose parallels the convex polygon has its least width.
 #[unsafe(no_mangle)]
 pub extern "C" fn hull_outline_least_width(corners: &[Point]) -> HullWitness
     requires { IsShortOutline corners.now }
@@ -373,7 +374,7 @@ pub extern "C" fn hull_outline_least_width(corners: &[Point]) -> HullWitness
     pairs::least_width(corners)
 }
 
-/// Tells whether the hulls of two arrays of corners have a point in common: 1, or 0.
+/// Returns 1 if the convex polygons of two arrays of vertices have a point in common, else 0.
 #[unsafe(no_mangle)]
 pub extern "C" fn hull_outline_meets(corners: &[Point], others: &[Point]) -> HullReply
     requires this { IsShortOutline corners.now }
@@ -383,7 +384,7 @@ pub extern "C" fn hull_outline_meets(corners: &[Point], others: &[Point]) -> Hul
     pairs::meets(corners, others)
 }
 
-/// Tells whether the hull of the first corners holds that of the others: 1, or 0.
+/// Returns 1 if the convex polygon of the first vertices contains that of the others, else 0.
 #[unsafe(no_mangle)]
 pub extern "C" fn hull_outline_contains(corners: &[Point], others: &[Point]) -> HullReply
     requires this { IsShortOutline corners.now }
@@ -393,7 +394,7 @@ pub extern "C" fn hull_outline_contains(corners: &[Point], others: &[Point]) -> 
     pairs::contains(corners, others)
 }
 
-/// Where the hulls of two arrays of corners meet, or what parts them.
+/// Finds where the convex polygons of two arrays of vertices intersect, or a direction that separates them.
 #[unsafe(no_mangle)]
 pub extern "C" fn hull_outline_witness(corners: &[Point], others: &[Point]) -> HullWitness
     requires this { IsShortOutline corners.now }
@@ -403,8 +404,9 @@ pub extern "C" fn hull_outline_witness(corners: &[Point], others: &[Point]) -> H
     pairs::witness(corners, others)
 }
 
-/// How the hull of an array of corners stands to that of another one: 0 where they are apart, 1 where they touch, 2 where they
-/// overlap, 3 where the first is within the second, 4 where it covers that, 5 where they are equal.
+/// Returns the relation of the convex polygon of an array of vertices to that of another one: 0 if they are disjoint,
+/// 1 if they touch, 2 if they overlap, 3 if the first is within the second, 4 if it covers the second, 5 if they are
+/// equal.
 #[unsafe(no_mangle)]
 pub extern "C" fn hull_outline_relation(corners: &[Point], others: &[Point]) -> HullReply
     requires this { IsShortOutline corners.now }
@@ -414,8 +416,8 @@ pub extern "C" fn hull_outline_relation(corners: &[Point], others: &[Point]) -> 
     pairs::relation(corners, others)
 }
 
-/// Tells whether all of the hull of the second array of corners lies inside that of the first, with no point of it on the
-/// boundary: 1, or 0.
+/// Returns 1 if all of the convex polygon of the second array of vertices is inside that of the first, with no point
+/// of it on the boundary, else 0.
 #[unsafe(no_mangle)]
 pub extern "C" fn hull_outline_contains_inside(corners: &[Point], others: &[Point]) -> HullReply
     requires this { IsShortOutline corners.now }
@@ -425,8 +427,8 @@ pub extern "C" fn hull_outline_contains_inside(corners: &[Point], others: &[Poin
     pairs::contains_inside(corners, others)
 }
 
-/// Tells whether the hulls of two arrays of corners are no farther apart than `numerator / denominator`: 1, or 0, also where
-/// one is empty. With the denominator 0 the length is longer than any distance.
+/// Returns 1 if the distance of the convex polygons of two arrays of vertices is at most `numerator / denominator`,
+/// else 0, also if one is empty. With the denominator 0 the length is greater than any distance.
 #[unsafe(no_mangle)]
 pub extern "C" fn hull_outline_within(
     corners: &[Point],
@@ -445,7 +447,7 @@ pub extern "C" fn hull_outline_within(
     pairs::is_within(corners, others, length)
 }
 
-/// How far the hulls of two arrays of corners are apart: where they are nearest to one another.
+/// Returns the distance of the convex polygons of two arrays of vertices: where they are nearest to one another.
 #[unsafe(no_mangle)]
 pub extern "C" fn hull_outline_distance(corners: &[Point], others: &[Point]) -> HullWitness
     requires this { IsShortOutline corners.now }
@@ -455,7 +457,8 @@ pub extern "C" fn hull_outline_distance(corners: &[Point], others: &[Point]) -> 
     pairs::distance(corners, others)
 }
 
-/// How far the hulls of two arrays of corners are apart: the doubles next to the distance, and its square as a fraction.
+/// Returns the distance of the convex polygons of two arrays of vertices: the doubles next to it, and its square as a
+/// fraction.
 #[unsafe(no_mangle)]
 pub extern "C" fn hull_outline_clearance(corners: &[Point], others: &[Point]) -> HullClearance
     requires this { IsShortOutline corners.now }
@@ -465,7 +468,8 @@ pub extern "C" fn hull_outline_clearance(corners: &[Point], others: &[Point]) ->
     clearances::between(corners, others)
 }
 
-/// How far the hull of these corners is from the segment from (ax, ay) to (bx, by), which may be one point.
+/// Returns the distance of the convex polygon of these vertices from the segment from (ax, ay) to (bx, by), which may
+/// be one point.
 #[unsafe(no_mangle)]
 pub extern "C" fn hull_outline_clearance_to_segment(
     corners: &[Point],
@@ -480,7 +484,7 @@ pub extern "C" fn hull_outline_clearance_to_segment(
     clearances::to_segment(corners, ax, ay, bx, by)
 }
 
-/// How one distance stands to another, by their fractions: -1 where it is less, 0 where they are equal, 1 where it is greater.
+/// Compares two distances by their fractions: -1 if the first is less, 0 if they are equal, 1 if it is greater.
 #[unsafe(no_mangle)]
 pub extern "C" fn hull_clearance_compare(this: &HullClearance, that: &HullClearance) -> i32
     ensures { ComparesAs (square_of this.now) (square_of that.now) result }
@@ -488,8 +492,8 @@ pub extern "C" fn hull_clearance_compare(this: &HullClearance, that: &HullCleara
     clearances::compare(this, that)
 }
 
-/// Tells whether the hull of these corners and the segment from (ax, ay) to (bx, by), which may be one point, are no farther apart
-/// than `numerator / denominator`: 1, or 0, also where there are no corners.
+/// Returns 1 if the distance of the convex polygon of these vertices and the segment from (ax, ay) to (bx, by), which
+/// may be one point, is at most `numerator / denominator`, else 0, also if there are no vertices.
 #[unsafe(no_mangle)]
 pub extern "C" fn hull_outline_within_segment(
     corners: &[Point],
@@ -511,7 +515,8 @@ pub extern "C" fn hull_outline_within_segment(
     clearances::is_within_of_segment(corners, ax, ay, bx, by, length)
 }
 
-/// How the hull of these corners stands to the segment from (ax, ay) to (bx, by), by the numbers of [`hull_outline_relation`].
+/// Returns the relation of the convex polygon of these vertices to the segment from (ax, ay) to (bx, by), by the
+/// numbers of [`hull_outline_relation`].
 #[unsafe(no_mangle)]
 pub extern "C" fn hull_outline_relation_to_segment(
     corners: &[Point],
@@ -526,7 +531,8 @@ pub extern "C" fn hull_outline_relation_to_segment(
     clearances::relation_to_segment(corners, ax, ay, bx, by)
 }
 
-/// Where the ray from (x, y) in the direction (dx, dy) first comes into the hull of these corners, and how far on it that is.
+/// Finds the entry of the ray from (x, y) in the direction (dx, dy) into the convex polygon of these vertices, and
+/// how far along the ray it is.
 #[unsafe(no_mangle)]
 pub extern "C" fn hull_outline_cast_ray(
     corners: &[Point],
@@ -541,7 +547,8 @@ pub extern "C" fn hull_outline_cast_ray(
     casts::cast_ray(corners, x, y, dx, dy)
 }
 
-/// The last point in the hull of these corners of the ray from (x, y) in the direction (dx, dy), and how far on it that is.
+/// Finds the exit of the ray from (x, y) in the direction (dx, dy): its last point in the convex polygon of these
+/// vertices, and how far along the ray it is.
 #[unsafe(no_mangle)]
 pub extern "C" fn hull_outline_last_on_ray(
     corners: &[Point],
@@ -556,7 +563,8 @@ pub extern "C" fn hull_outline_last_on_ray(
     casts::last_on_ray(corners, x, y, dx, dy)
 }
 
-/// Where the segment from (ax, ay) to (bx, by) first comes into the hull of these corners, and how far on it that is.
+/// Finds the entry of the segment from (ax, ay) to (bx, by) into the convex polygon of these vertices, and how far
+/// along the segment it is.
 #[unsafe(no_mangle)]
 pub extern "C" fn hull_outline_cast_segment(
     corners: &[Point],
@@ -571,7 +579,7 @@ pub extern "C" fn hull_outline_cast_segment(
     casts::cast_segment(corners, ax, ay, bx, by)
 }
 
-/// Tells whether points are the corners of a set in the order in which [`hull_vertices`] writes them: 1, or 0.
+/// Returns 1 if the points are the vertices of a set in the order in which [`hull_vertices`] writes them, else 0.
 #[unsafe(no_mangle)]
 pub extern "C" fn hull_is_outline(alloc: Heap, points: &[HullPoint]) -> HullReply
     ensures { TellsOutline points.now result }
@@ -579,7 +587,7 @@ pub extern "C" fn hull_is_outline(alloc: Heap, points: &[HullPoint]) -> HullRepl
     outline::judge(alloc, points)
 }
 
-/// Writes the corners of any points to the front of the array, as [`hull_vertices`] those of a hull of them.
+/// Writes the vertices of any points to the front of the array, as [`hull_vertices`] does for a set of them.
 #[unsafe(no_mangle)]
 pub extern "C" fn hull_outline_of(
     alloc: Heap,
@@ -591,7 +599,7 @@ pub extern "C" fn hull_outline_of(
     corners_of::corners_of(alloc, points, out)
 }
 
-/// How many bytes the room of a hull has.
+/// Returns the size of the storage of a set, in bytes.
 #[unsafe(no_mangle)]
 pub extern "C" fn hull_size() -> usize
     ensures { result ≡ room_size the_row }
@@ -599,7 +607,7 @@ pub extern "C" fn hull_size() -> usize
     size_of::<Hull>()
 }
 
-/// At which multiples of bytes the room of a hull begins.
+/// Returns the alignment of the storage of a set, in bytes.
 #[unsafe(no_mangle)]
 pub extern "C" fn hull_alignment() -> usize
     ensures { result ≡ room_alignment the_row }
@@ -607,8 +615,8 @@ pub extern "C" fn hull_alignment() -> usize
     align_of::<Hull>()
 }
 
-/// Makes an empty hull in a room: one that takes `limit` points, or the greatest number of points where `limit` is 0 or
-/// above that. It owns no memory as long as it is empty.
+/// Makes an empty set in its storage: one that takes `limit` points, or the greatest number of points if `limit` is 0
+/// or above that. It owns no memory as long as it is empty.
 ///
 /// # Safety
 ///
@@ -623,11 +631,11 @@ pub unsafe extern "C" fn hull_make(alloc: Heap, limit: u32, room: *mut u8)
     unsafe { at.write(hull) };
 }
 
-/// Ends a hull: all its memory is freed, and its room comes back. It returns 0.
+/// Ends a set: frees all its memory, and its storage is the caller's again. Returns 0.
 ///
 /// # Safety
 ///
-/// A hull lies at `at`, and no other call on it is under way.
+/// `at` points to a set, and no other call on it is under way.
 #[unsafe(no_mangle)]
 pub unsafe extern "C" fn hull_end(at: *mut u8) -> u32
     ghost t: { the_row.Denot }

@@ -1,4 +1,4 @@
-//! All points of a hull at once, from an array of the caller's.
+//! All points of a set at once, from an array of the caller's.
 ghost use Rattle.std.specs.Prelude.{◌≡◌, ◌↔◌, IsTrue, IfOk, IfErr};
 ghost use Rattle.std.specs.List.{All};
 ghost use Rattle.hull_reply.specs.Coordinates.{IsPointOf};
@@ -12,7 +12,7 @@ use hull_set::HullSet;
 use lattice::Point;
 use leaf_trees::{Listed, LoadFault};
 
-/// The point of these coordinates; [`Code::OutOfRange`] where one of them is none.
+/// Returns the point of these coordinates. Fails with [`Code::OutOfRange`] if one of them is out of range.
 fn read(asked: HullPoint) -> Result<Point, Code>
     ensures { IsPointOf asked.x asked.y result }
 {
@@ -26,7 +26,8 @@ fn are_points(array: &[HullPoint]) -> bool
     array.iter().all(|asked| read(*asked).is_ok())
 }
 
-/// The points of an array: [`Code::OutOfRange`] exactly where one of them is none, and else [`Code::NoMemory`].
+/// Returns the points of an array. Fails with [`Code::OutOfRange`] exactly if one of them is out of range, and else
+/// with [`Code::NoMemory`].
 pub(crate) fn points_of(alloc: Heap, array: &[HullPoint]) -> Result<Vec<Point, Heap>, Code>
     ensures all { IfOk result (λ points. (points.items ≡ array.now) × All HasCoordinates array.now) }
     ensures fault { IfErr result (IsUnread array.now) }
@@ -45,7 +46,7 @@ pub(crate) fn points_of(alloc: Heap, array: &[HullPoint]) -> Result<Vec<Point, H
     Ok(points)
 }
 
-/// Holds the points of an array, each as often as it stands there, in the place of all that was held.
+/// Replaces all points by those of an array, each as often as it is there.
 pub(crate) fn load(hull: &mut Hull, alloc: Heap, array: &[HullPoint]) -> HullReply
     ensures { IsLoaded array.now hull.old hull.new result }
 {

@@ -1,4 +1,4 @@
-//! Questions about an array of corners.
+//! Questions about an array of vertices.
 ghost use Rattle.std.specs.Prelude.{◌≡◌, ◌↔◌, ◌<◌, IsTrue, length, Ok};
 ghost use Rattle.hull_outline.specs.Outlines.{IsShortOutline};
 ghost use Rattle.hull_outline.specs.Lent.{corners_of};
@@ -13,35 +13,35 @@ use hull_reply::{Code, HullPoint, HullReply, Kind, Request, request_of, told};
 use hull_set::{Call, Reply, extreme_reply, tangents_reply};
 use lattice::{Direction, Point};
 
-/// Where a point lies.
+/// Locates a point.
 fn place(outline: &Outline, q: Point) -> HullReply
     ensures { IsAllowedFor (corners_of outline.now) (Call.Place q) result }
 {
     told(Reply::Lies(outline.place(q)))
 }
 
-/// The tangents from a point.
+/// Finds the tangents from a point.
 fn tangents(outline: &Outline, q: Point) -> HullReply
     ensures { IsAllowedFor (corners_of outline.now) (Call.Tangents q) result }
 {
     told(tangents_reply(outline.tangents(q)))
 }
 
-/// The farthest point in a direction.
+/// Finds the farthest point in a direction.
 fn extreme(outline: &Outline, d: Direction) -> HullReply
     ensures { IsAllowedFor (corners_of outline.now) (Call.Extreme d) result }
 {
     told(extreme_reply(outline.extreme(d)))
 }
 
-/// The doubled area.
+/// Returns the doubled area.
 fn area(outline: &Outline) -> HullReply
     ensures { IsAllowedFor (corners_of outline.now) Call.Area result }
 {
     told(Reply::DoubledArea(outline.area2()))
 }
 
-/// Asks an outline what a call asks of the set that it is of.
+/// Asks a convex polygon what a call asks of the set that it is of.
 fn answer(outline: &Outline, call: Call) -> HullReply
     ensures { IsAskedOf (corners_of outline.now) (Ok (request.Call call)) result }
 {
@@ -55,14 +55,14 @@ fn answer(outline: &Outline, call: Call) -> HullReply
     }
 }
 
-/// Whether corners can be asked for what a kind asks for.
+/// Whether vertices can be asked the call of a kind.
 fn is_outline_kind(kind: u32) -> bool
     ensures { IsTrue result ↔ IsOutlineKind kind }
 {
     (Kind::Place as u32..=Kind::Area as u32).contains(&kind)
 }
 
-/// Asks an outline what a kind and two numbers ask for.
+/// Asks a convex polygon the call of a kind with two numbers.
 fn answer_to(outline: &Outline, asked: HullRequest) -> HullReply
     ensures { IsOutlineAnswer (corners_of outline.now) asked.kind asked.x asked.y result }
 {
@@ -76,7 +76,7 @@ fn answer_to(outline: &Outline, asked: HullRequest) -> HullReply
     }
 }
 
-/// Asks an outline what the request at a place asks for.
+/// Asks a convex polygon the request at an index.
 fn answer_at(outline: &Outline, requests: &[HullRequest], i: usize) -> HullReply
     requires { i < length requests.now }
     ensures { AnswersAt (corners_of outline.now) requests.now i result }
@@ -84,7 +84,7 @@ fn answer_at(outline: &Outline, requests: &[HullRequest], i: usize) -> HullReply
     answer_to(outline, requests[i])
 }
 
-/// Asks the corners what a kind and two numbers ask for.
+/// Asks the vertices the call of a kind with two numbers.
 pub(crate) fn ask(corners: &[Point], kind: u32, x: i64, y: i64) -> HullReply
     requires { IsShortOutline corners.now }
     ensures { IsOutlineAnswer corners.now kind x y result }
@@ -92,7 +92,7 @@ pub(crate) fn ask(corners: &[Point], kind: u32, x: i64, y: i64) -> HullReply
     answer_to(&Outline::of_vertices(corners), HullRequest { kind, x, y })
 }
 
-/// Asks the corners what each of the requests asks for, up to the end of the shorter array, and tells how many replies were
+/// Asks the vertices each of the requests, up to the end of the shorter array, and returns how many replies were
 /// written.
 pub(crate) fn ask_all(
     corners: &[Point],
@@ -110,7 +110,7 @@ pub(crate) fn ask_all(
     count
 }
 
-/// Tells whether the points of an array are an outline.
+/// Whether the points of an array are a convex polygon.
 pub(crate) fn judge(alloc: Heap, array: &[HullPoint]) -> HullReply
     ensures { TellsOutline array.now result }
 {

@@ -1,4 +1,4 @@
-//! Two arrays of corners, and strips round one.
+//! Two arrays of vertices, and strips round one.
 ghost use Rattle.std.specs.Prelude.{◌≡◌, Some};
 ghost use Rattle.hull_geometry.specs.Positions.{origin};
 ghost use Rattle.hull_outline.specs.Outlines.{IsShortOutline};
@@ -11,8 +11,8 @@ use hull_outline::{Distance, Length, Meeting, Outline, Relation, Separation, Str
 use hull_reply::{Code, HullPoint, HullReply};
 use lattice::Point;
 
-/// What shows that two outlines meet, or that they are apart: the number of a code, and up to four points,
-/// as the header says at its name; all else is 0.
+/// A witness that two convex polygons intersect, or that they are disjoint: the number of a code, and up to four
+/// points, as the header says at its name; all else is 0.
 #[repr(C)]
 #[derive(Clone, Copy)]
 pub struct HullWitness {
@@ -28,7 +28,7 @@ pub struct HullWitness {
     pub d: HullPoint,
 }
 
-/// A code alone.
+/// Makes a reply with only a code.
 fn bare(code: Code) -> HullWitness
     ensures { IsShown code origin origin origin origin result }
 {
@@ -42,7 +42,7 @@ fn bare(code: Code) -> HullWitness
     }
 }
 
-/// A code with a point.
+/// Makes a reply with a code and a point.
 fn at(code: Code, p: Point) -> HullWitness
     ensures { IsShown code p origin origin origin result }
 {
@@ -52,7 +52,7 @@ fn at(code: Code, p: Point) -> HullWitness
     }
 }
 
-/// Two segments that cross.
+/// Makes the reply for two segments that cross.
 fn crossing(a: Point, b: Point, c: Point, d: Point) -> HullWitness
     ensures { IsShown Code.Crossing a b c d result }
 {
@@ -64,7 +64,7 @@ fn crossing(a: Point, b: Point, c: Point, d: Point) -> HullWitness
     }
 }
 
-/// Where two outlines meet.
+/// Makes the reply for an intersection of two convex polygons.
 fn met(meeting: Meeting) -> HullWitness
     ensures { IsWitnessTold (Some (witness.Meets meeting)) result }
 {
@@ -75,7 +75,7 @@ fn met(meeting: Meeting) -> HullWitness
     }
 }
 
-/// What parts them.
+/// Makes the reply for a separating direction.
 fn parted(found: Separation) -> HullWitness
     ensures { IsWitnessTold (Some (witness.Apart found)) result }
 {
@@ -89,7 +89,7 @@ fn parted(found: Separation) -> HullWitness
     }
 }
 
-/// What was found.
+/// Makes the reply for a witness.
 fn shown(found: Witness) -> HullWitness
     ensures { IsWitnessTold (Some found) result }
 {
@@ -99,7 +99,7 @@ fn shown(found: Witness) -> HullWitness
     }
 }
 
-/// What was found, if anything.
+/// Makes the reply for a witness, if there is one.
 fn shown_of(found: Option<Witness>) -> HullWitness
     ensures { IsWitnessTold found result }
 {
@@ -109,7 +109,7 @@ fn shown_of(found: Option<Witness>) -> HullWitness
     }
 }
 
-/// What shows how two outlines stand to each other.
+/// Finds a witness of the relation of two convex polygons.
 pub(crate) fn witness(corners: &[Point], others: &[Point]) -> HullWitness
     requires this { IsShortOutline corners.now }
     requires that { IsShortOutline others.now }
@@ -118,7 +118,7 @@ pub(crate) fn witness(corners: &[Point], others: &[Point]) -> HullWitness
     shown_of(Outline::of_vertices(corners).witness(&Outline::of_vertices(others)))
 }
 
-/// Whether two outlines meet.
+/// Whether two convex polygons intersect.
 pub(crate) fn meets(corners: &[Point], others: &[Point]) -> HullReply
     requires this { IsShortOutline corners.now }
     requires that { IsShortOutline others.now }
@@ -128,7 +128,7 @@ pub(crate) fn meets(corners: &[Point], others: &[Point]) -> HullReply
     HullReply::numbered(Code::Number, u64::from(meets))
 }
 
-/// Whether the first outline holds the second.
+/// Whether the first convex polygon contains the second.
 pub(crate) fn contains(corners: &[Point], others: &[Point]) -> HullReply
     requires this { IsShortOutline corners.now }
     requires that { IsShortOutline others.now }
@@ -138,7 +138,7 @@ pub(crate) fn contains(corners: &[Point], others: &[Point]) -> HullReply
     HullReply::numbered(Code::Number, u64::from(holds))
 }
 
-/// The number of the header for how one outline stands to another.
+/// Returns the header's number for the relation of two convex polygons.
 pub(crate) fn number_of(relation: Relation) -> u64
     ensures { result ≡ relation_number relation }
 {
@@ -154,7 +154,7 @@ pub(crate) fn number_of(relation: Relation) -> u64
     }
 }
 
-/// How the first outline stands to the second.
+/// Returns the relation of the first convex polygon to the second.
 pub(crate) fn relation(corners: &[Point], others: &[Point]) -> HullReply
     requires this { IsShortOutline corners.now }
     requires that { IsShortOutline others.now }
@@ -164,7 +164,7 @@ pub(crate) fn relation(corners: &[Point], others: &[Point]) -> HullReply
     HullReply::numbered(Code::Number, number_of(found))
 }
 
-/// Whether all of the second outline lies inside the first.
+/// Whether all of the second convex polygon is inside the first.
 pub(crate) fn contains_inside(corners: &[Point], others: &[Point]) -> HullReply
     requires this { IsShortOutline corners.now }
     requires that { IsShortOutline others.now }
@@ -174,7 +174,7 @@ pub(crate) fn contains_inside(corners: &[Point], others: &[Point]) -> HullReply
     HullReply::numbered(Code::Number, u64::from(holds))
 }
 
-/// Whether two outlines are within a length of one another.
+/// Whether the distance of two convex polygons is at most a length.
 pub(crate) fn is_within(corners: &[Point], others: &[Point], length: Length) -> HullReply
     requires this { IsShortOutline corners.now }
     requires that { IsShortOutline others.now }
@@ -184,7 +184,7 @@ pub(crate) fn is_within(corners: &[Point], others: &[Point], length: Length) -> 
     HullReply::numbered(Code::Number, u64::from(is_within))
 }
 
-/// A code with two points.
+/// Makes a reply with a code and two points.
 fn with_two(code: Code, a: Point, b: Point) -> HullWitness
     ensures { IsShown code a b origin origin result }
 {
@@ -194,7 +194,7 @@ fn with_two(code: Code, a: Point, b: Point) -> HullWitness
     }
 }
 
-/// A code with three points.
+/// Makes a reply with a code and three points.
 fn with_three(code: Code, a: Point, b: Point, c: Point) -> HullWitness
     ensures { IsShown code a b c origin result }
 {
@@ -204,14 +204,14 @@ fn with_three(code: Code, a: Point, b: Point, c: Point) -> HullWitness
     }
 }
 
-/// The strip of an edge.
+/// Makes the reply for the strip of an edge.
 fn strip(found: Strip) -> HullWitness
     ensures { IsStripTold (Some found) result }
 {
     with_three(Code::Edge, found.from, found.to, found.farthest)
 }
 
-/// A strip, if there is one.
+/// Makes the reply for a strip, if there is one.
 fn strip_of(found: Option<Strip>) -> HullWitness
     ensures { IsStripTold found result }
 {
@@ -221,7 +221,7 @@ fn strip_of(found: Option<Strip>) -> HullWitness
     }
 }
 
-/// Where the corners are least wide.
+/// Finds the least width of the vertices.
 pub(crate) fn least_width(corners: &[Point]) -> HullWitness
     requires { IsShortOutline corners.now }
     ensures { TellsLeastWidth corners.now result }
@@ -229,7 +229,7 @@ pub(crate) fn least_width(corners: &[Point]) -> HullWitness
     strip_of(Outline::of_vertices(corners).least_width())
 }
 
-/// Where two outlines are nearest to one another.
+/// Makes the reply for where two convex polygons are nearest to one another.
 fn closest(found: Distance) -> HullWitness
     ensures { IsDistanceTold (Some found) result }
 {
@@ -241,7 +241,7 @@ fn closest(found: Distance) -> HullWitness
     }
 }
 
-/// Where two outlines are nearest to one another, if both have corners.
+/// Makes the reply for where two convex polygons are nearest to one another, if both have vertices.
 fn closest_of(found: Option<Distance>) -> HullWitness
     ensures { IsDistanceTold found result }
 {
@@ -251,7 +251,7 @@ fn closest_of(found: Option<Distance>) -> HullWitness
     }
 }
 
-/// How far two outlines are apart.
+/// Returns the distance of two convex polygons.
 pub(crate) fn distance(corners: &[Point], others: &[Point]) -> HullWitness
     requires this { IsShortOutline corners.now }
     requires that { IsShortOutline others.now }

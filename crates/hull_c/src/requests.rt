@@ -18,7 +18,7 @@ pub struct HullRequest {
     pub y: i64,
 }
 
-/// Counts a question that the corners answer.
+/// Counts a question that the vertices answer.
 fn count_question(hull: &mut Hull, kind: u32)
     ensures { hull.new ≡ hull.old }
 {
@@ -27,7 +27,7 @@ fn count_question(hull: &mut Hull, kind: u32)
     }
 }
 
-/// Serves what a request asks for, and counts it.
+/// Serves a request, and counts it.
 fn answer(hull: &mut Hull, request: HullRequest) -> HullReply
     ensures { AnswersRequest request hull.old hull.new result }
 {
@@ -45,7 +45,7 @@ fn is_bad(code: u32) -> bool
 }
 
 /// Makes the calls in their order, up to the end of the shorter array or the first request that can't be served, and
-/// tells how many replies were written.
+/// returns how many replies were written.
 pub(crate) fn calls_of(
     hull: &mut Hull,
     requests: &[HullRequest],

@@ -8,7 +8,7 @@ use Rattle.hull_draw.specs.declared.marks.Mark.{Mark}
 use Rattle.hull_draw.specs.declared.frame.Frame.{Frame}
 use Rattle.hull_draw.specs.Frames.{IsWithin, IsMarked, IsEither, Widens}
 
--- these marks lie between the edges
+-- these marks are between the edges
 abbrev pub Holds : Frame → List Mark → Type 0
 Holds frame marks = All (λ m. IsWithin frame m.point) marks
 
@@ -19,7 +19,7 @@ pub record IsOfMarks (marks : List Mark) (frame : Frame) : Type 0 where
   pub top : IsMarked marks frame.top
   pub bottom : IsMarked marks frame.bottom
 
--- a frame that was widened holds one mark more
+-- a frame that was widened contains one mark more
 pub holds_more : (marks : List Mark) (i : ℕ) (m : Mark) (f g : Frame) → i < length marks → m ≡ get_or marks i m
     → Widens f m.point g → Holds f (take i marks) → Holds g (take (i + 1) marks)
 holds_more marks i m f g lt e w so_far = All-more (λ n. IsWithin g n.point) marks i m lt
@@ -41,6 +41,6 @@ of_marks_more marks i m f g lt e w so_far = record {
   bottom = either_marked marks m f.bottom g.bottom (i, lt, sym e) so_far.bottom w.bottom;
 }
 
--- it holds all marks at the end
+-- it contains all marks at the end
 pub holds_all : (marks : List Mark) (i : ℕ) (f : Frame) → length marks ≤ i → Holds f (take i marks) → Holds f marks
 holds_all marks i f h all = subst (Holds f) (take_all i marks h) all

@@ -5,7 +5,7 @@ use Rattle.hull_draw.specs.declared.frame.Frame.{Frame}
 use Rattle.hull_draw.specs.FilmTexts.{frames_text, frame_start_text, shot_text}
 use Rattle.hull_draw.specs.Scenes.{SceneValue}
 
--- a frame's text stands before those of the others
+-- a frame's text comes before those of the others
 pub frames_cons : (size : ℕ) (frame : Option Frame) (count k : ℕ) (scene : SceneValue) (scenes rest : List SceneValue)
     (line : Line) (lines left : List Line)
     → rest ≡ scene ∷ scenes → left ≡ line ∷ lines
@@ -25,7 +25,7 @@ unfolding frames_text
 frames_none size frame count k [] left e = refl
 frames_none size frame count k (s ∷ ss) left e = absurd (omega (arith, e))
 
--- nor have scenes without lines
+-- scenes without lines have no frames
 pub frames_no_lines : (size : ℕ) (frame : Option Frame) (count k : ℕ) (rest : List SceneValue) (left : List Line)
     → length left ≡ 0 → frames_text size frame count k rest left ≡ []
 unfolding frames_text

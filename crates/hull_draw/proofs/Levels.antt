@@ -9,7 +9,7 @@ pub levels_none : (t : Tree) → levels_of 0 t ≡ []
 unfolding levels_of
 levels_none t = refl
 
--- a level more stands behind the others
+-- a level more comes after the others
 pub levels_more : (n : ℕ) (t : Tree) → levels_of (n + 1) t ≡ levels_of n t ++ level_of n 0 t
 unfolding levels_of
 levels_more n t = rw add-one refl

@@ -13,7 +13,7 @@ pub shots_none : (journal : JournalValue) (size k : ℕ) → AreShots journal si
 unfolding AreShots
 shots_none journal size k = tt
 
--- a scene more, that of the line behind the last, makes shots of shots
+-- shots with one scene more, that of the line after the last, are shots
 pub shots_more : (journal : JournalValue) (size k : ℕ) (scenes : List SceneValue) (scene : SceneValue)
     → AreShots journal size k scenes
     → IsScene journal (shot_options size (suc (k + length scenes))) scene
@@ -33,7 +33,7 @@ shots_more journal size k (s ∷ ss) scene so_far h = (
     over : (n m : ℕ) → n + suc m ≡ suc n + m
     over n m = omega arith
 
--- the mark of the point that a call names stands before those of the calls behind it
+-- the mark of the point that a call names comes before those of the calls after it
 pub called_point : (line : Line) (p : Pair) (after rest : List Line) → call_point line.call ≡ Some p
     → rest ≡ line ∷ after
     → called_marks rest ≡ record { point = p; times = 1 } ∷ called_marks after
@@ -54,12 +54,12 @@ unfolding called_marks
 called_none [] e = refl
 called_none (x ∷ xs) e = absurd (omega (arith, e))
 
--- what is not some number is none
+-- an option that is not some number is none
 pub none_of : (o : Option ℕ) → is_some o ≡ false → o ≡ None
 none_of None e = refl
 none_of (Some k) e = absurd (cc e)
 
--- what is some number is one
+-- an option that is some number has one
 pub some_of : (o : Option ℕ) → is_some o ≡ true → (k : ℕ) × (o ≡ Some k)
 some_of None e = absurd (cc e)
 some_of (Some k) e = (k, refl)

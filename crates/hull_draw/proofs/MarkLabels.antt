@@ -7,7 +7,7 @@ use Rattle.hull_draw.specs.declared.marks.Mark.{Mark}
 use Rattle.hull_draw.specs.Labels.{label_place, has_label, labelled, label_text, mark_label_text}
 use Rattle.hull_draw.specs.Texts.{texts}
 
--- what is labelled of a mark and those behind it
+-- the labelled marks among a mark and those after it
 labelled_cons : (size : ℕ) (frame : Frame) (last : Option Spot) (place : Spot) (m : Mark) (after rest : List Mark)
     (b : Bool) → place ≡ label_place size frame m.point → has_label last place m.times ≡ b → rest ≡ m ∷ after
     → labelled size frame last rest
@@ -20,7 +20,7 @@ labelled_cons size frame last place m after rest b at has e =
     ∙ ap (λ (c : Bool). if c then m ∷ labelled size frame (Some place) after
     else labelled size frame last after) has
 
--- the label of a mark that has one stands before those of the marks behind it, the first of which lies clear of it
+-- the label of a mark that has one comes before those of the marks after it, the first of which is clear of it
 pub label_cons : (size : ℕ) (frame : Frame) (last : Option Spot) (place : Spot) (m : Mark) (after rest : List Mark)
     → place ≡ label_place size frame m.point → has_label last place m.times ≡ true → rest ≡ m ∷ after
     → texts (mark_label_text size frame) (labelled size frame last rest) ≡ label_text place m.times
@@ -31,7 +31,7 @@ label_cons size frame last place m after rest at has e =
     ∙ ap (λ (q : Spot). label_text q m.times
     ++ texts (mark_label_text size frame) (labelled size frame (Some place) after)) (sym at)
 
--- a mark without a label is passed over
+-- a mark without a label is skipped
 pub label_passed : (size : ℕ) (frame : Frame) (last : Option Spot) (place : Spot) (m : Mark) (after rest : List Mark)
     → place ≡ label_place size frame m.point → has_label last place m.times ≡ false → rest ≡ m ∷ after
     → texts (mark_label_text size frame) (labelled size frame last rest)

@@ -1,4 +1,4 @@
--- What a film shows lies in its square.
+-- All that a film shows is in its square.
 use Rattle.std.proofs.Common.{◌≡◌, ◌⊎◌, inl, inr, ◌<◌, ◌≤◌, ◌+◌, ◌++◌, ◌/◌, ℕ, zero, suc, List, [], ◌∷◌, length}
 use Rattle.std.proofs.Common.{take}
 use Rattle.std.proofs.Common.{Option, Some, None, refl, sym, ap, subst, ◌∙◌, arith, append_assoc, length-append, map}
@@ -42,7 +42,7 @@ fewer_units : (n whole unit : ℕ) → 0 < unit → n ≤ whole → n / unit ≤
 fewer_units n whole unit positive l =
     let part = div-mul-le_self n unit in le-div (n / unit) whole unit positive (omega (arith, part, l))
 
--- what lies between the points at the edges is drawn in the square
+-- a point between the points at the edges is drawn in the square
 pub in_square : (frame : Frame) (p : Pair) → IsWithin frame p → IsInSquare frame p
 unfolding across down side_of unit_of from_left from_top extent_of
 in_square frame p h =
@@ -56,7 +56,7 @@ in_square frame p h =
           (omega (arith, ints, above, below));
     }
 
--- what is a member of S without p is one of S
+-- a member of S without p is a member of S
 in_whole : (p t : Pair) (S : List Pair) → Contains (without_point p S) t → Contains S t
 in_whole p t [] = λ m. m
 in_whole p t (x ∷ xs) =
@@ -81,7 +81,7 @@ in_whole p t (x ∷ xs) =
 own_mark : (p : Pair) → IsMarked (point_marks (Some p)) p
 own_mark p = (record { point = p; times = 1 }, (0, omega arith, refl), refl)
 
--- after `add q` a point is live only where it was, or it is q
+-- after `add q` a point is in the set only if it was before, or it is q
 after_added : (held : Held) (q : Pair) (reply : Reply) (p : Pair) → Contains (after held (Add q) reply).points p
     → Contains held.points p ⊎ IsMarked (point_marks (Some q)) p
 after_added held q Added p m = elim ((members_with q p held.points).0 m) [
@@ -90,28 +90,28 @@ after_added held q Added p m = elim ((members_with q p held.points).0 m) [
 ]
 after_added held q reply p m = inl m
 
--- after `remove q` a point is live only where it was
+-- after `remove q` a point is in the set only if it was before
 after_removed : (held : Held) (q : Pair) (reply : Reply) (p : Pair)
     → Contains (after held (Remove q) reply).points p → Contains held.points p
 after_removed held q Removed p m = in_whole q p held.points m
 after_removed held q reply p m = m
 
--- after a call a point is live only where it was, or where the call names it
+-- after a call a point is in the set only if it was before, or if the call names it
 after_called : (held : Held) (call : Call) (reply : Reply) (p : Pair) → Contains (after held call reply).points p
     → Contains held.points p ⊎ IsMarked (point_marks (call_point call)) p
 after_called held (Add q) reply p m = after_added held q reply p m
 after_called held (Remove q) reply p m = inl (after_removed held q reply p m)
 after_called held call reply p m = inl m
 
--- what is marked among the first is marked among all
+-- a point that is marked among the first marks is marked among all
 marked_first : (xs ys : List Mark) (p : Pair) → IsMarked xs p → IsMarked (xs ++ ys) p
 marked_first xs ys p h = (h.0, Contains-append_left xs ys h.0 h.1, h.2)
 
--- what is marked among the last is marked among all
+-- a point that is marked among the last marks is marked among all
 marked_last : (xs ys : List Mark) (p : Pair) → IsMarked ys p → IsMarked (xs ++ ys) p
 marked_last xs ys p h = (h.0, Contains-append_right xs ys h.0 h.1, h.2)
 
--- after calls a point is live only where it was, or where a call names it
+-- after calls a point is in the set only if it was before, or if a call names it
 replay_called : (held : Held) (lines : List Line) (p : Pair) → Contains (replay held lines).points p
     → Contains held.points p ⊎ IsMarked (called_marks lines) p
 unfolding replay called_marks
@@ -125,7 +125,7 @@ replay_called held (line ∷ lines) p m =
       ]
     ]
 
--- a live point is one that a call names
+-- a point of the set is one that a call names
 live_called : (lines : List Line) (p : Pair) → Contains (held_after lines).points p → IsMarked (called_marks lines) p
 live_called lines p m = elim (replay_called nothing_held lines p m) [
   | inl h ↦ absurd (omega (arith, h.1))
@@ -140,13 +140,13 @@ called_append (line ∷ lines) ys =
     ap (λ (ms : List Mark). point_marks (call_point line.call) ++ ms) (called_append lines ys)
     ∙ sym (append_assoc (point_marks (call_point line.call)) (called_marks lines) (called_marks ys))
 
--- what the first calls name is named by all
+-- a point that the first calls name is named by all
 called_first : (xs ys : List Line) (p : Pair) → IsMarked (called_marks xs) p → IsMarked (called_marks (xs ++ ys)) p
 called_first xs ys p h =
     subst (λ (ms : List Mark). IsMarked ms p) (sym (called_append xs ys))
     (marked_first (called_marks xs) (called_marks ys) p h)
 
--- what the first n calls name is named by all
+-- a point that the first n calls name is named by all
 called_taken : (n : ℕ) (lines : List Line) (p : Pair) → IsMarked (called_marks (take n lines)) p
     → IsMarked (called_marks lines) p
 called_taken n lines p h =
@@ -162,7 +162,7 @@ last_right head k held (m ∷ lines) line all =
     subst (λ (n : ℕ). IsRight head n (replay (after held m.call m.reply) lines) line) (omega arith)
     (last_right head (suc k) (after held m.call m.reply) lines line all.1)
 
--- what the first j calls name the first n do, where j is at most n
+-- if j is at most n, a point that the first j calls name is named by the first n
 called_within : (j n : ℕ) (lines : List Line) (p : Pair) → j ≤ n → IsMarked (called_marks (take j lines)) p
     → IsMarked (called_marks (take n lines)) p
 called_within j n lines p l h =
@@ -175,14 +175,14 @@ called_within j n lines p l h =
     take_taken (suc j) (suc n) [] l = refl
     take_taken (suc j) (suc n) (x ∷ xs) l = ap (λ (ys : List Line). x ∷ ys) (take_taken j n xs (omega (arith, l)))
 
--- the points of marks are drawn in the square that holds them
+-- the points of marks are drawn in the square that contains them
 marked_in_square : (marks : List Mark) (frame : Frame) → IsFrame marks frame → (p : Pair) → IsMarked marks p
     → IsInSquare frame p
 marked_in_square marks frame h p m =
     subst (IsInSquare frame) m.2
     (in_square frame m.0.point (All-contains (λ n. IsWithin frame n.point) marks m.0 h.holds m.1))
 
--- what holds of the points of marks, of each mark's
+-- a property of the points of marks is one of each mark's point
 all_marked : (P : Pair → Type 0) (marks : List Mark) → All P (map (λ (m : Mark). m.point) marks)
     → All (λ (m : Mark). P m.point) marks
 all_marked P [] h = All-nil _
@@ -190,26 +190,26 @@ all_marked P (m ∷ ms) h =
     All-cons (λ (m : Mark). P m.point) m ms (All-head P m.point (map (λ (m : Mark). m.point) ms) h)
     (all_marked P ms (All-tail P m.point (map (λ (m : Mark). m.point) ms) h))
 
--- where no point is live nothing is marked
+-- if the set has no point nothing is marked
 no_marks : (marks : List Mark) (S : List Pair) → map (λ (m : Mark). m.point) marks ≡ S
     → ((p : Pair) → ¬ Contains S p) → marks ≡ []
 no_marks [] S e none = refl
 no_marks (m ∷ ms) S e none =
     absurd (none m.point (subst (λ (ps : List Pair). Contains ps m.point) e (0, omega arith, refl)))
 
--- the farthest point that a right reply tells is live
+-- the farthest point in a right reply is in the set
 farthest_live : (rules : Rules) (held : Held) (limit : ℕ) (call : Call) (t : Pair)
     → Answers rules held limit call (Farthest t) → Contains held.points t
 farthest_live rules held limit (Extreme d) t h = h.0
 farthest_live rules held limit call t h = absurd h
 
--- the tangent points that a right reply tells are live
+-- the tangent points in a right reply are in the set
 tangents_live : (rules : Rules) (held : Held) (limit : ℕ) (call : Call) (l r : Pair)
     → Answers rules held limit call (TangentPoints l r) → Contains held.points l × Contains held.points r
 tangents_live rules held limit (Tangents q) l r h = (h.1.0, h.2.0)
 tangents_live rules held limit call l r h = absurd h
 
--- the points that a right reply found are live
+-- the points that a right reply found are in the set
 found_live : (P : Pair → Type 0) (rules : Rules) (held : Held) (limit : ℕ) (call : Call) (reply : Reply)
     → Answers rules held limit call reply → ((p : Pair) → Contains held.points p → P p) → All P (found_points reply)
 found_live P rules held limit call (Farthest t) h all =
@@ -219,7 +219,7 @@ found_live P rules held limit call (TangentPoints l r) h all =
     All-cons P l (r ∷ []) (all l both.0) (All-cons P r [] (all r both.1) (All-nil P))
 found_live P rules held limit call reply h all = All-nil P
 
--- what is live after the first j calls, or before a wrong one of them, is named by the first n
+-- a point of the set after the first j calls, or before a wrong one of them, is named by the first n
 scene_called : (journal : JournalValue) (size j n : ℕ) (scene : SceneValue)
     → (shot : IsScene journal (shot_options size j) scene) → j ≤ n → (p : Pair)
     → Contains (held_by shot.root).points p → IsMarked (called_marks (take n journal.lines)) p
@@ -253,7 +253,7 @@ last_called before line p named =
     (marked_first (point_marks (call_point line.call)) [] p
     (subst (λ (o : Option Pair). IsMarked (point_marks o) p) (sym named) (own_mark p))))
 
--- a frame shows nothing outside the square of the points that the first n calls name, where its own is one of them
+-- a frame shows nothing outside the square of the points that the first n calls name, if its own call is one of them
 shot_in_square : (journal : JournalValue) (size n : ℕ) (frame : Frame) (before : List Line) (line : Line)
     (scene : SceneValue)
     → take (suc (length before)) journal.lines ≡ before ++ line ∷ [] → suc (length before) ≤ n
@@ -274,7 +274,7 @@ shot_in_square journal size n frame before line scene upto fits square shot =
       found = λ right k d l. named _ (found_called journal size before line scene shot right upto k d l);
     }
 
--- nor do frames, each with its line
+-- frames, each with its line, show nothing outside it
 shots_in_square : (journal : JournalValue) (size n : ℕ) (frame : Frame) (before rest : List Line)
     (scenes : List SceneValue) → journal.lines ≡ before ++ rest → length before + length scenes ≤ n
     → IsFrame (called_marks (take n journal.lines)) frame → AreShots journal size (length before) scenes
@@ -300,7 +300,7 @@ shots_in_square journal size n frame before (line ∷ rest) (s ∷ ss) whole fit
         ∙ ap (λ (k : ℕ). take k ((before ++ line ∷ []) ++ rest)) (sym longer)
         ∙ take-append_seam (before ++ line ∷ []) rest
 
--- where no call names a point no frame has one
+-- if no call names a point no frame has one
 shots_empty : (journal : JournalValue) (size n k : ℕ) (scenes : List SceneValue) → k + length scenes ≤ n
     → called_marks (take n journal.lines) ≡ [] → AreShots journal size k scenes
     → All (λ scene. scene.marks ≡ []) scenes

@@ -7,7 +7,7 @@ use Rattle.hull_tree.specs.Nodes.{tree_of}
 use Rattle.leaf_trees.specs.declared.bridge.Bridge.{Bridge}
 use Rattle.hull_draw.specs.declared.bridges.TheConstants.{LEVEL_LIMIT}
 
--- what the forks of the first n levels store, the root's first
+-- the bridges that the forks of the first n levels store, the root's first
 unfoldable pub levels_of : ℕ → Tree → List Bridge
 levels_of zero t = []
 levels_of (suc n) t = levels_of n t ++ level_of n 0 t

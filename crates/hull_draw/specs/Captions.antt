@@ -15,25 +15,25 @@ unfoldable pub widest_from : ℕ → List Pair → ℕ
 widest_from n [] = n
 widest_from n (p ∷ ps) = widest_from (max (max n (unsigned_abs p.x)) (unsigned_abs p.y)) ps
 
--- how many points have room in a line, where no coordinate is of a greater size than n
+-- how many points fit into a line, if no coordinate is of a greater size than n
 abbrev pub room_for : ℕ → ℕ
 room_for n = if leb n 9999 then 5 else (if leb n 9999999 then 3 else 1)
 
--- how many corners of a list are told: all, or as many as have room
+-- how many vertices of a list are written: all, or as many as fit
 abbrev pub corners_told : List Pair → ℕ
 corners_told ps = min (room_for (widest_from 0 ps)) (length ps)
 
--- how many are left out, where any are
+-- how many are left out, if any are
 abbrev pub left_out_text : ℕ → List ℕ
 left_out_text n = if n == 0 then [] else told (codes " &#8230; and ") n ++ codes " more"
 
--- a list of corners, as far as it has room
+-- a list of vertices, as far as it fits
 abbrev pub list_text : List Pair → List ℕ
 list_text ps =
     told (codes " list ") (length ps) ++ spaced (points_fields (take (corners_told ps) ps))
     ++ left_out_text (length ps - corners_told ps)
 
--- a reply as a journal has it, but for a list that is too long
+-- a reply as in a journal, except for a list that is too long
 abbrev pub reply_text : Reply → List ℕ
 reply_text (VertexList ps) = list_text ps
 reply_text reply = spaced (reply_fields reply)

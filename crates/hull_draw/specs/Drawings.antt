@@ -1,4 +1,4 @@
--- What a drawing of a journal comes to.
+-- The result of drawing a journal.
 use Rattle.std.specs.Prelude.{ℕ, List, length, take, Option, Result, Ok, Err}
 use Rattle.text_io.specs.Passage.{Passage, HasTaken, HasTakenFront, IsSound}
 use Rattle.hull_book.specs.Journals.{JournalValue}
@@ -15,11 +15,11 @@ use Rattle.hull_draw.specs.Scenes.{SceneValue, IsScene}
 use Rattle.hull_draw.specs.Squares.{AreShownIn}
 use Rattle.hull_draw.specs.Pictures.{picture_text}
 
--- the bytes, where they are known, are a text of some journal
+-- the bytes, if they are known, are a text of some journal
 abbrev pub IsJournal : Option (List ℕ) → Type 0
 IsJournal bytes = (journal : JournalValue) × ReadsKnownJournal bytes (Ok journal)
 
--- The bytes, where they are known, were read as a journal, and this holds of the picture of a scene of it.
+-- The bytes, if they are known, were read as a journal, and this holds of the picture of a scene of it.
 pub record HasPicture (o : DrawOptions) (bytes : Option (List ℕ)) (Holds : List ℕ → Type 0) : Type 0 where
   pub journal : JournalValue
   pub scene : SceneValue
@@ -36,7 +36,7 @@ pub record Films (journal : JournalValue) (size : ℕ) (scenes : List SceneValue
   pub frames : IsFrameOf (called_marks (take (length scenes) journal.lines)) frame
   pub inside : AreShownIn frame scenes journal.lines
 
--- The bytes, where they are known, were read as a journal, and this holds of its film.
+-- The bytes, if they are known, were read as a journal, and this holds of its film.
 pub record HasFilm (size : ℕ) (bytes : Option (List ℕ)) (Holds : List ℕ → Type 0) : Type 0 where
   pub journal : JournalValue
   pub scenes : List SceneValue
@@ -45,7 +45,7 @@ pub record HasFilm (size : ℕ) (bytes : Option (List ℕ)) (Holds : List ℕ �
   pub films : Films journal size scenes frame
   pub holds : Holds (film_text size frame scenes journal.lines)
 
--- what a drawing that ended so has read and written, where what it draws of the bytes is this
+-- what a drawing with this outcome has read and written, if this is the relation of the drawing to the bytes
 abbrev pub EndsDrawing : (Option (List ℕ) → (List ℕ → Type 0) → Type 0) → Passage → Passage → Result Unit DrawFault
     → Type 0
 EndsDrawing Draws input output (Ok done) = IsSound input × Draws input.before (HasTaken output)

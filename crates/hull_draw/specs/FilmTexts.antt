@@ -1,5 +1,4 @@
--- The text of a film: frames that lie one over the other, each of which is seen for a second, and the last from then
--- on.
+-- The text of a film: frames on top of each other, each of which is seen for a second, and the last from then on.
 use Rattle.std.specs.Prelude.{◌==◌, ◌+◌, ℕ, List, [], ◌∷◌, ◌++◌, length, Option, Some, None, codes, if◌then◌else◌}
 use Rattle.lattice.specs.Plane.{Pair}
 use Rattle.hull_set.specs.declared.reply.Reply.{Reply}
@@ -16,7 +15,7 @@ use Rattle.hull_draw.specs.Scenes.{SceneValue}
 use Rattle.hull_draw.specs.Shapes.{dot_text, square_text}
 use Rattle.hull_draw.specs.Texts.{told}
 
--- a line from the point of the call to a point that its reply tells; where the call names no point, a dot
+-- a line from the point of the call to a point in its reply; a dot if the call names no point
 abbrev pub ray_text : Frame → Option Pair → Pair → List ℕ
 ray_text frame None p = dot_text frame p
 ray_text frame (Some q) p =
@@ -28,7 +27,7 @@ abbrev pub tangents_text : Frame → Option Pair → Pair → Pair → List ℕ
 tangents_text frame q left right =
     codes "<path class='f' d='" ++ ray_text frame q left ++ ray_text frame q right ++ codes "'/>\n"
 
--- the point that lies farthest
+-- the farthest point
 abbrev pub farthest_text : Frame → Pair → List ℕ
 farthest_text frame p = codes "<path class='e' d='" ++ dot_text frame p ++ codes "'/>\n"
 
@@ -38,12 +37,12 @@ found_text frame q (Farthest p) = farthest_text frame p
 found_text frame q (TangentPoints left right) = tangents_text frame q left right
 found_text frame q _ = []
 
--- what it found, where the line is right: a wrong reply may tell points that lie anywhere
+-- what it found, if the line is right: a wrong reply may have points anywhere
 abbrev pub right_found_text : Frame → Option ℕ → Option Pair → Reply → List ℕ
 right_found_text frame None q reply = found_text frame q reply
 right_found_text frame (Some k) q reply = []
 
--- how the point of a call is drawn; one that was refused stands out
+-- how the point of a call is drawn; one that was refused is highlighted
 abbrev pub asked_words : Reply → List ℕ
 asked_words TooMany = codes "<path class='x' d='"
 asked_words NoMemory = codes "<path class='x' d='"
@@ -60,12 +59,12 @@ call_text size frame wrong line =
     square_text size (side_of frame) ++ right_found_text frame wrong (call_point line.call) line.reply
     ++ asked_text frame (call_point line.call) line.reply ++ codes "</svg>\n"
 
--- the same, where there is a square
+-- the same, if there is a square
 abbrev pub call_shown_text : ℕ → Option Frame → Option ℕ → Line → List ℕ
 call_shown_text size None wrong line = []
 call_shown_text size (Some frame) wrong line = call_text size frame wrong line
 
--- a frame is hidden again behind its second, but the last is not
+-- a frame is hidden again after its second, but the last is not
 abbrev pub hidden_again_text : ℕ → ℕ → List ℕ
 hidden_again_text count k =
     if k + 1 == count then codes "\n" else told (codes "<set attributeName='display' to='none' begin='") (k + 1)
@@ -81,7 +80,7 @@ frame_start_text count k =
 abbrev pub frame_end_text : ℕ → Line → List ℕ
 frame_end_text size line = caption_text size line ++ codes "</g>\n"
 
--- what a frame shows: the set as a still picture has it, over it the call, and below it the legend and the caption
+-- the content of a frame: the set as in a still picture, over it the call, and below it the legend and the caption
 unfoldable pub shot_text : ℕ → Option Frame → SceneValue → Line → List ℕ
 shot_text size frame scene line =
     shown_text size frame scene ++ call_shown_text size frame scene.wrong line ++ legend_text size frame scene
@@ -94,7 +93,7 @@ frames_text size frame count k (scene ∷ scenes) [] = []
 frames_text size frame count k (scene ∷ scenes) (line ∷ lines) =
     (frame_start_text count k ++ shot_text size frame scene line) ++ frames_text size frame count (k + 1) scenes lines
 
--- which calls are played
+-- the range of calls that are played
 abbrev pub title_text : ℕ → ℕ → List ℕ
 title_text count total =
     told (codes "<text x='32' y='14'>the first ") count ++ told (codes " of ") total ++ codes " calls</text>\n"

@@ -1,4 +1,4 @@
--- A film of a journal: what the pictures after its lines show, in order, and the square that holds all of them.
+-- A film of a journal: the pictures after its lines, in order, and the square that contains all of them.
 use Rattle.std.specs.Prelude.{◌≡◌, ◌≤◌, ◌⊎◌, ℕ, suc, List, [], ◌∷◌, ◌++◌, length, min, Option, Some, None, false}
 use Rattle.std.specs.List.{All}
 use Rattle.lattice.specs.Plane.{Pair}
@@ -25,11 +25,11 @@ AreShots journal size k (scene ∷ scenes) =
 abbrev pub AreAllRight : List SceneValue → Type 0
 AreAllRight scenes = All (λ scene. scene.wrong ≡ None) scenes
 
--- of how many lines there is a frame, where none of them is wrong
+-- how many frames these lines have, if none of them is wrong
 abbrev pub frames_of : List Line → ℕ
 frames_of lines = min (length lines) FRAME_LIMIT
 
--- the last scene, and no other, comes to a wrong line
+-- the last scene, and no other, ends at a wrong line
 pub record EndsAtWrong (scenes : List SceneValue) : Type 0 where
   pub front : List SceneValue
   pub last : SceneValue
@@ -39,7 +39,7 @@ pub record EndsAtWrong (scenes : List SceneValue) : Type 0 where
   pub wrong : last.wrong ≡ Some place
 
 -- The scenes after one line, after two, and so on: after each line up to the limit, or up to the first wrong one,
--- behind which there is none.
+-- after which there is none.
 pub record IsFilm (journal : JournalValue) (size : ℕ) (scenes : List SceneValue) : Type 0 where
   pub shots : AreShots journal size 0 scenes
   pub few : length scenes ≤ frames_of journal.lines

@@ -7,19 +7,19 @@ use Rattle.hull_draw.specs.declared.marks.Mark.{Mark}
 use Rattle.hull_draw.specs.declared.frame.Frame.{Frame}
 use Rattle.hull_draw.specs.declared.frame.TheConstants.{PICTURE_UNITS}
 
--- how far apart its points farthest to the left and to the right stand
+-- the horizontal distance of its leftmost and its rightmost point
 abbrev pub width_of : Frame → ℕ
 width_of frame = unsigned_abs (frame.right.x -ℤ frame.left.x)
 
--- how far apart its lowest and its uppermost point stand
+-- the vertical distance of its lowest and its uppermost point
 abbrev pub height_of : Frame → ℕ
 height_of frame = unsigned_abs (frame.top.y -ℤ frame.bottom.y)
 
--- the side of the square: the least that holds the points, but 2 at least, so that one point has a middle to stand in
+-- the side of the square: the least that contains the points, but at least 2, so that one point is in the middle
 unfoldable pub extent_of : Frame → ℕ
 extent_of frame = max (max (width_of frame) (height_of frame)) 2
 
--- how many units of the plane one of the picture is: 1 where the square's sides are short enough for a browser
+-- how many units of the plane one of the picture is: 1 if the square's sides are short enough for a browser
 unfoldable pub unit_of : Frame → ℕ
 unit_of frame = extent_of frame / PICTURE_UNITS + 1
 
@@ -27,11 +27,11 @@ unit_of frame = extent_of frame / PICTURE_UNITS + 1
 unfoldable pub side_of : Frame → ℕ
 side_of frame = extent_of frame / unit_of frame
 
--- how far p stands from the left edge of the square, whose middle is that of the points
+-- the distance of p from the left edge of the square, whose middle is that of the points
 unfoldable pub from_left : Frame → Pair → ℕ
 from_left frame p = unsigned_abs (p.x -ℤ frame.left.x) + (extent_of frame - width_of frame) / 2
 
--- how far p stands from its upper edge
+-- the distance of p from its upper edge
 unfoldable pub from_top : Frame → Pair → ℕ
 from_top frame p = unsigned_abs (frame.top.y -ℤ p.y) + (extent_of frame - height_of frame) / 2
 
@@ -43,7 +43,7 @@ across frame p = from_left frame p / unit_of frame
 unfoldable pub down : Frame → Pair → ℕ
 down frame p = from_top frame p / unit_of frame
 
--- p lies between the points at the edges
+-- p is between the points at the edges
 pub record IsWithin (frame : Frame) (p : Pair) : Type 0 where
   pub right_of : frame.left.x ≤ℤ p.x
   pub left_of : p.x ≤ℤ frame.right.x
@@ -59,7 +59,7 @@ pub record IsInSquare (frame : Frame) (p : Pair) : Type 0 where
 abbrev pub IsMarked : List Mark → Pair → Type 0
 IsMarked marks p = (m : Mark) × Contains marks m × (m.point ≡ p)
 
--- the points at the edges are points of marks, and all marks lie between them
+-- the points at the edges are points of marks, and all marks are between them
 pub record IsFrame (marks : List Mark) (frame : Frame) : Type 0 where
   pub left : IsMarked marks frame.left
   pub right : IsMarked marks frame.right
@@ -67,7 +67,7 @@ pub record IsFrame (marks : List Mark) (frame : Frame) : Type 0 where
   pub bottom : IsMarked marks frame.bottom
   pub holds : All (λ m. IsWithin frame m.point) marks
 
--- there is a square just where there are marks
+-- there is a square exactly if there are marks
 abbrev pub IsFrameOf : List Mark → Option Frame → Type 0
 IsFrameOf marks None = marks ≡ []
 IsFrameOf marks (Some frame) = IsFrame marks frame
@@ -76,7 +76,7 @@ IsFrameOf marks (Some frame) = IsFrame marks frame
 abbrev pub IsEither : Pair → Pair → Pair → Type 0
 IsEither a b p = (p ≡ a) ⊎ (p ≡ b)
 
--- all that lay between the edges still does, and p too; an edge has moved to p or not at all
+-- all that was between the edges still is, and p too; an edge has moved to p or not at all
 pub record Widens (before : Frame) (p : Pair) (after : Frame) : Type 0 where
   pub holds : (q : Pair) → IsWithin before q → IsWithin after q
   pub own : IsWithin after p

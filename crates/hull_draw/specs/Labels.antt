@@ -1,4 +1,4 @@
--- The labels of a picture: beside the points how often they are held.
+-- The labels of a picture: the multiplicities, beside the points.
 use Rattle.std.specs.Prelude.{◌==◌, ◌+◌, ◌*◌, ◌/◌, ◌&&◌, ◌||◌, leb, not, ℕ, List, [], ◌∷◌, ◌++◌, length, Option}
 use Rattle.std.specs.Prelude.{Some, None, Bool, true, codes, if◌then◌else◌}
 use Rattle.std.specs.Int.{abs_diff}
@@ -11,28 +11,29 @@ use Rattle.hull_draw.specs.declared.frame.Frame.{Frame}
 use Rattle.hull_draw.specs.Frames.{across, down, side_of}
 use Rattle.hull_draw.specs.Texts.{told, texts}
 
--- how far from an edge of the screen's square, whose side is `size`, what lies n from that of the plane's
+-- the distance from an edge of the screen's square, whose side is `size`, of a point n from that of the plane's
 abbrev pub place_on_screen : ℕ → Frame → ℕ → ℕ
 place_on_screen size frame n = n * size / side_of frame
 
--- where the label beside a point begins
+-- the spot at which the label beside a point begins
 abbrev pub label_place : ℕ → Frame → Pair → Spot
 label_place size frame p = record {
   x = place_on_screen size frame (across frame p) + 39;
   y = place_on_screen size frame (down frame p) + 26;
 }
 
--- a label at the second place lies clear of the one at the first, if there is one
+-- a label at the second spot is clear of the one at the first, if there is one
 abbrev pub is_clear : Option Spot → Spot → Bool
 is_clear None place = true
 is_clear (Some last) place =
     leb LABEL_WIDTH (abs_diff last.x place.x) || leb LABEL_HEIGHT (abs_diff last.y place.y)
 
--- a point has a label at its place: it is held more than once, and the label lies clear of the last one before it
+-- a point has a label at its spot: its multiplicity is more than one, and the label is clear of the last one before
+-- it
 abbrev pub has_label : Option Spot → Spot → ℕ → Bool
 has_label last place times = not (times == 1) && is_clear last place
 
--- of these marks those that have a label, where the last one before them lies at a place that may be given
+-- of these marks those that have a label, if the last one before them is at a spot that may be passed
 unfoldable pub labelled : ℕ → Frame → Option Spot → List Mark → List Mark
 labelled size frame last [] = []
 labelled size frame last (m ∷ ms) = if has_label last (label_place size frame m.point) m.times
@@ -49,7 +50,7 @@ label_text place times =
 abbrev pub mark_label_text : ℕ → Frame → Mark → List ℕ
 mark_label_text size frame m = label_text (label_place size frame m.point) m.times
 
--- the marks that may have labels: none where there are too many to be read
+-- the marks that may have labels: none if there are too many to be read
 abbrev pub readable : List Mark → List Mark
 readable marks = if leb (length marks) LABEL_LIMIT then marks else []
 

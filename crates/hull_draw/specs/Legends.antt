@@ -1,4 +1,4 @@
--- What a picture says in words below its square: the numbers of the set, and how far its journal was replayed.
+-- The words of a picture below its square: the numbers of the set, and how far its journal was replayed.
 use Rattle.std.specs.Prelude.{◌==◌, ◌+◌, ℕ, ℤ, List, [], ◌∷◌, ◌++◌, length, Option, Some, None, codes}
 use Rattle.std.specs.Prelude.{if◌then◌else◌}
 use Rattle.std.specs.Fmt.{signed_decimal}
@@ -9,11 +9,11 @@ use Rattle.hull_draw.specs.Scenes.{SceneValue}
 use Rattle.hull_draw.specs.Shapes.{step_of}
 use Rattle.hull_draw.specs.Texts.{told}
 
--- where a line of the legend begins
+-- the start of a line of the legend
 abbrev pub line_start : ℕ → ℕ → List ℕ
 line_start size below = told (codes "<text x='32' y='") (size + below)
 
--- of how many points one is drawn, where not all are
+-- one of how many points is drawn, if not all are
 abbrev pub thinned_text : ℕ → List ℕ
 thinned_text step = if step == 1 then [] else told (codes "; one of ") step ++ codes " is drawn"
 
@@ -27,11 +27,11 @@ count_text size count limit =
 abbrev pub area_text : ℕ → ℕ → List ℕ
 area_text size area = line_start size 98 ++ told (codes "'>doubled area ") area ++ codes "</text>\n"
 
--- a signed number behind some words
+-- a signed number after some words
 abbrev pub told_signed : List ℕ → ℤ → List ℕ
 told_signed words n = words ++ signed_decimal n
 
--- between which coordinates the points lie
+-- the ranges of the points' coordinates
 abbrev pub range_text : ℕ → Option Frame → List ℕ
 range_text size None = []
 range_text size (Some frame) =
@@ -48,7 +48,7 @@ abbrev pub lines_text : ℕ → ℕ → Option ℕ → List ℕ
 lines_text size lines wrong =
     line_start size 142 ++ told (codes "'>calls ") lines ++ wrong_text wrong ++ codes "</text>\n"
 
--- which bridges are drawn, where any are
+-- which bridges are drawn, if any are
 abbrev pub bridges_told_text : ℕ → List Bridge → List ℕ
 bridges_told_text size [] = []
 bridges_told_text size (b ∷ bs) = line_start size 164 ++ BRIDGES_TOLD.now

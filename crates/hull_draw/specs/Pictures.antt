@@ -9,7 +9,7 @@ use Rattle.hull_draw.specs.Scenes.{SceneValue}
 use Rattle.hull_draw.specs.Shapes.{square_text, shapes_text}
 use Rattle.hull_draw.specs.Texts.{told}
 
--- how wide and high a picture is, so much higher than its square, and how it is coloured
+-- the width of a picture, its height, so much more than its square's, and its colours
 abbrev pub head_text : ℕ → ℕ → List ℕ
 head_text size below = told (codes "<svg xmlns='http://www.w3.org/2000/svg' width='") (size + 64)
     ++ told (codes "' height='") (size + below) ++ codes "'>\n" ++ STYLE.now

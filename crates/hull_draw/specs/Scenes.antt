@@ -1,4 +1,4 @@
--- What a picture shows of a set: its marks, its hull, its area, and how far its journal was replayed.
+-- The content of a picture of a set: its marks, its hull, its area, and how far its journal was replayed.
 use Rattle.std.specs.Prelude.{◌≡◌, ℕ, List, map, pos, Option, Bool, true, false, []}
 use Rattle.std.specs.List.{All}
 use Rattle.lattice.specs.Plane.{Pair}
@@ -15,7 +15,7 @@ use Rattle.hull_draw.specs.Bridges.{bridges_of}
 use Rattle.hull_draw.specs.Replays.{IsReplayed, asked_lines}
 
 -- the limit of the set, how many lines were replayed, the wrong line if there is one, the points with their
--- multiplicities, the corners of the hull, its doubled area, and bridges of the tree
+-- multiplicities, the vertices of the hull, its doubled area, and bridges of the tree
 pub record SceneValue : Type 0 where
   pub limit : ℕ
   pub lines : ℕ
@@ -25,24 +25,24 @@ pub record SceneValue : Type 0 where
   pub area : ℕ
   pub bridges : List Bridge
 
--- the marks are the live points in their order, each with the number of times that it is held
+-- the marks are the set's points in their order, each with its multiplicity
 pub record AreMarks (held : Held) (marks : List Mark) : Type 0 where
   pub points : map (λ m. m.point) marks ≡ held.points
   pub times : All (λ m. m.times ≡ held.times m.point) marks
 
--- The scene shows what is held: its marks, the corners and the area of its hull.
+-- The scene shows the set: its marks, the vertices and the area of its hull.
 pub record Shows (held : Held) (scene : SceneValue) : Type 0 where
   pub marks : AreMarks held scene.marks
   pub corners : IsVertexList held.points scene.corners
   pub area : IsDoubledArea held.points (pos scene.area)
 
--- the bridges that a tree stores, where they are asked for
+-- the bridges that a tree stores, if they are requested
 abbrev pub asked_bridges : Bool → Option Node → List Bridge
 asked_bridges true root = bridges_of root
 asked_bridges false root = []
 
--- The scene shows what is held after the lines that are asked for, or after those before the first wrong one of them: a
--- sound tree holds it, each of whose stored bridges is that of the points below its fork, and these are drawn.
+-- The scene shows the set after the requested lines, or after those before the first wrong one of them. A sound tree
+-- has its points, each of its stored bridges is that of the points below its fork, and these are drawn.
 pub record IsScene (journal : JournalValue) (o : DrawOptions) (scene : SceneValue) : Type 0 where
   pub limit : scene.limit ≡ journal.head.limit
   pub root : Option Node

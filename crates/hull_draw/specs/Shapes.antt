@@ -10,11 +10,11 @@ use Rattle.hull_draw.specs.Frames.{across, down}
 use Rattle.hull_draw.specs.Scenes.{SceneValue}
 use Rattle.hull_draw.specs.Texts.{told, texts}
 
--- a corner of the polygon
+-- a vertex of the polygon
 abbrev pub corner_text : Frame → Pair → List ℕ
 corner_text frame p = decimal (across frame p) ++ codes "," ++ decimal (down frame p) ++ codes " "
 
--- the polygon with these corners, in order
+-- the polygon with these vertices, in order
 abbrev pub polygon_text : Frame → List Pair → List ℕ
 polygon_text frame ps = codes "<polygon class='h' points='" ++ texts (corner_text frame) ps ++ codes "'/>\n"
 
@@ -22,17 +22,17 @@ polygon_text frame ps = codes "<polygon class='h' points='" ++ texts (corner_tex
 abbrev pub dot_text : Frame → Pair → List ℕ
 dot_text frame p = codes "M" ++ decimal (across frame p) ++ codes " " ++ decimal (down frame p) ++ codes "h0"
 
--- the dots at the corners
+-- the dots at the vertices
 abbrev pub corner_dots_text : Frame → List Pair → List ℕ
 corner_dots_text frame ps = codes "<path class='c' d='" ++ texts (dot_text frame) ps ++ codes "'/>\n"
 
--- behind so many marks that are passed over, every one of so many
+-- after `skip` marks, one of each `step` marks
 unfoldable pub every : ℕ → ℕ → List Mark → List Mark
 every step skip [] = []
 every step zero (m ∷ ms) = m ∷ every step (step - 1) ms
 every step (suc skip) (m ∷ ms) = every step skip ms
 
--- of so many points every one of so many is drawn
+-- one of each so many points is drawn
 abbrev pub step_of : ℕ → ℕ
 step_of count = count / DRAWN_LIMIT + 1
 
@@ -48,7 +48,7 @@ mark_dot_text frame m = dot_text frame m.point
 abbrev pub all_dots_text : Frame → List Mark → List ℕ
 all_dots_text frame marks = codes "<path class='p' d='" ++ texts (mark_dot_text frame) (drawn marks) ++ codes "'/>\n"
 
--- a line from one end of a bridge to the other; the words before the level tell upper from lower
+-- a line from one end of a bridge to the other; the words before the level distinguish upper from lower
 abbrev pub bridge_line_text : Frame → List ℕ → ℕ → Pair × Pair → List ℕ
 bridge_line_text frame words level e =
     told words level ++ told (codes "' d='M") (across frame e.0) ++ told (codes " ") (down frame e.0)
@@ -66,7 +66,7 @@ square_text size side =
     told (codes "<svg x='32' y='32' overflow='visible' width='") size ++ told (codes "' height='") size
     ++ told (codes "' viewBox='0 0 ") side ++ told (codes " ") side ++ codes "'>\n"
 
--- the hull, the points, above them the bridges, and above these the corners
+-- the hull, the points, above them the bridges, and above these the vertices
 abbrev pub shapes_text : Frame → SceneValue → List ℕ
 shapes_text frame scene =
     polygon_text frame scene.corners ++ all_dots_text frame scene.marks ++ texts (bridge_text frame) scene.bridges

@@ -8,7 +8,7 @@ use std::alloc::{AllocError, Global};
 /// How many levels of a tree are drawn at most: deeper bridges are shorter than the dots at their ends.
 pub const LEVEL_LIMIT: u32 = 8;
 
-/// The stored bridges of the first levels of a tree, the root's first.
+/// Returns the stored bridges of the first levels of a tree, the root's first.
 pub(crate) fn bridges(alloc: Global, set: &HullTree) -> Result<Vec<Bridge>, AllocError>
     ensures { IfOk result (λ bridges. bridges.items ≡ bridges_of set.now.root) }
 {

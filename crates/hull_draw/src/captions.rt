@@ -11,7 +11,7 @@ use hull_text::{call_after, points_after, reply_after};
 use lattice::Point;
 use text_io::{Done, Sink, put_after};
 
-/// The greatest size of a coordinate of these points.
+/// Returns the greatest size of a coordinate of these points.
 #[tactic(auto, unfolding(crate::specs::Captions::widest_from))]
 fn widest(points: &[Point]) -> u64
     ensures { result ≡ widest_from 0 points.now }
@@ -27,7 +27,7 @@ fn widest(points: &[Point]) -> u64
     widest
 }
 
-/// How many points have room in a line of a picture, where no coordinate is of a greater size.
+/// Returns how many points fit into a line of a picture, if no coordinate is of a greater size.
 fn room_for(widest: u64) -> usize
     ensures { result ≡ room_for widest }
 {
@@ -40,7 +40,7 @@ fn room_for(widest: u64) -> usize
     }
 }
 
-/// How many corners of a list are told.
+/// Returns how many vertices of a list are written.
 fn corners_told(corners: &[Point]) -> usize
     ensures value { result ≡ corners_told corners.now }
     ensures few { result ≤ length corners.now }
@@ -48,7 +48,7 @@ fn corners_told(corners: &[Point]) -> usize
     room_for(widest(corners)).min(corners.len())
 }
 
-/// Writes how many corners are left out, where any are.
+/// Writes how many vertices are left out, if any are.
 fn left_out_after<W: Sink>(done: Done, out: &mut W, count: usize) -> Done
     requires { OnOk done (W.failed out.old < 2 ^ 64 - 1) }
     ensures { WritesAfter W.contents W.failed done result out.old out.new (left_out_text count) }
@@ -60,7 +60,7 @@ fn left_out_after<W: Sink>(done: Done, out: &mut W, count: usize) -> Done
     put_after(done, out, b" more")
 }
 
-/// Writes a list of corners, as far as it has room.
+/// Writes a list of vertices, as far as it fits.
 fn list_after<W: Sink>(done: Done, out: &mut W, corners: &[Point]) -> Done
     requires { OnOk done (W.failed out.old < 2 ^ 64 - 1) }
     ensures { WritesAfter W.contents W.failed done result out.old out.new (list_text corners.now) }
@@ -71,7 +71,7 @@ fn list_after<W: Sink>(done: Done, out: &mut W, corners: &[Point]) -> Done
     left_out_after(done, out, corners.len() - count)
 }
 
-/// Writes a reply as a journal has it, but for a list that is too long.
+/// Writes a reply as in a journal, except for a list that is too long.
 fn short_reply_after<W: Sink>(done: Done, out: &mut W, reply: &Reply) -> Done
     requires { OnOk done (W.failed out.old < 2 ^ 64 - 1) }
     ensures { WritesAfter W.contents W.failed done result out.old out.new (reply_text reply.now) }

@@ -24,7 +24,7 @@ use text_io::{Done, Sink, flush_after, put_after};
 pub const FILM_STYLE: &[u8] =
     b"<style>.q{stroke:#7d3c98;stroke-width:11}.x{stroke:#c00;stroke-width:11}.f{stroke:#d35400;stroke-width:3}.e{stroke:#d35400;stroke-width:13}.b{font-weight:bold}</style>\n";
 
-/// Writes a line from the point of the call, where it names one, to another point; where it names none, a dot.
+/// Writes a line from the point of the call to another point, or a dot if the call names no point.
 fn ray_after<W: Sink>(
     done: Done,
     out: &mut W,
@@ -63,7 +63,7 @@ fn tangents_after<W: Sink>(
     put_after(done, out, b"'/>\n")
 }
 
-/// Writes the point that lies farthest.
+/// Writes the farthest point.
 fn farthest_after<W: Sink>(done: Done, out: &mut W, frame: &Frame, point: Point) -> Done
     requires { OnOk done (W.failed out.old < 2 ^ 64 - 1) }
     ensures { WritesAfter W.contents W.failed done result out.old out.new (farthest_text frame.now point) }
@@ -73,7 +73,7 @@ fn farthest_after<W: Sink>(done: Done, out: &mut W, frame: &Frame, point: Point)
     put_after(done, out, b"'/>\n")
 }
 
-/// Writes what a reply found.
+/// Writes the points that a reply found.
 fn found_after<W: Sink>(
     done: Done,
     out: &mut W,
@@ -93,7 +93,7 @@ fn found_after<W: Sink>(
     }
 }
 
-/// Writes what a reply found, where its line is right.
+/// Writes the points that a reply found, if its line is right.
 fn right_found_after<W: Sink>(
     done: Done,
     out: &mut W,
@@ -111,7 +111,7 @@ fn right_found_after<W: Sink>(
     }
 }
 
-/// How the point of a call begins: one that was refused stands out.
+/// Begins the point of a call; one that was refused is highlighted.
 fn put_asked_words<W: Sink>(done: Done, out: &mut W, reply: &Reply) -> Done
     requires { OnOk done (W.failed out.old < 2 ^ 64 - 1) }
     ensures { WritesAfter W.contents W.failed done result out.old out.new (asked_words reply.now) }
@@ -122,7 +122,7 @@ fn put_asked_words<W: Sink>(done: Done, out: &mut W, reply: &Reply) -> Done
     }
 }
 
-/// Writes the point of a call, where it names one.
+/// Writes the point of a call, if it names one.
 fn asked_after<W: Sink>(
     done: Done,
     out: &mut W,
@@ -162,7 +162,7 @@ fn call_marks_after<W: Sink>(
     put_after(done, out, b"</svg>\n")
 }
 
-/// Writes a call and what it found, where there is a square.
+/// Writes a call and what it found, if there is a square.
 fn call_shown_after<W: Sink>(
     done: Done,
     out: &mut W,
@@ -180,7 +180,7 @@ fn call_shown_after<W: Sink>(
     }
 }
 
-/// Hides a frame again behind its second, but for the last.
+/// Hides a frame again after its second, except for the last.
 fn hidden_again_after<W: Sink>(done: Done, out: &mut W, count: usize, place: usize) -> Done
     requires room { OnOk done (W.failed out.old < 2 ^ 64 - 1) }
     requires inside { place < count }
@@ -217,7 +217,7 @@ fn frame_end_after<W: Sink>(done: Done, out: &mut W, size: u64, line: &Line) -> 
     put_after(done, out, b"</g>\n")
 }
 
-/// Writes a frame: the set as a still picture has it, over it the call, below it the legend and the caption.
+/// Writes a frame: the set as in a still picture, over it the call, below it the legend and the caption.
 fn frame_after<W: Sink>(
     done: Done,
     out: &mut W,
@@ -268,7 +268,7 @@ fn frames_after<W: Sink>(
     done
 }
 
-/// Writes which calls are played.
+/// Writes the range of calls that are played.
 fn title_after<W: Sink>(done: Done, out: &mut W, count: usize, total: usize) -> Done
     requires { OnOk done (W.failed out.old < 2 ^ 64 - 1) }
     ensures { WritesAfter W.contents W.failed done result out.old out.new (title_text count total) }
@@ -280,11 +280,11 @@ fn title_after<W: Sink>(done: Done, out: &mut W, count: usize, total: usize) -> 
 
 /// Writes a film of these scenes, each with its line, of this size and of this square of the plane.
 ///
-/// It takes no memory, and ends with a flush. The count of failures has to be below its last value.
+/// It takes no memory, and ends with a flush. The count of failures must be below its greatest value.
 ///
 /// # Errors
 ///
-/// `WriteFault` comes only where the writer failed in this call; what was written is then a beginning of the text.
+/// Fails with `WriteFault` only if the writer failed in this call; the output is then a prefix of the text.
 pub(crate) fn write_film<W: Sink>(
     out: &mut W,
     size: u64,

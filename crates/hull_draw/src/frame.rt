@@ -5,11 +5,12 @@ ghost use Rattle.hull_draw.specs.Frames.{extent_of, unit_of, side_of, width_of, 
 use super::marks::Mark;
 use lattice::Point;
 
-/// The sides of a picture's square are shorter than so many of its units, in which browsers tell whole numbers apart:
-/// where the plane's square is that wide or wider, a unit of the picture is several of the plane's.
+/// The sides of a picture's square are shorter than so many of its units, so that browsers distinguish whole numbers:
+/// if the plane's square is that wide or wider, a unit of the picture is several of the plane's.
 pub const PICTURE_UNITS: u64 = 16_777_216;
 
-/// The least square of the plane that holds some points, with them in its middle. It is told by points at its edges.
+/// The least square of the plane that contains some points, with them in its middle. It is represented by points at
+/// its edges.
 #[derive(Clone, Copy, PartialEq, Eq, Debug)]
 pub struct Frame {
     /// A point as far to the left as any.
@@ -23,7 +24,7 @@ pub struct Frame {
 }
 
 impl Frame {
-    /// The frame of one point.
+    /// Makes the frame of one point.
     fn of_point(point: Point) -> Frame
         ensures { result ≡ record { left = point; right = point; top = point; bottom = point } }
     {
@@ -49,7 +50,7 @@ impl Frame {
         (self.top.y() - self.bottom.y()).unsigned_abs()
     }
 
-    /// The length of the square's sides, at least 2.
+    /// Returns the length of the square's sides, at least 2.
     #[tactic(auto, unfolding(crate::specs::Frames::extent_of))]
     pub(crate) fn extent(&self) -> u64
         ensures value { result ≡ extent_of self.now }
@@ -61,7 +62,7 @@ impl Frame {
         self.width().max(self.height()).max(2)
     }
 
-    /// How many units of the plane one of the picture is.
+    /// Returns how many units of the plane one of the picture is.
     #[tactic(auto, unfolding(crate::specs::Frames::unit_of))]
     fn unit(&self) -> u64
         ensures value { result ≡ unit_of self.now }
@@ -71,7 +72,7 @@ impl Frame {
         self.extent() / PICTURE_UNITS + 1
     }
 
-    /// The length of the square's sides in the picture, at least 1.
+    /// Returns the length of the square's sides in the picture, at least 1.
     #[tactic(auto, unfolding(crate::specs::Frames::side_of))]
     pub(crate) fn side(&self) -> u64
         ensures value { result ≡ side_of self.now }
@@ -80,7 +81,7 @@ impl Frame {
         self.extent() / self.unit()
     }
 
-    /// How far a point stands from the left edge.
+    /// Returns the distance of a point from the left edge.
     #[tactic(auto, unfolding(crate::specs::Frames::from_left))]
     fn from_left(&self, point: Point) -> u64
         ensures value { result ≡ from_left self.now point }
@@ -90,7 +91,7 @@ impl Frame {
         (point.x() - self.left.x()).unsigned_abs() + margin
     }
 
-    /// How far a point stands from the upper edge.
+    /// Returns the distance of a point from the upper edge.
     #[tactic(auto, unfolding(crate::specs::Frames::from_top))]
     fn from_top(&self, point: Point) -> u64
         ensures value { result ≡ from_top self.now point }
@@ -100,7 +101,7 @@ impl Frame {
         (self.top.y() - point.y()).unsigned_abs() + margin
     }
 
-    /// How far a point is drawn from the left edge, in units of the picture.
+    /// Returns how far from the left edge a point is drawn, in units of the picture.
     #[tactic(auto, unfolding(crate::specs::Frames::across))]
     pub(crate) fn across(&self, point: Point) -> u64
         ensures value { result ≡ across self.now point }
@@ -109,7 +110,7 @@ impl Frame {
         self.from_left(point) / self.unit()
     }
 
-    /// How far a point is drawn from the upper edge, in units of the picture.
+    /// Returns how far from the upper edge a point is drawn, in units of the picture.
     #[tactic(auto, unfolding(crate::specs::Frames::down))]
     pub(crate) fn down(&self, point: Point) -> u64
         ensures value { result ≡ down self.now point }
@@ -118,7 +119,7 @@ impl Frame {
         self.from_top(point) / self.unit()
     }
 
-    /// The frame of its points and another one.
+    /// Returns the frame of its points and another one.
     fn widened(&self, point: Point) -> Frame
         ensures { Widens self.now point result }
     {
@@ -131,7 +132,7 @@ impl Frame {
     }
 }
 
-/// The one of two points that lies farther left.
+/// Returns the one of two points that is farther left.
 fn leftmost(a: Point, b: Point) -> Point
     ensures first { result.x ≤ℤ a.x }
     ensures second { result.x ≤ℤ b.x }
@@ -140,7 +141,7 @@ fn leftmost(a: Point, b: Point) -> Point
     if b.x() < a.x() { b } else { a }
 }
 
-/// The one of two points that lies farther right.
+/// Returns the one of two points that is farther right.
 fn rightmost(a: Point, b: Point) -> Point
     ensures first { a.x ≤ℤ result.x }
     ensures second { b.x ≤ℤ result.x }
@@ -149,7 +150,7 @@ fn rightmost(a: Point, b: Point) -> Point
     if a.x() < b.x() { b } else { a }
 }
 
-/// The one of two points that lies farther up.
+/// Returns the one of two points that is farther up.
 fn uppermost(a: Point, b: Point) -> Point
     ensures first { a.y ≤ℤ result.y }
     ensures second { b.y ≤ℤ result.y }
@@ -158,7 +159,7 @@ fn uppermost(a: Point, b: Point) -> Point
     if a.y() < b.y() { b } else { a }
 }
 
-/// The one of two points that lies farther down.
+/// Returns the one of two points that is farther down.
 fn lowest(a: Point, b: Point) -> Point
     ensures first { result.y ≤ℤ a.y }
     ensures second { result.y ≤ℤ b.y }
@@ -167,7 +168,7 @@ fn lowest(a: Point, b: Point) -> Point
     if b.y() < a.y() { b } else { a }
 }
 
-/// The frame of all marks; `None` where there are none.
+/// Returns the frame of all marks, or `None` if there are none.
 pub(crate) fn frame_of(marks: &[Mark]) -> Option<Frame>
     ensures { IsFrameOf marks.now result }
 {

@@ -10,13 +10,13 @@ use super::shapes::told_after;
 use lattice::Point;
 use text_io::{Done, Sink, put_after};
 
-/// How far to the left or to the right of the last label the next one lies clear of it, in points of the screen.
+/// How far to the left or to the right of the last label the next one is clear of it, in points of the screen.
 pub const LABEL_WIDTH: u64 = 18;
 
-/// How far above or below the last label the next one lies clear of it, in points of the screen.
+/// How far above or below the last label the next one is clear of it, in points of the screen.
 pub const LABEL_HEIGHT: u64 = 13;
 
-/// Where a label begins, in points of the screen.
+/// The spot at which a label begins, in points of the screen.
 #[derive(Clone, Copy)]
 pub(crate) struct Spot {
     /// How far from the left edge of the picture.
@@ -25,7 +25,7 @@ pub(crate) struct Spot {
     y: u64,
 }
 
-/// How far from an edge of the screen's square lies what is so far from that of the plane's.
+/// Returns the distance from an edge of the screen's square, for a distance from that of the plane's.
 fn place_on_screen(size: u64, frame: &Frame, distance: u64) -> u64
     requires small { size < 2 ^ 20 }
     requires near { distance ≤ 2 ^ 42 }
@@ -35,7 +35,7 @@ fn place_on_screen(size: u64, frame: &Frame, distance: u64) -> u64
     distance * size / frame.side()
 }
 
-/// Where the label beside a point begins.
+/// Returns the spot at which the label beside a point begins.
 fn label_place(size: u64, frame: &Frame, point: Point) -> Spot
     requires small { size < 2 ^ 20 }
     ensures { result ≡ label_place size frame.now point }
@@ -46,7 +46,7 @@ fn label_place(size: u64, frame: &Frame, point: Point) -> Spot
     }
 }
 
-/// Whether a label at the second place lies clear of the one at the first, if there is one.
+/// Whether a label at the second spot is clear of the one at the first, if there is one.
 fn is_clear(last: Option<Spot>, place: Spot) -> bool
     ensures { result ≡ is_clear last place }
 {
@@ -58,7 +58,7 @@ fn is_clear(last: Option<Spot>, place: Spot) -> bool
     }
 }
 
-/// Whether a point that is held so often has a label at its place, where the last one before it lies at `last`.
+/// Whether a point of this multiplicity has a label at its spot, if the last one before it is at `last`.
 fn has_label(last: Option<Spot>, place: Spot, times: u32) -> bool
     ensures { result ≡ has_label last place times }
 {
@@ -104,7 +104,7 @@ fn all_labels_after<W: Sink>(
     done
 }
 
-/// Writes the labels, where the marks are few enough.
+/// Writes the labels, if the marks are few enough.
 pub(crate) fn labels_after<W: Sink>(
     done: Done,
     out: &mut W,

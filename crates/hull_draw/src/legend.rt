@@ -13,7 +13,7 @@ use lattice::Point;
 use leaf_trees::Bridge;
 use text_io::{Done, Sink, number_after, put_after};
 
-/// The words of the legend's line on bridges, in their colours, behind the place where it stands.
+/// The words of the legend's line on bridges, in their colours, after its position.
 pub const BRIDGES_TOLD: &[u8] =
     b"'>bridges of 8 levels: <tspan fill='#c0392b'>upper</tspan>, <tspan fill='#1e8449'>lower</tspan></text>\n";
 
@@ -27,7 +27,7 @@ pub(crate) fn line_start_after<W: Sink>(done: Done, out: &mut W, size: u64, belo
     told_after(done, out, b"<text x='32' y='", size + below)
 }
 
-/// Writes of how many points one is drawn, where not all are.
+/// Writes one of how many points is drawn, if not all are.
 fn thinned_after<W: Sink>(done: Done, out: &mut W, step: usize) -> Done
     requires { OnOk done (W.failed out.old < 2 ^ 64 - 1) }
     ensures { WritesAfter W.contents W.failed done result out.old out.new (thinned_text step) }
@@ -64,7 +64,7 @@ fn area_after<W: Sink>(done: Done, out: &mut W, size: u64, area: u128) -> Done
     put_after(done, out, b"</text>\n")
 }
 
-/// Writes words, and the first coordinate of a point behind them.
+/// Writes words, and the first coordinate of a point after them.
 fn x_after<W: Sink>(done: Done, out: &mut W, words: &[u8], point: Point) -> Done
     requires { OnOk done (W.failed out.old < 2 ^ 64 - 1) }
     ensures { WritesAfter W.contents W.failed done result out.old out.new (told_signed words.now point.x) }
@@ -73,7 +73,7 @@ fn x_after<W: Sink>(done: Done, out: &mut W, words: &[u8], point: Point) -> Done
     number_after(done, out, point.x())
 }
 
-/// Writes words, and the second coordinate of a point behind them.
+/// Writes words, and the second coordinate of a point after them.
 fn y_after<W: Sink>(done: Done, out: &mut W, words: &[u8], point: Point) -> Done
     requires { OnOk done (W.failed out.old < 2 ^ 64 - 1) }
     ensures { WritesAfter W.contents W.failed done result out.old out.new (told_signed words.now point.y) }
@@ -82,7 +82,7 @@ fn y_after<W: Sink>(done: Done, out: &mut W, words: &[u8], point: Point) -> Done
     number_after(done, out, point.y())
 }
 
-/// Writes between which coordinates the points lie.
+/// Writes the ranges of the points' coordinates.
 fn range_after<W: Sink>(done: Done, out: &mut W, size: u64, frame: &Option<Frame>) -> Done
     requires room { OnOk done (W.failed out.old < 2 ^ 64 - 1) }
     requires small { size < 2 ^ 20 }
@@ -128,7 +128,7 @@ fn lines_after<W: Sink>(done: Done, out: &mut W, size: u64, lines: u32, wrong: O
     put_after(done, out, b"</text>\n")
 }
 
-/// Writes which bridges are drawn, where any are.
+/// Writes which bridges are drawn, if any are.
 fn bridges_told_after<W: Sink>(done: Done, out: &mut W, size: u64, bridges: &[Bridge]) -> Done
     requires room { OnOk done (W.failed out.old < 2 ^ 64 - 1) }
     requires small { size < 2 ^ 20 }

@@ -1,9 +1,9 @@
 //! Pictures of the set that a journal leaves, as SVG.
 //!
-//! [`draw`] reads a journal, replays it, and writes a picture of what is held after the lines that are asked for: the
-//! live points, beside them how often they are held where that can be read, the hull with its corners, the stored
-//! bridges of the tree where they are asked for, and a legend. The polygon is the vertex list of the replayed set, in
-//! order, in whole numbers. [`film`] writes a picture that plays the journal, a call a second.
+//! [`draw`] reads a journal, replays it, and writes a picture of the set after the requested lines: its points,
+//! beside them their multiplicities if these can be read, the hull with its vertices, the stored bridges of the tree
+//! if they are requested, and a legend. The polygon is the vertex list of the replayed set, in order, in whole
+//! numbers. [`film`] writes a picture that plays the journal, a call a second.
 //!
 //! # A worked example
 //!

@@ -10,22 +10,22 @@ use hull_tree::{HullTree, Node};
 use lattice::Point;
 use std::alloc::{AllocError, Global};
 
-/// How many points are drawn at most, beside the corners.
+/// How many points are drawn at most, besides the vertices.
 pub const DRAWN_LIMIT: usize = 4000;
 
-/// How many points a set may have for its multiplicities to be told.
+/// How many points a set may have for its multiplicities to be written.
 pub const LABEL_LIMIT: usize = 400;
 
-/// A live point, with how often it is held.
+/// A point of the set, with its multiplicity.
 #[derive(Clone, Copy, PartialEq, Eq, Debug)]
 pub struct Mark {
     /// The point.
     pub point: Point,
-    /// How often it is held.
+    /// Its multiplicity.
     pub times: u32,
 }
 
-/// Puts the points below a node, in order, behind those that are there.
+/// Puts the points below a node, in order, after those that are there.
 fn put_points(node: &Node, points: &mut Vec<Point>) -> Result<(), AllocError>
     ensures { OnOk result (points.new.items ≡ points.old.items ++ points_of (tree_of node.now)) }
 {
@@ -38,7 +38,7 @@ fn put_points(node: &Node, points: &mut Vec<Point>) -> Result<(), AllocError>
     Ok(())
 }
 
-/// The live points, in order.
+/// Returns the points of the set, in order.
 fn points(alloc: Global, set: &HullTree) -> Result<Vec<Point>, AllocError>
     ensures { IfOk result (λ points. points.items ≡ (held_by set.now.root).points) }
 {
@@ -49,7 +49,7 @@ fn points(alloc: Global, set: &HullTree) -> Result<Vec<Point>, AllocError>
     Ok(points)
 }
 
-/// The live points, in order, with how often each is held.
+/// Returns the points of the set, in order, each with its multiplicity.
 pub(crate) fn marks(alloc: Global, set: &HullTree) -> Result<Vec<Mark>, AllocError>
     ensures { IfOk result (λ marks. AreMarks (held_by set.now.root) marks.items) }
 {

@@ -9,12 +9,12 @@ use super::scene::Scene;
 use super::shapes::{shapes_after, square_after, told_after};
 use text_io::{Done, Sink, flush_after, put_after};
 
-/// The background, and how the parts of a picture are coloured: dots and lines keep their width whatever the scale is.
-/// Of the bridges (`u` and `l`) those of the root (`v0`) are the widest.
+/// The background, and the colours of the parts of a picture: dots and lines keep their width at any scale. Of the
+/// bridges (`u` and `l`) those of the root (`v0`) are the widest.
 pub const STYLE: &[u8] =
     b"<rect width='100%' height='100%' fill='#fff'/>\n<style>text{font:14px sans-serif;fill:#222}path,polygon{fill:none;vector-effect:non-scaling-stroke;stroke-linecap:round;stroke-linejoin:round}.h{fill:#dbe9f6;stroke:#1f5f99;stroke-width:2}.p{stroke:#6b7a89;stroke-width:5}.c{stroke:#1f5f99;stroke-width:9}.u{stroke:#c0392b}.l{stroke:#1e8449}.v0{stroke-width:6}.v1{stroke-width:4.5}.v2{stroke-width:3}.v3{stroke-width:2}.t{font-size:12px;fill:#a33;paint-order:stroke;stroke:#fff;stroke-width:3px}.w{fill:#c00}</style>\n";
 
-/// What stands in place of an empty set.
+/// The text in place of an empty set.
 pub const EMPTY: &[u8] = b"<text x='32' y='46'>the set is empty</text>\n";
 
 /// Writes the shapes in their square, and the labels.
@@ -63,11 +63,11 @@ pub(crate) fn head_after<W: Sink>(done: Done, out: &mut W, size: u64, below: u64
 
 /// Writes a picture of a scene, of this size and of this square of the plane.
 ///
-/// It takes no memory, and ends with a flush. The count of failures has to be below its last value.
+/// It takes no memory, and ends with a flush. The count of failures must be below its greatest value.
 ///
 /// # Errors
 ///
-/// `WriteFault` comes only where the writer failed in this call; what was written is then a beginning of the text.
+/// Fails with `WriteFault` only if the writer failed in this call; the output is then a prefix of the text.
 pub(crate) fn write_picture<W: Sink>(
     out: &mut W,
     size: u64,

@@ -14,7 +14,7 @@ use leaf_trees::Bridge;
 use std::alloc::Global;
 use std::marker::Model;
 
-/// What a picture shows of a set.
+/// The content of a picture of a set.
 #[derive(Debug, Drop)]
 pub struct Scene {
     pub(crate) limit: u32,
@@ -43,7 +43,7 @@ impl Model for Scene {
     } };
 }
 
-/// The lines that are asked for: the first ones, or all where no number is given.
+/// Returns the requested lines: the first ones, or all if no number is given.
 fn asked(line: Option<u32>, lines: &[Line]) -> &[Line]
     ensures { result.now ≡ asked_lines line lines.now }
 {
@@ -53,12 +53,12 @@ fn asked(line: Option<u32>, lines: &[Line]) -> &[Line]
     }
 }
 
-/// The scene after the first lines of a journal, or after all where no number is given. Behind a line that is not right
-/// no line is replayed.
+/// Returns the scene after the first lines of a journal, or after all if no number is given. No line is replayed
+/// after a wrong one.
 ///
 /// # Errors
 ///
-/// `NoMemory` where memory was refused.
+/// Fails with `NoMemory` if memory was refused.
 pub fn scene_of(alloc: Global, journal: &Journal, options: &DrawOptions) -> Result<Scene, NoMemory>
     ensures { IfOk result (IsScene journal.now options.now) }
 {

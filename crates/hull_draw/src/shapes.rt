@@ -12,7 +12,7 @@ use lattice::Point;
 use leaf_trees::Bridge;
 use text_io::{Done, Sink, number_after, put_after};
 
-/// Writes words, and a number behind them.
+/// Writes words, and a number after them.
 pub(crate) fn told_after<W: Sink, N: Integer>(
     done: Done,
     out: &mut W,
@@ -26,7 +26,7 @@ pub(crate) fn told_after<W: Sink, N: Integer>(
     number_after(done, out, number)
 }
 
-/// Writes a corner of the polygon.
+/// Writes a vertex of the polygon.
 fn corner_after<W: Sink>(done: Done, out: &mut W, frame: &Frame, point: Point) -> Done
     requires { OnOk done (W.failed out.old < 2 ^ 64 - 1) }
     ensures { WritesAfter W.contents W.failed done result out.old out.new (corner_text frame.now point) }
@@ -36,7 +36,7 @@ fn corner_after<W: Sink>(done: Done, out: &mut W, frame: &Frame, point: Point) -
     put_after(done, out, b" ")
 }
 
-/// Writes the corners of the polygon.
+/// Writes the vertices of the polygon.
 #[tactic(auto, using(text_io::proofs::Chains::chained_start, text_io::proofs::Chains::chained_end))]
 fn corners_after<W: Sink>(done: Done, out: &mut W, frame: &Frame, points: &[Point]) -> Done
     requires { OnOk done (W.failed out.old < 2 ^ 64 - 1) }
@@ -86,7 +86,7 @@ fn dots_after<W: Sink>(done: Done, out: &mut W, frame: &Frame, points: &[Point])
     done
 }
 
-/// Writes the dots at the corners.
+/// Writes the dots at the vertices.
 fn corner_dots_after<W: Sink>(done: Done, out: &mut W, frame: &Frame, points: &[Point]) -> Done
     requires { OnOk done (W.failed out.old < 2 ^ 64 - 1) }
     ensures { WritesAfter W.contents W.failed done result out.old out.new (corner_dots_text frame.now points.now) }
@@ -96,7 +96,7 @@ fn corner_dots_after<W: Sink>(done: Done, out: &mut W, frame: &Frame, points: &[
     put_after(done, out, b"'/>\n")
 }
 
-/// Writes the dots of every one of so many marks.
+/// Writes the dots of one of each so many marks.
 #[tactic(auto, using(text_io::proofs::Chains::chained_start, text_io::proofs::Chains::chained_end))]
 fn mark_dots_after<W: Sink>(
     done: Done,
@@ -205,7 +205,7 @@ pub(crate) fn square_after<W: Sink>(done: Done, out: &mut W, size: u64, side: u6
     put_after(done, out, b"'>\n")
 }
 
-/// Writes the hull, the points, above them the bridges, and above these the corners.
+/// Writes the hull, the points, above them the bridges, and above these the vertices.
 pub(crate) fn shapes_after<W: Sink>(done: Done, out: &mut W, frame: &Frame, scene: &Scene) -> Done
     requires { OnOk done (W.failed out.old < 2 ^ 64 - 1) }
     ensures { WritesAfter W.contents W.failed done result out.old out.new (shapes_text frame.now scene.now) }

@@ -9,10 +9,10 @@ use hull_set::{Call, NoMemory};
 use lattice::Point;
 use std::alloc::{AllocError, Global};
 
-/// How many frames a film has at most, one a line.
+/// How many frames a film has at most, one for each line.
 pub const FRAME_LIMIT: usize = 600;
 
-/// The point that a call names.
+/// Returns the point that a call names.
 pub(crate) fn call_point(call: &Call) -> Option<Point>
     ensures { result ≡ call_point call.now }
 {
@@ -24,7 +24,7 @@ pub(crate) fn call_point(call: &Call) -> Option<Point>
     }
 }
 
-/// The marks of all points that calls name.
+/// Returns the marks of all points that calls name.
 pub(crate) fn called_marks(alloc: Global, lines: &[Line]) -> Result<Vec<Mark>, AllocError>
     ensures { IfOk result (λ marks. marks.items ≡ called_marks lines.now) }
 {
@@ -39,14 +39,14 @@ pub(crate) fn called_marks(alloc: Global, lines: &[Line]) -> Result<Vec<Mark>, A
     Ok(marks)
 }
 
-/// The scenes of a film: after one line, after two, and so on, each as [`scene_of`] has it. There is one for each line
-/// up to the limit, but behind the first wrong line there is none.
+/// Returns the scenes of a film: after one line, after two, and so on, each as [`scene_of`] returns it. There is one
+/// for each line up to the limit, but none after the first wrong line.
 ///
 /// Each scene is replayed from the empty set, which takes at most 180,300 calls in all.
 ///
 /// # Errors
 ///
-/// `NoMemory` where memory was refused.
+/// Fails with `NoMemory` if memory was refused.
 pub fn scenes_of(alloc: Global, journal: &Journal, size: u64) -> Result<Vec<Scene>, NoMemory>
     ensures film { IfOk result (λ scenes. IsFilm journal.now size scenes.items) }
     ensures few { IfOk result (λ scenes. length scenes.items ≤ FRAME_LIMIT) }

@@ -1,4 +1,4 @@
--- The words that a program was given.
+-- The words that a program was started with.
 use Rattle.std.specs.Prelude.{◌≡◌, ℕ, List, String, map, slice_get, string_bytes, Some}
 use Rattle.std.specs.Global.{Global}
 use Rattle.std.specs.Borrow.{Bor}

@@ -5,25 +5,25 @@ use std::io::{BufWriter, Printer};
 use std::rt::Files;
 use std::{fs, io};
 
-/// The bytes that are gathered before they are written.
+/// How many bytes are gathered before they are written.
 const WRITE_BLOCK: usize = 65536;
 
 /// Opens the file at the path to read it.
 ///
 /// # Errors
 ///
-/// `Memory` where memory was refused to the system, and else `Open`.
+/// Fails with `Memory` if memory was refused to the system, and else with `Open`.
 pub fn open_file<R: Files>(rt: &R, path: &str) -> Result<R::File, Refusal>
     ensures { IfErr result (λ refusal. (refusal ≡ Refusal.Memory) ⊎ (refusal ≡ Refusal.Open)) }
 {
     fs::open(rt, path).map_err(|error| Refusal::of_system(&error, Refusal::Open))
 }
 
-/// Standard output behind a block.
+/// Returns a writer to standard output that gathers a block.
 ///
 /// # Errors
 ///
-/// `Memory` where memory for the block was refused.
+/// Fails with `Memory` if memory for the block was refused.
 pub fn block_writer<R: Print + AllocGlobal>(rt: &R) -> Result<BufWriter<Printer<'_, R>>, Refusal>
     ensures { IfErr result (λ refusal. refusal ≡ Refusal.Memory) }
 {

@@ -1,4 +1,4 @@
-//! What the programs share: why one that was refused ends, the words that it was given, and the files that it opens.
+//! The code that the programs share: the reasons to refuse, the words on the command line, and the files that they open.
 #![tactic(auto)]
 
 mod files;

@@ -8,7 +8,7 @@ use std::io;
 use std::io::ErrorKind;
 use thiserror::Error;
 
-/// Why a program was refused: its text on standard error behind the program's name, and its status.
+/// Why a program was refused: its text on standard error after the program's name, and its status.
 #[derive(Clone, Copy, PartialEq, Eq, Debug, Error)]
 pub enum Refusal {
     /// The words after the program's name are refused.
@@ -28,7 +28,7 @@ pub enum Refusal {
     Text(TextFault),
 }
 
-/// The exit status of a program that ends with this fault of a text.
+/// Returns the exit status of a program that ends with this fault of a text.
 pub fn text_status(fault: &TextFault) -> u8
     ensures { result ≡ text_status fault.now }
 {
@@ -41,7 +41,7 @@ pub fn text_status(fault: &TextFault) -> u8
 }
 
 impl Refusal {
-    /// The refusal of a call on the system that failed: `Memory` where memory was refused to it, and else `other`.
+    /// Returns the refusal for a system call that failed: `Memory` if memory was refused to it, and else `other`.
     pub fn of_system(error: &io::Error, other: Refusal) -> Refusal
         ensures memory { error_kind error.now ≡ ErrorKind.OutOfMemory → result ≡ Refusal.Memory }
         ensures other { error_kind error.now ≢ ErrorKind.OutOfMemory → result ≡ other }
@@ -53,7 +53,7 @@ impl Refusal {
         }
     }
 
-    /// The exit status of a program that ends with this.
+    /// Returns the exit status of a program that ends with this refusal.
     pub fn status(&self) -> u8
         ensures { result ≡ refusal_status self.now }
     {

@@ -18,11 +18,11 @@ pub enum OptionFault {
     Memory,
 }
 
-/// The words after the program's name.
+/// Returns the words after the program's name.
 ///
 /// # Errors
 ///
-/// `Memory` where memory was refused, `Usage` where the system does not tell the words.
+/// Fails with `Memory` if memory was refused, with `Usage` if the system does not provide the words.
 pub fn words_given<R: Env + AllocGlobal>(rt: &R) -> Result<Vec<String>, Refusal>
     ensures { IfErr result (λ refusal. (refusal ≡ Refusal.Memory) ⊎ (refusal ≡ Refusal.Usage)) }
 {
@@ -34,11 +34,11 @@ pub fn words_given<R: Env + AllocGlobal>(rt: &R) -> Result<Vec<String>, Refusal>
     Ok(words)
 }
 
-/// The words as texts.
+/// Returns the words as texts.
 ///
 /// # Errors
 ///
-/// `Memory` where memory was refused.
+/// Fails with `Memory` if memory was refused.
 pub fn texts_of(alloc: Global, words: &[String]) -> Result<Vec<&str>, OptionFault>
     ensures texts { IfOk result (λ texts. texts_of texts.items ≡ words_as_texts words.now) }
     ensures memory { IfErr result (λ fault. fault ≡ OptionFault.Memory) }
@@ -50,7 +50,8 @@ pub fn texts_of(alloc: Global, words: &[String]) -> Result<Vec<&str>, OptionFaul
     Ok(texts)
 }
 
-/// Why words that could not be read are refused: `Memory` where memory was refused to their reader, and else `Usage`.
+/// Returns why words that could not be read are refused: `Memory` if memory was refused to their reader, and else
+/// `Usage`.
 pub fn fault_of_words(error: &Error) -> OptionFault
     ensures memory { kind_of error.now ≡ ErrorKind.OutOfMemory → result ≡ OptionFault.Memory }
     ensures usage { kind_of error.now ≢ ErrorKind.OutOfMemory → result ≡ OptionFault.Usage }
@@ -62,11 +63,11 @@ pub fn fault_of_words(error: &Error) -> OptionFault
     }
 }
 
-/// This path, as it was written: it is found among the words, so that the contract can say so.
+/// Returns this path as it was written. It is looked up among the words, so that the contract can state that.
 ///
 /// # Errors
 ///
-/// `Usage` where it is none of the words, `Memory` where memory was refused.
+/// Fails with `Usage` if it is none of the words, with `Memory` if memory was refused.
 pub fn word_of(alloc: Global, path: &str, words: &[&str]) -> Result<String, OptionFault>
     ensures word { IfOk result (λ word. IsOneOf (texts_of words.now) (string_bytes word)) }
     ensures same { IfOk result (λ word. string_bytes word ≡ path.now) }
@@ -79,11 +80,11 @@ pub fn word_of(alloc: Global, path: &str, words: &[&str]) -> Result<String, Opti
     Err(OptionFault::Usage)
 }
 
-/// The path that was given under this id, as it was written.
+/// Returns the path that was given under this id, as it was written.
 ///
 /// # Errors
 ///
-/// `Usage` where none was given, `Memory` where memory was refused.
+/// Fails with `Usage` if none was given, with `Memory` if memory was refused.
 pub fn path_of(
     alloc: Global,
     matches: &ArgMatches<'_>,

@@ -1,4 +1,4 @@
--- What is held behind lines is what is held behind their changes.
+-- The set after lines is the set after their changes.
 use Rattle.std.proofs.Common.{◌≡◌, ◌∙◌, List, [], ◌∷◌, ap, refl, sym}
 use Rattle.hull_book.specs.History.{held_after, replay}
 use Rattle.hull_book.specs.Marks.{as_part, plain, unmarked}
@@ -9,17 +9,17 @@ use Rattle.hull_views.specs.Changes.{change_of, changed, changed_by, held_behind
 use Rattle.hull_views.proofs.Effects.{effect}
 use Rattle.hull_shared.specs.Tellings.{changes_of}
 
--- a replay of lines is their changes, one after the other
+-- a replay of lines applies their changes, one after the other
 replay_changes : (lines : List Line) (held : Held) → replay held lines ≡ changed_by held (changes_of lines)
 unfolding replay changed_by
 replay_changes [] held = refl
 replay_changes (l ∷ lines) held =
     ap (λ h. replay h lines) (sym (effect held l.call l.reply)) ∙ replay_changes lines (changed held (change_of l.call l.reply))
 
--- so it is from the empty set
+-- the set after lines of the empty set is the set after their changes
 pub held_by_changes : (lines : List Line) → held_after lines ≡ held_behind (changes_of lines)
 held_by_changes lines = replay_changes lines nothing_held
 
--- the changes of lines that stand as a part are theirs
+-- the changes of lines do not depend on whether the lines are a segment
 pub of_part : (lines : List Line) → changes_of (plain (as_part lines)) ≡ changes_of lines
 of_part lines = ap changes_of (plain_mark_last (unmarked lines) ∙ plain_unmarked lines)

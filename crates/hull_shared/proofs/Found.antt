@@ -1,4 +1,4 @@
--- What a seat that waits found when its number was served.
+-- The book that a waiting seat found when its number was served.
 use Rattle.std.proofs.Common.{◌≡◌, ◌<◌, ◌∙◌, ℕ, List, ap, sym, subst}
 use Rattle.hull_book.specs.Ledgers.{IsLedger, plain_own}
 use Rattle.hull_book.specs.Marks.{plain}
@@ -18,13 +18,13 @@ module _ (w : WaitingSeat) (lock : HullLock) (n t : ℕ) (book : DeskBoxed)
   found_head : boxed_head book ≡ head_of (lock_of w.lock)
   found_head = finds.same_head ∙ ap (λ (l : HullLock). head_of l) is
 
-  -- the seat's ledger is that of the book found
+  -- the seat's ledger is one of the book found
   pub found_ledger : IsLedger (whole_of book) w.number w.ledger
   found_ledger = found_ledger_of (whole_of book) w.number (plain (ticket_seen w.ticket)) w.ledger
       (subst (λ (h : DeskHead). w.number < h.book.workers) (sym found_head) w.below)
       (same_own w.number n _ _ numbered (plain_own n _ _ finds.own_lines)) w.counts
 
-  -- what is so of the journal found is so under the head at opening and the number of the seat
+  -- a property of the journal found holds with the head at opening and the number of the seat
   pub has_found : (i : IdleSeat) (u : ℕ) (so : DeskHead → ℕ → List MarkedLine → Type 0)
       → lock_of i.lock ≡ lock_of w.lock → i.number ≡ w.number → u ≡ ticket_number w.ticket
       → so (boxed_head book) u (lines_at book) → HasFound w i (so (head_of (lock_of w.lock)) (ticket_number w.ticket))

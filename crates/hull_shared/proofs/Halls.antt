@@ -1,4 +1,4 @@
--- The hall of a desk's teller is that into which its gate leads.
+-- The publisher and the reader registry of a shared hull have the same snapshot slots.
 use Rattle.std.proofs.Common.{◌≡◌, ℕ, Option, Some, None, ap, refl, sym}
 use Rattle.published_views.specs.Views.{name_of}
 use Rattle.hull_views.specs.declared.teller.Teller.{Teller}
@@ -6,7 +6,7 @@ use Rattle.hull_shared.specs.declared.gate.Gate.{Gate}
 use Rattle.hull_shared.specs.Gates.{IsGateFor, hall_behind}
 use Rattle.hull_shared.specs.Tellings.{hall_told}
 
--- a teller and a gate that were made together are of one hall
+-- a publisher and a registry that were made together have the same snapshot slots
 pub one_hall : (readers first : ℕ) (t : Option Teller) (g : Option Gate) → IsGateFor readers first t g
     → hall_behind g ≡ hall_told t
 one_hall readers first None None h = refl

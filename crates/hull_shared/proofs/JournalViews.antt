@@ -1,4 +1,4 @@
--- A view is of as many lines of the journal as it has changes.
+-- A snapshot is as of as many lines of the journal as it has changes.
 use Rattle.std.proofs.Common.{◌≡◌, ◌∙◌, List, ap, length, refl, subst, sym, take}
 use Rattle.std.proofs.lemmas.List.{take-map, take_at}
 use mathlib.Core.List.{IsPrefix}
@@ -12,13 +12,13 @@ use Rattle.hull_shared.specs.JournalViews.{ViewsAreOfTheJournal}
 use Rattle.hull_shared.specs.Tellings.{changes_of}
 use Rattle.hull_shared.proofs.Changes.{held_by_changes}
 
--- changes that begin those of lines are those of as many of the lines
+-- if changes are a prefix of those of lines, they are the changes of as many of the lines
 prefix_changes : (lines : List Line) (seen : List Change) → IsPrefix seen (changes_of lines)
     → seen ≡ changes_of (take (length seen) lines)
 prefix_changes lines seen p = sym (take_at seen p.0 (length seen) refl) ∙ ap (λ cs. take (length seen) cs) p.1
     ∙ take-map (λ (l : Line). change_of l.call l.reply) (length seen) lines
 
--- so a view is of the journal
+-- a snapshot is of the journal
 pub of_the_journal : ViewsAreOfTheJournal
 of_the_journal lines seen corners p is =
     subst (λ (h : Held). IsVertexList h.points corners)

@@ -1,5 +1,5 @@
--- An export in C that lends what lies at two pointers to one function, and does no more, meets its contract where that function
--- meets its own. Both may want a fact of what lies there.
+-- An export in C that passes references to what two pointers point to on to one function, and does nothing else,
+-- meets its contract if that function meets its own. Both contracts may require a fact about what is there.
 use Rattle.hull_reply.proofs.Steps.{ℕ, ◌++◌, List, [], ◌∷◌, full_share, ftrue, flft, flent, fres, named, vptr, Val, fact, tables, WpFn, ‵}
 use Rattle.hull_reply.proofs.Steps.{raw, ◌⊛◌, some, later, prop, ◌$◌, ◌∵◌, !, qed, done, move, keep, drop, use1, use3, split, join, fsplit}
 use Rattle.hull_reply.proofs.Steps.{fjoin, fpack, pick, await, suffices, frame, lft_new, lft_end, yes, Is, mem, lends_ref, ref_back, RawPtr}
@@ -31,7 +31,7 @@ use denote.Triple.Spec.{Spec, Meets}
 use denote.Triple.Statement.{Contract, Triple}
 use denote.Triple.Table.{enters}
 
--- a fact that may be wanted, before what else is asked, and alone
+-- a fact that may be required, before the other requirements, and only the fact
 module _ {M : Type 1} (𝓤 : Ura M) where
   abbrev pub asks : Option (Type 0) → SProp 𝓤 → SProp 𝓤
   asks none P = P
@@ -41,7 +41,7 @@ module _ {M : Type 1} (𝓤 : Ura M) where
   asked none = emp 𝓤
   asked (wanted φ) = fact 𝓤 φ
 
-  -- what is asked gives the rest, and the fact for nothing
+  -- the requirements give the other requirements, and the fact at no cost
   asked_for : (want : Option (Type 0)) (P T Q : SProp 𝓤) → (ent 𝓤 (emp 𝓤) (asked want) → ent 𝓤 (sep 𝓤 P T) Q) → ent 𝓤 (sep 𝓤 P (asks want T)) Q
   asked_for none P T Q h = h (id⊢ 𝓤 (emp 𝓤))
   asked_for (wanted φ) P T Q h =
@@ -80,7 +80,7 @@ module _ {M : Type 1} (𝓤 : Ura M) (𝓛 : Logic 𝓤) (𝓜 : Model 𝓤 𝓛
           (sem 𝓛 (leaves_both R Q a.0 a.1.0 (λ new left. law a.1.1 t.0 new t.1 left u))));
     }
 
-    -- the function's: the two references come first, and their lifetimes
+    -- the function's contract: the two references come first, and their lifetimes
     abbrev pub LentBoth : Contract 𝓤
     LentBoth = record {
       Ghost = (κs : Lft × (Lft × Unit {0})) × (Share × (Share × Unit {0})) × Unit {0}
@@ -110,7 +110,7 @@ module _ {M : Type 1} (𝓤 : Ura M) (𝓛 : Logic 𝓤) (𝓜 : Model 𝓤 𝓛
 
     module _ {j : Callee} (meets : Triple 𝓤 (𝓣.C j) LentBoth) where
       module _ (a : Denots Rs) (t : R.Denot) (s : Q.Denot) where
-        -- what there is at the return, before the update
+        -- the state at the return, before the update
         abbrev Ends : Ptr → Ptr → Val → SProp 𝓤
         Ends p q v = ex 𝓤 (λ (u : Out.row.Denot).
             sep 𝓤 (sep 𝓤 (emp 𝓤) (sem 𝓛 (Out.row.own_val u (v ∷ [])))) ((spec tt (p, (q, a))).ensures (t, s) u))
@@ -139,7 +139,7 @@ module _ {M : Type 1} (𝓤 : Ura M) (𝓛 : Logic 𝓤) (𝓜 : Model 𝓤 𝓛
           abbrev Kept : Lft → Lft → GName → GName → SProp 𝓤
           Kept κ μ γ δ = sep 𝓤 (sem 𝓛 (flent κ (Body (mem R) b o γ))) (sem 𝓛 (flent μ (Body (mem Q) d w δ)))
 
-          -- what the call and the two lenders leave is what the export leaves
+          -- the state after the call and the end of both loans is the state that the export leaves
           taken_back : (α β : ℕ) (γ δ : GName) (v : Val)
               → ent 𝓤 (sep 𝓤 (LentBoth.post (lending (α ∷ []) (β ∷ []) γ δ) v) (Kept (α ∷ []) (β ∷ []) γ δ))
               (H.⇛ (Ends (block_ptr b o) (block_ptr d w) v))
@@ -162,11 +162,11 @@ module _ {M : Type 1} (𝓤 : Ura M) (𝓛 : Logic 𝓤) (𝓜 : Model 𝓤 𝓛
               -- over; nothing; the first's is; the result]
               move ! (7 ∷ 3 ∷ 0 ∷ []) $ use3 𝓛 (later (‵ ((mem R).own_at ws.0 b o))) (ref_back 𝓛 R κ γ ws.0 b o) $
               await ! tt $ move ! (2 ∷ []) $ fsplit ! $ fsplit ! $
-              -- [the second's last value; its borrow; the other last values; what lies at the first; its borrow; the second's
+              -- [the second's last value; its borrow; the other last values; the value at the first; its borrow; the second's
               -- lender; its lifetime is over; nothing; the result]
               move ! (6 ∷ 5 ∷ 0 ∷ []) $ use3 𝓛 (later (‵ ((mem Q).own_at ws.1.0 d w))) (ref_back 𝓛 Q μ δ ws.1.0 d w) $
               await ! tt $ at_once ! $
-              -- [what lies at the second; its borrow; the other last values; what lies at the first; its borrow; nothing; the result]
+              -- [the value at the second; its borrow; the other last values; the value at the first; its borrow; nothing; the result]
               show ! (λ (u : Out.row.Denot). sep 𝓤 (sep 𝓤 (emp 𝓤) (sem 𝓛 (Out.row.own_val u (v ∷ []))))
               ((spec tt (block_ptr b o, (block_ptr d w, a))).ensures (t, s) u)) u $
               move ! (5 ∷ 6 ∷ []) $ join ! $ frame ! $
@@ -189,12 +189,12 @@ module _ {M : Type 1} (𝓤 : Ura M) (𝓛 : Logic 𝓤) (𝓜 : Model 𝓤 𝓛
               ∷ ‵ (lies_at R full_share (block_ptr b o) t) ∷ ‵ (lies_at Q full_share (block_ptr d w) s) ∷ []) ∵
               suffices ! _ (enters 𝓤 H 𝓜 𝓣 j vs (λ v. H.⇛ (Ends (block_ptr b o) (block_ptr d w) v))) $ updating ! $
               split ! $ drop ! $ fsplit ! $ drop ! $ fsplit ! $ drop ! $
-              -- [what else is passed; what lies at the first; what lies at the second]
+              -- [what else is passed; the value at the first; the value at the second]
               move ! (1 ∷ []) $ lft_new ! tt (λ α. let κ : Lft = α ∷ [] in move ! (1 ∷ []) $
               use1 𝓛 (later (some (λ (γ : GName). ‵ ((MutRef (named 0) κ R).own_val
               (record { ref_ptr = (b, o); ghost_name = γ; now = t }) (vptr b o ∷ [])) ⊛ ‵ (flent κ (Body (mem R) b o γ)))))
               (lends_ref 𝓛 R (named 0) κ t b o) $ await ! tt $ pick ! (λ γ. split ! $ move ! (4 ∷ []) $
-              -- [what lies at the second; the first's loan; what its lender keeps; its token; what else is passed]
+              -- [the value at the second; the first's loan; what its lender keeps; its token; what else is passed]
               lft_new ! tt (λ β. let μ : Lft = β ∷ [] in move ! (1 ∷ []) $
               use1 𝓛 (later (some (λ (δ : GName). ‵ ((MutRef (named 1) μ Q).own_val
               (record { ref_ptr = (d, w); ghost_name = δ; now = s }) (vptr d w ∷ [])) ⊛ ‵ (flent μ (Body (mem Q) d w δ)))))

@@ -1,5 +1,5 @@
--- An export in C that writes to a room what one function gives back, which is passed nothing, and does no more, meets its contract
--- where that function meets its own.
+-- An export in C that writes the result of one function without arguments to storage, and does nothing else, meets
+-- its contract if that function meets its own.
 use Rattle.hull_reply.proofs.Steps.{◌≡◌, [], ◌∷◌, refl, full_share, ftrue, Val, fact, tables, WpFn, ‵, raw, ◌⊛◌, some, later, at_ret, ◌$◌}
 use Rattle.hull_reply.proofs.Steps.{◌∵◌, !, qed, done, move, keep, drop, use1, split, join, fjoin, fpack, pick, await, suffices, frame}
 use Rattle.hull_reply.proofs.Steps.{enter, of_opd, stop, no_more, first, blocks, exec, returns, alloc_all, pass_all, free_all, look_at, get}
@@ -49,7 +49,7 @@ module _ {M : Type 1} (𝓤 : Ura M) (𝓛 : Logic 𝓤) (𝓜 : Model 𝓤 𝓛
       ensures = λ t u. ex 𝓤 (λ (ws : Unit {0} × Unit {0}). sep 𝓤 (sem 𝓛 (fsep ftrue ftrue)) (sem 𝓛 (leaves R a.0 law)));
     }
 
-    -- the function's
+    -- the function's contract
     abbrev pub Made : Contract 𝓤
     Made = record {
       Ghost = Unit {0};
@@ -59,7 +59,7 @@ module _ {M : Type 1} (𝓤 : Ura M) (𝓛 : Logic 𝓤) (𝓜 : Model 𝓤 𝓛
           (ex 𝓤 (λ (ws : Unit {0}). sep 𝓤 (emp 𝓤) (fact 𝓤 (law u))))));
     }
 
-    -- the code, at the function
+    -- the code with its call of the function
     abbrev pub making : Callee → Fn
     making j = record {
       lifetimes = 0;
@@ -92,7 +92,7 @@ module _ {M : Type 1} (𝓤 : Ura M) (𝓛 : Logic 𝓤) (𝓜 : Model 𝓤 𝓛
           await ! tt $ pick ! (λ u. split ! $ split ! $ drop ! $ peeks ! R (Is R) (shows 𝓛 R) u (v ∷ []) (λ is.
           lands_as ! refl refl (typed u v is) $
           move ! (1 ∷ []) $ pick ! (λ ws. split ! $ drop ! $ heard ! _ (λ holds.
-          -- [what the value owns; the room]
+          -- [what the value owns; the storage]
           first ! $ blocks ! $ sets ! (of_opd ! (get ! refl)) refl (typed u v is) $
           assigns_last ! (of_opd ! (get ! refl)) (through ! refl (stop !)) (init ! 1 refl (typed u v is)) $
           exec ! 𝓣.C 𝓣.Λ (env (making j).locals l) (after 3 (making j).body) (at_ret _ (Ends (block_ptr b o))) $

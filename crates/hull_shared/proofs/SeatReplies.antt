@@ -1,4 +1,4 @@
--- A seat's reply, as what an export gives back.
+-- A seat's reply as the result of an export.
 use Rattle.hull_reply.proofs.Lends.{Result}
 use Rattle.hull_shared.specs.contracts.looking.SeatReply.{the_row}
 use Rattle.hull_shared.proofs.looking.SeatReply.TheLaws.{lowers, the_row_laws}

@@ -1,4 +1,4 @@
--- A view in numbers, as what an export gives back.
+-- A snapshot in numbers as the result of an export.
 use Rattle.hull_reply.proofs.Lends.{Result}
 use Rattle.hull_shared.specs.contracts.reading.ViewReply.{the_row}
 use Rattle.hull_shared.proofs.reading.ViewReply.TheLaws.{lowers, the_row_laws}

@@ -1,4 +1,4 @@
--- Where readers come in at a desk.
+-- The reader registry of a shared hull.
 use Rattle.std.specs.Prelude.{◌≡◌, ◌≢◌, ◌⊎◌, ◌+◌, ℕ, Bool, true, false, Option, Some, None, Result, Ok, Err}
 use Rattle.hull_reply.specs.declared.code.Code.{Code}
 use Rattle.hull_reply.specs.declared.code.Code.TheVariants as code
@@ -9,40 +9,41 @@ use Rattle.hull_views.specs.declared.teller.Teller.{Teller}
 use Rattle.hull_shared.specs.declared.gate.Gate.{Gate}
 use Rattle.hull_shared.specs.declared.reader.OutReader.{OutReader}
 
--- the teller and the gate of a desk that is opened for so many readers, none of whom is out: neither, where there are none
+-- the publisher and the registry of a shared hull that is opened for so many readers, none of whom is acquired:
+-- neither, if there are none
 abbrev pub IsGateFor : ℕ → ℕ → Option Teller → Option Gate → Type 0
 IsGateFor readers first None None = readers ≡ 0
 IsGateFor readers first (Some t) (Some g) =
     (readers ≢ 0) × IsOpened readers t g.entrance × (g.admitted ≡ readers) × (g.out ≡ 0) × (g.first ≡ first)
 IsGateFor readers first _ _ = ⊥
 
--- the name of the hall into which the gate leads, if there is one
+-- the name of the registry's snapshot slots, if there is a registry
 abbrev pub hall_behind : Option Gate → Option HallName
 hall_behind None = None
 hall_behind (Some g) = Some (entrance_name g.entrance)
 
--- so many readers may come in, and none is out
+-- so many readers may be acquired, and none is
 abbrev pub LetsSoMany : ℕ → ℕ → Option Gate → Type 0
 LetsSoMany readers first None = readers ≡ 0
 LetsSoMany readers first (Some g) = (g.admitted ≡ readers) × (g.out ≡ 0) × (g.first ≡ first)
 
--- some reader is out
+-- some reader is acquired
 abbrev pub AreReadersOut : Option Gate → Type 0
 AreReadersOut None = ⊥
 AreReadersOut (Some g) = g.out ≢ 0
 
--- the gate is the same but for how many are out
+-- the registry is the same but for how many readers are acquired
 abbrev pub IsSameGate : Gate → Gate → Type 0
 IsSameGate g h = (h.entrance ≡ g.entrance) × (h.admitted ≡ g.admitted) × (h.first ≡ g.first)
 
--- a reader went out; or as many are out as may be, or fewer and memory was refused, and the gate is as it was
+-- a reader was acquired; or all are, or memory was refused before that, and the registry is unchanged
 abbrev pub LetsIn : Gate → Gate → Result OutReader Code → Type 0
 LetsIn g h (Ok r) =
     IsSameGate g h × (h.out ≡ g.out + 1) × ComesIn g.entrance r.reader × (r.first ≡ g.first)
 LetsIn g h (Err fault) =
     (h ≡ g) × (((g.out ≡ g.admitted) × (fault ≡ code.NoSeat)) ⊎ ((g.out ≢ g.admitted) × (fault ≡ code.NoMemory)))
 
--- a reader came back; or none was out
+-- a reader was released; or none was acquired
 abbrev pub TakesIn : Gate → Gate → Bool → Type 0
 TakesIn g h true = IsSameGate g h × (g.out ≡ h.out + 1)
 TakesIn g h false = (h ≡ g) × (g.out ≡ 0)

@@ -1,4 +1,4 @@
--- Views of a desk's corners, and its journal.
+-- Snapshots of a shared hull's vertices, and its journal.
 use Rattle.std.specs.Prelude.{List, length, take}
 use mathlib.Core.List.{IsPrefix}
 use Rattle.lattice.specs.Plane.{Pair}
@@ -10,8 +10,8 @@ use Rattle.hull_views.specs.Changes.{held_behind}
 use Rattle.hull_views.specs.declared.change.Change.{Change}
 use Rattle.hull_shared.specs.Tellings.{changes_of}
 
--- Where the changes behind which a view is begin those of the journal's lines, its corners are those of the live points after
--- as many lines of the journal: whoever replays it to there has them.
+-- If the changes of a snapshot are a prefix of those of the journal's lines, its vertices are those of the set's
+-- points after as many lines of the journal: a replay up to there has them.
 abbrev pub ViewsAreOfTheJournal : Type 0
 ViewsAreOfTheJournal = (lines : List MarkedLine) (seen : List Change) (corners : List Pair)
     → IsPrefix seen (changes_of (plain lines)) → IsVertexList (held_behind seen).points corners

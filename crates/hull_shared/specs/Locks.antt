@@ -1,4 +1,4 @@
--- The lock of a desk: what it was opened round.
+-- The lock of a shared hull, and the book that it was opened round.
 use Rattle.std.specs.Prelude.{◌≡◌, ℕ, Box, List, box_value}
 use Rattle.std.specs.Global.{Global}
 use Rattle.std.specs.Arc.{arc_value}
@@ -23,7 +23,7 @@ use Rattle.hull_shared.specs.declared.book.DeskHead.{DeskHead}
 abbrev pub lock_of : {X Z : Type 0} → Arc (ManuallyDrop X) Z → X
 lock_of owner = manually_drop_value (arc_value owner)
 
--- the book of a desk on the heap, as contracts see it
+-- the book of a shared hull on the heap, as contracts see it
 abbrev pub DeskBoxed : Type 0
 DeskBoxed = Box DeskValue Global
 
@@ -31,7 +31,7 @@ DeskBoxed = Box DeskValue Global
 abbrev pub boxed_head : DeskBoxed → DeskHead
 boxed_head b = desk_head (box_value b)
 
--- the book of all its lines, those counted that were taken out
+-- the book of all its lines, including those that were drained
 abbrev pub whole_of : DeskBoxed → BookValue LimitedTree
 whole_of b = whole (box_value b).book
 
@@ -51,12 +51,12 @@ desk = kind_of (record {
   line_number = λ l. l.ticket;
 }) (λ b. whole b.book) plain
 
--- what the trait `Chronicle` of the lock says of them
+-- the ghosts of the lock's trait `Chronicle` for such books
 abbrev pub says_desk : chronicle.Ghosts DeskBoxed DeskHead MarkedLine
 says_desk = desk.says
 
--- Each bridge that a tree over buckets stores is that of the points below it, each bucket tells the corners of its own points,
--- and all these are the points.
+-- Each bridge that a tree over buckets stores is that of the points below it, each bucket has the vertices of its own
+-- points, and all these are the points.
 abbrev pub StoresBridgesOf : LimitedTree → List Pair → Type 0
 StoresBridgesOf tree points = IsWellBuiltRoot tree.root × (points_of_root tree.root ≡ points)
 
@@ -68,7 +68,7 @@ HullLock = TicketLock DeskBoxed DeskHead MarkedLine
 abbrev pub book_of : HullLock → DeskValue
 book_of lock = box_value (opening_book lock)
 
--- what no call changes: the first number, the limit, how many lines are held at most, and whether lines are kept
+-- what no call changes: the first number, the limit, the capacity in lines, and whether lines are kept
 abbrev pub head_of : HullLock → DeskHead
 head_of lock = desk_head (book_of lock)
 
@@ -76,6 +76,6 @@ head_of lock = desk_head (book_of lock)
 abbrev pub seats_of : HullLock → ℕ
 seats_of lock = (head_of lock).book.workers
 
--- how many lines are held at most
+-- the greatest number of lines that the book may contain
 abbrev pub capacity_of : HullLock → ℕ
 capacity_of lock = (head_of lock).book.journal.capacity

@@ -1,4 +1,4 @@
--- What taking a number, and looking whether it is served, come to.
+-- The results of taking a number, and of looking whether it is served.
 use Rattle.std.specs.Prelude.{◌≡◌, ◌≢◌, ◌+◌, ℕ, ℤ, List, Option, Some, None, Result, Ok, Err}
 use mathlib.Core.List.{IsPrefix}
 use Rattle.lattice.specs.Plane.{Pair}
@@ -34,12 +34,12 @@ abbrev pub WaitsFor : IdleSeat → WaitingSeat → Call → Type 0
 WaitsFor i w call = (lock_of w.lock ≡ lock_of i.lock) × (w.number ≡ i.number) × (w.call ≡ call)
     × (ticket_seen w.ticket ≡ seat_seen i.seat) × (w.ledger ≡ i.ledger)
 
--- the reply tells the number of a line, or that there is none
+-- the reply has the number of a line, or none
 abbrev pub TellsLine : Option ℕ → SeatReply → Type 0
 TellsLine (Some n) r = (r.line ≡ n) × (r.has_line ≡ 1)
 TellsLine None r = (r.line ≡ 0) × (r.has_line ≡ 0)
 
--- the reply tells no line, and of none how many are held
+-- the reply has no line, and no number of lines
 abbrev pub TellsNothing : SeatReply → Type 0
 TellsNothing r = TellsLine None r × (r.held ≡ 0)
 
@@ -47,11 +47,11 @@ TellsNothing r = TellsLine None r × (r.held ≡ 0)
 abbrev pub IsBareReply : Code → SeatReply → Type 0
 IsBareReply c r = IsBare c r.told × (r.turn ≡ 0) × TellsNothing r
 
--- the reply of a seat that waits: this code, and the number that it has
+-- the reply of a waiting seat: this code, and its number
 abbrev pub IsReplyOf : Code → WaitingSeat → SeatReply → Type 0
 IsReplyOf c w r = IsBare c r.told × (r.turn ≡ ticket_number w.ticket) × TellsNothing r
 
--- what a seat with no number comes to that is asked for a call, or for none
+-- the result of asking a seat with no number for a call, or for none
 abbrev pub TakesFor : IdleSeat → SharedSeat → SeatReply → Result Call Code → Type 0
 TakesFor i new r (Ok call) = (w : WaitingSeat) × (new ≡ Waiting w) × WaitsFor i w call × IsReplyOf code.Taken w r
 TakesFor i new r (Err fault) = (new ≡ Idle i) × IsBareReply fault r
@@ -62,19 +62,19 @@ TakesAsked asked Vacant new r = (new ≡ Vacant) × IsBareReply code.Vacant r
 TakesAsked asked (Idle i) new r = TakesFor i new r asked
 TakesAsked asked (Waiting w) new r = (new ≡ Waiting w) × IsReplyOf code.Waiting w r
 
--- a take, for the call that is asked for
+-- a take, for the requested call
 abbrev pub HasTaken : ℕ → ℤ → ℤ → SharedSeat → SharedSeat → SeatReply → Type 0
 HasTaken kind x y old new r = (asked : Result Call Code) × IsAsked kind x y asked × TakesAsked asked old new r
 
--- the seat looked once more and waits on: the same seat of the same lock, with the same number and call, that has seen
--- the same lines
+-- the seat looked once more and still waits: the same seat of the same lock, with the same number and call, that has
+-- seen the same lines
 abbrev pub WaitsOn : WaitingSeat → WaitingSeat → Type 0
 WaitsOn w v = (lock_of v.lock ≡ lock_of w.lock) × (v.number ≡ w.number) × (v.call ≡ w.call)
     × (ticket_number v.ticket ≡ ticket_number w.ticket) × (ticket_seen v.ticket ≡ ticket_seen w.ticket)
     × (ticket_looks v.ticket ≡ ticket_looks w.ticket + 1) × (v.ledger ≡ w.ledger)
 
--- The seat's call was served: it found a whole journal that begins with what it had seen and has no other line in its
--- name, and of that this is so. It is the same seat of the same lock.
+-- The seat's call was served: it found a whole journal that begins with what the seat had seen and has no other line
+-- in the seat's name, and this holds of that journal. It is the same seat of the same lock.
 pub record HasFound (w : WaitingSeat) (i : IdleSeat) (so : List MarkedLine → Type 0) : Type 0 where
   pub same_lock : lock_of i.lock ≡ lock_of w.lock
   pub same_number : i.number ≡ w.number
@@ -83,24 +83,24 @@ pub record HasFound (w : WaitingSeat) (i : IdleSeat) (so : List MarkedLine → T
   pub own_lines : lines_of w.number (plain found) ≡ lines_of w.number (plain (ticket_seen w.ticket))
   pub is_so : so found
 
--- So it was served with this answer and this behind it, by the number that it had taken, and handed on the journal that it
--- has seen now.
+-- The call was served with this answer and this state after it, by the number that the seat had taken, and handed on
+-- the journal that the seat has seen now.
 abbrev pub WasServed : WaitingSeat → IdleSeat → DeskAnswer → Behind → Type 0
 WasServed w i answer behind = HasFound w i (λ found. HasServedAt (head_of (lock_of w.lock)) (ticket_number w.ticket) w.number
     w.call found (seat_seen i.seat) answer behind)
 
--- the seat waits on, or its call was served
+-- the seat still waits, or its call was served
 abbrev pub HasLooked : WaitingSeat → Looked → Type 0
 HasLooked w (looked.NotYet v) = WaitsOn w v
 HasLooked w (looked.Served i answer behind) = WasServed w i answer behind
 
--- the reply tells an answer: the numbers of the set's reply, or that as many lines are held as may be
+-- the reply has an answer: the numbers of the set's reply, or that the book is full
 abbrev pub TellsAnswer : HullReply → DeskAnswer → Type 0
 TellsAnswer told (Written reply) = Tells told reply
 TellsAnswer told (Unwritten reply) = Tells told reply
 TellsAnswer told Full = IsBare code.Full told
 
--- the reply tells an answer: as `TellsAnswer`, but for a list of corners, which was written to the array
+-- the reply has an answer: as `TellsAnswer`, but for a list of vertices, which was written to the array
 abbrev pub PutsAnswer : List Pair → List Pair → HullReply → DeskAnswer → Type 0
 PutsAnswer before after told (Written (reply.VertexList corners)) = TellsCorners corners before after told
 PutsAnswer before after told (Unwritten (reply.VertexList corners)) = TellsCorners corners before after told
@@ -112,7 +112,7 @@ IsCounted (Written r) = r ≢ reply.Already
 IsCounted (Unwritten r) = r ≢ reply.Already
 IsCounted Full = Unit {0}
 
--- a look: a seat with no number is as it was; one with a number waits on, or its call was served, under its number
+-- a look: a seat with no number is unchanged; one with a number still waits, or its call was served, under its number
 abbrev pub HasSeen : SharedSeat → SharedSeat → Seen → Type 0
 HasSeen Vacant new s = (new ≡ Vacant) × ((r : SeatReply) × (s ≡ Unserved r) × IsBareReply code.Vacant r)
 HasSeen (Idle i) new s = (new ≡ Idle i) × ((r : SeatReply) × (s ≡ Unserved r) × IsBareReply code.NoNumber r)
@@ -121,35 +121,35 @@ HasSeen (Waiting w) (Idle i) s = (answer : DeskAnswer) × (behind : Behind) × W
     × (s ≡ Served answer (ticket_number w.ticket) behind)
 HasSeen (Waiting w) Vacant s = ⊥
 
--- the reply tells what stands behind a call
+-- the reply has what follows a call
 abbrev pub TellsBehind : Behind → SeatReply → Type 0
 TellsBehind behind r = TellsLine behind.line r × (r.held ≡ behind.held)
 
--- what was seen is told
+-- the reply has what the look saw
 abbrev pub TellsSeen : Seen → SeatReply → Type 0
 TellsSeen (Unserved reply) r = r ≡ reply
 TellsSeen (Served answer turn behind) r = TellsAnswer r.told answer × (r.turn ≡ turn) × TellsBehind behind r
 
--- what was seen is told, and corners are written to the array, which else is as it was
+-- the reply has what the look saw, and vertices are written to the array, the rest of which is unchanged
 abbrev pub PutsSeen : List Pair → List Pair → Seen → SeatReply → Type 0
 PutsSeen before after (Unserved reply) r = (after ≡ before) × (r ≡ reply)
 PutsSeen before after (Served answer turn behind) r =
     PutsAnswer before after r.told answer × (r.turn ≡ turn) × TellsBehind behind r
 
--- a look, whose answer is told
+-- a look, whose answer is in the reply
 abbrev pub HasReplied : SharedSeat → SharedSeat → SeatReply → Type 0
 HasReplied old new r = (seen : Seen) × HasSeen old new seen × TellsSeen seen r
 
--- a look, whose answer is told, and corners written to the array
+-- a look, whose answer is in the reply, with vertices written to the array
 abbrev pub HasRepliedInto : SharedSeat → SharedSeat → List Pair → List Pair → SeatReply → Type 0
 HasRepliedInto old new before after r = (seen : Seen) × HasSeen old new seen × PutsSeen before after seen r
 
--- how many lines are held at most at the desk of a seat; 0 where there is none
+-- the greatest number of lines that the seat's book may contain, or 0 if there is no seat
 abbrev pub capacity_at : SharedSeat → ℕ
 capacity_at Vacant = 0
 capacity_at (Idle i) = i.capacity
 capacity_at (Waiting w) = w.capacity
 
--- that is told, and the seat stays
+-- that number is returned, and the seat is unchanged
 abbrev pub HasToldCapacity : SharedSeat → SharedSeat → ℕ → Type 0
 HasToldCapacity old new told = (new ≡ old) × (told ≡ capacity_at old)

@@ -1,4 +1,4 @@
--- The places of a desk.
+-- The seat slots of a shared hull.
 use Rattle.std.specs.Prelude.{◌≡◌, ◌+◌, ◌≤◌, ℕ, List, [], Option, Some, slice_get, vec_len, vec_capacity}
 use Rattle.hull_book.specs.Ledgers.{IsLedgerOf}
 use Rattle.hull_book.specs.Marks.{plain}
@@ -9,27 +9,28 @@ use Rattle.hull_shared.specs.Locks.{HullLock, boxed_head, seats_of}
 use Rattle.hull_shared.specs.declared.place.SeatPlace.{SeatPlace}
 use Rattle.hull_shared.specs.declared.place.SeatPlaces.{SeatPlaces}
 
--- The seat is of the lock, its ledger counts the lines that it has seen in its name, and of n places it is at home in
--- place j, behind which there are as many as its number.
+-- The seat is of the lock, its ledger counts the lines in its name that it has seen, and of n slots it is at home in
+-- slot j: as many slots follow as its number.
 pub record IsAtHome (lock : HullLock) (n j : ℕ) (p : SeatPlace) : Type 0 where
   pub own : IsSeatOf boxed_head lock p.seat
   pub counts : IsLedgerOf (seat_number p.seat) (plain (seat_seen p.seat)) p.ledger
   pub home : seat_number p.seat + j + 1 ≡ n
 
--- the lines have in the name of the place's seat just those that it has seen in its name
+-- the lines in the name of the slot's seat are exactly those in its name that it has seen
 abbrev pub HasOwnLines : List MarkedLine → SeatPlace → Type 0
 HasOwnLines lines p =
     lines_of (seat_number p.seat) (plain lines) ≡ lines_of (seat_number p.seat) (plain (seat_seen p.seat))
 
--- the place j has the seat and the ledger p
+-- slot j has the seat and the ledger p
 abbrev pub HasAt : List (Option SeatPlace) → ℕ → SeatPlace → Type 0
 HasAt list j p = slice_get list j ≡ Some (Some p)
 
--- each seat that is at the desk is at home
+-- each seat that is there is at home
 abbrev pub AreAtHome : HullLock → ℕ → List (Option SeatPlace) → Type 0
 AreAtHome lock n list = (j : ℕ) (p : SeatPlace) → HasAt list j p → IsAtHome lock n j p
 
--- there are n places for the n seats of the lock, each that is at the desk at home, and room for all of them
+-- there are n slots for the n seats of the lock, each seat that is there is at home, and there is capacity for all of
+-- them
 pub record AreLaidOut (lock : HullLock) (n : ℕ) (places : SeatPlaces) : Type 0 where
   pub each : vec_len places.list ≡ n
   pub seats : seat_count lock ≡ n

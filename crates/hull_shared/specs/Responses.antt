@@ -1,4 +1,5 @@
--- Linearizability (Herlihy and Wing, 1990) of the calls at a desk, also of questions that are answered with no line.
+-- Linearizability (Herlihy and Wing, 1990) of the calls on a shared hull, including questions that are answered
+-- without a line.
 use Rattle.std.specs.Prelude.{◌≡◌, ℕ, Bool, true, List}
 use mathlib.Core.Option.{some}
 use lib.ListN.{get_elem?}
@@ -20,24 +21,24 @@ use Rattle.hull_shared.specs.declared.answer.DeskAnswer.{DeskAnswer}
 use Rattle.hull_shared.specs.declared.answer.DeskAnswer.TheVariants.{Written, Unwritten, Full}
 use Rattle.hull_shared.specs.declared.book.DeskHead.{DeskHead}
 
--- each hand on, the event at r, ended a call that was served (`IsServed`): the call `calls r`, with the answer `answers r`,
--- at the journal that the events before it had left
+-- each hand_on, the event at r, ended a call that was served (`IsServed`): the call `calls r`, with the answer
+-- `answers r`, at the journal that the events before it had left
 abbrev pub AreServed : DeskBoxed → List (Event DeskBoxed) → (ℕ → Call) → (ℕ → DeskAnswer) → Type 0
 AreServed b es calls answers = (r k : ℕ) (c : DeskBoxed) → get_elem? es r ≡ some (hands_on k c)
     → (drains : Bool) × (t : ℕ) × IsServed (boxed_head b) drains t k (calls r) (journal_after says_desk b es r) (lines_at c)
     (answers r)
 
--- what a call was answered that found as many lines held as may be: that there was no room, or it was a question, and the
--- desk answers then: by a reply that is allowed at what the lines found had left
+-- The answer of a call that found the book full: that there was no space; or, if it was a question and the shared
+-- hull answers questions then, a reply that is allowed at the points that the lines found had left.
 abbrev pub IsAnsweredWhenFull : DeskHead → Call → List MarkedLine → DeskAnswer → Type 0
 IsAnsweredWhenFull head call found (Written reply) = ⊥
 IsAnsweredWhenFull head call found Full = Unit {0}
 IsAnsweredWhenFull head call found (Unwritten reply) = (head.answers ≡ true) × IsQuestion call
     × Answers Counted (held_after (plain found)) head.book.journal.limit call reply
 
--- The lines are a sequential history of the calls that the events made: each call that has a line was answered with the
--- reply of that line, which is in its seat's name and has that call; of each other call `IsAnsweredWhenFull` says what it
--- was answered.
+-- The lines are a sequential history of the calls that the events made: each call that has a line was answered with
+-- the reply of that line, which is in its seat's name and has that call. `IsAnsweredWhenFull` describes the answer of
+-- each other call.
 pub record Agree (b : DeskBoxed) (es : List (Event DeskBoxed)) (calls : ℕ → Call) (answers : ℕ → DeskAnswer)
     (lines : List MarkedLine) : Type 0 where
   pub sequential : IsSequentialHistory says_desk b es lines

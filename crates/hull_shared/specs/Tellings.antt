@@ -1,4 +1,4 @@
--- What the teller of a desk was told: the changes of the journal's lines.
+-- The changes that the publisher of a shared hull records: those of the journal's lines.
 use Rattle.std.specs.Prelude.{◌≡◌, ◌∷◌, ◌++◌, List, [], false, map, Option, Some, None}
 use Rattle.hull_book.specs.Marks.{plain}
 use Rattle.hull_book.specs.declared.line.Line.{Line}
@@ -11,21 +11,21 @@ use Rattle.published_views.specs.Views.{HallName}
 use Rattle.hull_views.specs.declared.change.Change.{Change}
 use Rattle.hull_views.specs.declared.teller.Teller.{Teller}
 
--- what the lines of a journal make of what is held, one after the other
+-- the changes that the lines of a journal make to the set, one after the other
 abbrev pub changes_of : List Line → List Change
 changes_of lines = map (λ l. change_of l.call l.reply) lines
 
--- the name of the hall in which a teller publishes, if there is one
+-- the name of the snapshot slots in which a publisher publishes, if there is one
 abbrev pub hall_told : Option Teller → Option HallName
 hall_told None = None
 hall_told (Some t) = Some (hall_name t)
 
--- a teller that is not silent has recorded the changes of these lines, and no others
+-- a publisher that is not silent has recorded the changes of these lines, and no others
 abbrev pub AreTold : Option Teller → List MarkedLine → Type 0
 AreTold None lines = Unit {0}
 AreTold (Some t) lines = is_silent t ≡ false → recorded t ≡ changes_of (plain lines)
 
--- the lines end with that of this call, and the teller was told of those before it
+-- the last line is that of this call, and the publisher recorded those before it
 abbrev pub IsOneCallBehind : Option Teller → List MarkedLine → Call → Reply → Type 0
 IsOneCallBehind t lines call reply = (before : List MarkedLine) × AreTold t before
     × (changes_of (plain lines) ≡ changes_of (plain before) ++ change_of call reply ∷ [])

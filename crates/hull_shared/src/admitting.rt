@@ -1,4 +1,4 @@
-//! What a desk has for its readers.
+//! The publisher of a shared hull, and the registry of its readers.
 ghost use Rattle.std.specs.Prelude.{◌≤◌, IfOk};
 ghost use Rattle.hull_shared.specs.Gates.{IsGateFor};
 ghost use Rattle.hull_views.specs.declared.TheConstants.{READER_LIMIT};
@@ -8,7 +8,7 @@ use hull_set::NoMemory;
 use hull_views::Teller;
 use std::alloc::Global;
 
-/// A teller for so many readers, and where they come in; neither, where there are none.
+/// Makes a publisher for so many readers, and their registry; neither, if there are none.
 pub(crate) fn teller_for(
     alloc: Global,
     readers: u8,

@@ -1,4 +1,4 @@
-//! A desk: the lock round the book, and the seats that are not out.
+//! A shared hull: the lock round the book, and the seats that are not acquired.
 ghost use Rattle.std.specs.Prelude.{◌≡◌, ◌≤◌};
 ghost use Rattle.hull_views.specs.declared.TheConstants.{READER_LIMIT};
 ghost use Rattle.hull_shared.specs.Locks.{capacity_of, lock_of};
@@ -10,7 +10,7 @@ use crate::place::SeatPlaces;
 use hull_book::Journal;
 use std::alloc::Global;
 
-/// An open desk.
+/// An open shared hull.
 pub(crate) struct OpenDesk {
     pub(crate) alloc: Global,
     pub(crate) lock: SharedLock,
@@ -22,16 +22,16 @@ pub(crate) struct OpenDesk {
     ghost laid_out: { AreLaidOut (lock_of lock) seats places },
 }
 
-/// A desk that was not opened.
+/// A shared hull that was not opened.
 #[derive(Clone, Copy)]
 pub(crate) struct FreshDesk {
-    /// For how many readers it is to be opened.
+    /// For how many readers it will be opened.
     pub(crate) readers: u8,
     ghost few: { readers ≤ READER_LIMIT },
 }
 
 impl FreshDesk {
-    /// A desk that is to be opened for no reader.
+    /// Makes a shared hull that will be opened for no reader.
     pub(crate) fn of_none() -> FreshDesk
         ensures { result.readers ≡ 0 }
     {
@@ -39,15 +39,15 @@ impl FreshDesk {
     }
 }
 
-/// What is left of a desk that is closed.
+/// A closed shared hull.
 pub(crate) struct ClosedDesk {
     pub(crate) alloc: Global,
     pub(crate) part: Journal,
 }
 
-/// A room for a desk.
+/// The storage of a shared hull.
 pub(crate) enum Desk {
-    /// It was not opened, or ended, and holds nothing.
+    /// It was not opened, or ended, and contains nothing.
     Fresh(FreshDesk),
     /// It is open.
     Open(OpenDesk),

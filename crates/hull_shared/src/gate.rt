@@ -1,17 +1,17 @@
-//! Where readers come in at a desk.
+//! The reader registry of a shared hull.
 ghost use Rattle.std.specs.Prelude.{◌≤◌};
 
 use crate::reader::OutReader;
 use hull_reply::Code;
 use hull_views::Entrance;
 
-/// Where readers come in at a desk that was opened for some.
+/// The reader registry of a shared hull that was opened for readers.
 #[derive(Drop)]
 pub(crate) struct Gate {
     pub(crate) entrance: Entrance,
-    /// For how many readers the desk was opened.
+    /// For how many readers the shared hull was opened.
     pub(crate) admitted: u8,
-    /// How many of them are out.
+    /// How many of them are acquired.
     pub(crate) out: u8,
     /// The number of the first line.
     pub(crate) first: u64,
@@ -21,7 +21,7 @@ pub(crate) struct Gate {
 impl Gate {
     ghost use Rattle.hull_shared.specs.Gates.{LetsIn, TakesIn};
 
-    /// One reader more goes out, or why none does.
+    /// Makes one reader more. Fails with the reason if it makes none.
     pub(crate) fn let_in(&mut self) -> Result<OutReader, Code>
         ensures { LetsIn self.old self.new result }
     {
@@ -40,7 +40,7 @@ impl Gate {
         }
     }
 
-    /// One reader is back, if one was out.
+    /// Counts one reader as released, and returns whether one was acquired.
     pub(crate) fn take_in(&mut self) -> bool
         ensures { TakesIn self.old self.new result }
     {

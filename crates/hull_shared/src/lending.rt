@@ -1,4 +1,4 @@
-//! Seats go out of their desk, and come back.
+//! Acquiring seats of a shared hull, and releasing them.
 ghost use Rattle.std.specs.Prelude.{◌≡◌, ◌+◌, ◌≤◌, MatchOption};
 ghost use Rattle.hull_shared.specs.Desks.{HasLent, HasReturned, IsSeatOfDesk, Lends, TakesBack};
 ghost use Rattle.hull_shared.specs.Locks.{lock_of};
@@ -10,7 +10,7 @@ use core::mem::{replace, replace_with};
 use hull_reply::Code;
 use std::sync::Arc;
 
-/// Where the seat of a number has its place at a desk of so many seats.
+/// Returns the slot of the seat of a number, if a shared hull of so many seats has it.
 fn place_of(number: u32, seats: u8) -> Option<usize>
     ensures { MatchOption result (seats ≤ number) (λ j. number + j + 1 ≡ seats) }
 {
@@ -20,7 +20,7 @@ fn place_of(number: u32, seats: u8) -> Option<usize>
     Some(usize::from(seats) - number as usize - 1)
 }
 
-/// The seat of this number goes out of the desk, or why it does not.
+/// Takes the seat of this number out of its slot. Fails with the reason if it cannot.
 fn lend_from(desk: OpenDesk, number: u32) -> (OpenDesk, Result<IdleSeat, Code>)
     ensures { Lends number desk result.0 result.1 }
 {
@@ -45,7 +45,7 @@ fn lend_from(desk: OpenDesk, number: u32) -> (OpenDesk, Result<IdleSeat, Code>)
     (desk, Ok(idle))
 }
 
-/// The seat comes back to its place at the desk; the seat where that place is not free.
+/// Puts the seat back into its slot. Returns the seat if the slot is not free.
 fn return_to(desk: OpenDesk, idle: IdleSeat) -> (OpenDesk, Option<IdleSeat>)
     requires { lock_of idle.lock ≡ lock_of desk.lock }
     ensures { TakesBack desk idle result.0 result.1 }
@@ -70,7 +70,7 @@ fn return_to(desk: OpenDesk, idle: IdleSeat) -> (OpenDesk, Option<IdleSeat>)
     (desk, None)
 }
 
-/// The desk and the room after a seat was to go out.
+/// Returns the shared hull and the storage after a request for a seat.
 fn after_lending(desk: Desk, request: (SharedSeat, u32)) -> (Desk, (SharedSeat, u32))
     ensures { HasLent request.1 desk result.0 request.0 result.1.0 result.1.1 }
 {
@@ -101,7 +101,7 @@ fn after_lending(desk: Desk, request: (SharedSeat, u32)) -> (Desk, (SharedSeat, 
     }
 }
 
-/// The desk and the room after a seat was to come back.
+/// Returns the shared hull and the storage after a request to release the seat.
 fn after_return(desk: Desk, room: SharedSeat) -> (Desk, (SharedSeat, u32))
     requires { IsSeatOfDesk desk room }
     ensures { HasReturned desk result.0 room result.1.0 result.1.1 }
@@ -135,7 +135,7 @@ fn after_return(desk: Desk, room: SharedSeat) -> (Desk, (SharedSeat, u32))
     }
 }
 
-/// Moves the seat of this number out of the desk, into the room.
+/// Moves the seat of this number out of the shared hull, into the storage.
 pub(crate) fn lend(desk: &mut Desk, room: &mut SharedSeat, number: u32) -> u32
     ensures { HasLent number desk.old desk.new room.old room.new result }
 {
@@ -148,7 +148,7 @@ pub(crate) fn lend(desk: &mut Desk, room: &mut SharedSeat, number: u32) -> u32
     code
 }
 
-/// Moves the seat in the room back to its desk.
+/// Moves the seat in the storage back to its shared hull.
 pub(crate) fn give_back(desk: &mut Desk, room: &mut SharedSeat) -> u32
     requires { IsSeatOfDesk desk.old room.old }
     ensures { HasReturned desk.old desk.new room.old room.new result }

@@ -1,20 +1,20 @@
 //! One hull for up to 64 threads of a program in C: a static library, whose header is `include/hull_shared.h`.
 //!
-//! A desk keeps a book (`hull_book`) behind a ticket lock (`ticket_lock`), with a seat for each thread. A seat that is
-//! out takes a number for a call and looks whether it is served; the thread that looks pauses between two looks, so
-//! nothing here waits. A desk and a seat lie in rooms that the caller gives. Each call of the header is one export,
-//! which lends what lies at a pointer to one plain function and gives back its answer: what it promises is that
-//! function's contract.
+//! A shared hull keeps a book (`hull_book`) behind a ticket lock (`ticket_lock`), with a seat for each thread. A
+//! thread that acquired a seat takes a number for a call with it and looks whether that number is served; the thread
+//! pauses between two looks, so nothing here waits. The caller provides the storage of a shared hull and of a seat.
+//! Each call of the header is one export, which passes references to what the pointers point to on to one plain
+//! function and returns its result: the export promises that function's contract.
 //!
-//! # A desk for two threads
+//! # A shared hull for two threads
 //!
 //! ```
 //! open(&mut desk, alloc, 1000, 0, 64, 2); // up to 1000 points, numbers from 0, 64 calls, 2 seats
-//! lend(&mut desk, &mut room, 0); // seat 0, for the thread that has the room
+//! lend(&mut desk, &mut room, 0); // seat 0, for the thread that has the storage
 //! take(&mut room, 1, 3, 4); // a number for `add 3 4`
-//! let reply = look(&mut room); // until its code is not that of `NotYet`; `look_into` writes corners to an array
+//! let reply = look(&mut room); // until its code is not that of `NotYet`; `look_into` writes vertices to an array
 //! give_back(&mut desk, &mut room);
-//! close(&mut desk); // once all seats are back
+//! close(&mut desk); // once all seats are released
 //! text(&mut desk, &mut out); // the journal, which `hullbook check` judges
 //! ```
 #![tactic(auto)]
@@ -83,7 +83,7 @@ use seat::SharedSeat;
 use std::alloc::Global;
 pub use threads::rooms_go_to_any_thread;
 
-/// How many bytes the room of a desk has.
+/// Returns the size of the storage of a shared hull, in bytes.
 #[unsafe(no_mangle)]
 pub extern "C" fn hull_shared_desk_size() -> usize
     ensures { result ≡ room_size desk_row }
@@ -91,7 +91,7 @@ pub extern "C" fn hull_shared_desk_size() -> usize
     size_of::<Desk>()
 }
 
-/// At which multiples of bytes the room of a desk begins.
+/// Returns the alignment of the storage of a shared hull, in bytes.
 #[unsafe(no_mangle)]
 pub extern "C" fn hull_shared_desk_alignment() -> usize
     ensures { result ≡ room_alignment desk_row }
@@ -99,7 +99,7 @@ pub extern "C" fn hull_shared_desk_alignment() -> usize
     align_of::<Desk>()
 }
 
-/// How many bytes the room of a seat has.
+/// Returns the size of the storage of a seat, in bytes.
 #[unsafe(no_mangle)]
 pub extern "C" fn hull_shared_seat_size() -> usize
     ensures { result ≡ room_size seat_row }
@@ -107,7 +107,7 @@ pub extern "C" fn hull_shared_seat_size() -> usize
     size_of::<SharedSeat>()
 }
 
-/// At which multiples of bytes the room of a seat begins.
+/// Returns the alignment of the storage of a seat, in bytes.
 #[unsafe(no_mangle)]
 pub extern "C" fn hull_shared_seat_alignment() -> usize
     ensures { result ≡ room_alignment seat_row }
@@ -115,7 +115,7 @@ pub extern "C" fn hull_shared_seat_alignment() -> usize
     align_of::<SharedSeat>()
 }
 
-/// How many bytes the room of a part of a journal has.
+/// Returns the size of the storage of a segment of a journal, in bytes.
 #[unsafe(no_mangle)]
 pub extern "C" fn hull_shared_part_size() -> usize
     ensures { result ≡ room_size part_row }
@@ -123,7 +123,7 @@ pub extern "C" fn hull_shared_part_size() -> usize
     size_of::<Part>()
 }
 
-/// At which multiples of bytes the room of a part begins.
+/// Returns the alignment of the storage of a segment, in bytes.
 #[unsafe(no_mangle)]
 pub extern "C" fn hull_shared_part_alignment() -> usize
     ensures { result ≡ room_alignment part_row }
@@ -131,7 +131,7 @@ pub extern "C" fn hull_shared_part_alignment() -> usize
     align_of::<Part>()
 }
 
-/// How many bytes the room of a reader has.
+/// Returns the size of the storage of a reader, in bytes.
 #[unsafe(no_mangle)]
 pub extern "C" fn hull_shared_reader_size() -> usize
     ensures { result ≡ room_size reader_row }
@@ -139,7 +139,7 @@ pub extern "C" fn hull_shared_reader_size() -> usize
     size_of::<SharedReader>()
 }
 
-/// At which multiples of bytes the room of a reader begins.
+/// Returns the alignment of the storage of a reader, in bytes.
 #[unsafe(no_mangle)]
 pub extern "C" fn hull_shared_reader_alignment() -> usize
     ensures { result ≡ room_alignment reader_row }
@@ -147,39 +147,40 @@ pub extern "C" fn hull_shared_reader_alignment() -> usize
     align_of::<SharedReader>()
 }
 
-/// A desk that is not open.
+/// Makes a shared hull that is not open.
 fn fresh_desk() -> Desk
     ensures { IsFreshForNone result }
 {
     Desk::Fresh(FreshDesk::of_none())
 }
 
-/// A room with no seat.
+/// Makes storage with no seat.
 fn vacant_seat() -> SharedSeat
     ensures { result ≡ Vacant }
 {
     SharedSeat::Vacant
 }
 
-/// A room with no reader.
+/// Makes storage with no reader.
 fn no_reader() -> SharedReader
     ensures { result ≡ NoReader }
 {
     SharedReader::Vacant
 }
 
-/// A part that holds nothing.
+/// Makes a segment that contains nothing.
 fn bare_part() -> Part
     ensures { result ≡ Bare }
 {
     Part::Bare
 }
 
-/// Makes a desk in a room, which is not open and holds nothing.
+/// Makes a shared hull in its storage, which is not open and contains nothing.
 ///
 /// # Safety
 ///
-/// `room` has [`hull_shared_desk_size`] bytes at a multiple of [`hull_shared_desk_alignment`], which nothing else uses.
+/// `room` has [`hull_shared_desk_size`] bytes at a multiple of [`hull_shared_desk_alignment`], which nothing else
+/// uses.
 #[unsafe(no_mangle)]
 pub unsafe extern "C" fn hull_shared_make_desk(room: *mut u8)
     requires* { sem 𝓛 (room_at desk_row room) }
@@ -190,11 +191,12 @@ pub unsafe extern "C" fn hull_shared_make_desk(room: *mut u8)
     unsafe { at.write(desk) };
 }
 
-/// Makes a room for a seat, which has none.
+/// Makes storage for a seat, with no seat in it.
 ///
 /// # Safety
 ///
-/// `room` has [`hull_shared_seat_size`] bytes at a multiple of [`hull_shared_seat_alignment`], which nothing else uses.
+/// `room` has [`hull_shared_seat_size`] bytes at a multiple of [`hull_shared_seat_alignment`], which nothing else
+/// uses.
 #[unsafe(no_mangle)]
 pub unsafe extern "C" fn hull_shared_make_seat(room: *mut u8)
     requires* { sem 𝓛 (room_at seat_row room) }
@@ -205,11 +207,12 @@ pub unsafe extern "C" fn hull_shared_make_seat(room: *mut u8)
     unsafe { at.write(seat) };
 }
 
-/// Makes a room for a reader, which has none.
+/// Makes storage for a reader, with no reader in it.
 ///
 /// # Safety
 ///
-/// `room` has [`hull_shared_reader_size`] bytes at a multiple of [`hull_shared_reader_alignment`], which nothing else uses.
+/// `room` has [`hull_shared_reader_size`] bytes at a multiple of [`hull_shared_reader_alignment`], which nothing else
+/// uses.
 #[unsafe(no_mangle)]
 pub unsafe extern "C" fn hull_shared_make_reader(room: *mut u8)
     requires* { sem 𝓛 (room_at reader_row room) }
@@ -220,11 +223,12 @@ pub unsafe extern "C" fn hull_shared_make_reader(room: *mut u8)
     unsafe { at.write(reader) };
 }
 
-/// Makes a part in a room, which holds nothing.
+/// Makes a segment in its storage, which contains nothing.
 ///
 /// # Safety
 ///
-/// `room` has [`hull_shared_part_size`] bytes at a multiple of [`hull_shared_part_alignment`], which nothing else uses.
+/// `room` has [`hull_shared_part_size`] bytes at a multiple of [`hull_shared_part_alignment`], which nothing else
+/// uses.
 #[unsafe(no_mangle)]
 pub unsafe extern "C" fn hull_shared_make_part(room: *mut u8)
     requires* { sem 𝓛 (room_at part_row room) }
@@ -235,12 +239,12 @@ pub unsafe extern "C" fn hull_shared_make_part(room: *mut u8)
     unsafe { at.write(part) };
 }
 
-/// Opens a desk round an empty hull: for up to `limit` different points, `capacity` calls whose numbers begin with
-/// `first`, and `seats` seats.
+/// Opens a shared hull round an empty set: for up to `limit` different points, `capacity` calls whose numbers begin
+/// with `first`, and `seats` seats.
 ///
 /// # Safety
 ///
-/// A desk lies at `at`, and no other call on it is under way.
+/// `at` points to a shared hull, and no other call on it is under way.
 #[unsafe(no_mangle)]
 pub unsafe extern "C" fn hull_shared_open(
     at: *mut u8,
@@ -259,12 +263,12 @@ pub unsafe extern "C" fn hull_shared_open(
     opening::open(unsafe { &mut *desk }, alloc, limit, first, capacity, seats)
 }
 
-/// Opens a desk as [`hull_shared_open`] does, but one that answers questions also where as many lines are held as may be:
-/// such a question has no line.
+/// Opens a shared hull as [`hull_shared_open`] does, but one that also answers questions when the book is full: such
+/// a question has no line.
 ///
 /// # Safety
 ///
-/// A desk lies at `at`, and no other call on it is under way.
+/// `at` points to a shared hull, and no other call on it is under way.
 #[unsafe(no_mangle)]
 pub unsafe extern "C" fn hull_shared_open_answering(
     at: *mut u8,
@@ -283,11 +287,11 @@ pub unsafe extern "C" fn hull_shared_open_answering(
     opening::open_answering(unsafe { &mut *desk }, alloc, limit, first, capacity, seats)
 }
 
-/// Opens a desk as [`hull_shared_open`] does, but one that lets the line of each call go.
+/// Opens a shared hull as [`hull_shared_open`] does, but one that discards the line of each call.
 ///
 /// # Safety
 ///
-/// A desk lies at `at`, and no other call on it is under way.
+/// `at` points to a shared hull, and no other call on it is under way.
 #[unsafe(no_mangle)]
 pub unsafe extern "C" fn hull_shared_open_without_journal(
     at: *mut u8,
@@ -305,12 +309,13 @@ pub unsafe extern "C" fn hull_shared_open_without_journal(
     opening::open_without_journal(unsafe { &mut *desk }, alloc, limit, first, seats)
 }
 
-/// Opens a desk round a hull with the points that a journal left, which goes on where the journal ends: `text` is that of
-/// the whole journal, for `capacity` lines to be held at most, and `seats` seats. First number and limit are the journal's.
+/// Opens a shared hull round a set with the points that a journal left, which continues where the journal ends.
+/// `text` is that of the whole journal, `capacity` the greatest number of lines in the book, and there are `seats`
+/// seats. First number and limit are the journal's.
 ///
 /// # Safety
 ///
-/// A desk lies at `at`, and no other call on it is under way.
+/// `at` points to a shared hull, and no other call on it is under way.
 #[unsafe(no_mangle)]
 pub unsafe extern "C" fn hull_shared_reopen(
     at: *mut u8,
@@ -327,11 +332,11 @@ pub unsafe extern "C" fn hull_shared_reopen(
     reopening::reopen(unsafe { &mut *desk }, alloc, text, capacity, seats)
 }
 
-/// Opens a desk as [`hull_shared_reopen`] does, but one that answers questions also where as many lines are held as may be.
+/// Opens a shared hull as [`hull_shared_reopen`] does, but one that also answers questions when the book is full.
 ///
 /// # Safety
 ///
-/// A desk lies at `at`, and no other call on it is under way.
+/// `at` points to a shared hull, and no other call on it is under way.
 #[unsafe(no_mangle)]
 pub unsafe extern "C" fn hull_shared_reopen_answering(
     at: *mut u8,
@@ -348,11 +353,11 @@ pub unsafe extern "C" fn hull_shared_reopen_answering(
     reopening::reopen_answering(unsafe { &mut *desk }, alloc, text, capacity, seats)
 }
 
-/// Moves the seat of a number out of its desk, into a room.
+/// Moves the seat of a number out of its shared hull, into storage.
 ///
 /// # Safety
 ///
-/// A desk lies at `at` and a room for a seat at `room`, and no other call on either is under way.
+/// `at` points to a shared hull and `room` to storage for a seat, and no other call on either is under way.
 #[unsafe(no_mangle)]
 pub unsafe extern "C" fn hull_shared_lend(at: *mut u8, room: *mut u8, number: u32) -> u32
     ghost t: { desk_row.Denot × seat_row.Denot }
@@ -365,12 +370,12 @@ pub unsafe extern "C" fn hull_shared_lend(at: *mut u8, room: *mut u8, number: u3
     lending::lend(unsafe { &mut *desk }, unsafe { &mut *seat }, number)
 }
 
-/// Moves the seat in a room back to its desk.
+/// Moves the seat in the storage back to its shared hull.
 ///
 /// # Safety
 ///
-/// A desk lies at `at` and a room for a seat at `room`; a seat in it went out of that desk; and no other call on either
-/// is under way.
+/// `at` points to a shared hull and `room` to storage for a seat; a seat in it was acquired from that shared hull;
+/// and no other call on either is under way.
 #[unsafe(no_mangle)]
 pub unsafe extern "C" fn hull_shared_give_back(at: *mut u8, room: *mut u8) -> u32
     ghost t: { desk_row.Denot × seat_row.Denot }
@@ -388,7 +393,7 @@ pub unsafe extern "C" fn hull_shared_give_back(at: *mut u8, room: *mut u8) -> u3
 ///
 /// # Safety
 ///
-/// A room for a seat lies at `at`, and no other call on it is under way.
+/// `at` points to storage for a seat, and no other call on it is under way.
 #[unsafe(no_mangle)]
 pub unsafe extern "C" fn hull_shared_take(at: *mut u8, kind: u32, x: i64, y: i64) -> SeatReply
     ghost t: { seat_row.Denot }
@@ -403,7 +408,7 @@ pub unsafe extern "C" fn hull_shared_take(at: *mut u8, kind: u32, x: i64, y: i64
 ///
 /// # Safety
 ///
-/// A room for a seat lies at `at`, and no other call on it is under way.
+/// `at` points to storage for a seat, and no other call on it is under way.
 #[unsafe(no_mangle)]
 pub unsafe extern "C" fn hull_shared_look(at: *mut u8) -> SeatReply
     ghost t: { seat_row.Denot }
@@ -414,12 +419,12 @@ pub unsafe extern "C" fn hull_shared_look(at: *mut u8) -> SeatReply
     looking::look(unsafe { &mut *seat })
 }
 
-/// Looks once, as [`hull_shared_look`] does; where the call asked for the corners, they are written to the front of an
+/// Looks once, as [`hull_shared_look`] does. If the call requested the vertices, they are written to the front of an
 /// array.
 ///
 /// # Safety
 ///
-/// A room for a seat lies at `at`, and no other call on it is under way.
+/// `at` points to storage for a seat, and no other call on it is under way.
 #[unsafe(no_mangle)]
 pub unsafe extern "C" fn hull_shared_look_into(at: *mut u8, out: &mut [HullPoint]) -> SeatReply
     ghost t: { seat_row.Denot }
@@ -430,11 +435,11 @@ pub unsafe extern "C" fn hull_shared_look_into(at: *mut u8, out: &mut [HullPoint
     looking::look_into(unsafe { &mut *seat }, out)
 }
 
-/// Asks for room for so many lines for a part.
+/// Requests storage for so many lines for a segment.
 ///
 /// # Safety
 ///
-/// A part lies at `at`, and no other call on it is under way.
+/// `at` points to a segment, and no other call on it is under way.
 #[unsafe(no_mangle)]
 pub unsafe extern "C" fn hull_shared_part_reserve(at: *mut u8, alloc: Global, lines: u32) -> u32
     ghost t: { part_row.Denot }
@@ -445,11 +450,11 @@ pub unsafe extern "C" fn hull_shared_part_reserve(at: *mut u8, alloc: Global, li
     parts::reserve(unsafe { &mut *part }, alloc, lines)
 }
 
-/// For how many lines a part has room: 0 where it has none.
+/// Returns for how many lines a segment has storage, or 0 if it has none.
 ///
 /// # Safety
 ///
-/// A part lies at `at`, and no other call on it is under way.
+/// `at` points to a segment, and no other call on it is under way.
 #[unsafe(no_mangle)]
 pub unsafe extern "C" fn hull_shared_part_room(at: *mut u8) -> u32
     ghost t: { part_row.Denot }
@@ -460,11 +465,11 @@ pub unsafe extern "C" fn hull_shared_part_room(at: *mut u8) -> u32
     parts::room(unsafe { &mut *part })
 }
 
-/// How many lines the desk of a seat holds at most: 0 where the room has no seat.
+/// Returns how many lines the book of a seat's shared hull may contain, or 0 if the storage has no seat.
 ///
 /// # Safety
 ///
-/// A room for a seat lies at `at`, and no other call on it is under way.
+/// `at` points to storage for a seat, and no other call on it is under way.
 #[unsafe(no_mangle)]
 pub unsafe extern "C" fn hull_shared_capacity(at: *mut u8) -> u32
     ghost t: { seat_row.Denot }
@@ -475,12 +480,12 @@ pub unsafe extern "C" fn hull_shared_capacity(at: *mut u8) -> u32
     looking::capacity(unsafe { &mut *seat })
 }
 
-/// Looks once, as [`hull_shared_look`] does; where the call is served, all lines that are held then are taken out into
-/// a part.
+/// Looks once, as [`hull_shared_look`] does. If the call is served, all lines that the book contains then are drained
+/// into a segment.
 ///
 /// # Safety
 ///
-/// A room for a seat lies at `at` and a part at `part`, and no other call on either is under way.
+/// `at` points to storage for a seat and `part` to a segment, and no other call on either is under way.
 #[unsafe(no_mangle)]
 pub unsafe extern "C" fn hull_shared_look_and_drain(at: *mut u8, part: *mut u8) -> SeatReply
     ghost t: { seat_row.Denot × part_row.Denot }
@@ -493,11 +498,11 @@ pub unsafe extern "C" fn hull_shared_look_and_drain(at: *mut u8, part: *mut u8) 
     draining::look_and_drain(unsafe { &mut *seat }, unsafe { &mut *lines })
 }
 
-/// Writes the text of a part's lines to the front of an array.
+/// Writes the text of a segment's lines to the front of an array.
 ///
 /// # Safety
 ///
-/// A part lies at `at`, and no other call on it is under way.
+/// `at` points to a segment, and no other call on it is under way.
 #[unsafe(no_mangle)]
 pub unsafe extern "C" fn hull_shared_part_text(at: *mut u8, out: &mut [u8]) -> HullReply
     ghost t: { part_row.Denot }
@@ -508,12 +513,12 @@ pub unsafe extern "C" fn hull_shared_part_text(at: *mut u8, out: &mut [u8]) -> H
     parts::text(unsafe { &mut *part }, out)
 }
 
-/// Writes whole lines of the text of a part's lines to the front of an array, from line `from` of the text on, counted from
-/// 0: as many as it has room for. The number of the line behind them is told with that of the bytes.
+/// Writes whole lines of the text of a segment's lines to the front of an array, from line `from` of the text on,
+/// counted from 0: as many as fit. Returns the number of bytes, and the number of the line after them.
 ///
 /// # Safety
 ///
-/// A part lies at `at`, and no other call on it is under way.
+/// `at` points to a segment, and no other call on it is under way.
 #[unsafe(no_mangle)]
 pub unsafe extern "C" fn hull_shared_part_text_from(
     at: *mut u8,
@@ -528,11 +533,11 @@ pub unsafe extern "C" fn hull_shared_part_text_from(
     pieces::text_from(unsafe { &mut *part }, from, out)
 }
 
-/// Lets the room or the lines of a part go: it holds nothing then, and its room may be used for anything.
+/// Frees the memory of a segment: it contains nothing then, and its storage may be used for anything.
 ///
 /// # Safety
 ///
-/// A part lies at `at`, and no other call on it is under way.
+/// `at` points to a segment, and no other call on it is under way.
 #[unsafe(no_mangle)]
 pub unsafe extern "C" fn hull_shared_part_end(at: *mut u8) -> u32
     ghost t: { part_row.Denot }
@@ -543,11 +548,11 @@ pub unsafe extern "C" fn hull_shared_part_end(at: *mut u8) -> u32
     parts::end(unsafe { &mut *part })
 }
 
-/// Says for how many readers a desk is opened.
+/// Sets for how many readers a shared hull is opened.
 ///
 /// # Safety
 ///
-/// A desk lies at `at`, and no other call on it is under way.
+/// `at` points to a shared hull, and no other call on it is under way.
 #[unsafe(no_mangle)]
 pub unsafe extern "C" fn hull_shared_admit(at: *mut u8, readers: u32) -> u32
     ghost t: { desk_row.Denot }
@@ -558,11 +563,11 @@ pub unsafe extern "C" fn hull_shared_admit(at: *mut u8, readers: u32) -> u32
     reading::admit(unsafe { &mut *desk }, readers)
 }
 
-/// Moves a reader out of its desk, into a room.
+/// Moves a reader out of its shared hull, into storage.
 ///
 /// # Safety
 ///
-/// A desk lies at `at` and a room for a reader at `room`, and no other call on either is under way.
+/// `at` points to a shared hull and `room` to storage for a reader, and no other call on either is under way.
 #[unsafe(no_mangle)]
 pub unsafe extern "C" fn hull_shared_lend_reader(at: *mut u8, room: *mut u8) -> u32
     ghost t: { desk_row.Denot × reader_row.Denot }
@@ -575,12 +580,12 @@ pub unsafe extern "C" fn hull_shared_lend_reader(at: *mut u8, room: *mut u8) -> 
     reading::lend_reader(unsafe { &mut *desk }, unsafe { &mut *reader })
 }
 
-/// Moves the reader in a room back to its desk, and lets its view go.
+/// Moves the reader in the storage back to its shared hull, and drops its snapshot.
 ///
 /// # Safety
 ///
-/// A desk lies at `at` and a room for a reader at `room`; a reader in it went out of that desk; and no other call on either
-/// is under way.
+/// `at` points to a shared hull and `room` to storage for a reader; a reader in it was acquired from that shared
+/// hull; and no other call on either is under way.
 #[unsafe(no_mangle)]
 pub unsafe extern "C" fn hull_shared_return_reader(at: *mut u8, room: *mut u8) -> u32
     ghost t: { desk_row.Denot × reader_row.Denot }
@@ -593,11 +598,11 @@ pub unsafe extern "C" fn hull_shared_return_reader(at: *mut u8, room: *mut u8) -
     reading::return_reader(unsafe { &mut *desk }, unsafe { &mut *reader })
 }
 
-/// Takes the newest view, by a few atomic steps and with no lock, and tells it.
+/// Takes the newest snapshot, in a few atomic steps without a lock, and returns its numbers.
 ///
 /// # Safety
 ///
-/// A room for a reader lies at `at`, and no other call on it is under way.
+/// `at` points to storage for a reader, and no other call on it is under way.
 #[unsafe(no_mangle)]
 pub unsafe extern "C" fn hull_shared_read(at: *mut u8) -> ViewReply
     ghost t: { reader_row.Denot }
@@ -608,11 +613,11 @@ pub unsafe extern "C" fn hull_shared_read(at: *mut u8) -> ViewReply
     reading::view(unsafe { &mut *reader })
 }
 
-/// Writes the corners of the view that a room holds to the front of an array.
+/// Writes the vertices of the reader's snapshot to the front of an array.
 ///
 /// # Safety
 ///
-/// A room for a reader lies at `at`, and no other call on it is under way.
+/// `at` points to storage for a reader, and no other call on it is under way.
 #[unsafe(no_mangle)]
 pub unsafe extern "C" fn hull_shared_view_corners(at: *mut u8, out: &mut [HullPoint]) -> HullReply
     ghost t: { reader_row.Denot }
@@ -623,11 +628,11 @@ pub unsafe extern "C" fn hull_shared_view_corners(at: *mut u8, out: &mut [HullPo
     reading::put_view(unsafe { &mut *reader }, out)
 }
 
-/// Whether the view that a room holds is the newest: 1 or 0.
+/// Returns 1 if the reader's snapshot is the newest, and else 0.
 ///
 /// # Safety
 ///
-/// A room for a reader lies at `at`, and no other call on it is under way.
+/// `at` points to storage for a reader, and no other call on it is under way.
 #[unsafe(no_mangle)]
 pub unsafe extern "C" fn hull_shared_is_newest(at: *mut u8) -> u32
     ghost t: { reader_row.Denot }
@@ -638,11 +643,11 @@ pub unsafe extern "C" fn hull_shared_is_newest(at: *mut u8) -> u32
     reading::is_newest(unsafe { &mut *reader })
 }
 
-/// Closes a desk, all of whose seats are back.
+/// Closes a shared hull, all of whose seats are released.
 ///
 /// # Safety
 ///
-/// A desk lies at `at`, and no other call on it is under way.
+/// `at` points to a shared hull, and no other call on it is under way.
 #[unsafe(no_mangle)]
 pub unsafe extern "C" fn hull_shared_close(at: *mut u8) -> u32
     ghost t: { desk_row.Denot }
@@ -653,11 +658,12 @@ pub unsafe extern "C" fn hull_shared_close(at: *mut u8) -> u32
     closing::close(unsafe { &mut *desk })
 }
 
-/// Writes the text of the last part of a closed desk's journal, the lines that it holds, to the front of an array.
+/// Writes the text of the last segment of a closed shared hull's journal, the lines still in its book, to the front
+/// of an array.
 ///
 /// # Safety
 ///
-/// A desk lies at `at`, and no other call on it is under way.
+/// `at` points to a shared hull, and no other call on it is under way.
 #[unsafe(no_mangle)]
 pub unsafe extern "C" fn hull_shared_text(at: *mut u8, out: &mut [u8]) -> HullReply
     ghost t: { desk_row.Denot }
@@ -668,12 +674,12 @@ pub unsafe extern "C" fn hull_shared_text(at: *mut u8, out: &mut [u8]) -> HullRe
     closing::text(unsafe { &mut *desk }, out)
 }
 
-/// Writes whole lines of that text to the front of an array, from line `from` of it on, counted from 0: as many as it has
-/// room for. The number of the line behind them is told with that of the bytes.
+/// Writes whole lines of that text to the front of an array, from line `from` of it on, counted from 0: as many as
+/// fit. Returns the number of bytes, and the number of the line after them.
 ///
 /// # Safety
 ///
-/// A desk lies at `at`, and no other call on it is under way.
+/// `at` points to a shared hull, and no other call on it is under way.
 #[unsafe(no_mangle)]
 pub unsafe extern "C" fn hull_shared_text_from(at: *mut u8, from: u64, out: &mut [u8]) -> HullReply
     ghost t: { desk_row.Denot }
@@ -684,11 +690,11 @@ pub unsafe extern "C" fn hull_shared_text_from(at: *mut u8, from: u64, out: &mut
     pieces::desk_text_from(unsafe { &mut *desk }, from, out)
 }
 
-/// Ends a desk that is not open: it holds nothing then, and its room may be used for anything.
+/// Ends a shared hull that is not open: it contains nothing then, and its storage may be used for anything.
 ///
 /// # Safety
 ///
-/// A desk lies at `at`, and no other call on it is under way.
+/// `at` points to a shared hull, and no other call on it is under way.
 #[unsafe(no_mangle)]
 pub unsafe extern "C" fn hull_shared_end(at: *mut u8) -> u32
     ghost t: { desk_row.Denot }

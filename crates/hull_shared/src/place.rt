@@ -1,4 +1,4 @@
-//! The seats at their desk.
+//! The seats that are not acquired.
 use crate::lock::DeskSeat;
 use hull_book::Ledger;
 
@@ -8,8 +8,8 @@ pub(crate) struct SeatPlace {
     pub(crate) ledger: Ledger,
 }
 
-/// The places of a desk: that of seat k has k places behind it, and is empty while the seat is out. Beside them lies
-/// room for all seats and all ledgers, so that closing asks for no memory.
+/// The seat slots of a shared hull. After the slot of seat k there are k slots; it is empty while the seat is
+/// acquired. Beside them is capacity for all seats and all ledgers, so that closing needs no memory.
 pub(crate) struct SeatPlaces {
     pub(crate) list: Vec<Option<SeatPlace>>,
     pub(crate) seats: Vec<DeskSeat>,

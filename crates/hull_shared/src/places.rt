@@ -1,4 +1,4 @@
-//! Seats are laid out at their desk, and gathered there when it closes.
+//! Laying out the seats of a shared hull in their slots, and gathering them when it closes.
 ghost use Rattle.std.specs.Prelude.{◌≡◌, ◌≤◌, ℕ, [], All, IsSome, vec_len, vec_capacity};
 ghost use mathlib.Core.List.{IsPrefix};
 ghost use Rattle.hull_book.specs.Books.{IsLawful};
@@ -17,7 +17,7 @@ use crate::place::{SeatPlace, SeatPlaces};
 use hull_book::Ledger;
 use hull_pool::close_book;
 
-/// Lays all seats of a lock that was just opened out at a desk, each with its ledger.
+/// Puts all seats of a lock that was just opened into their slots, each with its ledger.
 pub(crate) fn lay_out(
     lock: DeskLock,
     mut seats: Vec<DeskSeat>,
@@ -48,8 +48,8 @@ pub(crate) fn lay_out(
     (lock, places)
 }
 
-/// Closes the lock, all of whose seats are at the desk: its book, whose journal begins with what each seat has seen and
-/// has no other lines in its name.
+/// Closes the lock, all of whose seats are released, and returns its book. Its journal begins with what each seat has
+/// seen and has no other lines in that seat's name.
 pub(crate) fn close_lock(lock: DeskLock, places: SeatPlaces) -> DeskBook
     requires laid_out { AreLaidOut lock (seat_count lock) places }
     requires all_in { All IsSome places.list.items }

@@ -1,4 +1,4 @@
-//! A reader that is out.
+//! A reader that is acquired.
 use hull_views::Reader;
 
 /// A reader, and the number of the first line.
@@ -8,11 +8,11 @@ pub(crate) struct OutReader {
     pub(crate) first: u64,
 }
 
-/// A room for a reader.
+/// The storage of a reader.
 #[derive(Drop)]
 pub(crate) enum SharedReader {
-    /// No reader is there.
+    /// There is no reader.
     Vacant,
-    /// A reader that is out.
+    /// A reader that is acquired.
     Out(OutReader),
 }

@@ -1,4 +1,4 @@
-//! Readers go out of their desk, take views, and come back.
+//! Readers are acquired, take snapshots, and are released.
 ghost use Rattle.hull_shared.specs.Readings.{HasAdmitted, HasLentReader, HasReturnedReader, HasToldNewest, HasViewed};
 ghost use Rattle.hull_shared.specs.Readings.{HasPutView, HasViewedIn, IsBareView};
 
@@ -7,24 +7,24 @@ use crate::reader::{OutReader, SharedReader};
 use hull_reply::{Code, HullPoint, HullReply, put_corners};
 use hull_views::READER_LIMIT;
 
-/// A view in numbers.
+/// A snapshot in numbers.
 #[repr(C)]
 #[derive(Clone, Copy)]
 pub struct ViewReply {
-    /// How many corners there are.
+    /// How many vertices there are.
     pub count: usize,
-    /// How many lines of the whole journal they are behind.
+    /// As of how many lines of the whole journal they are.
     pub lines: u64,
-    /// The number of the last of these lines, and 0 where there is none.
+    /// The number of the last of these lines, or 0 if there is none.
     pub line: u64,
-    /// 1 where there is one, and else 0.
+    /// 1 if there is one, and else 0.
     pub has_line: u32,
     /// The number of the code.
     pub code: u32,
 }
 
 impl ViewReply {
-    /// A code with no view.
+    /// Makes the reply with a code and no snapshot.
     pub(crate) fn bare(code: Code) -> ViewReply
         ensures { IsBareView code result }
     {
@@ -39,7 +39,7 @@ impl ViewReply {
 }
 
 impl OutReader {
-    /// Looks, and tells the view that it holds then.
+    /// Looks, and returns the snapshot that the reader has then.
     fn view(&mut self) -> ViewReply
         ensures { HasViewed self.old self.new result }
     {
@@ -61,7 +61,7 @@ impl OutReader {
     }
 }
 
-/// Says for how many readers a desk is opened.
+/// Sets for how many readers a shared hull is opened.
 pub(crate) fn admit(desk: &mut Desk, readers: u32) -> u32
     ensures { HasAdmitted readers desk.old desk.new result }
 {
@@ -77,7 +77,7 @@ pub(crate) fn admit(desk: &mut Desk, readers: u32) -> u32
     Code::Admitted.number()
 }
 
-/// Moves a reader out of the desk, into the room.
+/// Moves a reader out of the shared hull, into the storage.
 pub(crate) fn lend_reader(desk: &mut Desk, room: &mut SharedReader) -> u32
     ensures { HasLentReader desk.old desk.new room.old room.new result }
 {
@@ -99,7 +99,7 @@ pub(crate) fn lend_reader(desk: &mut Desk, room: &mut SharedReader) -> u32
     }
 }
 
-/// Moves the reader in the room back to its desk, and lets its view go.
+/// Moves the reader in the storage back to its shared hull, and drops its snapshot.
 pub(crate) fn return_reader(desk: &mut Desk, room: &mut SharedReader) -> u32
     ensures { HasReturnedReader desk.old desk.new room.old room.new result }
 {
@@ -119,7 +119,7 @@ pub(crate) fn return_reader(desk: &mut Desk, room: &mut SharedReader) -> u32
     Code::Returned.number()
 }
 
-/// Takes the newest view, and tells it.
+/// Takes the newest snapshot, and returns its numbers.
 pub(crate) fn view(room: &mut SharedReader) -> ViewReply
     ensures { HasViewedIn room.old room.new result }
 {
@@ -129,7 +129,7 @@ pub(crate) fn view(room: &mut SharedReader) -> ViewReply
     }
 }
 
-/// Writes the corners of the view that the room holds to the array, if it has room for them.
+/// Writes the vertices of the reader's snapshot to the array, if they fit.
 pub(crate) fn put_view(room: &mut SharedReader, out: &mut [HullPoint]) -> HullReply
     ensures { HasPutView room.old room.new out.old out.new result }
 {
@@ -139,7 +139,7 @@ pub(crate) fn put_view(room: &mut SharedReader, out: &mut [HullPoint]) -> HullRe
     }
 }
 
-/// Whether the view that the room holds is the newest: 1 or 0.
+/// Returns 1 if the reader's snapshot is the newest, and else 0.
 pub(crate) fn is_newest(room: &mut SharedReader) -> u32
     ensures { HasToldNewest room.old room.new result }
 {

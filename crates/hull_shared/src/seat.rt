@@ -1,4 +1,4 @@
-//! A seat that is out: the lock, which it owns with the others, its ledger, and what it is about.
+//! An acquired seat: the lock, which it owns with the others, its ledger, and its current call.
 ghost use Rattle.std.specs.Prelude.{◌≡◌, ◌<◌};
 ghost use Rattle.ticket_lock.specs.Tokens.{IsSeatOf, IsTicketOf, seat_number, seat_seen, ticket_seat, ticket_seen};
 ghost use Rattle.hull_book.specs.Ledgers.{IsLedgerOf};
@@ -23,7 +23,7 @@ pub(crate) struct IdleSeat {
     ghost counts: { IsLedgerOf number (plain (seat_seen seat)) ledger },
 }
 
-/// A seat with a number, and the call that it is to make.
+/// A seat with a number, and the call that it will make.
 pub(crate) struct WaitingSeat {
     pub(crate) lock: SharedLock,
     pub(crate) ticket: DeskTicket,
@@ -38,12 +38,12 @@ pub(crate) struct WaitingSeat {
     ghost counts: { IsLedgerOf number (plain (ticket_seen ticket)) ledger },
 }
 
-/// A room for a seat.
+/// The storage of a seat.
 pub(crate) enum SharedSeat {
-    /// No seat is there.
+    /// There is no seat.
     Vacant,
     /// A seat with no number.
     Idle(IdleSeat),
-    /// A seat whose call is still to be served.
+    /// A seat whose call is not served yet.
     Waiting(WaitingSeat),
 }

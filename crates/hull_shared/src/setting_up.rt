@@ -1,4 +1,4 @@
-//! A desk is set up round a book: the lock, the seats with their ledgers, and the places for them.
+//! Setting up a shared hull round a book: the lock, the seats with their ledgers, and their slots.
 ghost use Rattle.std.specs.Prelude.{◌≡◌, All, IfOk, IsSome, box_value, vec_len};
 ghost use Rattle.hull_book.specs.Books.{IsLawful};
 ghost use Rattle.hull_book.specs.Ledgers.{AreLedgers};
@@ -29,7 +29,7 @@ struct NewLock {
     ledgers: Vec<Ledger>,
 }
 
-/// The book on the heap, with its ledgers.
+/// Moves the book to the heap, with its ledgers.
 fn boxed(
     alloc: Global,
     book: DeskBook,
@@ -48,7 +48,7 @@ fn boxed(
     }
 }
 
-/// A lock round the book.
+/// Makes a lock round the book.
 fn new_lock(
     alloc: Global,
     book: Box<DeskBook>,
@@ -77,8 +77,8 @@ fn new_lock(
     }
 }
 
-/// A desk round the lock, which it owns with the seats that will go out. Where memory is refused, the lock is closed
-/// again.
+/// Makes a shared hull round the lock, which it will own together with the acquired seats. If memory is refused,
+/// closes the lock again.
 fn new_desk(
     alloc: Global,
     lock: DeskLock,
@@ -110,7 +110,7 @@ fn new_desk(
     }
 }
 
-/// A desk round the book, with all its seats. Where memory is refused, what was made by then is taken apart again.
+/// Makes a shared hull round the book, with all its seats. If memory is refused, takes apart what was made by then.
 pub(crate) fn set_up(
     alloc: Global,
     book: DeskBook,

@@ -1,4 +1,4 @@
-//! What the teller of a desk is told of the calls that are served.
+//! Recording served calls with the publisher of a shared hull.
 ghost use Rattle.std.specs.Prelude.{◌≡◌, [], IfOk};
 ghost use Rattle.hull_book.specs.Books.{IsLawful};
 ghost use Rattle.hull_book.specs.History.{held_after};
@@ -12,8 +12,8 @@ use hull_book::{Journal, LongBook};
 use hull_set::{Call, NoMemory, Reply};
 use hull_views::{Teller, change_of};
 
-/// Tells the teller, where there is one, of the call whose line is the last of the book's. It publishes what the call made
-/// of the corners.
+/// Records with the publisher, if there is one, the call whose line is the last of the book's. The publisher
+/// publishes how the call changed the vertices.
 pub(crate) fn tell(
     teller: &mut Option<Teller>,
     book: &LongBook<BucketTree>,
@@ -30,7 +30,8 @@ pub(crate) fn tell(
     }
 }
 
-/// A teller that has recorded the lines of a journal, and published the corners that they left, which are those of the set.
+/// Makes a publisher that has recorded the lines of a journal, and published the vertices that they left, which are
+/// those of the set.
 pub(crate) fn caught_up(
     teller: Option<Teller>,
     journal: &Journal,

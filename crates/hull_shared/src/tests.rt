@@ -1,4 +1,4 @@
-//! What no contract can say: that calls which may be refused are served.
+//! A property that no contract can state: that calls which may be refused are served.
 use crate::closing::{close, end};
 use crate::desk::{Desk, FreshDesk};
 use crate::lending::{give_back, lend};
@@ -11,7 +11,8 @@ use hull_reply::Code;
 use std::alloc::Global;
 use std::process::Abort;
 
-/// What a desk for two seats tells: its opening, a seat that is lent, a close meanwhile, the seat given back, the close, the end.
+/// Returns the codes of a shared hull for two seats: opening it, acquiring a seat, closing it meanwhile, releasing
+/// the seat, closing it, ending it.
 fn told_by_a_desk(rt: &impl Abort, alloc: Global) -> [u32; 6] {
     let mut desk = Desk::Fresh(FreshDesk::of_none());
     let mut room = SharedSeat::Vacant;
@@ -67,7 +68,7 @@ fn a_text_with_no_header_is_told_as_no_journal(rt: HostRuntime) {
     );
 }
 
-/// A reader that is out keeps the desk from closing.
+/// A reader that is acquired keeps the shared hull from closing.
 #[test]
 fn a_desk_waits_for_its_reader(rt: HostRuntime) {
     let mut desk = Desk::Fresh(FreshDesk::of_none());

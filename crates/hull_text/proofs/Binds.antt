@@ -1,4 +1,4 @@
--- What a reading that went well tells of its steps, and one that did not.
+-- The steps of a reading that succeeded, and of one that failed.
 use Rattle.std.proofs.Common.{◌≡◌, ◌<◌, ◌≤◌, ℕ, Bool, true, false, cond, List, [], ◌∷◌, Option, Some, Result, Ok, Err}
 use Rattle.std.proofs.Common.{refl, subst, ap, arith, ◌⊎◌, inl, inr}
 use Rattle.std.specs.Prelude.{nat_le, nat_lt}
@@ -13,23 +13,23 @@ pub chosen : {A : Type 0} (b : Bool) (x y z : A) → cond b x y ≡ z → ((b �
 chosen true x y z e = inl (refl, e)
 chosen false x y z e = inr (refl, e)
 
--- what two equal options hold is equal
+-- two equal options have equal values
 pub some_is : {A : Type 0} (x y : A) → Some x ≡ Some y → x ≡ y
 some_is x y e = cc
 
--- A look-up found its first entry, or went on.
+-- A look-up found its first entry, or continued.
 pub pick : {A : Type 0} (b : Bool) (w x : A) (rest : Option A) (P : A → Type 0) → (b ≡ true → P w)
     → (rest ≡ Some x → P x) → cond b (Some w) rest ≡ Some x → P x
 pick true w x rest P here there e = subst P (some_is w x e) (here refl)
 pick false w x rest P here there e = there e
 
--- Both steps went well.
+-- Both steps succeeded.
 pub bind_ok : {A B E : Type 0} (r : Result A E) (f : A → Result B E) (y : B) → (r >>= f) ≡ Ok y
     → (x : A) × (r ≡ Ok x) × (f x ≡ Ok y)
 bind_ok (Ok x) f y e = (x, refl, e)
 bind_ok (Err d) f y e = absurd cc
 
--- a reading that went well
+-- a reading that succeeded
 abbrev pub done : {A E : Type 0} → A → Result A E
 done x = Ok x
 
@@ -37,25 +37,25 @@ done x = Ok x
 pub ok_is : {A E : Type 0} (x y : A) → done {E = E} x ≡ done y → x ≡ y
 ok_is x y e = cc
 
--- a reading that went wrong
+-- a reading that failed
 abbrev pub failed : {A E : Type 0} → E → Result A E
 failed f = Err f
 
--- Equal refusals tell equal faults.
+-- Equal refusals have equal faults.
 pub err_is : {A E : Type 0} (f g : E) → failed {A = A} f ≡ failed g → f ≡ g
 err_is f g e = cc
 
--- A reading that went well has no fault.
+-- A reading that succeeded has no fault.
 pub no_fault : {A E : Type 0} (x : A) (f : E) → done x ≡ failed f → ⊥
 no_fault x f e = cc
 
--- How two steps went wrong: the first did, or the second.
+-- Two steps failed: the first did, or the second.
 pub bind_err : {A B E : Type 0} (r : Result A E) (f : A → Result B E) (g : E) → (r >>= f) ≡ Err g
     → (r ≡ Err g) ⊎ ((x : A) × (r ≡ Ok x) × (f x ≡ Err g))
 bind_err (Ok x) f g e = inr (x, refl, e)
 bind_err (Err d) f g e = inl (ap failed (err_is d g e))
 
--- What is made of a reading has the fault of the reading.
+-- A value made from a reading has the fault of the reading.
 pub made_err : {A B E : Type 0} (make : A → B) (r : Result A E) (f : E) → (r >>= λ x. Ok (make x)) ≡ Err f → r ≡ Err f
 made_err make (Ok x) f e = absurd (no_fault (make x) f e)
 made_err make (Err d) f e = ap failed (err_is d f e)
@@ -72,7 +72,7 @@ pub guard_err : {A E : Type 0} (b : Bool) (x : Result A E) (f : E) (y : A) → c
 guard_err true x f y e = absurd cc
 guard_err false x f y e = (refl, e)
 
--- What the tests of numbers mean.
+-- The meaning of the tests of numbers.
 pub low_le : (n m : ℕ) → nat_le n m ≡ true → n ≤ m
 low_le n m t = grind (arith, nat_tests)
 
@@ -100,7 +100,7 @@ over_test n m lt = grind (arith, nat_tests)
 pub word_is : (w text : List ℕ) → bytes_eq w text ≡ true → w ≡ text
 word_is w text e = (bytes_eq-Decides w text).0 e
 
--- What follows from both steps having gone well.
+-- A consequence of both steps having succeeded.
 pub with_ok : {A B E : Type 0} (r : Result A E) (f : A → Result B E) (y : B) (P : Type 0)
     → (r >>= f) ≡ Ok y → ((x : A) → r ≡ Ok x → f x ≡ Ok y → P) → P
 with_ok (Ok x) f y P e k = k x refl e

@@ -1,4 +1,4 @@
--- The calls that texts say.
+-- The calls that texts spell.
 use Rattle.std.proofs.Common.{◌≡◌, List, [], ◌∷◌, ◌++◌, Some, Ok, true, refl, subst}
 use Rattle.hull_set.specs.declared.call.Call.{Call}
 use Rattle.hull_set.specs.declared.call.Call.TheVariants as call

@@ -1,4 +1,4 @@
--- A field that is read is the field that was written, and what was written is read again.
+-- A field that is read is the field that was written, and a field that was written is read again.
 use Rattle.std.proofs.Common.{◌≡◌, ◌<◌, ◌≤◌, ◌+◌, ◌-◌, ◌*◌, ◌^◌, ℕ, zero, suc, List, [], ◌∷◌, ◌++◌, Option, Some, None}
 use Rattle.std.proofs.Common.{Bool, true, false, cond, Ok, Err, decimal, refl, ap, subst, arith, inl, inr}
 use Rattle.std.specs.Prelude.{◌==◌, ◌&&◌, nat_le, nat_lt, ℤ, pos, negsuc}
@@ -22,7 +22,7 @@ use Rattle.std.proofs.lemmas.Grind.{common_steps}
 
 -- ---- signed numbers
 
--- a number behind a minus sign is not zero
+-- a number after a minus sign is not zero
 negated_some : (o : Option ℕ) (z : ℤ) → negated o ≡ Some z → (n : ℕ) × (o ≡ Some (suc n)) × (z ≡ negsuc n)
 negated_some None z e = absurd cc
 negated_some (Some zero) z e = absurd cc
@@ -71,13 +71,13 @@ text_signed limit (negsuc n) small fits = rw (text_number (suc n) (omega (arith,
 
 -- ---- coordinates
 
--- a coordinate that was taken is within its limit
+-- a coordinate that was accepted is within its limit
 coordinate_some : (limit : ℕ) (o : Option ℤ) (z : ℤ) → coordinate_in limit o ≡ Ok z → (o ≡ Some z) × IsSized limit z
 coordinate_some limit None z e = absurd cc
 coordinate_some limit (Some (pos n)) z e = grind (arith, common_steps, guard_ok, nat_le, pos, ok_is, low_le)
 coordinate_some limit (Some (negsuc n)) z e = grind (arith, common_steps, guard_ok, nat_lt, negsuc, ok_is, low_lt)
 
--- a number within the limit is taken
+-- a number within the limit is accepted
 in_coordinate : (limit : ℕ) (z : ℤ) → IsSized limit z → coordinate_in limit (Some z) ≡ Ok z
 in_coordinate limit (pos n) fits = rw (le_test n limit fits) refl
 in_coordinate limit (negsuc n) fits = rw (lt_test n limit fits) refl
@@ -98,24 +98,24 @@ coordinates v =
 
 -- ---- points and directions
 
--- So are its points.
+-- The points of a version are a format.
 pub points : (v : Version) → Format (IsPair v) pair_fields (point_at v)
 unfolding point_at
 points v = both (coordinates v) (coordinates v) (λ x y. record { x = x; y = y }) (λ p. p.x) (λ p. p.y) (λ p. refl)
     (λ x y. (refl, refl))
 
--- what passes the test for zero is zero
+-- a number that passes the test for zero is zero
 zero_is : (z : ℤ) → is_zero z ≡ true → z ≡ pos 0
 zero_is (pos n) e = ap (λ (m : ℕ). pos m) (eqb-true n 0 e)
 zero_is (negsuc n) e = absurd cc
 
--- a conjunction fails where both parts cannot hold
+-- a conjunction is false if both parts cannot be true
 both_false : (a b : Bool) → ((a ≡ true) → (b ≡ true) → ⊥) → (a && b) ≡ false
 both_false true true h = absurd (h refl refl)
 both_false true false h = refl
 both_false false b h = refl
 
--- So are its directions.
+-- The directions of a version are a format.
 pub directions : (v : Version) → Format (IsSomeDirection v) pair_fields (direction_at v)
 unfolding direction_at
 directions v = record {
@@ -137,13 +137,13 @@ directions v = record {
 
 -- ---- numbers and seats
 
--- a number that was taken is within its limit
+-- a number that was accepted is within its limit
 up_to_some : (limit : ℕ) (beyond : FaultKind) (o : Option ℕ) (n : ℕ) → up_to limit beyond o ≡ Ok n
     → (o ≡ Some n) × (n ≤ limit)
 up_to_some limit beyond None n e = absurd cc
 up_to_some limit beyond (Some m) n e = grind (arith, common_steps, guard_ok, nat_le, ok_is, low_le)
 
--- the numbers up to a limit are a format, whatever the fault of one beyond it
+-- the numbers up to a limit are a format, for any fault of a number beyond it
 limited : (limit : ℕ) (beyond : FaultKind) → limit < 10 ^ 64
     → Format (λ n. n ≤ limit) (λ n. decimal n ∷ []) (field_at (λ f. up_to limit beyond (number_of f)))
 limited limit beyond small =
@@ -158,7 +158,7 @@ pub numbers : (limit : ℕ) → limit < 10 ^ 64 → Format (λ n. n ≤ limit) (
 unfolding number_at
 numbers limit small = limited limit Number small
 
--- So are workers and seats.
+-- Workers and seats are a format.
 pub seats : Format (λ n. n ≤ 63) (λ n. decimal n ∷ []) seat_at
 unfolding seat_at
 seats = limited 63 Worker (omega arith)

@@ -1,4 +1,5 @@
--- Formats of fields: what is read is spelled there, what is spelled is read, and all that is spelled are fields.
+-- Formats of fields: what is read is spelled by these fields, what is spelled is read, and each spelling consists of
+-- fields.
 use Rattle.std.proofs.Common.{◌≡◌, List, [], ◌∷◌, ◌++◌, Option, Some, None, Result, Ok, Err, true, refl, sym, ap, subst}
 use Rattle.std.proofs.Common.{◌∙◌, append_assoc}
 use Rattle.std.proofs.lemmas.List.{append-nil}
@@ -9,17 +10,17 @@ use Rattle.hull_text.specs.Words.{word_in}
 use Rattle.hull_text.proofs.Binds.{bind_ok, ok_is, word_takes}
 use Rattle.hull_text.proofs.Joined.{is_field, are_fields, fields_append}
 
--- what reads a value from fields, and gives it with the fields behind it
+-- reading a value from fields, with the fields after it as the rest
 abbrev Reading : Type 0 → Type 0
 Reading A = List Field → Result (A × List Field) FaultKind
 
--- A format: which values fit, how each is spelled, how fields are read, and that spelling and reading undo one another.
+-- A format: which values fit, how each is spelled, how fields are read, and that spelling and reading are inverse.
 pub record Format {A : Type 0} (Fits : A → Type 0) (spelled : A → List Field) (read : Reading A) : Type 0 where
   pub takes : (fs : List Field) (x : A × List Field) → read fs ≡ Ok x → (fs ≡ spelled x.0 ++ x.1) × Fits x.0
   pub again : (x : A) (rest : List Field) → Fits x → read (spelled x ++ rest) ≡ Ok (x, rest)
   pub fields : (x : A) → Fits x → are_fields (spelled x) ≡ true
 
--- One field that says a value is a format.
+-- One field that spells a value is a format.
 pub one : {A : Type 0} (Fits : A → Type 0) (text : A → Field) (says : Field → Result A FaultKind)
     → ((f : Field) (x : A) → says f ≡ Ok x → (f ≡ text x) × Fits x)
     → ((x : A) → Fits x → (says (text x) ≡ Ok x) × (is_field (text x) ≡ true))
@@ -39,11 +40,11 @@ one {A = A} Fits text says said spell = record {
         (ap (λ (g : Field). g ∷ fs) s.0, s.1)
 
 module _ {A : Type 0} {Fits : A → Type 0} {spelled : A → List Field} {read : Reading A} (format : Format Fits spelled read) where
-  -- What is spelled is read, with nothing behind it.
+  -- A spelled value is read, with nothing left after it.
   pub alone : (x : A) → Fits x → read (spelled x) ≡ Ok (x, [])
   alone x fits = ap read (sym (append-nil (spelled x))) ∙ format.again x [] fits
 
-  -- What was read behind a word is spelled behind it.
+  -- A value that was read after a word is spelled after it.
   pub behind : {V : Type 0} (FitsToo : V → Type 0) (fields : V → List Field) (w : Field) (make : A → V)
       → ((x : A) → Fits x → (fields (make x) ≡ w ∷ spelled x) × FitsToo (make x)) → (fs : List Field) (y : V × List Field)
       → (read fs >>= λ x. Ok (make x.0, x.1)) ≡ Ok y → (w ∷ fs ≡ fields y.0 ++ y.1) × FitsToo y.0
@@ -56,7 +57,7 @@ module _ {A : Type 0} {Fits : A → Type 0} {spelled : A → List Field} {read :
         s.1,
       )
 
-  -- Two formats, one behind the other, are one of values with two parts.
+  -- Two formats, one after the other, are one of values with two parts.
   pub both : {B C : Type 0} {FitsB : B → Type 0} {spelledB : B → List Field} {readB : Reading B}
       → Format FitsB spelledB readB → (make : A → B → C) (left : C → A) (right : C → B)
       → ((c : C) → make (left c) (right c) ≡ c) → ((a : A) (b : B) → (left (make a b) ≡ a) × (right (make a b) ≡ b))
@@ -88,7 +89,7 @@ module _ {A : Type 0} {Fits : A → Type 0} {spelled : A → List Field} {read :
         (second.fields (right c) fits.1);
   }
 
--- What was read by its word is spelled there, where it is so for each word.
+-- A value that was read by its word is spelled by these fields, if this is so for each word.
 pub worded : {W V : Type 0} (text : W → Field) (words : List W) (after : Option W → Reading V) (f : Field)
     (fs : List Field) (y : V × List Field) (P : Field → Type 0) → after None fs ≡ Err Word
     → ((w : W) → after (Some w) fs ≡ Ok y → P (text w)) → after (word_in text words f) fs ≡ Ok y → P f

@@ -7,7 +7,7 @@ use Rattle.hull_text.specs.Fault.{IsOutside, IsServed, NoFaultBefore}
 use Rattle.hull_text.specs.Reading.{AnswersAll, Outlook, Reads}
 use Rattle.hull_text.proofs.Binds.{err_is, no_fault, ok_is}
 
--- A grammar: what is read is the value of a text, and what is no text has the fault that is read.
+-- A grammar: a value that is read is the value of a text, and bytes that are no text have the fault that is read.
 pub record Grammar {X V : Type 0} (value : X → V) (read : List ℕ → Result X TextFault) (IsText : List ℕ → V → Type 0)
     (IsFault : List ℕ → TextFault → Type 0) : Type 0 where
   pub takes : (bytes : List ℕ) (x : X) → read bytes ≡ Ok x → IsText bytes (value x)
@@ -25,11 +25,11 @@ module _ {X V : Type 0} {value : X → V} {read : List ℕ → Result X TextFaul
   pub one_fault : (f g : TextFault) → IsFault bytes f → IsFault bytes g → f ≡ g
   one_fault f g s t = err_is {A = X} f g (sym (grammar.fails_again bytes f s) ∙ grammar.fails_again bytes g t)
 
-  -- A text has no fault.
+  -- Bytes that are a text have no fault.
   pub no_text_fails : (v : V) (f : TextFault) → IsText bytes v → IsFault bytes f → ⊥
   no_text_fails v f s t = grind (arith, common_steps, no_fault)
 
-  -- What is no text has a fault.
+  -- Bytes that are no text have a fault.
   pub text_or_fault : ((v : V) × IsText bytes v) ⊎ ((f : TextFault) × IsFault bytes f)
   text_or_fault = step (read bytes) refl
     where
@@ -37,7 +37,7 @@ module _ {X V : Type 0} {value : X → V} {read : List ℕ → Result X TextFaul
       step (Ok x) e = inl (value x, grammar.takes bytes x e)
       step (Err f) e = inr (f, grammar.fails bytes f e)
 
-  -- Two readers to whom device and memory served answer the same.
+  -- Two readers for which device and memory did not fail answer the same.
   pub one_answer : (a b : Result V TextFault) → Reads (IsText bytes) (IsFault bytes) a
       → Reads (IsText bytes) (IsFault bytes) b → IsServed a → IsServed b → a ≡ b
   one_answer (Ok v) (Ok w) s t own other = ap (λ (u : V). Ok u) (one_value v w s t)
@@ -48,7 +48,7 @@ module _ {X V : Type 0} {value : X → V} {read : List ℕ → Result X TextFaul
   one_answer (Err f) (Err g) (inr s) (inl t) own other = absurd (other t.0)
   one_answer (Err f) (Err g) (inr s) (inr t) own other = ap (λ (h : TextFault). Err h) (one_fault f g s t)
 
-  -- A fault that is answered is the one that is read, or it is from outside and none is read before it.
+  -- A fault in an answer is the one that is read, or it is from outside and none is read before it.
   pub fault_answered : (f : TextFault) (r : Result X TextFault) → r ≡ read bytes
       → (IsOutside f × NoFaultBefore f.line r) ⊎ (r ≡ Err f) → Reads (IsText bytes) (IsFault bytes) (Err f)
   fault_answered f r same (inl o) = inl (o.0, λ g s. not_before g (same ∙ grammar.fails_again bytes g s))
@@ -57,7 +57,7 @@ module _ {X V : Type 0} {value : X → V} {read : List ℕ → Result X TextFaul
       not_before g e = rw e at o.1
   fault_answered f r same (inr e) = inr (grammar.fails bytes f (sym same ∙ e))
 
--- What is right for all bytes is right for bytes that may be unknown.
+-- An answer that is right for all bytes is right for bytes that may be unknown.
 pub known_then : {V W : Type 0} (P : Outlook V) (Q : Outlook W) (a : Result V TextFault) (b : Result W TextFault)
     (known : Option (List ℕ)) → ((bytes : List ℕ) → P bytes a → Q bytes b) → AnswersAll P known a → AnswersAll Q known b
 known_then P Q a b None then h = tt

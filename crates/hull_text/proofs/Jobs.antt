@@ -1,4 +1,4 @@
--- The lists of a phase, a worker's each, as its items are passed over.
+-- The call lists of a phase, one for each worker, as the reader goes through its items.
 use Rattle.std.proofs.Common.{◌≡◌, ℕ, zero, suc, ◌<◌, ◌+◌, List, [], ◌∷◌, ◌++◌, Bool, true, false, Some, None, length}
 use Rattle.std.proofs.Common.{get_or, take, refl, sym, ap, ◌∙◌, subst, inl, inr, arith, add-one, get_or-set_same, get_or-set_other}
 use Rattle.std.specs.Prelude.{◌==◌, Vec}
@@ -57,7 +57,7 @@ calls_on k i items l = ap (calls_by k) (take_on i items l) ∙ calls_in_row k (t
         → take (i + 1) items ≡ take i items ++ get_or items i None ∷ []
     take_on i items l = rw add-one (take-suc items i None l)
 
--- what is no call of the worker leaves its calls
+-- an item that is no call of the worker leaves its calls unchanged
 pub calls_stay : (k i : ℕ) (items : List Item) → i < length items → calls_by k (get_or items i None ∷ []) ≡ []
     → calls_by k (take (i + 1) items) ≡ calls_by k (take i items)
 calls_stay k i items l e =
@@ -68,17 +68,17 @@ pub none_there : (k : ℕ) → calls_by k (None ∷ []) ≡ []
 unfolding calls_by
 none_there k = refl
 
--- nor is a call of another worker
+-- a call of another worker is none of the worker's
 pub none_of_other : (k w : ℕ) (call : Call) → (w ≡ k → ⊥) → calls_by k (Some (w, call) ∷ []) ≡ []
 unfolding calls_by
 none_of_other k w call n = rw (ne_eqb w k n) refl
 
--- a call of the worker itself is
+-- a call of the worker itself is one
 one_of_own : (k w : ℕ) (call : Call) → w ≡ k → calls_by k (Some (w, call) ∷ []) ≡ call ∷ []
 unfolding calls_by
 one_of_own k w call e = rw (eq-eqb w k e) refl
 
--- a call is put behind those of its worker, and behind no other's
+-- a call is put after those of its worker, and changes no other worker's list
 pub one_call_more : (jobs : List (List Call)) (w k i : ℕ) (call : Call) (items : List Item) → w < length jobs
     → i < length items → get_or items i None ≡ Some (w, call) → get_or jobs k [] ≡ calls_by k (take i items)
     → get_or (set jobs w (get_or jobs w [] ++ call ∷ [])) k [] ≡ calls_by k (take (i + 1) items)
@@ -95,7 +95,7 @@ one_call_more jobs w k i call items h l at own = elim (cases_eq w k) [
       ∙ sym (calls_stay k i items l (ap (λ (z : Item). calls_by k (z ∷ [])) at ∙ none_of_other k w call n))
 ]
 
--- a call pushed on the vector of its worker is put behind the calls of its worker
+-- a call pushed on the vector of its worker is put after the calls of its worker
 pub pushed_on : (jobs : List (Vec Call Global)) (own pushed : Vec Call Global) (w : ℕ) (call : Call) → w < length jobs
     → own ≡ get_or jobs w own → pushed.items ≡ own.items ++ call ∷ []
     → lists_of (set jobs w pushed) ≡ set (lists_of jobs) w (get_or (lists_of jobs) w [] ++ call ∷ [])
@@ -106,7 +106,7 @@ pushed_on jobs own pushed w call h here e =
     (ap (λ (v : Vec Call Global). v.items) here
     ∙ sym (get_or-map (λ (v : Vec Call Global). v.items) jobs w own [] h)))
 
--- the item that was read at a place stands there
+-- the item that was read at an index is the item there
 pub stands_there : (items : List Item) (i : ℕ) (x y : Item) → i < length items → x ≡ get_or items i x → x ≡ y
     → get_or items i None ≡ y
 stands_there items i x y l e f = get_or_default items i None x l ∙ sym e ∙ f

@@ -85,7 +85,7 @@ fields_append (f ∷ fs) gs h k =
     let p = both (is_field f) (are_fields fs) h in
     rw p.0 (fields_append fs gs p.1 k)
 
--- a byte of a field is no space
+-- A byte of a field is no space.
 no_space : (b : ℕ) → (nat_le 33 b && nat_le b 126) ≡ true → (b == 32) ≡ false
 no_space b e = grind (arith, nat_tests)
 

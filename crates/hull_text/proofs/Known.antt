@@ -13,7 +13,7 @@ use Rattle.hull_text.specs.Reading.{Outlook, ReadsOn, HasNoNewline, IsLineTaken}
 use Rattle.hull_text.specs.Reading.{line_at_end, newlines}
 use Rattle.hull_text.proofs.Lines.{newlines_none}
 
--- what a reader that keeps a part of a line knows of the bytes that it took
+-- the state of a reader that keeps a part of a line, and the bytes that it took
 pub record Taken {V : Type 0} (start now : Outlook V) (bytes rest kept : List ℕ) (line n : ℕ) : Type 0 where
   pub text : List ℕ
   pub whole : bytes ≡ text ++ rest
@@ -79,7 +79,7 @@ line_fed start now (Some bytes) (Some rest) (Some more) kept piece line at n k p
   inl (omega (arith, newlines_append k.text piece, k.lines, high)),
 )
 
--- The line at which the reading stands.
+-- The line at which the reading continues.
 pub line_here : {V : Type 0} (start now : Outlook V) (a b : Option (List ℕ)) (kept : List ℕ) (line n : ℕ)
     → Known start now a b kept line n → IsLineTaken a b line
 line_here start now None b kept line n k = tt
@@ -87,7 +87,7 @@ line_here start now (Some bytes) None kept line n k = absurd k
 line_here start now (Some bytes) (Some rest) kept line n k =
     (k.text, k.whole, omega (arith, k.lines), inl (omega (arith, k.lines)))
 
--- So many lines has a text that ends within one.
+-- A text that ends within a line has this many lines.
 lines_within : (front part : List ℕ) → HasNoNewline part → 0 < length part
     → length (text_lines (front ++ part)) ≡ newlines front + 1
 lines_within [] part whole some = rw (slice_split_none (λ (b : ℕ). b == 10) part whole) (one part some)
@@ -107,7 +107,7 @@ lines_within (b ∷ bs) part whole some =
     step false ((x ∷ xs) ∷ []) n e = e
     step false (p ∷ next ∷ ps) n e = e
 
--- The line of a fault that is told at the end of the text.
+-- The line of a fault that is reported at the end of the text.
 line_ended : {V : Type 0} (start now : Outlook V) (a b c : Option (List ℕ)) (kept none : List ℕ) (line more at n : ℕ)
     → Known start now a b kept line n → Consumes b c none → none ≡ [] → IsAtEnd c → HasNoNewline kept
     → (more ≡ 0) ⊎ ((0 < length kept) × (more ≡ 1)) → at ≡ line + more → IsLineTaken a c at
@@ -146,7 +146,7 @@ one_or_none : (part : List ℕ) → (length (last_line part) ≡ 0) ⊎ ((0 < le
 one_or_none [] = inl refl
 one_or_none (b ∷ bs) = inr (omega arith, refl)
 
--- What is told at the end of the text is told in a line of it, or behind it.
+-- A fault that is reported at the end of the text is in a line of it, or after it.
 pub lines_at_end : {V : Type 0} (start now : Outlook V) (a b c : Option (List ℕ)) (kept none : List ℕ) (line n : ℕ)
     (answer : Result V TextFault) → Known start now a b kept line n → Consumes b c none → none ≡ [] → IsAtEnd c
     → HasNoNewline kept

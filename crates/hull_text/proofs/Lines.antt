@@ -9,7 +9,7 @@ use Rattle.memchr.specs.Find.{IsFirstByte, is_byte}
 use Rattle.hull_text.specs.declared.fault.TextFault.{TextFault}
 use Rattle.hull_text.specs.Reading.{HasNoNewline, Outlook, ReadsOn, FailsIn, newlines}
 
--- Where the first newline stands behind some bytes, these are the first line.
+-- If the first newline is after some bytes, these are the first line.
 pub newline_at : (text : List ℕ) (i : ℕ) → i < length text → get_or text i 0 ≡ 10
     → ((k : ℕ) → k < i → get_or text k 0 ≡ 10 → ⊥)
     → HasNoNewline (take i text) × (text ≡ take i text ++ 10 ∷ drop 1 (drop i text))
@@ -20,25 +20,25 @@ newline_at (b ∷ bs) (suc i) lt here before =
     let more = newline_at bs i (omega arith) here (λ k h. before (suc k) (omega arith)) in
     (All-cons (λ b. (b == 10) ≡ false) b (take i bs) ne more.0, ap (λ (x : List ℕ). b ∷ x) more.1)
 
--- Where no newline is left, the rest is a part of a line.
+-- If no newline is left, the rest is a part of a line.
 pub newline_none : (text : List ℕ) → ((k : ℕ) → k < length text → get_or text k 0 ≡ 10 → ⊥) → HasNoNewline text
 newline_none [] none = All-nil (λ b. (b == 10) ≡ false)
 newline_none (b ∷ bs) none =
     All-cons (λ b. (b == 10) ≡ false) b bs (ne_eqb b 10 (none 0 (omega arith)))
     (newline_none bs (λ k h. none (suc k) (omega arith)))
 
--- Where the search for a newline found one, the first line stands before it.
+-- If the search for a newline found one, the first line is before it.
 pub first_newline : (text : List ℕ) (i : ℕ) → IsFirstByte (is_byte 10) text (Some i)
     → HasNoNewline (take i text) × (text ≡ take i text ++ 10 ∷ drop 1 (drop i text))
 first_newline text i found =
     newline_at text i found.0.high (eqb-true (get_or text i 0) 10 found.1)
     (λ k lt e. found.0.before k (omega arith) lt (rw e refl))
 
--- Where it found none, the text is a part of a line.
+-- If it found none, the text is a part of a line.
 pub no_newline : (text : List ℕ) → IsFirstByte (is_byte 10) text None → HasNoNewline text
 no_newline text none = newline_none text (λ k lt e. none k (omega arith) lt (rw e refl))
 
--- A text that begins with a line: the parts of the line, its newline, and what stands behind it.
+-- A text that begins with a line: the parts of the line, its newline, and the text after it.
 around : (kept line after left rest : List ℕ) → left ≡ line ++ 10 ∷ after
     → (kept ++ line ++ 10 ∷ []) ++ (after ++ rest) ≡ kept ++ left ++ rest
 around kept line after left rest e = grind (arith, common_steps, append_assoc)
@@ -49,7 +49,7 @@ pub reads_on_line : {V : Type 0} (start mid new : Outlook V) (text kept line aft
     → ReadsOn mid new (kept ++ line ++ 10 ∷ []) [] → ReadsOn start new text (empty ++ after)
 reads_on_line start mid new text kept line after left empty on e none more = grind (arith, common_steps, around)
 
--- What is left is still the end of the text.
+-- The rest is still the end of the text.
 pub tail_on_line : (all kept line after left empty : List ℕ) → (front : List ℕ) × (all ≡ front ++ (kept ++ left))
     → left ≡ line ++ 10 ∷ after → empty ≡ [] → (front : List ℕ) × (all ≡ front ++ (empty ++ after))
 tail_on_line all kept line after left empty h e none = (

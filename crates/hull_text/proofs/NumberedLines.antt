@@ -1,4 +1,4 @@
--- Lines of a text by their numbers: what is read of one, and which is the first with a fault.
+-- Lines of a text by their numbers: the value of one, and the first with a fault.
 use Rattle.std.proofs.lemmas.Grind.{common_steps}
 use Rattle.std.proofs.Common.{◌≡◌, ◌<◌, ◌≤◌, ◌+◌, ℕ, suc, List, [], ◌∷◌, ◌++◌, length, Result, Ok, Err, refl, ap}
 use Rattle.std.proofs.Common.{◌∙◌, add-zero, arith, inl, inr}
@@ -15,13 +15,13 @@ pub at_line_ok : {A : Type 0} (n : ℕ) (r : Result A FaultKind) (x : A) → at_
 at_line_ok n (Ok y) x e = ap (λ z. Ok z) (ok_is y x e)
 at_line_ok n (Err f) x e = absurd cc
 
--- A fault of a line tells its kind and its number.
+-- A fault of a line has its kind and its number.
 pub at_line_err : {A : Type 0} (n : ℕ) (r : Result A FaultKind) (f : TextFault) → at_line n r ≡ Err f
     → (kind : FaultKind) × (r ≡ Err kind) × (fault_at n kind ≡ f)
 at_line_err n (Ok x) f e = absurd cc
 at_line_err {A = A} n (Err kind) f e = (kind, refl, err_is {A = A} (fault_at n kind) f e)
 
--- Up to the limit of lines a line is read as it is.
+-- Up to the limit of lines a line is read unchanged.
 pub numbered_is : {A : Type 0} (n : ℕ) (r : Result A FaultKind) → n ≤ 33554432 → numbered n r ≡ at_line n r
 unfolding numbered
 numbered_is n r le = rw (le_test n 33554432 le) refl
@@ -61,7 +61,7 @@ module _ {A : Type 0} (most before n : ℕ) (r : Result A FaultKind) (f : TextFa
   numbered_stop at_line (inl h) = grind (arith, common_steps, numbered_over, fault_made, at_line)
   numbered_stop at_line (inr h) = grind (arith, common_steps, numbered_is, fault_made, at_line)
 
--- The first of these pieces with a fault, where so many stand before them: those before it are right.
+-- The first of these pieces with a fault, if so many precede them: those before it are right.
 pub record FaultFrom {X : Type 0} (Right : List (List ℕ) → List X → Type 0)
     (HasIt : ℕ → List ℕ → List (List ℕ) → Type 0) (m : ℕ) (ps : List (List ℕ)) : Type 0 where
   pub before : List (List ℕ)

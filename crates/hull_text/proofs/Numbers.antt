@@ -1,4 +1,4 @@
--- A field spells a number just where it is the number's decimal text.
+-- A field spells a number exactly if it is the number's decimal text.
 use Rattle.std.proofs.lemmas.Grind.{common_steps}
 use Rattle.std.proofs.Common.{◌≡◌, ◌<◌, ◌≤◌, ◌+◌, ◌-◌, ◌*◌, ◌/◌, ◌%◌, ◌^◌, ℕ, zero, suc, List, [], ◌∷◌, length, get_or}
 use Rattle.std.proofs.Common.{take, ◌++◌, Option, Some, None, Bool, true, false, cond, decimal, refl, sym, ap, subst}
@@ -10,12 +10,12 @@ use Rattle.std.proofs.lemmas.Bool.Decides.{nat_tests}
 use Rattle.std.proofs.lemmas.Fmt.{decimal_digit, decimal_step_wide, decimal_by_steps_wide}
 use Rattle.hull_text.specs.Number.{is_digit, digits_after, number_of}
 
--- what passed a guard
+-- a value that passed a guard
 pub guard_some : {A : Type 0} (b : Bool) (x : Option A) (y : A) → cond b x None ≡ Some y → (b ≡ true) × (x ≡ Some y)
 guard_some true x y e = (refl, e)
 guard_some false x y e = absurd cc
 
--- what passed the opposite of a guard
+-- a value that passed the opposite of a guard
 pub guard_not : {A : Type 0} (b : Bool) (x : Option A) (y : A) → cond b None x ≡ Some y → (b ≡ false) × (x ≡ Some y)
 guard_not true x y e = absurd cc
 guard_not false x y e = (refl, e)
@@ -47,7 +47,7 @@ next_decimal m c some low high small =
     let last : 48 + (m * 10 + (c - 48)) % 10 ≡ c = omega arith in
     step ∙ rw (front, last) refl
 
--- digits that were read behind a number spell it together
+-- digits that were read after a number spell it together
 digits_text : (cs : List ℕ) (m n : ℕ) → 1 ≤ m → n < 10 ^ 64 → digits_after m cs ≡ Some n → decimal n ≡ decimal m ++ cs
 unfolding digits_after
 digits_text [] m n some small e =

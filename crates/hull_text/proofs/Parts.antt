@@ -13,7 +13,7 @@ use Rattle.hull_text.specs.Item.{Item}
 use Rattle.hull_text.specs.ScriptValue.{calls_by, jobs_below, parts, workers_in}
 use Rattle.hull_text.proofs.Workers.{workers_least}
 
--- Where the first join stands behind some items, these are the first phase's.
+-- If the first join is after some items, these are the first phase's.
 pub part_at : (items : List Item) (i : ℕ) → i < length items → get_or items i None ≡ None
     → ((k : ℕ) → k < i → get_or items k None ≡ None → ⊥) → parts items ≡ take i items ∷ parts (drop 1 (drop i items))
 part_at [] i lt here before = absurd (omega arith)
@@ -22,7 +22,7 @@ part_at (None ∷ xs) (suc i) lt here before = absurd (before 0 (omega arith) re
 part_at (Some o ∷ xs) (suc i) lt here before =
     rw (part_at xs i (omega arith) here (λ k h. before (suc k) (omega arith))) refl
 
--- Where no join is left, the items are the last phase's.
+-- If no join is left, the items are the last phase's.
 pub part_last : (items : List Item) → ((k : ℕ) → k < length items → get_or items k None ≡ None → ⊥)
     → parts items ≡ items ∷ []
 part_last [] none = refl
@@ -35,7 +35,7 @@ unfolding jobs_below
 jobs_long zero items = refl
 jobs_long (suc n) items = omega (arith, jobs_long n items, length-append (jobs_below n items) (calls_by n items ∷ []))
 
--- So has each.
+-- Each phase has a list for each worker.
 phases_long : (n : ℕ) (ps : List (List Item)) → All (λ phase. length phase ≡ n) (map (jobs_below n) ps)
 phases_long n [] = All-nil (λ phase. length phase ≡ n)
 phases_long n (p ∷ ps) =
@@ -93,7 +93,7 @@ jobs_call (suc n) o items = step (o.0 == n) refl (jobs_call n o items)
     )
     step false e less = omega (arith, jobs_more n (Some o ∷ items), jobs_more n items, less, calls_other n o items e)
 
--- So it is in all phases.
+-- A call more is at most one more in all phases.
 parts_call : (n : ℕ) (o : ℕ × Call) (ps : List (List Item))
     → calls_in_all (map (jobs_below n) (onto_first (Some o) ps)) ≤ calls_in_all (map (jobs_below n) ps) + 1
 parts_call n o [] = omega (arith, sum_by-cons calls_in (jobs_below n (Some o ∷ [])) [], jobs_call n o [], jobs_none n)

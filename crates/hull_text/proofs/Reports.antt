@@ -10,7 +10,7 @@ use Rattle.hull_book.specs.Answers.{Answer, answers_in}
 use Rattle.hull_text.specs.Answers.{answer_line, answers_text}
 use Rattle.hull_text.specs.ReportText.{ledger_line, ledgers_text, workers_text}
 
--- A line stands before the others.
+-- A line comes before the others.
 pub answers_cons : (worker : ℕ) (call : Call) (answer : Answer) (calls more_calls : List Call)
     (answers more_answers : List Answer) → calls ≡ call ∷ more_calls → answers ≡ answer ∷ more_answers
     → answers_text worker calls answers ≡ answer_line worker call answer
@@ -34,7 +34,7 @@ answers_no_answer worker [] answers e = refl
 answers_no_answer worker (call ∷ calls) [] e = refl
 answers_no_answer worker (call ∷ calls) (answer ∷ answers) e = absurd (omega (arith, e))
 
--- The lines of some calls, and those of the calls behind them.
+-- The lines of some calls, and those of the calls after them.
 pub answers_split : (worker : ℕ) (calls more : List Call) (answers : List Answer)
     → answers_text worker (calls ++ more) answers ≡ answers_text worker calls (take (length calls) answers)
     ++ answers_text worker more (drop (length calls) answers)
@@ -50,7 +50,7 @@ answers_split worker (call ∷ calls) more (answer ∷ answers) =
     ∙ sym (append_assoc (answer_line worker call answer) (answers_text worker calls (take (length calls) answers))
     (answers_text worker more (drop (length calls) answers)))
 
--- The calls of a worker in the first phase stand before the others.
+-- The calls of a worker in the first phase come before the others.
 pub phases_cons : (worker : ℕ) (phase : PhaseValue) (rest after : List PhaseValue) (answers : List Answer)
     (calls : List Call) → rest ≡ phase ∷ after → calls ≡ slice_index_or phase worker []
     → answers_text worker (calls_of worker rest) answers ≡ answers_text worker calls (take (length calls) answers)
@@ -58,7 +58,7 @@ pub phases_cons : (worker : ℕ) (phase : PhaseValue) (rest after : List PhaseVa
     (drop (length calls) answers)
 phases_cons worker phase rest after answers calls e f = grind (arith, common_steps, answers_text, calls_of, answers_split, calls)
 
--- The lines of a worker stand before those of the workers behind it.
+-- The lines of a worker come before those of the workers after it.
 pub workers_more : (k : ℕ) (phases : List PhaseValue) (all : List (List Answer)) → k < length all
     → workers_text k phases (drop k all) ≡ answers_text k (calls_of k phases)
     (slice_index_or all k []) ++ workers_text (k + 1) phases (drop (k + 1) all)
@@ -71,7 +71,7 @@ pub workers_none : (k : ℕ) (phases : List PhaseValue) (all : List (List Answer
 unfolding workers_text
 workers_none k phases all le = rw (drop_all k all le) refl
 
--- The line of a ledger stands before those behind it.
+-- The line of a ledger comes before those after it.
 pub ledgers_more : (k : ℕ) (all : List ℕ) → k < length all
     → ledgers_text k (drop k all) ≡ ledger_line k (slice_index all k) ++ ledgers_text (k + 1) (drop (k + 1) all)
 unfolding ledgers_text
@@ -82,7 +82,7 @@ pub ledgers_none : (k : ℕ) (all : List ℕ) → length all ≤ k → ledgers_t
 unfolding ledgers_text
 ledgers_none k all le = rw (drop_all k all le) refl
 
--- What holds of all holds of the rest.
+-- A property of all is one of the rest.
 pub all_after : {X : Type 0} (P : X → Type 0) (x : X) (after rest : List X) → rest ≡ x ∷ after → All P rest
     → All P after
 all_after P x after rest e all = λ k d lt.

@@ -1,4 +1,4 @@
--- What holds of a result where something else does.
+-- Properties of a result that follow from others.
 use Rattle.std.proofs.Common.{◌≡◌, ◌+◌, Result, Ok, Err, OnOk, IfErr}
 use Rattle.text_io.specs.Passage.{Passage, IsSound}
 use Rattle.hull_text.specs.declared.fault.TextFault.{TextFault}
@@ -16,7 +16,7 @@ pub err_then : {T E : Type 0} (r : Result T E) (P Q : E → Type 0) → IfErr r 
 err_then (Ok x) P Q p h = tt
 err_then (Err e) P Q p h = h e p
 
--- A reader that told each of these came to the end of its text, or stopped.
+-- A reader with each of these results came to the end of its text, or stopped.
 pub reads_to_end : {V : Type 0} (p : Passage) (r : Result V TextFault)
     → IfErr r (λ f. IsReadFault f → p.failed_since ≡ p.failed + 1) → IfErr r (λ f. ¬ IsReadFault f → IsSound p)
     → IfErr r (λ f. IsReadFault f → IsLineBeingRead p.before p.since f.line)

@@ -16,12 +16,12 @@ use Rattle.hull_text.specs.Reading.{HasNoNewline, ReadsOn, FailsIn}
 use Rattle.hull_text.specs.ScriptReading.{reading, AnswersScript}
 use Rattle.hull_text.proofs.FaultPlaces.{reading_goes_on}
 
--- What a line says stands before what the lines behind it say.
+-- The item of a line comes before those of the lines after it.
 kept_front : (s : Option Item) (js : List Item) → kept s js ≡ kept s [] ++ js
 kept_front None js = refl
 kept_front (Some i) js = refl
 
--- Reading a line is keeping what it says.
+-- Reading a line keeps its item.
 regroup : (items : List Item) (r : Result (Option Item) TextFault) (q : Result (List Item) TextFault)
     → with_front items (r >>= λ s. q >>= λ js. Ok (kept s js)) ≡ (r >>= λ s. with_front (items ++ kept s []) q)
 regroup items (Err e) q = refl
@@ -36,7 +36,7 @@ unfolding items_of
 items_cons n line [] some = absurd (omega arith)
 items_cons n line (next ∷ lines) some = refl
 
--- A line is read, and then what stands behind its newline.
+-- A line is read, and then the text after its newline.
 newline : (items : List Item) (n : ℕ) (line rest : List ℕ) → HasNoNewline line
     → reading items n (line ++ 10 ∷ rest)
     ≡ (numbered n (script_line_of line) >>= λ s. reading (items ++ kept s []) (suc n) rest)
@@ -49,7 +49,7 @@ newline items n line rest whole =
     ∙ ap (λ (r : Result (List Item) TextFault). with_front items r) (items_cons n line (pieces rest) some)
     ∙ regroup items (numbered n (script_line_of line)) (items_of (suc n) (pieces rest))
 
--- A line that says something, or nothing.
+-- A line with an item, or with none.
 pub script_on : (items more : List Item) (n next : ℕ) (line : List ℕ) (s : Option Item) → HasNoNewline line
     → Ok s ≡ numbered n (script_line_of line) → more ≡ items ++ kept s [] → next ≡ n + 1
     → ReadsOn (AnswersScript items n) (AnswersScript more next) (line ++ 10 ∷ []) []
@@ -66,7 +66,7 @@ pub script_refused : (items : List Item) (n : ℕ) (text : List ℕ) (f : TextFa
 script_refused items n text f e place =
     λ rest. inl (inr e, reading_goes_on items f.line n (text ++ rest) (omega (arith, place)))
 
--- Refused memory behind a text that has no fault.
+-- Memory was refused after a text that has no fault.
 pub refused_at_end : (items all : List Item) (n : ℕ) (text : List ℕ) (f : TextFault) → reading items n text ≡ Ok all
     → f.number ≡ 10 → AnswersScript items n text (Err f)
 refused_at_end items all n text f e h = inl (inr h, rw e tt)
@@ -78,7 +78,7 @@ unfolding reading items_of
 last_piece items n line whole =
     ap (λ (ps : List (List ℕ)). with_front items (items_of n ps)) (slice_split_none (λ (b : ℕ). b == 10) line whole)
 
--- It is a line where it is not empty.
+-- It is a line if it is not empty.
 last_line : (items : List Item) (n : ℕ) (line : List ℕ) → 0 < length line
     → with_front items (last_items n line) ≡ (numbered n (script_line_of line) >>= λ s. Ok (items ++ kept s []))
 last_line items n [] some = absurd (omega arith)
@@ -89,13 +89,13 @@ last_line items n (b ∷ bs) some = step (numbered n (script_line_of (b ∷ bs))
     step (Ok s) = refl
     step (Err e) = refl
 
--- A text ends behind a newline.
+-- A text ends after a newline.
 pub end_empty : (items : List Item) (n : ℕ) (line : List ℕ) → length line ≡ 0 → reading items n line ≡ Ok items
 end_empty items n [] none =
     last_piece items n [] (λ k d lt. absurd (omega arith)) ∙ ap (λ (l : List Item). Ok l) (append-nil items)
 end_empty items n (b ∷ bs) none = absurd (omega (arith, none))
 
--- A text ends within a line that says something, or nothing.
+-- A text ends within a line with an item, or with none.
 pub end_line : (items : List Item) (n : ℕ) (line : List ℕ) (s : Option Item) → HasNoNewline line → 0 < length line
     → Ok s ≡ numbered n (script_line_of line) → reading items n line ≡ Ok (items ++ kept s [])
 end_line items n line s whole some e = last_piece items n line whole ∙ last_line items n line some ∙ rw (← e) refl
@@ -114,7 +114,7 @@ at_start bytes = front_none (script_items bytes)
     front_none (Ok js) = refl
     front_none (Err e) = refl
 
--- What a reader answers at a text's end is right where it makes the script of all items.
+-- The answer of a reader at a text's end is right if it is the script of all items.
 pub answers_end : (items all : List Item) (n : ℕ) (line : List ℕ) (answer : Result ScriptValue TextFault)
     → reading items n line ≡ Ok all → MatchResult answer (λ script. script ≡ script_of all) (λ f. f.number ≡ 10)
     → AnswersScript items n line answer

@@ -1,4 +1,4 @@
--- A line of a script is read as what it says just where it is spelled so.
+-- A line of a script is read as a value exactly if it is spelled as that value.
 use Rattle.std.proofs.lemmas.Grind.{common_steps}
 use Rattle.std.proofs.Common.{◌≡◌, ◌≤◌, ℕ, List, [], ◌∷◌, ◌++◌, Option, Some, None, true, false, cond, not, Ok, decimal}
 use Rattle.std.proofs.Common.{codes, refl, sym, ap, subst, ◌∙◌, arith, inl, inr}
@@ -26,12 +26,12 @@ use Rattle.hull_text.proofs.Calls.{calls}
 use Rattle.hull_text.proofs.Joined.{cut, decimal_field, is_line, joined_form, split_joined}
 use Rattle.hull_text.proofs.Formats.{alone}
 
--- No field is left where the fields end.
+-- No field is left after the last one.
 pub ended_ok : {X : Type 0} (x y : X) (fs : List Field) → ended x fs ≡ Ok y → (fs ≡ []) × (x ≡ y)
 ended_ok x y [] e = (refl, ok_is x y e)
 ended_ok x y (f ∷ fs) e = absurd cc
 
--- A served call that is read is spelled there.
+-- A served call that is read is spelled by its fields.
 served_takes : (fs : List Field) (s : Option Item) → served_at fs ≡ Ok s
     → (order : ℕ × Call) × (s ≡ Some (Some order)) × (fs ≡ decimal order.0 ∷ call_fields order.1) × (order.0 ≤ 63)
     × IsCall newest order.1
@@ -56,7 +56,7 @@ served_again : (w : ℕ) (c : Call) → w ≤ 63 → IsCall newest c
 unfolding served_at
 served_again w c low fits = rw (seats.again w (call_fields c) low, alone (calls newest) c fits) refl
 
--- What a line says is spelled there.
+-- The value of a line is spelled by it.
 pub line_takes : (line : List ℕ) (s : Option Item) → script_line_of line ≡ Ok s → IsScriptLine line s
 unfolding script_line_of
 line_takes [] s e = subst (IsScriptLine []) (ok_is None s e) (inl refl)
@@ -112,7 +112,7 @@ join_line : script_line_of (codes "join") ≡ Ok (Some None)
 unfolding script_line_of has_form
 join_line = refl
 
--- What is spelled by a line is read.
+-- A spelled line is read.
 pub line_again : (line : List ℕ) (s : Option Item) → IsScriptLine line s → script_line_of line ≡ Ok s
 unfolding script_line_of
 line_again line None h = grind (arith, common_steps)

@@ -1,4 +1,4 @@
--- The bytes are read as items just where their lines say these, and else have a first fault.
+-- The bytes are read as items exactly if their lines spell these, and else have a first fault.
 use Rattle.std.proofs.lemmas.Grind.{common_steps}
 use Rattle.std.proofs.Common.{◌≡◌, ◌≤◌, ◌+◌, ℕ, suc, List, [], ◌∷◌, ◌++◌, length, Option}
 use Rattle.std.proofs.Common.{Result, Ok, Err, refl, sym, ap, subst, ◌∙◌, add-zero, zero-add, arith, inl, inr}
@@ -22,7 +22,7 @@ use Rattle.hull_text.proofs.Grammars.{Grammar, fault_answered, known_then}
 use Rattle.hull_text.proofs.ScriptLines.{at_start}
 use Rattle.hull_text.proofs.ScriptSpelled.{line_takes, line_again}
 
--- What is read is what the lines say.
+-- The items that are read are those of the lines.
 items_take : (n : ℕ) (ps : List (List ℕ)) (items : List Item) → n ≤ 33554433 → items_of n ps ≡ Ok items
     → AreScriptLines (without_last_empty ps) items × (n + length (without_last_empty ps) ≤ 33554433)
 unfolding items_of
@@ -40,7 +40,7 @@ items_take n (line ∷ next ∷ lines) items le e =
     let rest = items_take (suc n) (next ∷ lines) b.0 (omega (arith, t.1)) b.1 in
     ((a.0, b.0, line_takes line a.0 t.0, rest.0, sym (ok_is (kept a.0 b.0) items b.2)), omega (arith, rest.1))
 
--- What the lines say is read.
+-- The items of the lines are read.
 items_again : (n : ℕ) (ps : List (List ℕ)) (items : List Item) → AreScriptLines (without_last_empty ps) items
     → n + length (without_last_empty ps) ≤ 33554433
     → items_of n ps ≡ Ok items
@@ -69,7 +69,7 @@ script_again bytes script s = items_again 1 (pieces bytes) s.items s.lines (omeg
 
 -- ---- faults
 
--- the first of these lines with a fault, where m others stand before them
+-- the first of these lines with a fault, if m others precede them
 abbrev FaultOf : TextFault → ℕ → List (List ℕ) → Type 0
 FaultOf f m lines = FaultFrom AreScriptLines (λ n line after. (f.line ≡ suc n) × HasLineFault n line f.number) m lines
 
@@ -117,7 +117,7 @@ first_is x y xs ys e = cc
 others_are : {A : Type 0} (x y : A) (xs ys : List A) → x ∷ xs ≡ y ∷ ys → xs ≡ ys
 others_are x y xs ys e = cc
 
--- A piece behind right lines has the fault.
+-- A piece after right lines has the fault.
 items_stop : (m : ℕ) (ps before : List (List ℕ)) (line : List ℕ) (after : List (List ℕ)) (items : List Item)
     (f : TextFault) → without_last_empty ps ≡ before ++ line ∷ after → AreScriptLines before items
     → f.line ≡ suc (m + length before) → HasLineFault (m + length before) line f.number → items_of (suc m) ps ≡ Err f
@@ -166,7 +166,7 @@ scripts = record {
   fails_again = script_fault_again;
 }
 
--- What a reader of items answers is right for the bytes.
+-- The answer of a reader of items is right for the bytes.
 pub reads_known : (known : Option (List ℕ)) (items : List Item) (n : ℕ) (answer : Result ScriptValue TextFault)
     → items ≡ [] → n ≡ 1 → AnswersAll (AnswersScript items n) known answer → ReadsKnownScript known answer
 reads_known known items n answer none first h =

@@ -4,7 +4,7 @@ use Rattle.hull_set.specs.declared.call.Call.{Call}
 use Rattle.hull_text.specs.Item.{Item}
 use Rattle.hull_text.specs.ScriptValue.{workers_from}
 
--- No worker makes the greatest smaller.
+-- Counting workers never makes the greatest smaller.
 pub workers_least : (n : ℕ) (items : List Item) → n ≤ workers_from n items
 unfolding workers_from
 workers_least n [] = omega arith

@@ -1,4 +1,4 @@
--- What the fields of a call say.
+-- The calls that fields spell.
 use Rattle.std.specs.Prelude.{List, [], ◌∷◌, Option, Some, None, Result, Ok, Err}
 use Rattle.hull_set.specs.declared.call.Call.{Call}
 use Rattle.hull_set.specs.declared.call.Call.TheVariants as call
@@ -10,7 +10,7 @@ use Rattle.hull_text.specs.declared.words.CallWord.TheVariants as word
 use Rattle.hull_text.specs.Field.{Field, ◌>>=◌, point_at, direction_at}
 use Rattle.hull_text.specs.Words.{call_word_of}
 
--- a call, from the fields behind its word
+-- a call, from the fields after its word
 unfoldable pub call_after : Version → Option CallWord → List Field → Result (Call × List Field) FaultKind
 call_after v None fs = Err Word
 -- written by tools/table.py: a case for each call word
@@ -25,7 +25,7 @@ call_after v (Some word.Count) fs = Ok (call.Count, fs)
 
 -- end of what tools/table.py writes
 
--- a call: its word and what belongs to it
+-- a call: its word and the fields that belong to it
 unfoldable pub call_at : Version → List Field → Result (Call × List Field) FaultKind
 call_at v [] = Err Form
 call_at v (f ∷ fs) = call_after v (call_word_of f) fs

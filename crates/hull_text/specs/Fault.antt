@@ -25,7 +25,7 @@ fault_at n kind = record { number = fault_number kind; line = n }
 abbrev pub IsLineFault : FaultKind → Type 0
 IsLineFault kind = fault_number kind ≤ 5
 
--- A line behind so many others, where there may be so many, has the fault of this number: its own first one from the
+-- A line after so many others, if there may be so many, has the fault of this number: its own first one from the
 -- left, or that it is one line too many.
 abbrev pub HasFault : {A : Type 0} → ℕ → ℕ → Result A FaultKind → ℕ → Type 0
 HasFault most before read number =
@@ -44,12 +44,12 @@ IsMemoryFault f = f.number ≡ fault_number NoMemory
 abbrev pub IsOutside : TextFault → Type 0
 IsOutside f = IsReadFault f ⊎ IsMemoryFault f
 
--- What reading gives has no fault before this line.
+-- A reading has no fault before this line.
 abbrev pub NoFaultBefore : {V : Type 0} → ℕ → Result V TextFault → Type 0
 NoFaultBefore line (Ok v) = Unit {0}
 NoFaultBefore line (Err f) = line ≤ f.line
 
--- an answer of a reader to which its device and memory served: a value, or a fault of the text's own
+-- an answer of a reader for which device and memory did not fail: a value, or a fault of the text's own
 abbrev pub IsServed : {V : Type 0} → Result V TextFault → Type 0
 IsServed (Ok v) = Unit {0}
 IsServed (Err f) = ¬ IsOutside f

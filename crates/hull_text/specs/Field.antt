@@ -1,4 +1,5 @@
--- What the fields of a line say from the left, or their first fault. What is read comes with the fields behind it.
+-- The values that the fields of a line spell from the left, or their first fault. A value that is read comes with the
+-- fields after it.
 use Rattle.std.specs.Prelude.{◌≡◌, ◌⊎◌, ℕ, ℤ, pos, negsuc, List, [], ◌∷◌, Option, Some, None, Result, Ok, Err, ◌==◌}
 use Rattle.std.specs.Prelude.{◌&&◌, nat_le, nat_lt, Bool, false, if◌then◌else◌}
 use Rattle.std.specs.List.{slice_split}
@@ -12,25 +13,25 @@ use Rattle.hull_text.specs.Fault.{IsLineFault}
 use Rattle.hull_text.specs.Number.{number_of, signed_of}
 
 infixl 10 ◌>>=◌
--- reading goes on with what was read, unless there was a fault
+-- a reading continues with the value that was read, unless there was a fault
 abbrev pub ◌>>=◌ : {A B E : Type 0} → Result A E → (A → Result B E) → Result B E
 (Ok x) >>= f = f x
 (Err e) >>= f = Err e
 
--- a field is a run of bytes without a space
+-- a field is a sequence of bytes without a space
 abbrev pub Field : Type 0
 Field = List ℕ
 
--- the fields of a line stand apart by one space
+-- the fields of a line are separated by one space
 abbrev pub fields_of : List ℕ → List Field
 fields_of line = slice_split (λ b. b == 32) line
 
--- The fields in what a program holds of a line that it reads; it holds nothing at the end.
+-- The remaining fields of a line that a program reads; none at the end.
 abbrev pub fields_left : Option (Bor (List ℕ)) → List Field
 fields_left None = []
 fields_left (Some text) = fields_of text.now
 
--- What a function returned, seen by view, is what reading gives.
+-- The result of a function, seen through `view`, is the result of reading.
 abbrev pub Gives : {X Y : Type 0} → (X → Y) → Result X FaultKind → Result Y FaultKind → Type 0
 Gives view (Ok x) read = read ≡ Ok (view x)
 Gives view (Err e) read = (read ≡ Err e) × IsLineFault e
@@ -46,7 +47,7 @@ coordinate_in limit None = Err Number
 coordinate_in limit (Some (pos n)) = if nat_le n limit then Ok (pos n) else Err Coordinate
 coordinate_in limit (Some (negsuc n)) = if nat_lt n limit then Ok (negsuc n) else Err Coordinate
 
--- what the next field says
+-- the value of the next field
 abbrev pub field_at : {A : Type 0} → (Field → Result A FaultKind) → List Field → Result (A × List Field) FaultKind
 field_at says [] = Err Form
 field_at says (f ∷ fs) = says f >>= λ x. Ok (x, fs)
@@ -73,7 +74,7 @@ direction_at v fs = do
   p ← point_at v fs
   if is_zero p.0.x && is_zero p.0.y then Err Coordinate else Ok p
 
--- an unsigned number up to a limit; beyond it there is this fault
+-- an unsigned number up to a limit; a greater one is this fault
 abbrev pub up_to : ℕ → FaultKind → Option ℕ → Result ℕ FaultKind
 up_to limit beyond None = Err Number
 up_to limit beyond (Some n) = if nat_le n limit then Ok n else Err beyond

@@ -6,7 +6,7 @@ use Rattle.std.specs.Prelude.{◌==◌, ◌&&◌, nat_le, Bool, if◌then◌else
 abbrev pub is_digit : ℕ → Bool
 is_digit b = nat_le 48 b && nat_le b 57
 
--- the number that digits spell behind those of n; none where a byte is no digit
+-- the number that digits spell after those of n; none if a byte is no digit
 unfoldable pub digits_after : ℕ → List ℕ → Option ℕ
 digits_after n [] = Some n
 digits_after n (b ∷ bs) = if is_digit b then digits_after (n * 10 + (b - 48)) bs else None
@@ -17,7 +17,7 @@ number_of [] = None
 number_of (b ∷ []) = digits_after 0 (b ∷ [])
 number_of (b ∷ c ∷ bs) = if b == 48 then None else digits_after 0 (b ∷ c ∷ bs)
 
--- behind a minus: a number other than 0
+-- after a minus: a number other than 0
 abbrev pub negated : Option ℕ → Option ℤ
 negated None = None
 negated (Some zero) = None
@@ -33,7 +33,7 @@ unfoldable pub signed_of : List ℕ → Option ℤ
 signed_of [] = None
 signed_of (b ∷ bs) = if b == 45 then negated (number_of bs) else positive (number_of (b ∷ bs))
 
--- a value below this bound tells a number: itself, or that it is no smaller than the bound
+-- a value below this bound is the number; else the number is no smaller than the bound
 abbrev pub Tells : ℕ → Option ℕ → ℕ → Type 0
 Tells bound None n = bound ≤ n
 Tells bound (Some v) n = n ≡ v

@@ -36,7 +36,7 @@ abbrev pub AreAnswered : ℕ → List PhaseValue → List (List Answer) → Type
 AreAnswered workers phases answers = (k : ℕ) → k < workers
     → length (slice_index_or answers k []) ≡ length (calls_of k phases)
 
--- What a report lends fits together: a list of answers and a ledger for each worker, and an answer for each call.
+-- The pieces of a report fit together: a list of answers and a ledger for each worker, and an answer for each call.
 pub record IsReport (script : ScriptValue) (answers : List (List Answer)) (ledgers : List ℕ) : Type 0 where
   pub answers_each : length answers ≡ script.workers
   pub ledgers_each : length ledgers ≡ script.workers

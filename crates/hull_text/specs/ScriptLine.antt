@@ -1,4 +1,4 @@
--- What one line of a script says, or its first fault from the left.
+-- The item of one line of a script, or its first fault from the left.
 use Rattle.std.specs.Prelude.{ℕ, List, [], ◌∷◌, Option, Some, None, Result, Ok, Err, ◌==◌, not, if◌then◌else◌, codes}
 use Rattle.std.specs.Str.{bytes_eq}
 use Rattle.hull_text.specs.declared.fault.FaultKind.{FaultKind}
@@ -16,7 +16,7 @@ served_at fs = do
   c ← call_at newest w.1
   ended (Some (Some (w.0, c.0))) c.1
 
--- a line of a script; an empty line and a comment say nothing
+-- a line of a script; an empty line and a comment have no item
 unfoldable pub script_line_of : List ℕ → Result (Option Item) FaultKind
 script_line_of [] = Ok None
 script_line_of (b ∷ bs) =

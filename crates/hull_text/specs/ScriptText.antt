@@ -1,4 +1,4 @@
--- What a whole script says, or its first fault.
+-- The items of a whole script, or its first fault.
 use Rattle.std.specs.Prelude.{ℕ, suc, ◌==◌, List, [], ◌∷◌, ◌++◌, Option, Some, None, Result, Ok, Err, nat_le}
 use Rattle.std.specs.Prelude.{if◌then◌else◌}
 use Rattle.std.specs.List.{slice_split}
@@ -11,26 +11,26 @@ use Rattle.hull_text.specs.Fault.{fault_at}
 use Rattle.hull_text.specs.Field.{◌>>=◌}
 use Rattle.hull_text.specs.ScriptLine.{script_line_of}
 
--- the fault of line n stands there
+-- the fault of line n is in that line
 abbrev pub at_line : {A : Type 0} → ℕ → Result A FaultKind → Result A TextFault
 at_line n (Ok x) = Ok x
 at_line n (Err kind) = Err (fault_at n kind)
 
--- line n of a text; a line behind the last that a text may have is a fault
+-- line n of a text; a line after the last that a text may have is a fault
 unfoldable pub numbered : {A : Type 0} → ℕ → Result A FaultKind → Result A TextFault
 numbered n read = if nat_le n TEXT_LINE_LIMIT then at_line n read else Err (fault_at n Form)
 
--- what a line says, in front of what the lines behind it say
+-- the item of a line, before those of the lines after it
 abbrev pub kept : Option Item → List Item → List Item
 kept None items = items
 kept (Some item) items = item ∷ items
 
--- the last piece of a script is a line where it is not empty
+-- the last piece of a script is a line if it is not empty
 abbrev pub last_items : ℕ → List ℕ → Result (List Item) TextFault
 last_items n [] = Ok []
 last_items n (b ∷ bs) = numbered n (script_line_of (b ∷ bs)) >>= λ i. Ok (kept i [])
 
--- the pieces of a script that stand between its newlines, the first of them line n
+-- the pieces of a script between its newlines, the first of them line n
 unfoldable pub items_of : ℕ → List (List ℕ) → Result (List Item) TextFault
 items_of n [] = Ok []
 items_of n (line ∷ []) = last_items n line
@@ -60,6 +60,6 @@ text_lines bytes = without_last_empty (pieces bytes)
 abbrev pub script_items : List ℕ → Result (List Item) TextFault
 script_items bytes = items_of 1 (pieces bytes)
 
--- what stands in front of what is still to be read
+-- the items before those that are not read yet
 abbrev pub with_front : List Item → Result (List Item) TextFault → Result (List Item) TextFault
 with_front front read = read >>= λ is. Ok (front ++ is)

@@ -24,11 +24,11 @@ workers_from n [] = n
 workers_from n (Some order ∷ is) = workers_from (max n (order.0 + 1)) is
 workers_from n (None ∷ is) = workers_from n is
 
--- one more than the greatest worker, and 1 where there is no call
+-- one more than the greatest worker, and 1 if there is no call
 abbrev pub workers_in : List Item → ℕ
 workers_in items = workers_from 1 items
 
--- where a phase ends and another begins
+-- whether the phase ends here and another begins
 abbrev pub is_join : Item → Bool
 is_join None = true
 is_join (Some order) = false
@@ -46,12 +46,12 @@ abbrev pub HasWorker : Item → Type 0
 HasWorker None = Unit {0}
 HasWorker (Some order) = order.0 ≤ 63
 
--- the same of what a line says
+-- the same of the item of a line
 abbrev pub SaysWorker : Option Item → Type 0
 SaysWorker None = Unit {0}
 SaysWorker (Some item) = HasWorker item
 
--- the items of the phases that are still to come; none are left at the end
+-- the items of the phases that are left; none at the end
 abbrev pub parts_left : Option (Bor (List Item)) → List (List Item)
 parts_left None = []
 parts_left (Some items) = parts items.now

@@ -34,7 +34,7 @@ pair_fields p = signed_decimal p.x ∷ signed_decimal p.y ∷ []
 abbrev pub IsSomeDirection : Version → Pair → Type 0
 IsSomeDirection v d = IsPair v d × (d.x ≡ pos 0 → d.y ≡ pos 0 → ⊥)
 
--- a call that the texts of a version can say
+-- a call that the texts of a version can spell
 abbrev pub IsCall : Version → Call → Type 0
 -- written by tools/table.py: a case for each call, said
 IsCall v (call.Add p) = IsPair v p
@@ -48,7 +48,7 @@ IsCall v call.Count = Unit {0}
 
 -- end of what tools/table.py writes
 
--- a call is spelled by its word, and by what belongs to it
+-- a call is spelled by its word, and by the fields that belong to it
 abbrev pub call_fields : Call → List (List ℕ)
 -- written by tools/table.py: a case for each call, spelled
 call_fields (call.Add p) = call_word_text word.Add ∷ pair_fields p
@@ -83,17 +83,17 @@ IsReplyInRange v (reply.PointCount n) = n ≤ 4294967295
 -- end of what tools/table.py writes
 IsReplyInRange v _ = Unit {0}
 
--- a reply that the journals of a version can say: one of its rules, with such points and numbers
+-- a reply that the journals of a version can spell: one of its rules, with such points and numbers
 abbrev pub IsReply : Version → Reply → Type 0
 IsReply v r = IsReplyOf (version_rules v) r × IsReplyInRange v r
 
--- how it is spelled where a point lies
+-- the fields of a point's location
 abbrev pub place_fields : Where → List (List ℕ)
 place_fields Inside = reply_word_text told.Inside ∷ []
 place_fields On = reply_word_text told.On ∷ []
 place_fields Outside = reply_word_text told.Outside ∷ []
 
--- a reply is spelled by its word, and by what belongs to it
+-- a reply is spelled by its word, and by the fields that belong to it
 abbrev pub reply_fields : Reply → List (List ℕ)
 -- written by tools/table.py: a case for each reply, spelled
 reply_fields reply.Added = reply_word_text told.Added ∷ []

@@ -2,7 +2,7 @@ ghost use Rattle.std.specs.Prelude.{◌≡◌, ◌≢◌, ◌≤◌, IfSome, Non
 ghost use Rattle.hull_text.specs.declared.fault.FaultKind.{FaultKind};
 ghost use Rattle.hull_text.specs.Fault.{fault_number, fault_at};
 
-/// What is wrong with a text, or kept it from being read.
+/// The fault of a text, or the reason why it could not be read.
 #[derive(Clone, Copy, Debug, PartialEq, Eq)]
 pub enum FaultKind {
     /// A line has not the form of one, a field is missing, or there is one too many.
@@ -26,7 +26,7 @@ pub enum FaultKind {
 }
 
 impl FaultKind {
-    /// The kind of fault that is reported by a number; `None` where no fault has it.
+    /// Returns the kind of fault that is reported by a number, or `None` if no fault has it.
     pub fn of(number: u8) -> Option<FaultKind>
         ensures some { IfSome result (λ kind. fault_number kind ≡ number) }
         ensures none { result ≡ None → (kind : FaultKind) → fault_number kind ≢ number }
@@ -45,7 +45,7 @@ impl FaultKind {
         }
     }
 
-    /// The number by which the fault is reported.
+    /// Returns the number by which the fault is reported.
     pub fn number(self) -> u8
         ensures value { result ≡ fault_number self }
         ensures range { result ≤ 10 }
@@ -64,8 +64,8 @@ impl FaultKind {
     }
 }
 
-/// Why a text was not read: the number of the fault (1 form, 2 number, 3 coordinate, 4 worker, 5 word, 6 truncated,
-/// 7 header, 8 the reader failed, 10 memory was refused), and the line where it stands, counted from 1.
+/// Why a text was not read: the number of the fault (1 form, 2 number, 3 coordinate, 4 worker, 5 word, 6 truncated, 7
+/// header, 8 the reader failed, 10 memory was refused), and its line, counted from 1.
 #[derive(Clone, Copy, Debug, PartialEq, Eq)]
 pub struct TextFault {
     pub number: u8,
@@ -73,7 +73,7 @@ pub struct TextFault {
 }
 
 impl TextFault {
-    /// What is wrong; `None` where no fault has the number.
+    /// Returns the kind of the fault, or `None` if no fault has the number.
     pub fn kind(self) -> Option<FaultKind>
         ensures some { IfSome result (λ kind. fault_number kind ≡ self.number) }
         ensures none { result ≡ None → (kind : FaultKind) → fault_number kind ≢ self.number }
@@ -81,7 +81,7 @@ impl TextFault {
         FaultKind::of(self.number)
     }
 
-    /// The fault of this kind in this line.
+    /// Makes the fault of this kind in this line.
     pub(crate) fn new(kind: FaultKind, line: u32) -> TextFault
         ensures { result ≡ fault_at line kind }
     {

@@ -15,7 +15,7 @@ ghost use Rattle.hull_text.specs.JournalReading.{journal_of};
 ghost use Rattle.hull_text.specs.JournalGrammar.{IsJournalFault, IsJournalSaid, IsJournalText, ReadsJournal};
 ghost use Rattle.hull_text.specs.Spelling.{IsCall, IsReply, call_fields, reply_fields};
 
-/// A field spells a number just where it is its decimal text.
+/// A field spells a number exactly if it is the number's decimal text.
 pub fn numbers_have_one_spelling()
     ensures { (f : List ℕ) (n : ℕ) → n < 2 ^ 128 → (number_of f ≡ Some n) ↔ (f ≡ decimal n) }
 {}
@@ -30,8 +30,8 @@ pub fn replies_are_read_again()
     ensures { (v : Version) (r : Reply) → IsReply v r → reply_at v (reply_fields r) ≡ Ok (r, []) }
 {}
 
-/// The texts hold what they say: a script text and a journal text have one reading each; a journal that a version can
-/// say has one text of that version, and this text is read back as the same journal.
+/// The texts are unambiguous: a script text and a journal text have one reading each; a journal that a version can
+/// spell has one text of that version, and this text is read back as the same journal.
 pub fn texts_hold()
     ensures scripts { (bytes : List ℕ) (script other : ScriptValue) → IsScriptText bytes script
         → IsScriptText bytes other → script ≡ other }
@@ -46,8 +46,8 @@ pub fn texts_hold()
 {}
 
 /// The first fault of a text is a function of its bytes: a text of the grammar has none, and every other text has
-/// exactly one. So two readers to whom device and memory served answer the same for the same bytes, whatever pieces
-/// these came in.
+/// exactly one. So two readers for which device and memory did not fail answer the same for the same bytes, in
+/// whatever pieces these came.
 pub fn faults_hold()
     ensures script_one { (bytes : List ℕ) (f other : TextFault) → IsScriptFault bytes f → IsScriptFault bytes other
         → f ≡ other }

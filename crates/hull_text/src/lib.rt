@@ -1,16 +1,15 @@
 //! Scripts, journals and reports as texts.
 //!
-//! A script is read by `read_script`, a journal by `read_journal`, from a counted reader, or by `read_journal_by`, which
-//! gives its lines one by one to a `LineKeeper`; `write_journal` and
-//! `write_report` write to a counted writer; `upgrade` writes a journal in the newest version that has its rules, and
-//! `compact` one that is short and leaves the same points. A text that is no script or journal has a `TextFault`: what
-//! is wrong with it, and in which line.
+//! `read_script` reads a script and `read_journal` a journal, from a counted reader; `read_journal_by` passes the
+//! lines of a journal one by one to a `LineKeeper`. `write_journal` and `write_report` write to a counted writer.
+//! `upgrade` writes a journal in the newest version that has its rules, and `compact` writes a short one that leaves
+//! the same points. A text that is no script or journal has a `TextFault`: the kind of the fault and its line.
 //!
 //! # A worked example
 //!
 //! ```
 //! let mut input = Counted::new(file); // any `Read`
-//! let journal = read_journal(alloc, &mut input)?; // `fault.line` and `fault.kind()` where it is none
+//! let journal = read_journal(alloc, &mut input)?; // `fault.line` and `fault.kind()` if it is none
 //! let mut output = Counted::new(device); // any `Write`
 //! write_journal(&journal, &mut output)?; // in the version for its rules
 //! ```

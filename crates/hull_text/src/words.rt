@@ -16,7 +16,7 @@ pub(crate) enum CallWord {
     // end of what tools/table.py writes
 }
 
-/// The word of a reply. Which of them a journal can say, the rules of its version tell.
+/// The word of a reply. The rules of a journal's version determine which of them it can spell.
 #[derive(Clone, Copy, Debug, PartialEq, Eq)]
 pub(crate) enum ReplyWord {
     // written by tools/table.py: each ReplyWord
@@ -42,7 +42,7 @@ pub(crate) enum ReplyWord {
 }
 
 impl CallWord {
-    /// How the word is spelled.
+    /// Returns the spelling of the word.
     pub fn text(self) -> &'static [u8]
         ensures { result.now ≡ call_word_text self }
     {
@@ -60,7 +60,7 @@ impl CallWord {
         }
     }
 
-    /// The word that a field spells.
+    /// Returns the word that a field spells.
     #[tactic(auto, unfolding(crate::specs::Words::call_word_of))]
     pub fn of(field: &[u8]) -> Option<CallWord>
         ensures { result ≡ call_word_of field.now }
@@ -89,7 +89,7 @@ impl CallWord {
     }
 }
 
-/// The reply word that answers a question.
+/// Returns the reply word that answers a question.
 fn answer_word(field: &[u8]) -> Option<ReplyWord>
     ensures { result ≡ word_in reply_word_text answer_words field.now }
 {
@@ -121,7 +121,7 @@ fn answer_word(field: &[u8]) -> Option<ReplyWord>
 }
 
 impl ReplyWord {
-    /// How the word is spelled.
+    /// Returns the spelling of the word.
     pub fn text(self) -> &'static [u8]
         ensures { result.now ≡ reply_word_text self }
     {
@@ -149,7 +149,7 @@ impl ReplyWord {
         }
     }
 
-    /// The word that a field spells.
+    /// Returns the word that a field spells.
     #[tactic(auto, unfolding(crate::specs::Words::reply_word_of))]
     pub fn of(field: &[u8]) -> Option<ReplyWord>
         ensures { result ≡ reply_word_of field.now }

@@ -1,4 +1,4 @@
-//! Writing: a text goes out piece by piece, and behind a fault nothing goes out any more.
+//! Writing: a text is written piece by piece, and after a fault nothing is written any more.
 mod fitting;
 mod journal_text;
 mod report;

@@ -1,10 +1,10 @@
--- What is held behind changes.
+-- The set after changes.
 use Rattle.std.proofs.Common.{◌≡◌, List, [], ◌∷◌, ◌++◌, refl}
 use Rattle.hull_set.specs.Held.{Held}
 use Rattle.hull_views.specs.Changes.{changed, changed_by}
 use Rattle.hull_views.specs.declared.change.Change.{Change}
 
--- one change more is made of what is held behind those before it
+-- the set after one change more is this change of the set after those before it
 pub changed_by-one_more : (held : Held) (changes : List Change) (c : Change)
     → changed_by held (changes ++ c ∷ []) ≡ changed (changed_by held changes) c
 unfolding changed_by

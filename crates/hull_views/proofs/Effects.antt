@@ -1,4 +1,4 @@
--- Changes have the effect of the replies that they stand for.
+-- A change has the effect of the reply that it was made from.
 use Rattle.std.proofs.Common.{◌≡◌, refl}
 use Rattle.lattice.specs.Plane.{Pair}
 use Rattle.hull_set.specs.Held.{Held}
@@ -9,13 +9,13 @@ use Rattle.hull_set.specs.declared.reply.Reply.TheVariants.{Added, Again, Left, 
 use Rattle.hull_views.specs.Changes.{change_of, change_of_add, change_of_remove, changed}
 use Rattle.hull_views.specs.Laws.{ChangesHaveTheEffect}
 
--- that of an added point
+-- the change of an addition has the effect of its reply
 of_add : (held : Held) (p : Pair) (reply : Reply) → changed held (change_of_add p reply) ≡ after_add held p reply
 of_add held p Added = refl
 of_add held p (Again n) = refl
 of_add held p _ = refl
 
--- and of a removed one
+-- the change of a removal has the effect of its reply
 of_remove : (held : Held) (p : Pair) (reply : Reply) → changed held (change_of_remove p reply) ≡ after_remove held p reply
 of_remove held p Removed = refl
 of_remove held p (Left n) = refl

@@ -1,4 +1,4 @@
--- Corners that are known behind changes.
+-- Vertices that are known after changes.
 use Rattle.std.proofs.Common.{◌≡◌, ◌≢◌, ◌≤◌, ◌||◌, ◌∙◌, ◌∷◌, ◌++◌, ℕ, Bool, false, List, [], length, not, true, IsTrue, MatchBool, Option, Some, None, IfSome, IsSomeAnd, ap, arith, refl, rules, sym, subst, take_all}
 use Rattle.std.proofs.lemmas.List.{take-append-le}
 use mathlib.Core.Logic.{∥∥₁_elim, ∥∥₁_map}
@@ -13,7 +13,7 @@ use Rattle.hull_views.specs.declared.change.Change.{Change}
 use Rattle.hull_views.specs.declared.change.Change.TheVariants.{Came, CameAgain, WentOnce, Went, Nothing}
 use Rattle.hull_views.proofs.Changed.{changed_by-one_more}
 
--- a fact that is there twice is there
+-- a truncated truncation is a truncation
 pub flatten : {P : Type 0} → ∥ ∥ P ∥₁ ∥₁ → ∥ P ∥₁
 flatten t = ∥∥₁_elim t squash₁ (λ p. p)
 
@@ -25,17 +25,18 @@ ordered_change held (WentOnce p) h = h
 ordered_change held (Went p) h = ordered_without p held.points h
 ordered_change held Nothing h = h
 
--- and so do changes
+-- changes leave the points in order
 ordered_by : (held : Held) (changes : List Change) → IsPointSet held.points → IsPointSet (changed_by held changes).points
 unfolding changed_by
 ordered_by held [] h = h
 ordered_by held (c ∷ changes) h = ordered_by (changed held c) changes (ordered_change held c h)
 
--- what is held behind changes stands in order
+-- the points of the set after changes are in order
 pub ordered_behind : (changes : List Change) → IsPointSet (held_behind changes).points
 ordered_behind changes = ordered_by nothing_held changes (search rules)
 
--- what is held behind the first so many changes is so behind one more, and behind all where this one is none
+-- if the set after the first n changes is the set after all of them, it is so after one change more that changes
+-- nothing
 pub shown_on : (n : ℕ) (old new : List Change) (c : Change) (was behind matters is : Bool)
     → ∥ (was ≡ false → behind ≡ false → held_at n old ≡ held_behind old) ∥₁
     → was ≡ false → n ≤ length old → (is ≡ false → new ≡ old ++ c ∷ [])
@@ -52,7 +53,7 @@ shown_on n old new c was false false is t speaks within more m = ∥∥₁_map t
     ∙ sym (ap held_behind (more yes)))
 
 module _ {A : Type 0} (corners : A → List Pair) where
-  -- corners that stay through a change are known behind it
+  -- vertices that stay through a change are known after it
   pub known_on : (old new : List Change) (c : Change) (was is : Bool) (known kept : Option A)
       → ∥ (was ≡ false → IfSome known (λ k. IsVertexList (held_behind old).points (corners k))) ∥₁
       → was ≡ false → (is ≡ false → new ≡ old ++ c ∷ [])
@@ -65,7 +66,7 @@ module _ {A : Type 0} (corners : A → List Pair) where
       subst (λ ls. IsVertexList (held_behind ls).points (corners l)) (sym (more yes))
       (subst (λ h. IsVertexList h.points (corners l)) (sym (changed_by-one_more nothing_held old c)) on))
 
--- what is known is known of a list that equals it
+-- if a list is known, so is each list that equals it
 pub known_here : {A B : Type 0} (value : B → A) (corners : A → List Pair) (changes : List Change) (silent : Bool)
     (known : Option B) (l : B)
     → ∥ (silent ≡ false → IfSome known (λ k. IsVertexList (held_behind changes).points (corners (value k)))) ∥₁
@@ -75,21 +76,21 @@ known_here value corners changes silent None l t speaks e = absurd e
 known_here value corners changes silent (Some k) l t speaks e =
     ∥∥₁_map t (λ g. subst (λ v. IsVertexList (held_behind changes).points (corners v)) e (g speaks))
 
--- what is published to the last change shows all
+-- the set as of the last change is the set after all of them
 pub all_shown : (n : ℕ) (changes : List Change) → n ≡ length changes → held_at n changes ≡ held_behind changes
 all_shown n changes e = ap held_behind (take_all n changes (omega (arith, e)))
 
--- who is not silent behind a step that raised or did not has raised
+-- if the publisher is not silent after a step, the step raised the word
 pub raised : (b : Bool) → not b ≡ false → IsTrue b
 raised true e = search rules
 raised false e = absurd (search rules)
 
--- who is silent behind such a step has not raised
+-- if the publisher is silent after a step, the step did not raise the word
 pub fallen : (b : Bool) → not b ≡ true → b ≡ false
 fallen true e = absurd (search rules)
 fallen false e = refl
 
--- who speaks is not silent
+-- a publisher that speaks is not silent
 pub speaking : (silent : Bool) → IsTrue (not silent) → silent ≡ false
 speaking true e = absurd (search rules)
 speaking false e = refl

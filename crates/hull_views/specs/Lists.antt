@@ -1,4 +1,4 @@
--- Lists of corners, and when they are those behind changes of the empty set.
+-- Lists of vertices, and when they are those after changes of the empty set.
 use Rattle.std.specs.Prelude.{List}
 use Rattle.std.specs.List.{Contains}
 use Rattle.lattice.specs.Plane.{Pair}
@@ -10,20 +10,21 @@ use Rattle.hull_views.specs.declared.change.Change.{Change}
 use Rattle.hull_views.specs.declared.change.Change.TheVariants.{Came, Went}
 use Rattle.hull_views.specs.declared.corner_list.CornerList.{CornerList}
 
--- the corners in the list
+-- the vertices in the list
 abbrev pub corners_in : CornerList → List Pair
 corners_in list = list.points.items
 
--- they are those of the live points behind these changes
+-- they are the vertices of the set's points after these changes
 abbrev pub AreCornersBehind : List Change → CornerList → Type 0
 AreCornersBehind changes list = ∥ IsVertexList (held_behind changes).points (corners_in list) ∥₁
 
--- the corners of each set that has these are the same behind the change
+-- each set that has these vertices has the same ones after the change
 abbrev pub StayThrough : List Pair → Change → Type 0
 StayThrough corners change = (held : Held) → IsPointSet held.points → IsVertexList held.points corners
     → IsVertexList (changed held change).points corners
 
--- the change moves no corner of a set of these points, whose corners these are: what comes is covered, what goes is no corner
+-- the change moves no vertex of a set with these points and these vertices: a point that comes is covered, one that
+-- goes is no vertex
 abbrev pub IsWithin : List Pair → List Pair → Change → Type 0
 IsWithin points corners (Came p) = Covers points p
 IsWithin points corners (Went p) = ¬ Contains corners p

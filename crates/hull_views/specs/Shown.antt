@@ -1,11 +1,11 @@
--- What a view shows, if there is one.
+-- The content of a snapshot, if there is one.
 use Rattle.std.specs.Prelude.{List, [], Option, Some, None}
 use Rattle.published_views.specs.Views.{lines_of, value_of}
 use Rattle.published_views.specs.declared.view.View.{View}
 use Rattle.published_views.specs.declared.view.Truth.{Ghosts}
 
 module _ {T L V : Type 0} {K : Ghosts T L V} where
-  -- the lines behind which it is true: none where nothing was published yet
+  -- the lines as of which it is true: none if nothing was published yet
   abbrev pub lines_shown : Option (View T L V K) → List L
   lines_shown None = []
   lines_shown (Some view) = lines_of view

@@ -1,4 +1,4 @@
--- Tellers: what they recorded and published.
+-- Publishers: what they recorded and published.
 use Rattle.std.specs.Prelude.{◌≡◌, ◌+◌, ◌∷◌, ◌++◌, ℕ, Bool, false, true, List, [], length}
 use Rattle.std.specs.Arc.{arc_value}
 use Rattle.published_views.specs.Numbers.{told_number}
@@ -17,55 +17,55 @@ recorded t = seen_lines t.front
 abbrev pub is_silent : Teller → Bool
 is_silent t = t.is_silent
 
--- why it is silent, if it is: it has recorded as many lines as can have a number, or there is evidence that another thread
--- changed what only it is to change
+-- why it is silent, if it is: it has recorded as many lines as can have a number, or there is evidence that another
+-- thread changed what only this publisher may change
 abbrev pub SaysWhySilent : Teller → Type 0
 SaysWhySilent t = is_silent t ≡ true → IsWhySilent t.why_silent (length (recorded t))
 
--- behind how many changes the corners are that it published last
+-- how many changes there were when it last published vertices
 abbrev pub last_published : Teller → ℕ
 last_published t = published t.publisher
 
--- the newest number that it was told
+-- the newest number in its watermark
 abbrev pub told_last : Teller → ℕ
 told_last t = told_number t.told
 
--- the name of the hall in which it publishes
+-- the name of the snapshot slots in which it publishes
 abbrev pub hall_name : Teller → HallName
 hall_name t = name_of (hall_of t.publisher)
 
--- the name of the hall into which an entrance leads
+-- the name of the snapshot slots of a reader registry
 abbrev pub entrance_name : Entrance → HallName
 entrance_name e = name_of (arc_value e.hall)
 
--- both publish in one hall
+-- both publish in the same snapshot slots
 abbrev pub AreAtOneHall : Teller → Teller → Type 0
 AreAtOneHall t u = hall_of u.publisher ≡ hall_of t.publisher
 
--- it recorded one change more, in the same hall, or fell silent
+-- it recorded one change more, with the same snapshot slots, or fell silent
 pub record HasRecorded (old new : Teller) (change : Change) : Type 0 where
   pub hall : AreAtOneHall old new
   pub speaks : is_silent new ≡ false → is_silent old ≡ false
   pub one_more : is_silent new ≡ false → recorded new ≡ recorded old ++ change ∷ []
 
--- it recorded nothing more, in the same hall
+-- it recorded nothing more, with the same snapshot slots
 pub record HasKept (old new : Teller) : Type 0 where
   pub hall : AreAtOneHall old new
   pub speaks : is_silent new ≡ false → is_silent old ≡ false
   pub same : recorded new ≡ recorded old
 
--- the corners behind all that it recorded are public, as it was told itself
+-- the vertices after all that it recorded are published, and its watermark has their number
 pub record IsPublic (t : Teller) : Type 0 where
   pub last : last_published t ≡ length (recorded t)
   pub told : told_last t ≡ length (recorded t)
 
--- what it published last, as it was told itself, is what is held behind all that it recorded: whoever is told of that number
--- takes no view of less
+-- What it published last, at the number of its watermark, is the set after all that it recorded: a reader whose
+-- watermark has that number takes no older snapshot.
 pub record IsShown (t : Teller) : Type 0 where
   pub held : held_at (last_published t) (recorded t) ≡ held_behind (recorded t)
   pub told : told_last t ≡ last_published t
 
--- it has recorded nothing, and so many readers and two more have slots in its hall
+-- it has recorded nothing, and there are slots for so many readers and two more
 pub record IsOpened (readers : ℕ) (t : Teller) (entrance : Entrance) : Type 0 where
   pub hall : hall_of t.publisher ≡ arc_value entrance.hall
   pub slots : slots_of (arc_value entrance.hall) ≡ readers + 2

@@ -1,27 +1,27 @@
-//! What a call makes of what is held.
+//! The change that a call makes to a set.
 ghost use Rattle.std.specs.Prelude.{◌≡◌, ◌≢◌, MatchBool};
 ghost use Rattle.hull_views.specs.Changes.{change_of};
 
 use hull_set::{Call, Reply};
 use lattice::Point;
 
-/// What a call with its reply makes of what a set holds.
+/// The change that a call with its reply makes to a set.
 #[derive(Clone, Copy)]
 pub enum Change {
-    /// The point came: it was not there.
+    /// The point was not in the set, and is now.
     Came(Point),
-    /// The point is held once more.
+    /// The point was in the set, and its multiplicity rose by one.
     CameAgain(Point),
-    /// The point is held once less, and is still there.
+    /// The multiplicity of the point fell by one, and it is still in the set.
     WentOnce(Point),
-    /// The point went: it is no more there.
+    /// The point is in the set no more.
     Went(Point),
     /// Nothing changed.
     Nothing,
 }
 
 impl Change {
-    /// Whether it changes what is held.
+    /// Whether it changes the set.
     pub fn matters(&self) -> bool
         ensures { MatchBool result (self.now ≢ Change.Nothing) (self.now ≡ Change.Nothing) }
     {
@@ -32,7 +32,7 @@ impl Change {
     }
 }
 
-/// What a call makes of what is held that was answered so.
+/// Returns the change that a call with this reply makes.
 pub fn change_of(call: &Call, reply: &Reply) -> Change
     ensures { result ≡ change_of call.now reply.now }
 {

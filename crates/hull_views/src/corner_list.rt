@@ -1,4 +1,4 @@
-//! The corners of a set.
+//! The vertices of a set.
 ghost use Rattle.std.specs.Prelude.{◌≡◌, ◌↔◌, ◌≤◌, IsTrue, length};
 ghost use Rattle.hull_outline.specs.OneWay.{IsParted-prop};
 ghost use Rattle.hull_outline.specs.Outlines.{HoldsOfSetsOf, IsShortOutline};
@@ -10,7 +10,7 @@ use heap::Heap;
 use hull_outline::Outline;
 use lattice::Point;
 
-/// The corners of a set, counterclockwise from the first by x and then y.
+/// The vertices of a set, counterclockwise from the first by x and then y.
 #[derive(Drop)]
 pub struct CornerList {
     points: Vec<Point, Heap>,
@@ -22,7 +22,7 @@ pub struct CornerList {
 impl CornerList {
     ghost use Rattle.hull_views.specs.Lists.{IsWithin, StayThrough, corners_in};
 
-    /// The list of these, which are the corners of a set.
+    /// Makes the list of these points, which must be the vertices of a set.
     pub fn new(points: Vec<Point, Heap>) -> CornerList
         requires { IsShortOutline points.items }
         ensures { corners_in result ≡ points.items }
@@ -31,14 +31,15 @@ impl CornerList {
         CornerList { points, last }
     }
 
-    /// The corners.
+    /// Returns the vertices.
     pub fn points(&self) -> &[Point]
         ensures { result.now ≡ corners_in self.now }
     {
         &self.points
     }
 
-    /// Whether the corners are the same behind the change of a set that has them. Of the corners alone, by bisections.
+    /// Whether a set with these vertices has the same vertices after the change. Decided from the vertices only, by
+    /// binary searches.
     pub fn stay(&self, change: &Change) -> bool
         ensures stay { IsTrue result → StayThrough (corners_in self.now) change.now }
         ensures within { HoldsOfSetsOf (corners_in self.now)

@@ -1,9 +1,9 @@
-//! What has to be true of the corners that are published.
+//! The property that published vertices must have.
 use super::change::Change;
 use super::corner_list::CornerList;
 use published_views::Truth;
 
-/// Corners as they are behind changes of the empty set.
+/// Vertices of the set after changes of the empty set.
 pub struct Corners;
 
 impl Truth for Corners {

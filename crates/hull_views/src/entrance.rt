@@ -1,4 +1,4 @@
-//! Where readers come in.
+//! The reader registry.
 ghost use Rattle.std.specs.Arc.{arc_value};
 ghost use Rattle.std.specs.Prelude.{IfSome};
 ghost use Rattle.published_views.specs.Views.{IsToldOf};
@@ -8,7 +8,7 @@ use super::reader::Reader;
 use published_views::{Hall, Told};
 use std::sync::Arc;
 
-/// Where readers come in: the hall, and what each is told at first.
+/// A reader registry: the snapshot slots, and the watermark that each new reader begins with.
 #[derive(Drop)]
 pub struct Entrance {
     pub(crate) hall: Arc<Hall<Corners>>,
@@ -19,7 +19,7 @@ pub struct Entrance {
 impl Entrance {
     ghost use Rattle.hull_views.specs.Readers.{ComesIn};
 
-    /// A reader that holds no view yet; `None` where the hall has too many owners.
+    /// Makes a reader that has no snapshot yet. Returns `None` if the snapshot slots have too many owners.
     pub fn reader(&self) -> Option<Reader>
         ensures { IfSome result (ComesIn self.now) }
     {

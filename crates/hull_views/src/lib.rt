@@ -1,10 +1,11 @@
-//! Views of the corners of a set that changes: each shows the corners as they were behind one line of a journal, with that
-//! line's number, and stays as it is for as long as it is held.
+//! Snapshots of the vertices of a changing set: each shows the vertices as of one line of a journal, with that line's
+//! number, and never changes while it is owned.
 //!
-//! What a line makes of what is held is a [`Change`]. A [`Teller`] stands beside the set: it records the change of each
-//! line, and publishes the corners behind those that change what is held. Where the corners stay, the same list of them is
-//! published under another number. A [`Reader`] takes views by a few atomic steps, with no lock, and nobody waits for it.
-//! That the changes are those of a journal is kept by who owns the journal and the teller.
+//! A [`Change`] is what a line does to the set. A [`Teller`] is the publisher beside the set: it records the change
+//! of each line, and publishes the vertices after each line that changes the set. If the vertices stay, it publishes
+//! the same list under another number. A [`Reader`] takes snapshots in a few atomic steps, without a lock, and no
+//! thread waits for it. The owner of the journal and of the publisher ensures that the recorded changes are those of
+//! the journal.
 #![tactic(auto)]
 
 mod change;
@@ -24,5 +25,5 @@ pub use laws::changes_have_the_effect;
 pub use reader::Reader;
 pub use teller::Teller;
 
-/// The greatest number of readers that a teller is opened for.
+/// The greatest number of readers that a publisher can be opened for.
 pub const READER_LIMIT: u8 = 64;

@@ -1,4 +1,4 @@
-//! Who takes views.
+//! Readers, which take snapshots.
 ghost use Rattle.std.specs.Arc.{arc_value};
 ghost use Rattle.std.specs.Prelude.{◌≡◌, ◌≤◌, IfSome, IsTrue, MatchBool, ◌≢◌, None, length};
 ghost use Rattle.published_views.specs.Numbers.{IsToldMore, told_number};
@@ -12,7 +12,7 @@ use lattice::Point;
 use published_views::{Hall, Told, View};
 use std::sync::Arc;
 
-/// Who takes views of the corners, and holds the last one.
+/// A reader: it takes snapshots of the vertices, and keeps the last one.
 #[derive(Drop)]
 pub struct Reader {
     hall: Arc<Hall<Corners>>,
@@ -28,7 +28,7 @@ pub struct Reader {
 impl Reader {
     ghost use Rattle.hull_views.specs.Readers.{HasLooked, IsAt, corners_at, lines_at, newest_told};
 
-    /// A reader in this hall that holds no view.
+    /// Makes a reader of these snapshot slots that has no snapshot.
     pub(crate) fn new(hall: Arc<Hall<Corners>>, told: Told) -> Reader
         requires { IsToldOf (arc_value hall) told }
         ensures { (result.hall ≡ hall) × (result.told ≡ told) × (result.view ≡ None) }
@@ -41,7 +41,7 @@ impl Reader {
         }
     }
 
-    /// Whether the view that is held is the newest one: one load of what threads share.
+    /// Whether the reader's snapshot is the newest one: one load of shared memory.
     pub fn is_newest(&mut self) -> bool
         ensures same { IsAt self.old self.new }
         ensures newest { MatchBool result (length (lines_at self.new) ≡ newest_told self.new)
@@ -50,11 +50,11 @@ impl Reader {
         self.hall.newest_number(&mut self.told) == self.line_count()
     }
 
-    /// Takes the newest view where the one that is held is not, and says whether the one that is held then is the newest,
-    /// as it was at a moment of the call. It waits for nobody.
+    /// Takes the newest snapshot if the reader does not have it, and returns whether its snapshot is then the newest,
+    /// as of a moment of the call. It never waits.
     ///
-    /// It is `false` where a thousand tries were undone, each by a publication or by another reader's step; then the view is
-    /// the same as before, and the reader was told of a newer one.
+    /// It returns `false` if a thousand tries were undone, each by a publication or by another reader's step. Then
+    /// the snapshot is the same as before, and the watermark has the number of a newer one.
     pub fn look(&mut self) -> bool
         ensures looked { HasLooked self.old self.new result }
     {
@@ -71,14 +71,14 @@ impl Reader {
         }
     }
 
-    /// How many lines the view is behind: none before the first view.
+    /// Returns how many lines the journal had as of the snapshot, or 0 before the first snapshot.
     pub fn line_count(&self) -> u64
         ensures { result ≡ length (lines_at self.now) }
     {
         self.number
     }
 
-    /// The corners behind those lines.
+    /// Returns the vertices as of those lines.
     pub fn corners(&self) -> &[Point]
         ensures points { result.now ≡ corners_at self.now }
         ensures behind { ∥ IsVertexList (held_behind (lines_at self.now)).points result.now ∥₁ }

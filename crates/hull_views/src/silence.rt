@@ -6,6 +6,6 @@ use published_views::Overtaken;
 pub(crate) enum Silence {
     /// It has recorded as many lines as can have a number.
     AtLimit,
-    /// Another thread added lines to the same history, or published in the same place.
+    /// Another thread added lines to the same history, or published in the same slots.
     Overtaken(Overtaken),
 }

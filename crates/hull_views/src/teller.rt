@@ -1,4 +1,4 @@
-//! Who records what changes, and publishes the corners.
+//! The publisher: it records changes, and publishes the vertices.
 ghost use Rattle.std.specs.Prelude.{◌≡◌, ◌<◌, ◌≤◌, ◌+◌, ◌++◌, ◌∷◌, ℕ, None, [], IfOk, IfSome, IsSomeAnd, IsTrue, OnErr, Some};
 ghost use Rattle.std.specs.Prelude.{false, length, true};
 ghost use Rattle.std.specs.Arc.{arc_value};
@@ -23,10 +23,10 @@ use published_views::{Front, Hall, History, NUMBER_LIMIT, Newest, Publisher, Tol
 use std::alloc::Global;
 use std::sync::Arc;
 
-/// Records the changes of a set, and publishes its vertices.
+/// The publisher of a set: records its changes, and publishes its vertices.
 ///
-/// It stops publishing for good at the greatest number that can be published, and if another thread added lines to its
-/// history or published in its place, of which it keeps the evidence. It stops for no other reason.
+/// It stops publishing for good at the greatest number that can be published, or if another thread added lines to its
+/// history or published in its place; it keeps the evidence of that. It stops for no other reason.
 #[derive(Drop)]
 pub struct Teller {
     alloc: Global,
@@ -51,7 +51,7 @@ pub struct Teller {
         → held_at (published publisher) (seen_lines front) ≡ held_behind (seen_lines front)) ∥₁ },
 }
 
-/// The corners of a set, gathered from it.
+/// Gathers the vertices of a set.
 fn gathered<S: HullSet>(alloc: Global, set: &S) -> Result<Arc<CornerList>, NoMemory>
     ensures { IfOk result (λ list. IsVertexList (S.held set.now).points (corners_in (arc_value list))) }
 {
@@ -64,7 +64,7 @@ fn gathered<S: HullSet>(alloc: Global, set: &S) -> Result<Arc<CornerList>, NoMem
     }
 }
 
-/// The corners, if they are known.
+/// Returns the vertices, if they are known.
 fn shared(known: &Option<Arc<CornerList>>) -> Option<Arc<CornerList>>
     ensures { IfSome result (λ list. IsSomeAnd known.now (λ k. arc_value k ≡ arc_value list)) }
 {
@@ -74,7 +74,7 @@ fn shared(known: &Option<Arc<CornerList>>) -> Option<Arc<CornerList>>
     }
 }
 
-/// Lets the corners go, if they are known, where they do not stay through the change.
+/// Drops the known vertices if the change may move them.
 fn keep(known: &mut Option<Arc<CornerList>>, change: &Change)
     ensures { IfSome known.new
         (λ list. (known.old ≡ Some list) × StayThrough (corners_in (arc_value list)) change.now) }
@@ -86,7 +86,7 @@ fn keep(known: &mut Option<Arc<CornerList>>, change: &Change)
     }
 }
 
-/// Adds a line for a change behind all that was seen, and says whether it did, and there is room for one more.
+/// Adds a line for a change after all that was seen. Returns whether it did and one more line can have a number.
 fn add_line(
     history: &History<Change>,
     front: &mut Front<Change>,
@@ -116,7 +116,7 @@ fn add_line(
     }
 }
 
-/// Publishes a view, and returns whether readers can know of it.
+/// Publishes a snapshot, and returns whether readers can know of it.
 fn put_out(
     publisher: &mut Publisher<Corners>,
     told: &mut Told,
@@ -146,7 +146,8 @@ impl Teller {
     ghost use Rattle.hull_views.specs.Tellers.{HasKept, HasRecorded, IsOpened, IsPublic, IsShown, SaysWhySilent, is_silent};
     ghost use Rattle.hull_views.specs.Tellers.{last_published, recorded};
 
-    /// A teller that has recorded nothing, and the entrance for so many readers.
+    /// Makes a publisher that has recorded nothing, and the registry for so many readers. Fails with [`NoMemory`] if
+    /// memory was refused.
     pub fn open(alloc: Global, readers: u8) -> Result<(Teller, Entrance), NoMemory>
         requires { readers ≤ READER_LIMIT }
         ensures { IfOk result (λ r. IsOpened readers r.0 r.1) }
@@ -188,7 +189,7 @@ impl Teller {
         self.is_behind |= change.matters();
     }
 
-    /// Gathers the corners behind the changes that are recorded from the set, where they are not known.
+    /// Gathers the vertices after the recorded changes from the set, if they are not known.
     fn fill<S: HullSet>(&mut self, set: &S)
         requires held { is_silent self.old ≡ false → S.held set.now ≡ held_behind (recorded self.old) }
         ensures front { (self.new.front ≡ self.old.front) × (self.new.is_silent ≡ self.old.is_silent) }
@@ -199,7 +200,7 @@ impl Teller {
         }
     }
 
-    /// Publishes these corners, and says whether they are public then.
+    /// Publishes these vertices, and returns whether they are public then.
     fn post(&mut self, list: Arc<CornerList>) -> bool
         requires speaks { is_silent self.old ≡ false }
         requires rising { last_published self.old < length (recorded self.old) }
@@ -223,11 +224,11 @@ impl Teller {
         }
     }
 
-    /// Publishes the corners behind the changes that are recorded, unless these were published last, and says whether they
-    /// are public then. They are those of the set.
+    /// Publishes the vertices after the recorded changes, unless these were published last, and returns whether they
+    /// are public then. They are the vertices of the set.
     ///
-    /// It is `false` where memory for new corners was refused, where each slot is read, which cannot be with no more readers than it was
-    /// opened for, or where the teller is silent: then the next publication is to show them.
+    /// It returns `false` if memory for new vertices was refused, if every slot is being read (impossible with no
+    /// more readers than it was opened for), or if the publisher is silent. Then the next publication must show them.
     pub fn publish<S: HullSet>(&mut self, set: &S) -> bool
         requires held { is_silent self.old ≡ false → S.held set.now ≡ held_behind (recorded self.old) }
         ensures same { HasKept self.old self.new }
@@ -246,8 +247,8 @@ impl Teller {
         }
     }
 
-    /// Records the change of a call, and publishes the corners behind it where it changed what is held, or where earlier ones
-    /// were not published. The set is as it is behind the call. It says whether all that is held is shown then.
+    /// Records the change of a call, and publishes the vertices after it if it changed the set or if earlier vertices
+    /// were not published. `set` is the set after the call. Returns whether all points of the set are shown then.
     pub fn tell<S: HullSet>(&mut self, change: Change, set: &S) -> bool
         requires held { is_silent self.old ≡ false → S.held set.now ≡ changed (held_behind (recorded self.old)) change }
         ensures recorded { HasRecorded self.old self.new change }

@@ -1,4 +1,4 @@
--- What is left of a run fits together for its report: an answer for each call, and a count for each worker.
+-- The results of a run fit together for its report: an answer for each call, and a count for each worker.
 use Rattle.std.proofs.Common.{◌≡◌, ◌+◌, ◌-◌, ◌∙◌, ◌++◌, ℕ, List, [], length, get_or, ap, arith, length-append}
 use Rattle.std.specs.Prelude.{Err, Ok}
 use Rattle.std.proofs.lemmas.List.{length-map, length-replicate}
@@ -17,7 +17,7 @@ use Rattle.hull_pool.specs.Work.{fulls, replies_of}
 use Rattle.hull_text.specs.ReportText.{IsReport}
 use Rattle.hullbook.specs.Outcomes.{IsRunOn}
 
--- so many replies and so many times that the journal is full
+-- the answers are as many as the replies and the times that the journal was full
 as_many : (served : List Line) (more : ℕ) → length (replies_of served ++ fulls more) ≡ length served + more
 as_many served more =
     omega (

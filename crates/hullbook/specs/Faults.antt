@@ -1,4 +1,4 @@
--- What a program that was refused ends with, and its exit status.
+-- The fault of a program that was refused, and its exit status.
 use Rattle.std.specs.Prelude.{ℕ, ◌+◌}
 use Rattle.hull_book.specs.declared.compacting.CompactRefusal.{CompactRefusal}
 use Rattle.hull_book.specs.declared.compacting.CompactRefusal.TheVariants as refusal
@@ -23,14 +23,15 @@ use Rattle.hullbook.specs.declared.parts.PartFault.TheVariants as part
 use Rattle.hullbook.specs.declared.run.RunFault.{RunFault}
 use Rattle.hullbook.specs.declared.run.RunFault.TheVariants as engine
 
--- the exit status where a part of a journal was not judged: that of its text, 3 where it cannot be opened, 4 where memory was refused
+-- the exit status if a segment of a journal was not judged: that of its text, 3 if it cannot be opened, 4 if memory
+-- was refused
 abbrev pub part_status : PartFault → ℕ
 part_status part.Open = 3
 part_status part.OpenMemory = 4
 part_status (part.Text f) = text_status f
 part_status part.Memory = 4
 
--- 2 for words and texts that are refused, 3 for a file or a device that failed, 4 where memory was refused
+-- 2 for words and texts that are refused, 3 for a file or a device that failed, 4 if memory was refused
 abbrev pub fault_status : Fault → ℕ
 fault_status refused.Usage = 2
 fault_status refused.Open = 3
@@ -38,7 +39,7 @@ fault_status refused.Write = 3
 fault_status refused.Memory = 4
 fault_status (refused.Text f) = text_status f
 
--- a program that was refused so ends so
+-- the fault of a program with this refusal
 abbrev pub fault_of_program : Refusal → Fault
 fault_of_program program.Usage = refused.Usage
 fault_of_program program.Open = refused.Open
@@ -46,12 +47,13 @@ fault_of_program program.Write = refused.Write
 fault_of_program program.Memory = refused.Memory
 fault_of_program (program.Text f) = refused.Text f
 
--- a program whose words are refused so ends so
+-- the fault of a program whose words are refused with this fault
 abbrev pub fault_of_options : OptionFault → Fault
 fault_of_options option.Usage = refused.Usage
 fault_of_options option.Memory = refused.Memory
 
--- 1 for a journal that is illegal, 2 for words, texts and rules that are refused, 3 for a file or a device that failed, 4 where memory was refused
+-- 1 for a journal that is illegal, 2 for words, texts and rules that are refused, 3 for a file or a device that
+-- failed, 4 if memory was refused
 abbrev pub status_of : Failure → ℕ
 status_of (Refused r) = fault_status r
 status_of (Journal f) = text_status f
@@ -62,30 +64,30 @@ status_of (Lines n) = 2
 status_of (Illegal line) = 1
 status_of (Part path f) = part_status f
 
--- a program whose engine ended so ends so
+-- the failure of a program whose engine ended with this fault
 abbrev pub fault_of_engine : RunFault → Failure
 fault_of_engine (engine.Text f) = Refused (refused.Text f)
 fault_of_engine engine.Memory = Refused refused.Memory
 fault_of_engine engine.Write = Refused refused.Write
 
--- a program that could not upgrade a journal ends so
+-- the failure of a program that could not upgrade a journal
 abbrev pub fault_of_upgrade : UpgradeFault → Failure
 fault_of_upgrade (upgrade.Text f) = Refused (refused.Text f)
 fault_of_upgrade (upgrade.Write f) = Refused refused.Write
 
--- a program that could not make a journal short for this reason ends so: the header is line 1 of the text
+-- the failure of a program that could not compact a journal for this reason: the header is line 1 of the text
 abbrev pub fault_of_refusal : CompactRefusal → Failure
 fault_of_refusal refusal.Rules = Rules
 fault_of_refusal (refusal.Wrong k) = Illegal (k + 2)
 fault_of_refusal refusal.NoMemory = Refused refused.Memory
 
--- a program that could not make a journal's text short ends so
+-- the failure of a program that could not compact a journal's text
 abbrev pub fault_of_compact : CompactFault → Failure
 fault_of_compact (compact.Text f) = Refused (refused.Text f)
 fault_of_compact (compact.Refused r) = fault_of_refusal r
 fault_of_compact (compact.Write f) = Refused refused.Write
 
--- a program that could not go on with a journal ends so
+-- the failure of a program that could not continue a journal
 abbrev pub fault_of_after : AfterFault → Failure
 fault_of_after (after.Script f) = Refused (refused.Text f)
 fault_of_after (after.Journal f) = Journal f

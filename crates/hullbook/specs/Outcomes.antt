@@ -1,4 +1,4 @@
--- What a run of a script comes to, and the text that is written of it.
+-- The result of running a script, and the text that is written about it.
 use Rattle.std.specs.Prelude.{◌≡◌, ◌<◌, ℕ, Bool, false, true, cond, List, [], map, Option, None, Result, Ok, Err}
 use Rattle.text_io.specs.Passage.{Passage, HasTaken, HasTakenFront, IsSound}
 use Rattle.hull_book.specs.Books.{BookValue, opened_book}
@@ -51,7 +51,7 @@ pub record IsRunOn {S : Type 0} (K : Ghosts S) (opened : BookValue S) (script : 
   pub counts_are : counts ≡ map (λ l. l.count) after.ledgers
   pub journal_is : journal ≡ journal_of closed
 
--- the run of a script on a book that was opened as the options say: over the tree that searches each bridge, or over
+-- the run of a script on a book that was opened with these options: over the tree that searches each bridge, or over
 -- buckets for a sparing run
 abbrev pub IsRun : Bool → ScriptValue → Options → List (List Answer) → List ℕ → JournalValue → Type 0
 IsRun sparing script o answers counts journal =
@@ -60,17 +60,17 @@ IsRun sparing script o answers counts journal =
     × (sparing ≡ true
     → IsRunOn bucket_set (opening (empty_buckets o.limit) o script.workers) script answers counts journal)
 
--- the journal where it is asked for, and else the report
+-- the journal if it is requested, and else the report
 abbrev pub output_text : Bool → ScriptValue → List (List Answer) → List ℕ → JournalValue → List ℕ
 output_text asked script answers counts journal =
     cond asked (written_text journal) (report_text script answers counts journal)
 
--- where the journal is asked for, the text is one of this journal
+-- if the journal is requested, the text is one of this journal
 abbrev pub IsJournalWhereAsked : Bool → List ℕ → JournalValue → Type 0
 IsJournalWhereAsked asked text journal = asked ≡ true → IsJournalText text journal
 
--- The bytes, where they are known, were read as a script, it was run, and this holds of the text of the run. Where they are
--- not known some script was read all the same.
+-- The bytes, if they are known, were read as a script, it was run, and this holds of the text of the run. If they are
+-- not known some script was read nevertheless.
 pub record HasRun (sparing : Bool) (o : Options) (bytes : Option (List ℕ)) (Holds : List ℕ → Type 0) : Type 0 where
   pub script : ScriptValue
   pub answers : List (List Answer)
@@ -81,7 +81,7 @@ pub record HasRun (sparing : Bool) (o : Options) (bytes : Option (List ℕ)) (Ho
   pub holds : Holds (output_text o.journal script answers counts journal)
   pub said : IsJournalWhereAsked o.journal (output_text o.journal script answers counts journal) journal
 
--- what a run that ended so has read and written
+-- what a run with this outcome has read and written
 abbrev pub EndsRun : Bool → Options → Passage → Passage → Result Unit RunFault → Type 0
 EndsRun sparing o input output (Ok done) = IsSound input × HasRun sparing o input.before (HasTaken output)
 EndsRun sparing o input output (Err (Text f)) = HasStopped ReadsKnownScript input output f

@@ -1,4 +1,4 @@
--- What a run or a check may have read: a text of its kind.
+-- The text that a run or a check may have read: one of its kind.
 use Rattle.std.specs.Prelude.{List, ℕ, Option, Ok}
 use Rattle.hull_book.specs.History.{AsksInReplay}
 use Rattle.hull_book.specs.Journals.{JournalValue}
@@ -6,11 +6,11 @@ use Rattle.hull_book.specs.Scripts.{ScriptValue}
 use Rattle.hull_text.specs.ScriptGrammar.{ReadsKnownScript}
 use Rattle.hull_text.specs.JournalGrammar.{ReadsKnownJournal}
 
--- the bytes, where they are known, are a text of some script
+-- the bytes, if they are known, are a text of some script
 abbrev pub IsSomeScript : Option (List ℕ) → Type 0
 IsSomeScript bytes = (script : ScriptValue) × ReadsKnownScript bytes (Ok script)
 
--- the bytes, where they are known, are a text of some journal, whose replay comes to a call that may take memory
+-- the bytes, if they are known, are a text of some journal, whose replay reaches a call that may take memory
 abbrev pub IsJournalThatAsks : Option (List ℕ) → Type 0
 IsJournalThatAsks bytes =
     (journal : JournalValue) × ReadsKnownJournal bytes (Ok journal) × AsksInReplay journal.head journal.lines

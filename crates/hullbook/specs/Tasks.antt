@@ -1,4 +1,4 @@
--- What an accepted command line asks for: only numbers within their limits.
+-- The task of an accepted command line: its numbers are within their limits.
 use Rattle.std.specs.Prelude.{◌≡◌, ◌≤◌, ◌⊎◌, ℕ, List, ◌∷◌, IfSome, codes, length, string_bytes}
 use Rattle.hull_set.specs.declared.TheConstants.{POINT_LIMIT}
 use Rattle.hull_book.specs.declared.limits.TheConstants.{CAPACITY_LIMIT}
@@ -17,7 +17,7 @@ pub record AreWithinLimits (o : Options) : Type 0 where
   pub limit_low : 1 ≤ o.limit
   pub limit_high : o.limit ≤ POINT_LIMIT
 
--- so are those that are stated
+-- the stated numbers are within their limits
 pub record AreStatedWithinLimits (s : Stated) : Type 0 where
   pub capacity : IfSome s.capacity (λ n. (1 ≤ n) × (n ≤ CAPACITY_LIMIT))
   pub limit : IfSome s.limit (λ n. (1 ≤ n) × (n ≤ POINT_LIMIT))
@@ -28,7 +28,7 @@ IsWithinLimits (Run path o) = AreWithinLimits o
 IsWithinLimits (Check path) = Unit {0}
 IsWithinLimits (Upgrade path) = Unit {0}
 
--- nor has what the words ask for
+-- a request has no other numbers
 abbrev pub IsRequestWithinLimits : Request → Type 0
 IsRequestWithinLimits (request.Task t) = IsWithinLimits t
 IsRequestWithinLimits (request.RunSparing path o) = AreWithinLimits o
@@ -37,7 +37,7 @@ IsRequestWithinLimits (request.Explain path) = Unit {0}
 IsRequestWithinLimits (request.CheckParts paths) = Unit {0}
 IsRequestWithinLimits (request.Compact path) = Unit {0}
 
--- the texts are `check` and these names, which may stand behind a mark that ends the options
+-- the texts are `check` and these names, which may follow a mark that ends the options
 abbrev pub AreBehindCheck : List (List ℕ) → List (List ℕ) → Type 0
 AreBehindCheck texts names =
     (texts ≡ codes "check" ∷ names) ⊎ (texts ≡ codes "check" ∷ codes "--" ∷ names)
@@ -48,7 +48,8 @@ NamesWords texts (Run path o) = IsOneOf texts (string_bytes path)
 NamesWords texts (Check path) = IsOneOf texts (string_bytes path)
 NamesWords texts (Upgrade path) = IsOneOf texts (string_bytes path)
 
--- so is each path that a request names; of parts there are two or more, and they are all words after `check`
+-- each path that a request names is one of these texts; of segments there are two or more, and they are all words
+-- after `check`
 abbrev pub RequestNamesWords : List (List ℕ) → Request → Type 0
 RequestNamesWords texts (request.Task t) = NamesWords texts t
 RequestNamesWords texts (request.RunSparing path o) = IsOneOf texts (string_bytes path)

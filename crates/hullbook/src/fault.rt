@@ -12,7 +12,7 @@ use hull_program::{OptionFault, Refusal, text_status};
 use hull_text::{CompactFault, TextFault, UpgradeFault};
 use thiserror::Error;
 
-/// What a refused program ends with: its text on standard error, and its status.
+/// The fault of a refused program: its text on standard error, and its status.
 #[derive(Clone, Copy, PartialEq, Eq, Debug, Error)]
 pub enum Fault {
     /// The words after the program's name are refused.
@@ -33,7 +33,7 @@ pub enum Fault {
 }
 
 impl Fault {
-    /// The exit status of a program that ends with this.
+    /// Returns the exit status of a program that ends with this fault.
     pub fn status(&self) -> u8
         ensures { result ≡ fault_status self.now }
     {
@@ -71,36 +71,36 @@ impl From<OptionFault> for Fault {
     }
 }
 
-/// What a program that did not end well ends with: its text on standard error, and its status.
+/// The failure of a program: its text on standard error, and its status.
 #[derive(Debug, Drop, Error)]
 pub enum Failure {
-    /// It was refused for this.
+    /// It was refused for this reason.
     #[error("{0}")]
     Refused(Fault),
-    /// The journal that is gone on with is no text of its kind, could not be read, or memory to read it was refused.
+    /// The journal to continue is no text of its kind, could not be read, or memory to read it was refused.
     #[error("hullbook: journal: line {}: fault {}", .0.line, .0.number)]
     Journal(TextFault),
-    /// The journal's points are not counted, and what is asked for goes on with counted points alone.
+    /// The journal's points are not counted, and the task continues only counted points.
     #[error("hullbook: points are not counted before version 3, and upgrade keeps that")]
     Rules,
     /// The journal is illegal; the first wrong line of its text.
     #[error("hullbook: illegal {0}")]
     Illegal(u64),
-    /// A part of a journal, which is at this path, was not judged.
+    /// A segment of a journal, which is at this path, was not judged.
     #[error("hullbook: {0}: {1}")]
     Part(String, PartFault),
-    /// Another first number was stated than that of the journal, which is this one.
+    /// The stated first number is not that of the journal, which is this one.
     #[error("hullbook: the journal's first number is {0}")]
     First(u64),
-    /// Another limit was stated than that of the journal, which is this one.
+    /// The stated limit is not that of the journal, which is this one.
     #[error("hullbook: the journal's limit is {0}")]
     Limit(u32),
-    /// A capacity was stated that is less than the lines of the journal, which are so many.
+    /// The stated capacity is less than the number of the journal's lines, which is this one.
     #[error("hullbook: the journal has {0} lines")]
     Lines(u32),
 }
 
-/// The exit status of a program that ends with this fault of a part.
+/// Returns the exit status of a program that ends with this fault of a segment.
 fn part_status(fault: &PartFault) -> u8
     ensures { result ≡ part_status fault.now }
 {
@@ -112,7 +112,7 @@ fn part_status(fault: &PartFault) -> u8
 }
 
 impl Failure {
-    /// The exit status of a program that ends with this.
+    /// Returns the exit status of a program that ends with this failure.
     pub fn status(&self) -> u8
         ensures { result ≡ status_of self.now }
     {

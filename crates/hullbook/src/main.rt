@@ -1,5 +1,5 @@
-//! `hullbook`: runs a script of calls on a shared convex hull, checks a journal of such a run, whole or in parts, makes it
-//! short, and upgrades old journals.
+//! `hullbook`: runs a script of calls on a shared convex hull, checks a journal of such a run, whole or in segments,
+//! compacts it, and upgrades old journals.
 #![tactic(auto)]
 
 ghost use Rattle.std.specs.Prelude.{IfOk};
@@ -39,7 +39,7 @@ use std::thread::Threads;
 use text_io::Counted;
 use watched::Watched;
 
-/// What the words after the program's name ask for.
+/// Returns the task that the words after the program's name request.
 fn request_of<R: Env + AllocGlobal>(rt: &R) -> Result<Request, Refusal>
     ensures { IfOk result IsRequestWithinLimits }
 {
@@ -74,7 +74,7 @@ fn run_file_sparing<R: Threads + Wait + Sync + Files + Print + AllocGlobal>(
     run_sparing(rt, rt.alloc(), &mut input, &mut output, options).map_err(Failure::from)
 }
 
-/// Runs the script at the path on the book that goes on with the journal at the other, and writes to standard output.
+/// Runs the script at the path on the book that continues the journal at the other, and writes to standard output.
 fn run_files<R: Threads + Wait + Sync + Files + Print + AllocGlobal, P: Progress>(
     rt: &R,
     path: &str,
@@ -99,7 +99,7 @@ fn run_files<R: Threads + Wait + Sync + Files + Print + AllocGlobal, P: Progress
     .map_err(Failure::from)
 }
 
-/// Checks the journal at the path and writes to standard output. `true` for legal.
+/// Checks the journal at the path and writes to standard output. Returns `true` for legal.
 fn check_file<R: Files + Print + AllocGlobal, P: Progress>(
     rt: &R,
     path: &str,
@@ -113,7 +113,7 @@ fn check_file<R: Files + Print + AllocGlobal, P: Progress>(
     Ok(wrong.is_none())
 }
 
-/// The same, and where the journal is illegal it tells why on standard error.
+/// Does the same, and explains on standard error why an illegal journal is so.
 fn explain_file<R: Files + Print + AllocGlobal, E: Print, P: Progress>(
     rt: &R,
     error: &E,
@@ -136,7 +136,7 @@ fn explain_file<R: Files + Print + AllocGlobal, E: Print, P: Progress>(
     Ok(false)
 }
 
-/// Checks the parts of a journal at the paths and writes to standard output. `true` for legal.
+/// Checks the segments of a journal at the paths and writes to standard output. Returns `true` for legal.
 fn check_files<R: Files + Print + AllocGlobal, P: Progress>(
     rt: &R,
     mut paths: Vec<String>,
@@ -179,7 +179,7 @@ fn compact_file<R: Files + Print + AllocGlobal, P: Progress>(
     compact(alloc, empty, &mut input, &mut output).map_err(Failure::from)
 }
 
-/// Does one of the tasks. `false` for an illegal journal.
+/// Does one of the tasks. Returns `false` for an illegal journal.
 fn perform<R: Threads + Wait + Sync + Files + Print + AllocGlobal, P: Progress>(
     rt: &R,
     task: Task,
@@ -200,7 +200,7 @@ fn perform<R: Threads + Wait + Sync + Files + Print + AllocGlobal, P: Progress>(
     }
 }
 
-/// Does what the words after the program's name ask for. `false` for an illegal journal.
+/// Does the task that the words after the program's name request. Returns `false` for an illegal journal.
 fn work<R: Threads + Wait + Sync + Env + Files + Print + AllocGlobal, E: Print, P: Progress>(
     rt: &R,
     error: &E,

@@ -1,4 +1,4 @@
-//! What the words after the program's name ask for.
+//! The tasks that the words after the program's name request.
 
 mod parse;
 
@@ -17,7 +17,7 @@ pub struct Options {
     pub journal: bool,
 }
 
-/// What the words say of the numbers of a run: `None` where they say nothing.
+/// The stated numbers of a run: `None` for a number that is not stated.
 #[derive(Clone, Copy, PartialEq, Eq, Debug)]
 pub struct Stated {
     /// How many lines the journal may have: 1 to 16777216.
@@ -32,7 +32,7 @@ pub struct Stated {
     pub sparing: bool,
 }
 
-/// What the program does with one file.
+/// The task of the program for one file.
 #[derive(Debug, Drop)]
 pub enum Task {
     /// To run the script at this path.
@@ -43,7 +43,7 @@ pub enum Task {
     Upgrade(String),
 }
 
-/// What the words ask the program for.
+/// The task that the words request of the program.
 #[derive(Debug, Drop)]
 pub enum Request {
     /// One of the tasks.
@@ -51,11 +51,11 @@ pub enum Request {
     /// To run the script at this path on a tree over buckets, which keeps the bridges that a change cannot alter: the same
     /// replies, sooner.
     RunSparing(String, Options),
-    /// To run the script at the first path on the book that goes on with the journal at the second.
+    /// To run the script at the first path on the book that continues the journal at the second.
     RunAfter(String, String, Stated),
-    /// To check the journal at this path, and to say why a line is wrong.
+    /// To check the journal at this path, and to explain why a line is wrong.
     Explain(String),
-    /// To check the parts of one journal at these paths, in this order.
+    /// To check the segments of one journal at these paths, in this order.
     CheckParts(Vec<String>),
     /// To write a short journal that leaves the same points as the journal at this path.
     Compact(String),

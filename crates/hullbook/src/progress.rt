@@ -1,4 +1,4 @@
-//! How far a long run is: a line on a terminal, which renews itself and is wiped at the end.
+//! The progress of a long run: a line on a terminal, which is renewed and is wiped at the end.
 use std::cell::Cell;
 use std::fmt;
 use std::io::IsTerminal;
@@ -7,25 +7,25 @@ use std::time::{Clock, Instant};
 /// How long a run is silent, in milliseconds.
 const PATIENCE: u64 = 2000;
 
-/// How long a line stands before it is renewed, in milliseconds.
+/// How long a line is shown before it is renewed, in milliseconds.
 const RENEWAL: u64 = 200;
 
-/// So many calls are replayed between two looks at the clock.
+/// How many calls are replayed between two looks at the clock.
 const CALLS_A_LOOK: u64 = 1024;
 
-/// What is told how far a run is. No contract speaks of what comes of it.
+/// A receiver of the progress of a run. No contract describes its effect.
 pub trait Progress {
-    /// So many bytes more were read; none where the text ends, behind which other words may be written.
+    /// Reports that so many bytes more were read; 0 at the end of the text, after which other words may be written.
     fn read(&self, bytes: usize);
 
-    /// One call more was replayed.
+    /// Reports that one call more was replayed.
     fn replayed(&self);
 
-    /// Nothing more comes for now: what stands on the terminal is wiped.
+    /// Reports that nothing more follows for now: the line on the terminal is wiped.
     fn wiped(&self);
 }
 
-/// Says nothing of how far a run is.
+/// Reports no progress.
 pub struct NoProgress;
 
 impl Progress for NoProgress {
@@ -53,8 +53,8 @@ impl fmt::Display for Done {
     }
 }
 
-/// A line on a terminal, which tells how much was read and replayed where that takes longer than two seconds. Where it
-/// is no terminal, nothing is written.
+/// A line on a terminal that shows how much was read and replayed, if that takes longer than two seconds. If the
+/// device is no terminal, nothing is written.
 #[derive(Drop)]
 pub struct TerminalLine<'a, C, E> {
     clock: &'a C,
@@ -67,7 +67,7 @@ pub struct TerminalLine<'a, C, E> {
 }
 
 impl<'a, C: Clock, E: Print + IsTerminal> TerminalLine<'a, C, E> {
-    /// The line on this device, of a run that begins now.
+    /// Makes the line on this device, of a run that begins now.
     pub fn new(clock: &'a C, device: &'a E) -> TerminalLine<'a, C, E> {
         let begun = if device.is_terminal() {
             Instant::now(clock).ok()
@@ -85,7 +85,7 @@ impl<'a, C: Clock, E: Print + IsTerminal> TerminalLine<'a, C, E> {
         }
     }
 
-    /// Writes the line anew where it is time.
+    /// Writes the line again when it is time.
     fn renew(&self) {
         let Some(begun) = self.begun else {
             return;

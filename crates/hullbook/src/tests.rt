@@ -25,7 +25,7 @@ use std::thread::Threads;
 use text_io::Counted;
 use text_io::testing::{Pieces, Spout};
 
-/// Tells nobody.
+/// Reports nothing.
 struct Silence;
 
 impl Progress for Silence {
@@ -51,7 +51,7 @@ const FIVE_REPORT: &str =
 const JOURNAL: &str =
     "hullbook journal 3 first 18446744073709551615 limit 4 capacity 4\n18446744073709551615 0 add 5 5 = added\n0 0 count = count 1\n1 0 remove 5 5 = removed\nend 3\n";
 
-// Whether a run of the script, read and written in small pieces, ends well with this text.
+// Whether a run of the script, read and written in small pieces, succeeds with this text.
 fn runs_to<R: Threads + Wait + Sync>(
     rt: &R,
     alloc: Global,
@@ -67,7 +67,7 @@ fn runs_to<R: Threads + Wait + Sync>(
     Ok(ended == Ok(()) && output.get_ref().bytes() == wanted.as_bytes())
 }
 
-// How a run of the script ends, and how many bytes it wrote.
+// Returns the outcome of a run of the script, and how many bytes it wrote.
 fn ends<R: Threads + Wait + Sync>(
     rt: &R,
     alloc: Global,
@@ -81,7 +81,7 @@ fn ends<R: Threads + Wait + Sync>(
     Ok((ended, output.get_ref().bytes().len()))
 }
 
-// How a check of the journal ends; an output without room takes nothing.
+// Returns the outcome of a check of the journal; an output without capacity takes nothing.
 fn judges(alloc: Global, journal: &str, wanted: &str) -> Result<Option<bool>, Fail> {
     let mut input = Counted::new(Pieces::new(journal.as_bytes(), 7));
     let mut output = Counted::new(Spout::new(alloc, 64, 5)?);
@@ -124,7 +124,7 @@ fn three_workers_and_a_join(rt: HostRuntime) -> Result<(), Fail> {
     Ok(())
 }
 
-/// All lines of a phase stand before those of the next: worker 1 counts before worker 0 puts its point in.
+/// All lines of a phase come before those of the next: worker 1 counts before worker 0 adds its point.
 #[test]
 fn second_worker_first(rt: HostRuntime) -> Result<(), Fail> {
     let script = "1 count\njoin\n0 add 5 5\n";
@@ -224,7 +224,7 @@ fn journals_are_judged(rt: HostRuntime) -> Result<(), Fail> {
     Ok(())
 }
 
-/// A journal goes by the rules of its version: there a second adding is counted, or changes nothing.
+/// A journal follows the rules of its version: there a second adding is counted, or changes nothing.
 #[test]
 fn journals_are_judged_by_their_rules(rt: HostRuntime) -> Result<(), Fail> {
     let counted =
@@ -247,7 +247,7 @@ fn is_refused(alloc: Global, words: &[&str]) -> bool {
     }
 }
 
-// The numbers of the run of the script at this path, where the words ask for that.
+// Returns the numbers of the run of the script at this path, if the words request that.
 fn run_of(alloc: Global, words: &[&str], wanted: &str) -> Option<Options> {
     let Ok(Task::Run(path, numbers)) = options(alloc, words) else {
         return None;
@@ -255,7 +255,7 @@ fn run_of(alloc: Global, words: &[&str], wanted: &str) -> Option<Options> {
     (path.as_str() == wanted).then_some(numbers)
 }
 
-// The numbers of the run of the script at this path on a tree over buckets, where the words ask for that.
+// Returns the numbers of the run of the script at this path on a tree over buckets, if the words request that.
 fn sparing_run_of(alloc: Global, words: &[&str], wanted: &str) -> Option<Options> {
     let Ok(Request::RunSparing(path, numbers)) = request(alloc, words) else {
         return None;
@@ -263,7 +263,8 @@ fn sparing_run_of(alloc: Global, words: &[&str], wanted: &str) -> Option<Options
     (path.as_str() == wanted).then_some(numbers)
 }
 
-// What is stated of the run of the script at the first path after the journal at the second, where the words ask for that.
+// Returns the stated numbers of the run of the script at the first path after the journal at the second, if the words
+// request that.
 fn run_after_of(alloc: Global, words: &[&str], wanted: (&str, &str)) -> Option<Stated> {
     let Ok(Request::RunAfter(script, journal, stated)) = request(alloc, words) else {
         return None;
@@ -271,7 +272,7 @@ fn run_after_of(alloc: Global, words: &[&str], wanted: (&str, &str)) -> Option<S
     ((script.as_str(), journal.as_str()) == wanted).then_some(stated)
 }
 
-// Whether the words ask for an upgrade of the journal at this path.
+// Whether the words request an upgrade of the journal at this path.
 fn is_upgrade_of(alloc: Global, words: &[&str], wanted: &str) -> bool {
     let Ok(Task::Upgrade(path)) = options(alloc, words) else {
         return false;
@@ -279,7 +280,7 @@ fn is_upgrade_of(alloc: Global, words: &[&str], wanted: &str) -> bool {
     path.as_str() == wanted
 }
 
-// Whether the words ask for a short journal in place of that at this path.
+// Whether the words request a short journal in place of that at this path.
 fn is_compact_of(alloc: Global, words: &[&str], wanted: &str) -> bool {
     let Ok(Request::Compact(path)) = request(alloc, words) else {
         return false;
@@ -287,7 +288,7 @@ fn is_compact_of(alloc: Global, words: &[&str], wanted: &str) -> bool {
     path.as_str() == wanted
 }
 
-// Whether the check of the journal at this path explains, where the words ask for that.
+// Whether the check of the journal at this path explains, if the words request that check.
 fn check_of(alloc: Global, words: &[&str], wanted: &str) -> Option<bool> {
     let (path, explains) = match request(alloc, words) {
         Ok(Request::Task(Task::Check(path))) => (path, false),
@@ -297,7 +298,7 @@ fn check_of(alloc: Global, words: &[&str], wanted: &str) -> Option<bool> {
     (path.as_str() == wanted).then_some(explains)
 }
 
-// Whether the words ask for a check of three parts at these paths.
+// Whether the words request a check of three segments at these paths.
 fn is_check_of_parts(alloc: Global, words: &[&str], wanted: (&str, &str, &str)) -> bool {
     let Ok(Request::CheckParts(paths)) = request(alloc, words) else {
         return false;
@@ -349,7 +350,7 @@ fn words_of_a_check(rt: HostRuntime) {
     assert!(rt; parts);
 }
 
-/// What is not said of a run after a journal is left to that.
+/// Numbers that are not stated for a run after a journal are taken from the journal.
 #[test]
 fn words_of_a_run_after_a_journal(rt: HostRuntime) {
     let words = ["run", "--after", "j", "s", "--limit", "7", "--sparing"];
@@ -364,7 +365,7 @@ fn words_of_a_run_after_a_journal(rt: HostRuntime) {
     assert_eq!(rt; stated, Some(wanted));
 }
 
-// The place of the first of these that is not refused as no use of the program.
+// Returns the index of the first of these that is not refused as no use of the program.
 fn first_taken(alloc: Global, rows: &[&[&str]]) -> Option<usize> {
     for i in 0..rows.len() {
         if !is_refused(alloc, rows[i]) {
@@ -414,7 +415,8 @@ fn zero_capacity(rt: HostRuntime) -> Result<(), Fail> {
     Ok(())
 }
 
-/// A call on the system that was refused memory is told as that, and not as refused words or a file that is not there.
+/// A system call to which memory was refused is reported as that, and not as refused words or a file that does not
+/// exist.
 #[test]
 fn refused_memory_of_the_system(rt: HostRuntime) -> Result<(), Fail> {
     let refused = io::Error::from(ErrorKind::OutOfMemory);
@@ -451,7 +453,7 @@ fn faults_of_an_upgrade_are_those_of_a_check(rt: HostRuntime) -> Result<(), Fail
     Ok(())
 }
 
-// Whether the program ends with these words by this fault, which ends here.
+// Whether the program ends with these words by this fault, which is dropped here.
 fn tells(alloc: Global, fault: Failure, words: &str) -> bool {
     match format!(in alloc; "{fault}") {
         Ok(told) => told.as_str() == words,
@@ -508,12 +510,13 @@ fn faults_have_their_words(rt: HostRuntime) {
     assert_eq!(rt; told, [true; 11]);
 }
 
-// The status that a program ends with by this fault, which ends here: a test that held it would let go of it at each assertion.
+// Returns the status of a program that ends with this fault, which is dropped here: a test that owned it would drop
+// it at each assertion.
 fn status_of(fault: Failure) -> u8 {
     fault.status()
 }
 
-// The fault of this number in the first line of a text.
+// Makes the fault of this number in the first line of a text.
 fn at_first_line(number: u8) -> TextFault {
     TextFault { number, line: 1 }
 }

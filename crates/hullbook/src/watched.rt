@@ -1,4 +1,4 @@
-//! A reader and a set that tell how far they are.
+//! A reader and a set that report their progress.
 ghost use Rattle.std.specs.Prelude.{◌≡◌};
 
 use crate::progress::Progress;
@@ -9,7 +9,8 @@ use std::io;
 use std::io::Read;
 use std::marker::Model;
 
-/// A reader that tells how much was read of it, or a set that tells how many changes it had. Contracts see what it holds.
+/// A reader that reports how much was read of it, or a set that reports how many changes it had. Contracts see its
+/// content.
 #[derive(Drop)]
 pub struct Watched<'a, T, P> {
     inner: T,
@@ -23,14 +24,14 @@ impl<'a, T, P> Model for Watched<'a, T, P> {
 }
 
 impl<'a, T, P> Watched<'a, T, P> {
-    /// The reader or the set, which tells this.
+    /// Makes a reader or a set that reports to this.
     pub fn new(inner: T, progress: &'a P) -> Watched<'a, T, P>
         ensures { result ≡ inner }
     {
         Watched { inner, progress }
     }
 
-    /// The reader or the set alone.
+    /// Returns only the reader or the set.
     pub fn into_inner(self) -> T
         ensures { result ≡ self.entry }
     {

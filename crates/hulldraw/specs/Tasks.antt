@@ -1,5 +1,4 @@
--- What an accepted command line asks for: only numbers within their limits, and of a film no line and no
--- bridges.
+-- The task of an accepted command line: its numbers are within their limits, and a film has no line and no bridges.
 use Rattle.std.specs.Prelude.{◌≡◌, ◌≤◌, None, true, false}
 use Rattle.hulldraw.specs.declared.options.Task.{Task}
 

@@ -14,7 +14,7 @@ use std::process::ExitCode;
 use std::rt::{Env, Files};
 use text_io::Counted;
 
-/// Why the program ends where a drawing ended so.
+/// Returns the refusal of the program for a failed drawing.
 fn refusal_of_drawing(fault: DrawFault) -> Refusal
     ensures { result ≡ refusal_of_drawing fault }
 {
@@ -25,7 +25,7 @@ fn refusal_of_drawing(fault: DrawFault) -> Refusal
     }
 }
 
-/// What the words after the program's name ask for.
+/// Returns the task that the words after the program's name request.
 fn task_of<R: Env + AllocGlobal>(rt: &R) -> Result<Task, Refusal>
     ensures { IfOk result IsWithinLimits }
 {

@@ -13,17 +13,17 @@ pub const SIZE_LEAST: u64 = 240;
 /// The greatest side of a picture.
 pub const SIZE_LIMIT: u64 = 10000;
 
-/// The side of a picture where none is given.
+/// The side of a picture if none is given.
 const DEFAULT_SIZE: u64 = 640;
 
-/// What is asked for.
+/// The requested task.
 #[derive(Debug, Drop)]
 pub struct Task {
-    /// The journal that is drawn.
+    /// The path of the journal to draw.
     pub path: String,
     /// The lines that are replayed, what is drawn, and its size.
     pub options: DrawOptions,
-    /// Whether a film of that size is drawn, in place of one picture.
+    /// Whether to draw a film of that size, in place of one picture.
     pub film: bool,
 }
 
@@ -54,7 +54,7 @@ fn command<'a>(alloc: Global) -> Result<Command<'a>, AllocError> {
         .arg(size)
 }
 
-/// The numbers that were given; `None` where one could not be read or lies outside the limits.
+/// Returns the numbers that were given, or `None` if one could not be read or is outside its limits.
 fn options_of(matches: &ArgMatches<'_>) -> Option<DrawOptions>
     ensures { IfSome result (λ o. (SIZE_LEAST ≤ o.size) × (o.size ≤ SIZE_LIMIT)) }
 {
@@ -78,11 +78,11 @@ fn options_of(matches: &ArgMatches<'_>) -> Option<DrawOptions>
     })
 }
 
-/// What the words after the program's name ask for: `JOURNAL` with `--line N`, `--bridges` and `--size PIXELS`, or with
-/// `--film` and `--size PIXELS`.
+/// Returns the task that the words after the program's name request: `JOURNAL` with `--line N`, `--bridges` and
+/// `--size PIXELS`, or with `--film` and `--size PIXELS`. The path is one of the words, as it was written.
 ///
-/// The path is one of the words, as it was written. `Usage` for any other words, for a number outside its limits, and
-/// for a film with `--line` or `--bridges`; a question for help counts as one. `Memory` where memory was refused.
+/// Fails with `Usage` for any other words, for a number outside its limits, and for a film with `--line` or
+/// `--bridges`; a request for help counts as one. Fails with `Memory` if memory was refused.
 pub fn options(alloc: Global, words: &[&str]) -> Result<Task, OptionFault>
     ensures limits { IfOk result IsWithinLimits }
     ensures path { IfOk result (λ task. IsOneOf (texts_of words.now) (string_bytes task.path)) }

@@ -1,4 +1,4 @@
--- The exchange that adds a line keeps the rule of a history.
+-- The exchange that adds a line preserves the rule of a history.
 use Rattle.std.proofs.Common.{◌≡◌, ℕ, ◌+◌, ◌<◌, ◌==◌, Bool, true, false, List, [], ◌∷◌, ◌++◌, length, refl, ap, sym}
 use Rattle.std.proofs.Common.{subst, arith, inl, length-append, None}
 use Rattle.std.proofs.lemmas.Bool.Decides.{nat_tests}
@@ -10,15 +10,15 @@ use Rattle.published_views.specs.Histories.{HasLength, Adds}
 use Rattle.published_views.proofs.Beginnings.{prefix_whole}
 
 module _ {L : Type 0} where
-  -- words show nothing but themselves
+  -- a word shows only itself
   abbrev pub shown : List L → List L
   shown log = []
 
-  -- and a step asks for nothing
+  -- a step requires nothing
   abbrev pub moved : List L → List L → ℕ → Type 0
   moved xs ys n = Unit {0}
 
-  -- it goes to a history of one line more, or to the same
+  -- the exchange leaves a history with one line more, or an unchanged one
   adds_goes : (log v : List L) (e : L) (old : ℕ) → length v ≡ old → IsPrefix v log → (b : Bool) → (length log == old) ≡ b
       → Goes HasLength shown moved 0 (v, (no_nib, None)) (λ n. either (n == old) (old + 1) n)
       (Adds (step 0 old (old + 1) e) (v, (no_nib, None))) ((length log, true) ∷ (0, true) ∷ []) log
@@ -47,7 +47,7 @@ module _ {L : Type 0} where
         rw is (ap length all),
       )
 
-  -- whatever the history is, the exchange adds the line behind all that was seen, or finds more lines
+  -- for any history, the exchange adds the line after all lines that were seen, or finds more lines
   pub adds_moves : (v : List L) (e : L) (old : ℕ) → length v ≡ old
       → Moves HasLength shown moved 0 (v, (no_nib, None)) (λ n. either (n == old) (old + 1) n)
       (Adds (step 0 old (old + 1) e) (v, (no_nib, None)))

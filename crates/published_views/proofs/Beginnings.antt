@@ -1,9 +1,9 @@
--- Beginnings of one list.
+-- Prefixes of one list.
 use Rattle.std.proofs.Common.{◌≡◌, ◌≤◌, Bool, true, false, List, [], ◌∷◌, length, MatchBool, refl, arith}
 use Rattle.std.proofs.lemmas.Bool.Decides.{nat_tests}
 use mathlib.Core.List.{IsPrefix}
 
--- of two beginnings of one list the one that is no longer begins the other
+-- if two lists are prefixes of one list, the one that is no longer is a prefix of the other
 pub prefix_shorter : {A : Type 0} (xs ys zs : List A) → IsPrefix xs zs → IsPrefix ys zs → length xs ≤ length ys
     → IsPrefix xs ys
 prefix_shorter [] ys zs p q le = (ys, refl)
@@ -14,7 +14,7 @@ prefix_shorter (x ∷ xs) (y ∷ ys) (z ∷ zs) p q le =
     let rest = prefix_shorter xs ys zs (p.0, cc (p.1)) (q.0, cc (q.1)) (omega arith) in
     (rest.0, cc (heads, rest.1))
 
--- a beginning that is as long as the whole is the whole
+-- a prefix that is as long as the list is the list
 pub prefix_whole : {A : Type 0} (xs ys : List A) → IsPrefix xs ys → length ys ≤ length xs → xs ≡ ys
 prefix_whole [] [] p le = refl
 prefix_whole [] (y ∷ ys) p le = absurd (omega arith)
@@ -22,7 +22,7 @@ prefix_whole (x ∷ xs) [] p le = absurd (cc (p.1))
 prefix_whole (x ∷ xs) (y ∷ ys) p le =
     let rest = prefix_whole xs ys (p.0, cc (p.1)) (omega arith) in cc (p.1, rest)
 
--- a test of their lengths says which of two begins the other
+-- comparing their lengths decides which of two prefixes is a prefix of the other
 pub begins_by_count : {A : Type 0} (xs ys both : List A) (m n : _) → m ≡ length xs → n ≡ length ys → IsPrefix xs both
     → IsPrefix ys both → (b : Bool) → lib.Dec.leb m n ≡ b → MatchBool b (IsPrefix xs ys) (IsPrefix ys xs)
 begins_by_count xs ys both m n hm hn p q true is = prefix_shorter xs ys both p q (grind (arith, nat_tests))

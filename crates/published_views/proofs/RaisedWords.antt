@@ -1,4 +1,4 @@
--- The exchange that raises the word of a hall keeps its rule.
+-- The exchange that raises the word of the snapshot slots preserves its rule.
 use Rattle.std.proofs.Common.{◌≡◌, ℕ, ◌-◌, ◌<◌, ◌≤◌, ◌==◌, Bool, true, false, List, [], ◌∷◌, ◌++◌, length, refl}
 use Rattle.std.proofs.Common.{ap, sym, subst, arith, inl, None}
 use Rattle.std.proofs.lemmas.Bool.Decides.{nat_tests}
@@ -11,7 +11,7 @@ use Rattle.published_views.specs.Numbers.{IsRaised, RaisesOrHears, height}
 use Rattle.published_views.specs.declared.newest.Rise.{Rise}
 use Rattle.published_views.proofs.AddedLines.{shown, moved}
 
--- it goes to a word that is raised, or to the same
+-- the exchange raises the word, or leaves it unchanged
 raises_goes : (log v : List Rise) (e : Rise) (from to : ℕ) → from ≤ to → e.by ≡ to - from → IsPrefix v log
     → (b : Bool) → (height log == from) ≡ b
     → Goes IsRaised shown moved 0 (v, (no_nib, None)) (λ n. either (n == from) to n)
@@ -40,7 +40,7 @@ raises_goes log v e from to le by pre false is =
       rw is (ap height all),
     )
 
--- whatever the word is, the exchange raises it from what was said, or finds what it is
+-- for any word, the exchange raises it from the expected value, or finds the value that it has
 pub raises_moves : (v : List Rise) (e : Rise) (from to : ℕ) → from ≤ to → e.by ≡ to - from
     → Moves IsRaised shown moved 0 (v, (no_nib, None)) (λ n. either (n == from) to n)
     (RaisesOrHears (step 0 from to e) (v, (no_nib, None)))

@@ -1,12 +1,12 @@
-//! Two views of one history.
+//! Two snapshots of one history.
 ghost use Rattle.std.specs.Prelude.{MatchBool};
 ghost use mathlib.Core.List.{IsPrefix};
 ghost use Rattle.published_views.specs.Views.{AreOfOneHistory, lines_of};
 
 use super::view::{Truth, View};
 
-/// Whether the lines of one view begin those of the other; where they do not, those of the other begin its own. Both are of
-/// one history.
+/// Whether the lines of `one` are a prefix of those of `other`. If not, the lines of `other` are a prefix of those of
+/// `one`. Both snapshots must be of one history.
 pub fn is_front<T: Truth>(one: &View<T>, other: &View<T>) -> bool
     requires { AreOfOneHistory one.now.front other.now.front }
     ensures { MatchBool result (IsPrefix (lines_of one.now) (lines_of other.now))

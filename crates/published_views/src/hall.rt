@@ -1,4 +1,4 @@
-//! What readers and the publisher share: slots, and the word that says which of them is the newest.
+//! The state that readers and the publisher share: slots, and a word that names the newest one.
 ghost use Rattle.std.specs.Prelude.{◌≡◌, ◌≢◌, ◌%◌, IfSome, IfOk, MatchBool, All};
 ghost use Rattle.counted_slot.specs.Counting.{readers};
 
@@ -10,7 +10,7 @@ use counted_slot::{Counted, MOST_READERS, ONE_READER, PRESENT};
 use logbook::Seen;
 use std::alloc::{AllocError, Global};
 
-/// How often a view is tried before it is given up.
+/// How many times a reader tries to take a snapshot before it gives up.
 const TRIES: u32 = 1000;
 
 /// Slots for published values, and the word that names the newest.
@@ -22,14 +22,14 @@ pub struct Hall<T: Truth> {
     ghost of_history: { All (λ slot. slot ≡ history) slots.items },
 }
 
-/// The state of a slot's word.
+/// Returns the state in a slot's word.
 pub(crate) fn state_of(word: u64) -> u64
     ensures { result ≡ word % 4 }
 {
     word % 4
 }
 
-/// How many readers it counts.
+/// Returns how many readers a slot's word counts.
 pub(crate) fn reader_count(word: u64) -> u64
     ensures { result ≡ readers word }
 {
@@ -40,7 +40,7 @@ impl<T: Truth> Hall<T> {
     ghost use Rattle.published_views.specs.Numbers.{IsToldMore, told_number};
     ghost use Rattle.published_views.specs.Views.{IsOfHall, IsToldOf, number_of, slots_of};
 
-    /// A hall with so many empty slots, for values of this history.
+    /// Makes `count` empty slots for values of this history. Fails with [`AllocError`] if memory was refused.
     pub fn new(
         alloc: Global,
         newest: Newest,
@@ -63,8 +63,8 @@ impl<T: Truth> Hall<T> {
         })
     }
 
-    /// One try at the view with this number in this slot: a load, an exchange that counts a reader more, a count of the
-    /// value's owners, and a step that leaves.
+    /// Tries once to take the snapshot with this number from this slot: a load, an exchange that counts one reader
+    /// more, a count of the value's owners, and a step that leaves.
     fn enter(&self, at: usize, number: u64) -> Option<View<T>>
         ensures number { IfSome result (λ v. number_of v ≡ number) }
         ensures history { IfSome result (λ v. IsOfHall self.now v) }
@@ -91,7 +91,8 @@ impl<T: Truth> Hall<T> {
         Some(view)
     }
 
-    /// One try at a view: of the one that the word names, with the number that it had when it was heard.
+    /// Tries once to take the newest snapshot: the one that the word names, with the number that the word had when it
+    /// was loaded.
     fn try_view(&self, told: &mut Told) -> Option<View<T>>
         requires { IsToldOf self.now told.old }
         ensures more { IsToldMore told.old told.new }
@@ -102,11 +103,11 @@ impl<T: Truth> Hall<T> {
         self.enter((heard % SLOT_LIMIT) as usize, heard / SLOT_LIMIT)
     }
 
-    /// A view of the newest value, as it was at a moment of the call: no view that its thread took before, and none that it
-    /// was told of, has a greater number. It waits for nobody.
+    /// Takes a snapshot of the newest value, as it was at a moment of the call: no snapshot that the calling thread
+    /// took before has a greater number, and `told` named no greater one. It never waits.
     ///
-    /// `None` where nothing was published yet, or after a thousand tries, each of which was undone by a publication or by
-    /// another reader's step.
+    /// Returns `None` if nothing was published yet, or after a thousand tries, each of which was undone by a
+    /// publication or by another reader's step.
     pub fn view(&self, told: &mut Told) -> Option<View<T>>
         requires { IsToldOf self.now told.old }
         ensures more { IsToldMore told.old told.new }
@@ -121,7 +122,7 @@ impl<T: Truth> Hall<T> {
         None
     }
 
-    /// The number of the newest value: one load. It is 0 where nothing was published yet.
+    /// Returns the number of the newest value, or 0 if nothing was published yet: one load.
     pub fn newest_number(&self, told: &mut Told) -> u64
         requires { IsToldOf self.now told.old }
         ensures more { IsToldMore told.old told.new }
@@ -130,7 +131,7 @@ impl<T: Truth> Hall<T> {
         self.newest.hear(told) / SLOT_LIMIT
     }
 
-    /// Whether a view is still of the newest value: one load.
+    /// Whether a snapshot is still of the newest value: one load.
     pub fn is_newest(&self, view: &View<T>, told: &mut Told) -> bool
         requires { IsToldOf self.now told.old }
         ensures more { IsToldMore told.old told.new }

@@ -1,4 +1,4 @@
-//! A history of lines that exists in proofs alone; threads share its length.
+//! A history of lines that exists only in proofs; threads share its length.
 ghost use Rattle.std.specs.Prelude.{◌≡◌, ◌<◌, ◌^◌, ◌++◌, ◌∷◌, [], length, MatchBool, true, IfOk, IfErr};
 
 use logbook::{Gain, Offer, Plain, Play, Rule, Seen, Start, Word};
@@ -33,7 +33,7 @@ impl<L> Gain<L, u64> for Nothing {
     ghost after = { λ names about answer. ftrue };
 }
 
-/// A step that adds a line.
+/// The step that adds a line.
 pub(crate) struct Add;
 
 impl<L> Play<L, u64> for Add {
@@ -50,14 +50,14 @@ impl<L> Plain<L, L, u64> for Add {
     ghost state = { λ line. None };
 }
 
-/// How many lines the history has.
+/// The length of a history of lines, which threads share.
 #[derive(Drop)]
 pub struct History<L> {
     pub(crate) length: Word<L, u64, Lines>,
     ghost of_history: { (length.tracked ≡ true) × (length.key ≡ 0) },
 }
 
-/// A beginning of the history that was seen. It has no bytes but its length, and goes to any thread.
+/// The prefix of the history that was seen. It has no bytes but its length, and can be sent to any thread.
 #[derive(Drop)]
 pub struct Front<L> {
     pub(crate) count: u64,
@@ -65,7 +65,7 @@ pub struct Front<L> {
     ghost counted: { count ≡ length seen.log },
 }
 
-/// Evidence that a word was changed by another thread: a step that was to change it found it changed. Only such a step
+/// Evidence that another thread changed a word: a step that was to change the word found it changed. Only such a step
 /// makes one.
 #[derive(Drop)]
 pub struct Overtaken {
@@ -73,7 +73,7 @@ pub struct Overtaken {
 }
 
 impl Overtaken {
-    /// What a step returns that found its word changed.
+    /// Returns the evidence of a step that found its word changed.
     pub(crate) fn by_another() -> Overtaken {
         Overtaken { made_by_a_step: () }
     }
@@ -82,7 +82,7 @@ impl Overtaken {
 impl<L> History<L> {
     ghost use Rattle.published_views.specs.Views.{IsFrontOf, seen_lines};
 
-    /// A history of no lines, and the beginning that has seen nothing of it.
+    /// Opens a history of no lines; the prefix that it returns has seen none of it.
     pub fn open() -> (History<L>, Front<L>)
         ensures history { IsFrontOf result.0 result.1 }
         ensures none { seen_lines result.1 ≡ [] }
@@ -101,14 +101,14 @@ impl<L> Front<L> {
     ghost use mathlib.Core.List.{IsPrefix};
     ghost use Rattle.published_views.specs.Views.{AreOfOneHistory, seen_lines};
 
-    /// How many lines it has.
+    /// Returns how many lines it has.
     pub fn count(&self) -> u64
         ensures { result ≡ length (seen_lines self.now) }
     {
         self.count
     }
 
-    /// A copy.
+    /// Returns a copy.
     pub fn again(&self) -> Front<L>
         ensures { result ≡ self.now }
     {
@@ -118,7 +118,7 @@ impl<L> Front<L> {
         }
     }
 
-    /// Whether it begins the other one; where it does not, the other one begins it.
+    /// Whether it is a prefix of `other`. If not, `other` is a prefix of it.
     pub fn begins(&self, other: &Front<L>) -> bool
         requires { AreOfOneHistory self.now other.now }
         ensures { MatchBool result (IsPrefix (seen_lines self.now) (seen_lines other.now)) (IsPrefix (seen_lines other.now) (seen_lines self.now)) }
@@ -133,8 +133,8 @@ impl<L: Copy> Front<L> {
     ghost use Rattle.published_views.specs.Histories.{IsLonger};
     ghost use Rattle.published_views.specs.Views.{IsFrontOf, seen_lines};
 
-    /// Adds a line behind all that was seen, and says whether it did. It did not where the history has more lines: these
-    /// were seen then.
+    /// Adds a line after all that was seen, and returns whether it did. It did not if the history has more lines:
+    /// they are seen now.
     pub fn add(&mut self, history: &History<L>, line: L) -> bool
         requires room { length (seen_lines self.old) < 2 ^ 62 }
         requires history { IsFrontOf history.now self.old }
@@ -161,7 +161,7 @@ impl<L: Copy> Front<L> {
     ///
     /// # Errors
     ///
-    /// The evidence that another thread added lines: the history had more lines, which were seen then.
+    /// Fails with the evidence that another thread added lines, if the history had more lines; they are seen now.
     pub fn add_unless_overtaken(&mut self, history: &History<L>, line: L) -> Result<(), Overtaken>
         requires room { length (seen_lines self.old) < 2 ^ 62 }
         requires history { IsFrontOf history.now self.old }

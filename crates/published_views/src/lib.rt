@@ -1,14 +1,15 @@
-//! Views of a value that is published again and again: each is the value as it was behind one line of a history, with that
-//! line's number, and stays as it is for as long as it is held. A view is taken with no lock, by a few atomic steps.
+//! Snapshots of a value that is published again and again: each snapshot is the value as of one line of a history,
+//! with that line's number, and never changes while it is owned. Readers take snapshots without a lock, in a few
+//! atomic steps.
 //!
-//! A [`Hall`] has slots for published values and one word, which has the number of the newest one and its slot. The one
-//! [`Publisher`] writes into a slot that nobody reads and then raises the word; a reader hears the word, counts itself into
-//! that slot, and keeps what is there only where it has the number that was heard. So nobody waits for anybody: a step
-//! fails only by another thread's step that succeeded.
+//! A [`Hall`] has slots for published values and one word, which names the newest value by its number and its slot.
+//! The only [`Publisher`] writes into a slot that nobody reads and then raises the word. A reader loads the word,
+//! counts itself into that slot, and keeps the value there only if it has the number that was loaded. So no thread
+//! waits for another: a step fails only because another thread's step succeeded.
 //!
-//! What a value has to be at its line is said by a [`Truth`]. The history and the word's past exist in proofs alone
-//! (`logbook`); that a slot is written only while nobody reads it is promised by `counted_slot`. No contract says that a
-//! try succeeds, since `counted_slot` does not say that a step wins.
+//! A [`Truth`] defines what must be true of a value at its line. The history and the past of the word exist only in
+//! proofs (`logbook`); `counted_slot` guarantees that a slot is written only while nobody reads it. No contract
+//! promises that a try succeeds, since `counted_slot` does not promise that a step wins.
 #![tactic(auto)]
 
 mod fronts;
@@ -27,8 +28,8 @@ pub use newest::{Newest, Rise, Rises, Told};
 pub use publisher::Publisher;
 pub use view::{Truth, View};
 
-/// How many slots a hall may have.
+/// The greatest number of slots.
 pub const SLOT_LIMIT: u64 = 128;
 
-/// The numbers that are published are below this one.
+/// Published numbers are below this one.
 pub const NUMBER_LIMIT: u64 = 144115188075855872;

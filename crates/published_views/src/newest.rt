@@ -31,7 +31,7 @@ impl Rule<Rise, u64> for Rises {
     ghost moves = { λ ask before after answer. Unit {0} };
 }
 
-/// A step that hears the word.
+/// The step that loads the word.
 struct Hear;
 
 impl Play<Rise, u64> for Hear {
@@ -40,7 +40,7 @@ impl Play<Rise, u64> for Hear {
     ghost then = { Hears };
 }
 
-/// A step that raises it.
+/// The step that raises the word.
 struct Raise;
 
 impl Play<Rise, u64> for Raise {
@@ -57,16 +57,17 @@ impl Plain<Rise, Rise, u64> for Raise {
     ghost state = { λ rise. None };
 }
 
-/// The number of the newest value and its slot, in one word. Were they two, a reader could hear the number of one value and
-/// the slot of a newer one that is still being written, and its next view could have a smaller number.
+/// The number of the newest value and its slot, in one word. If they were two words, a reader could load the number
+/// of one value and the slot of a newer one that is still being written, and its next snapshot could have a smaller
+/// number.
 #[derive(Drop)]
 pub struct Newest {
     pub(crate) word: Word<Rise, u64, Rises>,
     ghost of_word: { (word.tracked ≡ true) × (word.key ≡ 0) },
 }
 
-/// What a thread was told: that a value with some number was published. It has no bytes, can be copied, and goes to any
-/// thread.
+/// A watermark: evidence that a value with some number was published. It has no bytes, can be copied, and can be sent
+/// to any thread.
 #[derive(Drop)]
 pub struct Told {
     pub(crate) seen: Seen<Rise, u64, Rises>,
@@ -75,7 +76,7 @@ pub struct Told {
 impl Told {
     ghost use Rattle.published_views.specs.Numbers.{AreToldOfOneWord, IsToldMore, told_word};
 
-    /// A copy.
+    /// Returns a copy.
     pub fn again(&self) -> Told
         ensures { result ≡ self.now }
     {
@@ -84,7 +85,7 @@ impl Told {
         }
     }
 
-    /// Learns what another thread was told.
+    /// Raises the watermark to the other one, if that one is greater.
     pub fn learn(&mut self, other: &Told)
         requires { AreToldOfOneWord self.old other.now }
         ensures more { IsToldMore self.old self.new }
@@ -98,7 +99,7 @@ impl Newest {
     ghost use Rattle.published_views.specs.Numbers.{IsToldMore, told_word};
     ghost use Rattle.published_views.specs.Views.{IsToldOfWord};
 
-    /// A word that was never raised, and who was told nothing of it.
+    /// Opens a word that was never raised, with a watermark of 0.
     pub fn open() -> (Newest, Told)
         ensures word { IsToldOfWord result.0 result.1 }
         ensures nothing { told_word result.1 ≡ 0 }
@@ -112,7 +113,7 @@ impl Newest {
         )
     }
 
-    /// The word.
+    /// Returns the word, and raises the watermark to it.
     pub(crate) fn hear(&self, told: &mut Told) -> u64
         requires { IsToldOfWord self.now told.old }
         ensures more { IsToldMore told.old told.new }
@@ -124,7 +125,7 @@ impl Newest {
         self.word.load::<Hear, Nothing>(&mut told.seen, &mut offer)
     }
 
-    /// Raises the word from one number to another, where it is the one, and says whether it was.
+    /// Raises the word from `from` to `to` if it is `from`, and returns whether it was.
     pub(crate) fn raise(&self, told: &mut Told, from: u64, to: u64) -> bool
         requires rising { from ≤ to }
         requires word { IsToldOfWord self.now told.old }

@@ -1,4 +1,4 @@
-//! Who publishes.
+//! The publisher.
 ghost use Rattle.std.specs.Prelude.{◌≡◌, ◌<◌, IfOk, IfErr, IsSome, IsTrue, OnErr, false};
 ghost use Rattle.std.specs.Arc.{arc_value};
 ghost use Rattle.published_views.specs.Numbers.{IsToldMore, told_number};
@@ -12,7 +12,7 @@ use super::{NUMBER_LIMIT, SLOT_LIMIT};
 use counted_slot::{PRESENT, TAKEN};
 use std::sync::Arc;
 
-/// The right to publish in a hall. It has the word that was raised last.
+/// The right to publish in these slots. It keeps the word as it was raised last.
 #[derive(Drop)]
 pub struct Publisher<T: Truth> {
     hall: Arc<Hall<T>>,
@@ -20,7 +20,7 @@ pub struct Publisher<T: Truth> {
 }
 
 impl<T: Truth> Publisher<T> {
-    /// The publisher of a hall in which nothing was published yet.
+    /// Makes the publisher of slots in which nothing was published yet.
     pub fn new(hall: Arc<Hall<T>>) -> Publisher<T>
         ensures hall { hall_of result ≡ arc_value hall }
         ensures nothing { published result ≡ 0 }
@@ -28,14 +28,14 @@ impl<T: Truth> Publisher<T> {
         Publisher { hall, raised: 0 }
     }
 
-    /// The number of what was published last: 0 where nothing was.
+    /// Returns the number of the value that was published last, or 0 if none was.
     pub fn last(&self) -> u64
         ensures { result ≡ published self.now }
     {
         self.raised / SLOT_LIMIT
     }
 
-    /// One try at a slot: the view is put there if nobody reads it.
+    /// Tries one slot: puts the snapshot there if nobody reads it, and else returns the snapshot.
     fn try_put(&self, at: usize, view: View<T>) -> Result<(), View<T>>
         requires { IsOfHall (hall_of self.now) view }
         ensures { IfErr result (λ back. back ≡ view) }
@@ -57,7 +57,7 @@ impl<T: Truth> Publisher<T> {
         Ok(())
     }
 
-    /// Puts the view into the first slot but the newest that nobody reads.
+    /// Puts the snapshot into the first slot, other than the newest, that nobody reads.
     fn put(&self, view: View<T>) -> Result<u64, View<T>>
         requires { IsOfHall (hall_of self.now) view }
         ensures at { IfOk result (λ at. at < SLOT_LIMIT) }
@@ -75,10 +75,10 @@ impl<T: Truth> Publisher<T> {
         Err(view)
     }
 
-    /// Publishes a view whose number is greater than the last one's. From then on no thread that is told of it takes a view
-    /// with a smaller number. It waits for nobody: each slot but the newest is tried once.
+    /// Publishes a snapshot whose number is greater than the last one's. From then on no thread whose watermark has
+    /// that number takes a snapshot with a smaller number. It never waits: each slot but the newest is tried once.
     ///
-    /// The view comes back where each slot is read. With two slots more than there are readers, one is free.
+    /// Fails with the snapshot if every slot is being read. With two slots more than there are readers, one is free.
     pub fn publish(&mut self, told: &mut Told, view: View<T>) -> Result<bool, View<T>>
         requires rising { published self.old < number_of view }
         requires few { number_of view < NUMBER_LIMIT }
@@ -99,8 +99,8 @@ impl<T: Truth> Publisher<T> {
         Ok(self.hall.newest.raise(told, from, to))
     }
 
-    /// Does what [`publish`](Publisher::publish) does. If another thread published in the meantime, puts the evidence of
-    /// that into `overtaken`.
+    /// Does what [`publish`](Publisher::publish) does. If another thread published in the meantime, puts the evidence
+    /// of that into `overtaken`.
     pub fn publish_unless_overtaken(
         &mut self,
         told: &mut Told,

@@ -1,4 +1,4 @@
-//! What is published here is how many lines there are.
+//! Here the published value is the number of lines.
 ghost use Rattle.std.specs.Prelude.{◌≡◌, ◌+◌, ◌≤◌, length};
 ghost use Rattle.std.specs.Arc.{arc_value};
 ghost use Rattle.published_views.specs.Views.{IsFrontOf, IsOfHall, IsToldOf, hall_of, published, seen_lines};
@@ -27,7 +27,7 @@ impl Truth for Counts {
     ghost holds = { λ lines count. count ≡ length lines };
 }
 
-/// A hall with its publisher, and the history so far.
+/// Slots with their publisher, and the history so far.
 #[derive(Drop)]
 struct Stage {
     history: History<u64>,
@@ -42,7 +42,7 @@ struct Stage {
     ghost rising: { published publisher ≤ length (seen_lines front) },
 }
 
-// A hall with so many slots, in which nothing was published.
+// Makes so many slots, in which nothing was published.
 fn opened(rt: &impl Abort, alloc: Global, slots: usize) -> Stage {
     let (history, front) = History::open();
     let (newest, told) = Newest::open();
@@ -75,7 +75,7 @@ fn add_line(rt: &impl Abort, history: &History<u64>, front: &mut Front<u64>)
     assert!(rt; is_added);
 }
 
-// A view of how many lines there are.
+// Returns a snapshot whose value is the number of lines.
 fn view_of(rt: &impl Abort, alloc: Global, front: &Front<u64>) -> View<Counts>
     ensures { result.front ≡ front.now }
 {
@@ -85,7 +85,7 @@ fn view_of(rt: &impl Abort, alloc: Global, front: &Front<u64>) -> View<Counts>
     View::new(value, front.again())
 }
 
-// Adds a line, and publishes how many there are; whether that was told.
+// Adds a line, and publishes the number of lines; returns whether the word was raised.
 fn publish(rt: &impl Abort, alloc: Global, stage: &mut Stage) -> bool {
     add_line(rt, &stage.history, &mut stage.front);
     let view = view_of(rt, alloc, &stage.front);
@@ -95,7 +95,7 @@ fn publish(rt: &impl Abort, alloc: Global, stage: &mut Stage) -> bool {
     }
 }
 
-// One more owner of the hall.
+// Returns one more owner of the slots.
 fn shared(rt: &impl Abort, hall: &Arc<Hall<Counts>>) -> Arc<Hall<Counts>>
     ensures { arc_value result ≡ arc_value hall.now }
 {
@@ -105,7 +105,7 @@ fn shared(rt: &impl Abort, hall: &Arc<Hall<Counts>>) -> Arc<Hall<Counts>>
     }
 }
 
-// The newest view.
+// Returns the newest snapshot.
 fn newest(rt: &impl Abort, hall: &Hall<Counts>, told: &mut Told) -> View<Counts>
     requires { IsToldOf hall.now told.old }
     ensures told { IsToldOf hall.now told.new }
@@ -117,7 +117,7 @@ fn newest(rt: &impl Abort, hall: &Hall<Counts>, told: &mut Told) -> View<Counts>
     }
 }
 
-// Whether the view is the newest.
+// Whether the snapshot is the newest.
 fn is_newest(hall: &Hall<Counts>, view: &View<Counts>, told: &mut Told) -> bool
     requires { IsToldOf hall.now told.old }
     ensures { IsToldOf hall.now told.new }
@@ -125,7 +125,7 @@ fn is_newest(hall: &Hall<Counts>, view: &View<Counts>, told: &mut Told) -> bool
     hall.is_newest(view, told)
 }
 
-/// A view stays as it is while others are published; the newest one is told from it.
+/// A snapshot stays unchanged while others are published, and `is_newest` distinguishes the newest one from it.
 #[test]
 fn views_show_what_was_published(rt: HostRuntime) -> Result<(), Fail> {
     let mut stage = opened(&rt, rt.alloc(), 3);
@@ -145,7 +145,7 @@ fn views_show_what_was_published(rt: HostRuntime) -> Result<(), Fail> {
     Ok(())
 }
 
-/// A view comes back where no slot but the newest is there.
+/// A snapshot comes back if there is no slot but the newest.
 #[test]
 fn a_view_comes_back_where_there_is_no_slot(rt: HostRuntime) -> Result<(), Fail> {
     let mut stage = opened(&rt, rt.alloc(), 1);
@@ -155,7 +155,7 @@ fn a_view_comes_back_where_there_is_no_slot(rt: HostRuntime) -> Result<(), Fail>
     Ok(())
 }
 
-// Takes so many views: whether each shows its number and none goes back.
+// Takes so many snapshots: whether each shows its number and no number is below an earlier one.
 fn reads(hall: &Hall<Counts>, told: &mut Told, times: u32) -> bool
     requires { IsToldOf hall.now told.old }
     ensures { IsToldOf hall.now told.new }
@@ -171,7 +171,7 @@ fn reads(hall: &Hall<Counts>, told: &mut Told, times: u32) -> bool
     are_right
 }
 
-// Publishes so often; whether all was told.
+// Publishes so many times; whether the word was raised each time.
 fn publishes(rt: &impl Abort, alloc: Global, stage: &mut Stage, times: u32) -> bool {
     let mut all_told = true;
     for _ in 0..times {
@@ -180,14 +180,14 @@ fn publishes(rt: &impl Abort, alloc: Global, stage: &mut Stage, times: u32) -> b
     all_told
 }
 
-/// What the publishing thread has, and whether it announced all that it published.
+/// The state of the publishing thread, and whether it raised the word for all that it published.
 #[derive(Drop)]
 struct Writer {
     stage: Stage,
     all_told: bool,
 }
 
-/// What the reading thread has, and whether all views that it took were right.
+/// The state of the reading thread, and whether all snapshots that it took were right.
 #[derive(Drop)]
 struct Reader {
     hall: Arc<Hall<Counts>>,
@@ -196,18 +196,18 @@ struct Reader {
     ghost of_hall: { IsToldOf (arc_value hall) told },
 }
 
-// Publishes so often.
+// Publishes [`TIMES`] times.
 fn write_all(rt: &impl Abort, alloc: Global, writer: &mut Writer) {
     writer.all_told = publishes(rt, alloc, &mut writer.stage, TIMES);
 }
 
-// Takes so many views.
+// Takes [`TIMES`] snapshots.
 fn read_all(reader: &mut Reader) {
     let hall = &reader.hall;
     reader.all_right = reads(hall, &mut reader.told, TIMES);
 }
 
-// A thread publishes while another one reads: whether all was told, and all views were right.
+// One thread publishes while another reads: whether the word was raised each time, and all snapshots were right.
 fn storm<R: Threads + Abort + Sync>(rt: &R, alloc: Global) -> (bool, bool) {
     let stage = opened(rt, alloc, 3);
     let hall = shared(rt, &stage.hall);
@@ -229,7 +229,7 @@ fn storm<R: Threads + Abort + Sync>(rt: &R, alloc: Global) -> (bool, bool) {
     (writer.all_told, reader.all_right)
 }
 
-/// Views that are taken beside publications show their numbers, and none goes back.
+/// Snapshots that are taken during publications show their numbers, and no number is below an earlier one.
 #[test]
 fn views_beside_publications(rt: HostRuntime) -> Result<(), Fail> {
     let (all_told, all_right) = storm(&rt, rt.alloc());

@@ -1,4 +1,4 @@
-//! What is published and read: a value, with the beginning of the history at which it is true.
+//! A snapshot: a published value, with the prefix of the history at which it is true.
 ghost use Rattle.std.specs.Prelude.{◌≡◌, IfSome};
 ghost use Rattle.std.specs.Arc.{arc_value};
 
@@ -8,12 +8,12 @@ use logbook::Seen;
 use std::marker::PhantomData;
 use std::sync::Arc;
 
-/// What is published, and what is to be true of it at a beginning of the history.
+/// The type of the published values, and the property that each must have at its prefix of the history.
 pub trait Truth {
     /// A line of the history.
     type Line;
 
-    /// What is published.
+    /// The published value.
     type Value: Drop;
 
     ghost use Rattle.std.specs.Prelude.{List};
@@ -21,8 +21,8 @@ pub trait Truth {
     ghost holds: { List Self.Line → Self.Value → Type 0 };
 }
 
-/// A value, and the line behind which it is true. Nobody writes to the value for as long as a view of it is held; views, also
-/// behind several lines, may share one.
+/// A value, and the line as of which it is true. Nobody writes to the value while a snapshot of it is owned. Several
+/// snapshots may share one value, also as of different lines.
 #[derive(Drop)]
 pub struct View<T: Truth> {
     pub(crate) value: Arc<T::Value>,
@@ -34,7 +34,7 @@ pub struct View<T: Truth> {
 impl<T: Truth> View<T> {
     ghost use Rattle.published_views.specs.Views.{lines_of, number_of, seen_lines, value_of};
 
-    /// A value that is true behind these lines.
+    /// Makes a snapshot of a value that is true as of these lines.
     pub fn new(value: Arc<T::Value>, front: Front<T::Line>) -> View<T>
         requires { T.holds (seen_lines front) (arc_value value) }
         ensures value { result.value ≡ value }
@@ -47,7 +47,7 @@ impl<T: Truth> View<T> {
         }
     }
 
-    /// One more view of the value, behind the same lines; `None` where the value has too many owners.
+    /// Returns another snapshot of the value, as of the same lines, or `None` if the value has too many owners.
     pub fn again(&self) -> Option<View<T>>
         ensures value { IfSome result (λ view. value_of view ≡ value_of self.now) }
         ensures front { IfSome result (λ view. view.front ≡ self.now.front) }
@@ -59,14 +59,14 @@ impl<T: Truth> View<T> {
         })
     }
 
-    /// How many lines the history had.
+    /// Returns how many lines the history had.
     pub fn number(&self) -> u64
         ensures { result ≡ number_of self.now }
     {
         self.front.count()
     }
 
-    /// The value, which is true behind them.
+    /// Returns the value, which is true as of those lines.
     pub fn value(&self) -> &T::Value
         ensures value { result.now ≡ value_of self.now }
         ensures is_true { ∥ T.holds (lines_of self.now) result.now ∥₁ }

@@ -1,11 +1,11 @@
--- Writing piece behind piece.
+-- Writing pieces one after the other.
 use Rattle.std.proofs.Common.{◌≡◌, ◌++◌, ◌∙◌, ℕ, List, [], Option, Result, Ok, Err, OnOk, IsOk, sym, ap, subst, refl}
 use Rattle.std.proofs.Common.{append_assoc}
 use Rattle.std.proofs.lemmas.List.{append-nil}
 use Rattle.std.proofs.KnownBytes.{Appends-nil}
 use Rattle.text_io.specs.Write.{WritesAfter, WritesText}
 
--- One piece behind another is both.
+-- One piece after another is both.
 infixl 10 ◌▸◌
 pub ◌▸◌ : {S E : Type 0} {contents : S → Option (List ℕ)} {failed : S → ℕ} {d e f : Result Unit E} {a b c : S}
     {t u : List ℕ} → WritesAfter contents failed d e a b t → WritesAfter contents failed e f b c u
@@ -29,7 +29,7 @@ pub ◌▸◌ : {S E : Type 0} {contents : S → Option (List ℕ)} {failed : S 
     was_then f (Err x) (Ok y) p w = absurd (cc w)
     was_then f d (Err y) p w = tt
 
--- What is written is told in other words.
+-- The text that is written is replaced by an equal one.
 pub writes_same : {S E : Type 0} {contents : S → Option (List ℕ)} {failed : S → ℕ} {d e : Result Unit E} {a b : S}
     {t u : List ℕ} → t ≡ u → WritesAfter contents failed d e a b t → WritesAfter contents failed d e a b u
 writes_same {contents = contents} {failed = failed} {d = d} {e = e} {a = a} {b = b} same h =
@@ -53,19 +53,19 @@ writes_nothing contents failed d a = record {
     itself (Ok x) = refl
     itself (Err e) = tt
 
--- What was written behind nothing is the text.
+-- A text that was written after nothing is all that was written.
 pub written : {S E : Type 0} {contents : S → Option (List ℕ)} {failed : S → ℕ} {e : Result Unit E} {a b : S} {t : List ℕ}
     → WritesAfter contents failed (Ok tt) e a b t → WritesText (contents a) (contents b) (failed a) (failed b) e t
 written {contents = contents} {failed = failed} {a = a} h =
     h.wrote (contents a) (failed a) [] (Appends-nil (contents a), refl)
 
--- A flush behind a text leaves it.
+-- A flush after a text leaves the text unchanged.
 pub written_whole : {S E : Type 0} {contents : S → Option (List ℕ)} {failed : S → ℕ} {d e : Result Unit E} {a b c : S}
     {t : List ℕ} → WritesAfter contents failed (Ok tt) d a b t → WritesAfter contents failed d e b c []
     → WritesText (contents a) (contents c) (failed a) (failed c) e t
 written_whole {t = t} h flushed = written (writes_same (append-nil t) (h ▸ flushed))
 
--- What a loop over pieces has written so far of a text, of which this is left.
+-- The text that a loop over pieces has written so far, and what is left of it.
 pub record Chained {S E : Type 0} (contents : S → Option (List ℕ)) (failed : S → ℕ) (first now : Result Unit E) (a b : S)
     (all left : List ℕ) : Type 0 where
   pub text : List ℕ
@@ -88,7 +88,7 @@ chained_more {piece = piece} {rest = rest} h e more = record {
   written = h.written ▸ more;
 }
 
--- What is left is told in other words.
+-- The rest of the text is replaced by an equal one.
 pub chained_same : {S E : Type 0} {contents : S → Option (List ℕ)} {failed : S → ℕ} {first now : Result Unit E} {a b : S}
     {all left other : List ℕ} → Chained contents failed first now a b all left → left ≡ other
     → Chained contents failed first now a b all other

@@ -1,8 +1,8 @@
--- How a device stood before a call and stands behind it, and what passed.
+-- The state of a device before and after a call, and the bytes that passed.
 use Rattle.std.specs.Prelude.{◌≡◌, ℕ, List, Option, Ok, Err}
 use Rattle.text_io.specs.Write.{WritesText}
 
--- The bytes that a reader had left or a writer had taken, before and since, and how often the device had failed.
+-- The bytes that a reader had left or a writer had taken, before and after, and how often the device had failed.
 pub record Passage : Type 0 where
   pub before : Option (List ℕ)
   pub since : Option (List ℕ)
@@ -26,6 +26,6 @@ IsUntouched p = (p.since ≡ p.before) × IsSound p
 abbrev pub HasTaken : Passage → List ℕ → Type 0
 HasTaken p text = WritesText {E = Unit {0}} p.before p.since p.failed p.failed_since (Ok tt) text
 
--- a beginning of the text was written, and one call failed
+-- a prefix of the text was written, and one call failed
 abbrev pub HasTakenFront : Passage → List ℕ → Type 0
 HasTakenFront p text = WritesText {E = Unit {0}} p.before p.since p.failed p.failed_since (Err tt) text

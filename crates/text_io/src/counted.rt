@@ -23,7 +23,7 @@ impl<T> Model for Counted<T> {
 }
 
 impl<T> Counted<T> {
-    /// The device with no failure counted yet.
+    /// Makes the device with no failure counted yet.
     pub fn new(inner: T) -> Counted<T>
         ensures device { result.device ≡ inner }
         ensures count { result.failures ≡ 0 }
@@ -31,21 +31,21 @@ impl<T> Counted<T> {
         Counted { inner, count: 0 }
     }
 
-    /// How many calls have failed so far.
+    /// Returns how many calls have failed so far.
     pub fn failures(&self) -> u64
         ensures { result ≡ self.now.failures }
     {
         self.count
     }
 
-    /// The device, as it stands now.
+    /// Returns the device, in its present state.
     pub fn get_ref(&self) -> &T
         ensures { result.now ≡ self.now.device }
     {
         &self.inner
     }
 
-    /// The device without its count.
+    /// Returns the device without its count.
     pub fn into_inner(self) -> T
         ensures { result ≡ self.device }
     {

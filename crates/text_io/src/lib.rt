@@ -4,7 +4,7 @@
 //!
 //! ```
 //! let mut out = Counted::new(device); // any `Write`
-//! put(&mut out, b"count = ")?; // all of the piece went out, or a beginning of it with one failure more
+//! put(&mut out, b"count = ")?; // all of the piece was written, or a prefix of it with one failure more
 //! let done = number_after(Ok(()), &mut out, 17);
 //! flush_after(done, &mut out)?;
 //! ```

@@ -1,4 +1,4 @@
-//! Devices over bytes in memory, for tests of what reads or writes texts.
+//! Devices over bytes in memory, for tests of readers and writers of texts.
 mod pieces;
 mod spout;
 

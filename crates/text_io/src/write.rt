@@ -4,20 +4,20 @@ ghost use Rattle.text_io.specs.Write.{WritesAfter, WritesText};
 use super::device::Sink;
 use itoa::{Buffer, Integer};
 
-/// The writer failed, or took nothing of a piece. What went out before is a beginning of the text.
+/// The writer failed, or took nothing of a piece. The bytes written before are a prefix of the text.
 #[derive(Clone, Copy, Debug, PartialEq, Eq)]
 pub struct WriteFault;
 
-/// What came of what was written so far.
+/// The outcome of what was written so far.
 pub type Done = Result<(), WriteFault>;
 
 /// Writes a piece, all of it unless the writer fails. It takes no memory.
 ///
-/// The count of failures has to be below its last value, so that a failure shows in it.
+/// The count of failures must be below its greatest value, so that a failure shows in it.
 ///
 /// # Errors
 ///
-/// `WriteFault` at the first failure, of whatever kind; a beginning of the piece has gone out then.
+/// Fails with `WriteFault` at the first failure, of any kind; a prefix of the piece was written then.
 pub fn put<W: Sink>(out: &mut W, piece: &[u8]) -> Done
     requires { W.failed out.old < 2 ^ 64 - 1 }
     ensures { WritesText (W.contents out.old) (W.contents out.new) (W.failed out.old)
@@ -37,7 +37,7 @@ pub fn put<W: Sink>(out: &mut W, piece: &[u8]) -> Done
     Ok(())
 }
 
-/// Writes a piece behind what was written so far. Where that failed it writes nothing, and the fault stays.
+/// Writes a piece after what was written so far. If that failed, it writes nothing and returns that fault.
 pub fn put_after<W: Sink>(done: Done, out: &mut W, piece: &[u8]) -> Done
     requires { OnOk done (W.failed out.old < 2 ^ 64 - 1) }
     ensures wrote { WritesAfter W.contents W.failed done result out.old out.new piece.now }
@@ -47,8 +47,8 @@ pub fn put_after<W: Sink>(done: Done, out: &mut W, piece: &[u8]) -> Done
     put(out, piece)
 }
 
-/// Writes a number behind what was written so far, as `put_after` does: its digits without leading zeros,
-/// behind a minus where it is negative.
+/// Writes a number after what was written so far, as `put_after` does: its digits without leading zeros, after a
+/// minus if it is negative.
 pub fn number_after<W: Sink, N: Integer>(done: Done, out: &mut W, number: N) -> Done
     requires { OnOk done (W.failed out.old < 2 ^ 64 - 1) }
     ensures wrote { WritesAfter W.contents W.failed done result out.old out.new (N.text number) }
@@ -58,11 +58,11 @@ pub fn number_after<W: Sink, N: Integer>(done: Done, out: &mut W, number: N) -> 
     put_after(done, out, buffer.format(number).as_bytes())
 }
 
-/// Hands on to the device whatever a writer of blocks still holds of what was written so far.
+/// Flushes to the device all bytes of what was written so far that a buffered writer still has.
 ///
 /// # Errors
 ///
-/// The fault of before, or `WriteFault` where the flush fails.
+/// Fails with the fault of before, or with `WriteFault` if the flush fails.
 pub fn flush_after<W: Sink>(done: Done, out: &mut W) -> Done
     requires { OnOk done (W.failed out.old < 2 ^ 64 - 1) }
     ensures wrote { WritesAfter W.contents W.failed done result out.old out.new [] }

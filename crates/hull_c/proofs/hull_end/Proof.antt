@@ -57,7 +57,7 @@ hull_end_spec 𝓤 𝓛 𝓜 𝓡 wired =
     peeks ! u32 (Is u32) (shows 𝓛 u32) u (r ∷ []) (λ isu. lands_as ! refl refl ((uint_Lawful 𝓛 w32).typed u _ isu).0 $
     move ! (1 ∷ []) $ pick ! (λ ws. split ! $ drop ! $ heard ! _ (λ low. move ! (1 ∷ []) $
     use1 𝓛 (‵ (froom (lone R.mir) b o)) (𝓛.laws.at_room (lone R.mir) b o v) $
-    -- [the room; the result]
+    -- [the storage; the result]
     nothing ! $ fpack ! (u ≡ 0) (λ _. ftrue) low $ move ! (1 ∷ 0 ∷ []) $ fjoin ! $
     returns ! (look_at ! 0 refl) $ free_all ! refl $ keep ! (1 ∷ 0 ∷ []) $
     suffices ! _ (ends_at 𝓛 f.ended stayed c (y (block_ptr b o)) r u (tt, tt) (tt, tt)) $

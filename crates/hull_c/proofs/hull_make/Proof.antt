@@ -48,7 +48,7 @@ hull_make_spec 𝓤 𝓛 𝓜 𝓡 wired =
     qed 𝓛 ((‵ ftrue ⊛ ‵ (Heap.own_val x (hv ∷ [])) ⊛ ‵ (u32.own_val lim (uint_vals w32 lim)) ⊛ ‵
     (RawPtr.own_val a.1.1.0 (rawptr_vals a.1.1.0)) ⊛ ‵ ftrue) ∷ ‵ (room_at R a.1.1.0)
     ∷ []) ∵ split ! $ drop ! $ split ! $ move ! (1 ∷ []) $ drop ! $ move ! (1 ∷ []) $
-    -- [the room; what the allocator owns]
+    -- [the storage; what the allocator owns]
     in_a_block ! a.1.1.0 (λ p. room_at R p) (id⊢ 𝓤 _) (λ b o e.
     regoal ! (λ p. prop (WpFn 𝓤 𝓛.H 𝓣.C 𝓣.Λ code.function ((hv ∷ []) ++ (uint_vals w32 lim ++ (rawptr_vals p ++ [])))
     (W.post (y p)))) e refl $
@@ -72,7 +72,7 @@ hull_make_spec 𝓤 𝓛 𝓜 𝓡 wired =
     peeks ! R (Is R) (shows 𝓛 R) u (v ∷ [])
     (λ is. let ok = ((tree_laws.lawful 𝓛).typed u (v ∷ []) is).0 in lands_as ! refl refl ok $
     move ! (1 ∷ []) $ pick ! (λ ws. split ! $ move ! (1 ∷ []) $ heard ! _ (λ low. drop ! $
-    -- [what the tree owns; the room]
+    -- [what the tree owns; the storage]
     first ! $ blocks ! $ sets ! (of_opd ! (get ! refl)) refl ok $
     assigns_last ! (of_opd ! (get ! refl)) (through ! refl (stop !)) (init ! 1 refl ok) $
     exec ! 𝓣.C 𝓣.Λ (env code.Mir.locals l) code.Mir.t-4 (at_ret _ (W.post (y (block_ptr b o)))) $

@@ -10,7 +10,7 @@ use hull_book::{Phase, Script};
 use hull_set::Call;
 use std::alloc::{AllocError, Global};
 
-/// A list with no calls for each worker.
+/// Makes a list with no calls for each worker.
 fn no_calls(alloc: Global, workers: u8) -> Result<Vec<Vec<Call>>, AllocError>
     ensures { IfOk result (λ v. lists_of v.items ≡ replicate workers []) }
 {
@@ -21,7 +21,7 @@ fn no_calls(alloc: Global, workers: u8) -> Result<Vec<Vec<Call>>, AllocError>
     Ok(jobs)
 }
 
-/// The calls of each worker of a phase, whose items are passed over once.
+/// Returns the calls of each worker of a phase, in one pass over its items.
 fn phase_of(alloc: Global, items: &[Item], workers: u8) -> Result<Phase, AllocError>
     ensures { IfOk result (λ phase. phase ≡ jobs_below workers items.now) }
 {
@@ -36,7 +36,7 @@ fn phase_of(alloc: Global, items: &[Item], workers: u8) -> Result<Phase, AllocEr
     Ok(Phase::new(jobs))
 }
 
-/// One more than the greatest worker, and 1 where there is no call.
+/// Returns one more than the greatest worker, or 1 if there is no call.
 #[tactic(auto, using(crate::proofs::Workers::workers_least), unfolding(crate::specs::ScriptValue::workers_from))]
 fn count_workers(items: &[Item]) -> u8
     requires { workers_in items.now ≤ 64 }
@@ -53,7 +53,7 @@ fn count_workers(items: &[Item]) -> u8
     workers
 }
 
-/// The items of the first phase, and those of the phases behind it.
+/// Returns the items of the first phase, and those of the phases after it.
 #[tactic(auto, using(crate::proofs::Parts::part_at, crate::proofs::Parts::part_last))]
 fn cut_phase(items: &[Item]) -> (&[Item], Option<&[Item]>)
     ensures { parts items.now ≡ result.0.now ∷ parts_left result.1 }
@@ -81,7 +81,7 @@ fn phases_of(alloc: Global, items: &[Item], workers: u8) -> Result<Vec<Phase>, A
     Ok(phases)
 }
 
-/// The script that the items make.
+/// Returns the script that the items make.
 #[tactic(auto, using(crate::proofs::Parts::items_make_script))]
 pub(crate) fn script_from(alloc: Global, items: &[Item]) -> Result<Script, AllocError>
     requires workers { workers_in items.now ≤ 64 }

@@ -9,7 +9,7 @@ use crate::version::Version;
 use crate::words::CallWord;
 use hull_set::Call;
 
-/// The call with this word.
+/// Reads the call with this word.
 #[inline(always)]
 #[tactic(auto, unfolding(crate::specs::Call::call_after))]
 fn call_behind(
@@ -48,7 +48,7 @@ fn call_behind(
     }
 }
 
-/// The call that the next fields spell.
+/// Reads the call that the next fields spell.
 #[inline(always)]
 #[tactic(auto, unfolding(crate::specs::Call::call_at, crate::specs::Call::call_after))]
 pub(crate) fn call_of(version: Version, rest: Rest<'_>) -> Result<(Call, Rest<'_>), FaultKind>

@@ -14,10 +14,10 @@ use crate::fault::FaultKind;
 use crate::version::Version;
 use lattice::{Direction, Point};
 
-/// What is left of a line; `None` at its end.
+/// The rest of a line; `None` at its end.
 pub(crate) type Rest<'a> = Option<&'a [u8]>;
 
-/// The next field, and what is left behind it.
+/// Returns the next field, and the rest after it.
 #[inline(always)]
 #[tactic(auto, using(crate::proofs::Cut::cut_at, crate::proofs::Cut::cut_none))]
 pub(crate) fn next_field(rest: Rest<'_>) -> Option<(&[u8], Rest<'_>)>
@@ -35,7 +35,7 @@ pub(crate) fn next_field(rest: Rest<'_>) -> Option<(&[u8], Rest<'_>)>
     Some((text, None))
 }
 
-/// What was read, as the value that is made of it.
+/// Returns the value made from what was read.
 #[inline(always)]
 pub(crate) fn read_as<A, B, F: FnOnce(A) -> B>(
     read: Result<(A, Rest<'_>), FaultKind>,
@@ -51,7 +51,7 @@ pub(crate) fn read_as<A, B, F: FnOnce(A) -> B>(
     }
 }
 
-/// A number behind a minus, as a coordinate.
+/// Returns a number after a minus, as a coordinate.
 #[inline(always)]
 fn negative(version: Version, number: Number<u64>) -> Result<i64, FaultKind>
     ensures value { (spelled : Option ℕ) → TellsNumber (2 ^ 64) number spelled
@@ -66,7 +66,7 @@ fn negative(version: Version, number: Number<u64>) -> Result<i64, FaultKind>
     }
 }
 
-/// A number without a sign, as a coordinate.
+/// Returns a number without a sign, as a coordinate.
 #[inline(always)]
 fn plain(version: Version, number: Number<u64>) -> Result<i64, FaultKind>
     ensures value { (spelled : Option ℕ) → TellsNumber (2 ^ 64) number spelled
@@ -99,7 +99,7 @@ fn coordinate_of(version: Version, rest: Rest<'_>) -> Result<(i64, Rest<'_>), Fa
     Ok((plain(version, number)?, rest))
 }
 
-/// The point of the next two fields.
+/// Reads the point of the next two fields.
 #[tactic(auto, unfolding(crate::specs::Field::point_at))]
 pub(crate) fn point_of(version: Version, rest: Rest<'_>) -> Result<(Point, Rest<'_>), FaultKind>
     ensures { Gives (λ x. (x.0, fields_left x.1)) result (point_at version (fields_left rest.entry)) }
@@ -112,7 +112,7 @@ pub(crate) fn point_of(version: Version, rest: Rest<'_>) -> Result<(Point, Rest<
     Ok((point, rest))
 }
 
-/// The direction of the next two fields.
+/// Reads the direction of the next two fields.
 #[tactic(auto, unfolding(crate::specs::Field::direction_at, crate::specs::Field::point_at))]
 pub(crate) fn direction_of(
     version: Version,
@@ -143,7 +143,7 @@ fn number_up_to(limit: u64, number: Number<u64>) -> Result<u64, FaultKind>
     }
 }
 
-/// The number up to a limit in the next field.
+/// Reads the number up to a limit in the next field.
 #[inline(always)]
 #[tactic(auto, unfolding(crate::specs::Field::number_at))]
 pub(crate) fn number_of_field(limit: u64, rest: Rest<'_>) -> Result<(u64, Rest<'_>), FaultKind>
@@ -169,7 +169,7 @@ fn seat(number: Number<u64>) -> Result<u8, FaultKind>
     }
 }
 
-/// The worker or seat in the next field.
+/// Reads the worker or seat in the next field.
 #[inline(always)]
 #[tactic(auto, unfolding(crate::specs::Field::seat_at))]
 pub(crate) fn seat_of(rest: Rest<'_>) -> Result<(u8, Rest<'_>), FaultKind>

@@ -6,7 +6,7 @@ ghost use Rattle.hull_text.specs.Field.{fields_left, fields_of};
 use super::field::{Rest, next_field};
 use super::number::{Number, number_in};
 
-/// A number from here on may have no room for another digit in 64 bits.
+/// A number from here on may not fit into 64 bits with another digit.
 const SHORT: u64 = 100_000_000_000_000_000;
 
 /// Whether digits are the one spelling of their number.
@@ -18,8 +18,8 @@ fn are_spelling(digits: &[u8]) -> bool
     !matches!(digits, [] | [b'0', _, ..])
 }
 
-/// The first field of a text as a number, and what is left behind it, by one pass over the field. `None` says nothing:
-/// the field may spell no number, or one of more digits.
+/// Returns the first field of a text as a number, and the rest after it, in one pass over the field. `None` means
+/// nothing: the field may spell no number, or one of more digits.
 #[inline(always)]
 #[tactic(auto, using(crate::proofs::Cut::cut_at, crate::proofs::Cut::cut_none))]
 fn short_number(text: &[u8]) -> Option<(&[u8], u64, Rest<'_>)>
@@ -48,7 +48,7 @@ fn short_number(text: &[u8]) -> Option<(&[u8], u64, Rest<'_>)>
     }
 }
 
-/// The same of any field, by a pass for the field and one for its digits.
+/// Does the same for any field, in one pass for the field and one for its digits.
 #[cold]
 #[inline(never)]
 fn long_number(rest: Rest<'_>) -> Option<(&[u8], Number<u64>, Rest<'_>)>
@@ -59,7 +59,7 @@ fn long_number(rest: Rest<'_>) -> Option<(&[u8], Number<u64>, Rest<'_>)>
     Some((field, number_in(field), after))
 }
 
-/// The next field, the number that it should be, and what is left behind it.
+/// Returns the next field, the number that it should be, and the rest after it.
 #[inline(always)]
 pub(crate) fn next_number(rest: Rest<'_>) -> Option<(&[u8], Number<u64>, Rest<'_>)>
     ensures { MatchOption result (fields_left rest.entry ≡ [])

@@ -8,7 +8,7 @@ pub(crate) enum Number<N> {
     /// It spells none.
     Unspelled,
     Value(N),
-    /// It is more than the type holds.
+    /// The number does not fit into the type.
     Huge,
 }
 
@@ -63,7 +63,7 @@ fn digits_wide(field: &[u8]) -> Number<u128>
     }
 }
 
-/// The unsigned number that a field spells, where it has at most 64 bits.
+/// Returns the unsigned number that a field spells, if it has at most 64 bits.
 #[tactic(auto, unfolding(crate::specs::Number::number_of, crate::specs::Number::digits_after))]
 pub(crate) fn number_in(field: &[u8]) -> Number<u64>
     ensures { TellsNumber (2 ^ 64) result (number_of field.now) }
@@ -75,7 +75,7 @@ pub(crate) fn number_in(field: &[u8]) -> Number<u64>
     }
 }
 
-/// The unsigned number that a field spells, where it has at most 128 bits.
+/// Returns the unsigned number that a field spells, if it has at most 128 bits.
 #[tactic(auto, unfolding(crate::specs::Number::number_of, crate::specs::Number::digits_after))]
 pub(crate) fn wide_number_in(field: &[u8]) -> Number<u128>
     ensures { TellsNumber (2 ^ 128) result (number_of field.now) }

@@ -15,7 +15,7 @@ use crate::fault::{FaultKind, TextFault};
 use hull_book::{Script, TEXT_LINE_LIMIT};
 use std::alloc::Global;
 
-/// What was read of a script so far.
+/// The items of a script that were read so far.
 #[derive(Drop)]
 pub(crate) struct ScriptDraft {
     alloc: Global,
@@ -24,7 +24,7 @@ pub(crate) struct ScriptDraft {
     ghost is_draft: { IsDraft items.items number },
 }
 
-/// What line `number` of a script says.
+/// Reads line `number` of a script.
 #[tactic(auto, unfolding(crate::specs::ScriptText::numbered))]
 fn item_at(number: u32, line: &[u8]) -> Result<Option<Item>, TextFault>
     ensures value { result ≡ numbered number (script_line_of line.now) }
@@ -42,7 +42,7 @@ fn item_at(number: u32, line: &[u8]) -> Result<Option<Item>, TextFault>
     }
 }
 
-/// Keeps what a line says. Where memory is refused for it, the fault stands in the line that is given.
+/// Keeps the item of a line. If memory is refused for it, the fault has the line that is passed.
 fn keep_item(items: &mut Vec<Item>, item: Option<Item>, line: u32) -> Result<(), TextFault>
     ensures ok { OnOk result (items.new.items ≡ items.old.items ++ kept item []) }
     ensures err { IfErr result (λ f. f ≡ fault_at line FaultKind.NoMemory) }
@@ -57,7 +57,7 @@ fn keep_item(items: &mut Vec<Item>, item: Option<Item>, line: u32) -> Result<(),
     }
 }
 
-/// Reads line `number`, and keeps what it says.
+/// Reads line `number`, and keeps its item.
 fn add_line(items: &mut Vec<Item>, number: u32, line: &[u8]) -> Result<(), TextFault>
     requires draft { IsDraft items.old.items number }
     requires whole { HasNoNewline line.now }
@@ -76,7 +76,7 @@ fn add_line(items: &mut Vec<Item>, number: u32, line: &[u8]) -> Result<(), TextF
     }
 }
 
-/// The script of the items, at the end of a text; the number is that of the line after its last.
+/// Returns the script of the items, at the end of a text; the number is that of the line after its last.
 fn finished(alloc: Global, items: &[Item], number: u32) -> Result<Script, TextFault>
     requires workers { workers_in items.now ≤ 64 }
     requires few { length items.now ≤ TEXT_LINE_LIMIT }
@@ -90,7 +90,7 @@ fn finished(alloc: Global, items: &[Item], number: u32) -> Result<Script, TextFa
 }
 
 impl ScriptDraft {
-    /// Nothing was read.
+    /// Makes a draft of which nothing was read.
     pub fn new(alloc: Global) -> ScriptDraft
         ensures items { result.items.items ≡ [] }
         ensures number { result.number ≡ 1 }

@@ -52,7 +52,7 @@ fn served(line: &[u8]) -> Result<Option<Item>, FaultKind>
     }
 }
 
-/// What a line of a script says, or its first fault; an empty line and a comment say nothing.
+/// Reads the item of a line of a script. Fails with its first fault; an empty line and a comment have no item.
 #[tactic(auto, unfolding(crate::specs::ScriptLine::script_line_of))]
 pub(crate) fn script_line(line: &[u8]) -> Result<Option<Item>, FaultKind>
     ensures value { result ≡ script_line_of line.now }

@@ -1,13 +1,13 @@
 use crate::version::Version;
 use hull_book::Head;
 
-/// Where the reading of a journal stands.
+/// The stage of reading a journal.
 #[derive(Clone, Copy, Debug, PartialEq, Eq)]
 pub(crate) enum Stage {
     /// Before its header.
     Header,
     /// Among its call lines.
     Lines(Version, Head),
-    /// Behind its end line.
+    /// After its end line.
     Ended(Head),
 }

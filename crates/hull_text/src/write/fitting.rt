@@ -39,8 +39,8 @@ fn are_answered(workers: u8, phases: &[Phase], answers: &[Vec<Answer>]) -> bool
     true
 }
 
-/// Whether what a report lends fits together, as `write_report` asks: a list of answers and a ledger for each worker,
-/// and an answer for each call.
+/// Whether the pieces of a report fit together, as `write_report` requires: a list of answers and a ledger for each
+/// worker, and an answer for each call.
 pub fn report_fits(report: &Report<'_>) -> bool
     ensures { IsTrue result ↔ IsReport report.now.script.now
         (answers_in report.now.answers.now) report.now.ledgers.now }

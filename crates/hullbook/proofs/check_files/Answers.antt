@@ -1,4 +1,4 @@
--- the part that was not judged is one of the files
+-- the segment that was not judged is one of the files
 use Rattle.std.proofs.Common.{◌≡◌, arith, rules, ap, List, ℕ, length, Err}
 use Rattle.std.proofs.lemmas.List.{length-map}
 use Rattle.std.specs.Prelude.{string_bytes}

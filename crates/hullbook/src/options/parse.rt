@@ -10,20 +10,20 @@ use hull_program::{OptionFault, fault_of_words, path_of, word_of};
 use hull_set::POINT_LIMIT;
 use std::alloc::{AllocError, Global};
 
-/// The capacity of the journal where none is given.
+/// The capacity of the journal if none is given.
 const DEFAULT_CAPACITY: u32 = 65536;
 
-/// An option that takes a value.
+/// Makes an option that takes a value.
 fn valued<'a>(alloc: Global, name: &'a str) -> Arg<'a> {
     Arg::new(alloc, name).long(name).action(ArgAction::Set)
 }
 
-/// An option that takes none.
+/// Makes an option that takes none.
 fn flag<'a>(alloc: Global, name: &'a str) -> Arg<'a> {
     Arg::new(alloc, name).long(name).action(ArgAction::SetTrue)
 }
 
-/// The options of a run that are numbers.
+/// Adds the options of a run that are numbers.
 fn with_numbers<'a>(alloc: Global, command: Command<'a>) -> Result<Command<'a>, AllocError> {
     let capacity = clap::value_parser!(u32).range(1..=16777216);
     let limit = clap::value_parser!(u32).range(1..=1048576);
@@ -44,7 +44,7 @@ fn run_command<'a>(alloc: Global) -> Result<Command<'a>, AllocError> {
         .arg(valued(alloc, "after"))
 }
 
-/// A command that has a journal as its one word.
+/// Makes a command that has a journal as its only word.
 fn journal_command<'a>(alloc: Global, name: &'a str) -> Result<Command<'a>, AllocError> {
     let journal = Arg::new(alloc, "journal")
         .required(true)
@@ -52,7 +52,7 @@ fn journal_command<'a>(alloc: Global, name: &'a str) -> Result<Command<'a>, Allo
     Command::new(alloc, name).arg(journal)
 }
 
-/// The command that checks a journal, or the parts of one.
+/// Makes the command that checks a journal, or the segments of one.
 fn check_command<'a>(alloc: Global) -> Result<Command<'a>, AllocError> {
     let parts = Arg::new(alloc, "part")
         .required(true)
@@ -73,7 +73,7 @@ fn command<'a>(alloc: Global) -> Result<Command<'a>, AllocError> {
         .subcommand(journal_command(alloc, "compact")?)
 }
 
-/// Whether a number, where one is stated, is from 1 to the limit.
+/// Whether a number, if one is stated, is from 1 to the limit.
 fn is_within(number: Option<u32>, limit: u32) -> bool
     ensures { IsTrue result ↔ IfSome number (λ n. (1 ≤ n) × (n ≤ limit)) }
 {
@@ -83,7 +83,7 @@ fn is_within(number: Option<u32>, limit: u32) -> bool
     }
 }
 
-/// The numbers that are stated; `None` where one could not be read or lies outside the limits.
+/// Returns the stated numbers, or `None` if one could not be read or is outside the limits.
 fn stated_of(matches: &ArgMatches<'_>) -> Option<Stated>
     ensures { IfSome result AreStatedWithinLimits }
 {
@@ -116,7 +116,7 @@ fn stated_of(matches: &ArgMatches<'_>) -> Option<Stated>
     })
 }
 
-/// The numbers of a run, with those that are not stated.
+/// Returns the numbers of a run, with the defaults of those that are not stated.
 fn options_of(stated: &Stated) -> Options
     requires { AreStatedWithinLimits stated.now }
     ensures { AreWithinLimits result }
@@ -129,7 +129,7 @@ fn options_of(stated: &Stated) -> Options
     }
 }
 
-/// What the words after `run` ask for.
+/// Returns the task that the words after `run` request.
 fn run_task(alloc: Global, given: &ArgMatches<'_>, words: &[&str]) -> Result<Request, OptionFault>
     ensures limits { IfOk result IsRequestWithinLimits }
     ensures paths { IfOk result (RequestNamesWords (texts_of words.now)) }
@@ -149,7 +149,7 @@ fn run_task(alloc: Global, given: &ArgMatches<'_>, words: &[&str]) -> Result<Req
     Ok(Request::Task(Task::Run(script, options)))
 }
 
-/// The words as strings, in their order.
+/// Returns the words as strings, in their order.
 fn strings_of(alloc: Global, words: &[&str]) -> Result<Vec<String>, OptionFault>
     ensures { IfOk result (λ found. words_as_texts found.items ≡ texts_of words.now) }
 {
@@ -172,7 +172,7 @@ fn is_word(word: &str, text: &str) -> bool
     word == text
 }
 
-/// The words behind this one, if it is the first.
+/// Returns the words after this one, if it is the first.
 fn words_behind<'a>(text: &str, words: &'a [&'a str]) -> Option<&'a [&'a str]>
     ensures { IfSome result (λ rest. texts_of words.now ≡ text.now ∷ texts_of rest.now) }
 {
@@ -183,7 +183,7 @@ fn words_behind<'a>(text: &str, words: &'a [&'a str]) -> Option<&'a [&'a str]>
     Some(rest)
 }
 
-/// The words behind `check`, and behind a mark that ends the options.
+/// Returns the words after `check`, and after a mark that ends the options.
 fn parts_behind<'a>(words: &'a [&'a str]) -> Option<&'a [&'a str]>
     ensures { IfSome result (λ parts. AreBehindCheck (texts_of words.now) (texts_of parts.now)) }
 {
@@ -194,7 +194,7 @@ fn parts_behind<'a>(words: &'a [&'a str]) -> Option<&'a [&'a str]>
     }
 }
 
-/// The parts behind `check`, of which there have to be so many, two or more: all words there, in their order.
+/// Returns the segments after `check`, of which there must be so many, two or more: all words there, in their order.
 fn parts_task(alloc: Global, number: usize, words: &[&str]) -> Result<Request, OptionFault>
     ensures limits { IfOk result IsRequestWithinLimits }
     ensures paths { IfOk result (RequestNamesWords (texts_of words.now)) }
@@ -208,7 +208,7 @@ fn parts_task(alloc: Global, number: usize, words: &[&str]) -> Result<Request, O
     Ok(Request::CheckParts(strings_of(alloc, parts)?))
 }
 
-/// What the words behind `check` ask for. Of one path a wrong line can be explained.
+/// Returns the task that the words after `check` request. A wrong line can be explained only for one path.
 fn check_task(alloc: Global, given: &ArgMatches<'_>, words: &[&str]) -> Result<Request, OptionFault>
     ensures limits { IfOk result IsRequestWithinLimits }
     ensures paths { IfOk result (RequestNamesWords (texts_of words.now)) }
@@ -231,15 +231,16 @@ fn check_task(alloc: Global, given: &ArgMatches<'_>, words: &[&str]) -> Result<R
     parts_task(alloc, paths.len(), words)
 }
 
-/// What the words after the program's name ask for: a task of [`options`], `run SCRIPT` with `--sparing` or with
-/// `--after JOURNAL`, `check JOURNAL --explain`, `check` with two parts of a journal or more, or `compact JOURNAL`.
+/// Returns the request of the words after the program's name: a task of [`options`], `run SCRIPT` with `--sparing` or
+/// with `--after JOURNAL`, `check JOURNAL --explain`, `check` with two segments of a journal or more, or `compact
+/// JOURNAL`.
 ///
 /// Each path is one of the words, as it was written.
 ///
 /// # Errors
 ///
-/// `Usage` for any other words and for a number outside its limits; a question for help counts as one. `Memory` if
-/// memory was refused.
+/// Fails with `Usage` for any other words and for a number outside its limits; a request for help counts as one.
+/// Fails with `Memory` if memory was refused.
 pub fn request(alloc: Global, words: &[&str]) -> Result<Request, OptionFault>
     ensures limits { IfOk result IsRequestWithinLimits }
     ensures paths { IfOk result (RequestNamesWords (texts_of words.now)) }
@@ -263,15 +264,15 @@ pub fn request(alloc: Global, words: &[&str]) -> Result<Request, OptionFault>
     }
 }
 
-/// The task that the words after the program's name ask for: `run SCRIPT` with `--capacity`, `--limit`, `--first` and
-/// `--journal`, `check JOURNAL`, or `upgrade JOURNAL`.
+/// Returns the task that the words after the program's name request: `run SCRIPT` with `--capacity`, `--limit`,
+/// `--first` and `--journal`, `check JOURNAL`, or `upgrade JOURNAL`.
 ///
 /// The path is one of the words, as it was written.
 ///
 /// # Errors
 ///
-/// `Usage` for any other words, also for those of a [`request`] that is no task, and for a number outside its limits.
-/// `Memory` if memory was refused.
+/// Fails with `Usage` for any other words, also for those of a [`request`] that is no task, and for a number outside
+/// its limits. Fails with `Memory` if memory was refused.
 pub fn options(alloc: Global, words: &[&str]) -> Result<Task, OptionFault>
     ensures limits { IfOk result IsWithinLimits }
     ensures paths { IfOk result (NamesWords (texts_of words.now)) }

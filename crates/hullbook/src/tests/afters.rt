@@ -1,4 +1,4 @@
-//! How a run after a journal ends where an input or the output is at fault.
+//! The end of a run after a journal if an input or the output has a fault.
 use super::Silence;
 use crate::after::{AfterFault, run_after};
 use crate::options::Stated;
@@ -26,13 +26,13 @@ const BEFORE: &str =
 const REPORT: &str =
     "0 remove 5 5 = left 1\n1 count = count 1\nledger 0 2\nledger 1 1\nledger 2 1\nsum 4 journal 4 capacity 8\n";
 
-/// How a run after a journal went.
+/// The outcome of a run after a journal.
 #[derive(Clone, Copy)]
 struct Went {
     ended: Result<(), AfterFault>,
     /// How many bytes it wrote.
     written: usize,
-    /// Whether these are a beginning of the report.
+    /// Whether these are a prefix of the report.
     begins: bool,
     /// How often the output failed.
     failures: u64,
@@ -40,7 +40,7 @@ struct Went {
     unread: u64,
 }
 
-// How a run after the journal goes where these reads of the script and of it fail, and this write.
+// Runs after the journal, while these reads of the script and of the journal fail, and this write.
 fn goes<R: Threads + Wait + Sync>(
     rt: &R,
     alloc: Global,
@@ -81,7 +81,7 @@ fn a_report_is_that_of_the_whole(rt: HostRuntime) -> Result<(), Fail> {
     Ok(())
 }
 
-/// A fault of the script is told before the journal is touched, and one of the journal as its own.
+/// A fault of the script is reported before the journal is touched, and one of the journal as the journal's.
 #[test]
 fn a_failing_read_tells_which_input(rt: HostRuntime) -> Result<(), Fail> {
     let fault = TextFault { number: 8, line: 1 };
@@ -105,7 +105,7 @@ fn a_failing_read_tells_which_input(rt: HostRuntime) -> Result<(), Fail> {
     Ok(())
 }
 
-/// A journal that is not gone on with is told, and nothing is written.
+/// A journal that is not continued is reported, and nothing is written.
 #[test]
 fn a_journal_that_is_not_gone_on_with(rt: HostRuntime) -> Result<(), Fail> {
     let rows = [

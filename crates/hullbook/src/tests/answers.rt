@@ -8,8 +8,8 @@ use std::sync::Wait;
 use std::test::Fail;
 use std::thread::Threads;
 
-// Whether a worker that makes these calls, one in a line before its reply, is answered so, and the report says no more
-// than that.
+// Whether a worker that makes these calls, each on a line before its reply, gets these replies, and the report has
+// nothing else.
 fn answers<R: Threads + Wait + Sync>(
     rt: &R,
     alloc: Global,
@@ -82,7 +82,7 @@ fn point_held_twice(rt: HostRuntime) -> Result<(), Fail> {
     Ok(())
 }
 
-/// A removal of what is not there changes nothing.
+/// Removing a point that is not in the set changes nothing.
 #[test]
 fn absent_removal(rt: HostRuntime) -> Result<(), Fail> {
     let calls = "\
@@ -129,7 +129,7 @@ fn left_wall(rt: HostRuntime) -> Result<(), Fail> {
     Ok(())
 }
 
-/// The four corners of the range: the doubled area is 2^83.
+/// The four vertices of the range: the doubled area is 2^83.
 #[test]
 fn range_corners(rt: HostRuntime) -> Result<(), Fail> {
     let calls = "\
@@ -148,7 +148,8 @@ fn range_corners(rt: HostRuntime) -> Result<(), Fail> {
     Ok(())
 }
 
-/// A point one beside the diagonal of the range: the doubled area is 2^40, and no vertex is lost to a rounded side.
+/// A point one beside the diagonal of the range: the doubled area is 2^40, and no vertex is lost to a rounded
+/// orientation.
 #[test]
 fn range_diagonal(rt: HostRuntime) -> Result<(), Fail> {
     let calls = "\
@@ -182,7 +183,7 @@ fn limit_two(rt: HostRuntime) -> Result<(), Fail> {
     Ok(())
 }
 
-/// Of several points on a tangent the farthest is told; a point on the boundary has none.
+/// Of several points on a tangent the farthest is returned; a point on the boundary has none.
 #[test]
 fn tangent_ties(rt: HostRuntime) -> Result<(), Fail> {
     let calls = "\
@@ -200,7 +201,7 @@ fn tangent_ties(rt: HostRuntime) -> Result<(), Fail> {
     Ok(())
 }
 
-/// A point inside comes to the boundary where a vertex is taken out.
+/// A point inside comes to the boundary when a vertex is removed.
 #[test]
 fn uncovered_by_removal(rt: HostRuntime) -> Result<(), Fail> {
     let calls = "\

@@ -15,7 +15,7 @@ use std::thread::Threads;
 use text_io::testing::{Pieces, Spout};
 use text_io::{Counted, Sink, Source};
 
-// The task that the words ask for, its path in the one place and its numbers in the other.
+// Returns the task that the words request, its path as the one result and its numbers as the other.
 fn asked(alloc: Global, words: &[&str], path: &str) -> Result<Option<Options>, OptionFault> {
     let task: Result<Task, OptionFault> = options(alloc, words);
     match task? {
@@ -24,7 +24,7 @@ fn asked(alloc: Global, words: &[&str], path: &str) -> Result<Option<Options>, O
     }
 }
 
-// Whether the words ask for a check of the journal at this path, and whether for an upgrade.
+// Whether the words request a check of the journal at this path, and whether an upgrade.
 fn journal_task(alloc: Global, words: &[&str], path: &str) -> (bool, bool) {
     match options(alloc, words) {
         Ok(Task::Check(journal)) => (journal.as_str() == path, false),
@@ -59,7 +59,7 @@ fn words_ask_for_tasks(rt: HostRuntime) {
     assert_eq!(rt; journal_task(alloc, &["upgrade", "J"], "J"), (false, true));
 }
 
-// The status of a fault, and whether it has these words.
+// Returns the status of a fault, and whether it has these words.
 fn told(alloc: Global, fault: Fault, words: &str) -> Result<(u8, bool), Fail> {
     let status: u8 = fault.status();
     let text = format!(in alloc; "{fault}")?;
@@ -94,7 +94,7 @@ fn faults_of_the_program(rt: HostRuntime) -> Result<(), Fail> {
     Ok(())
 }
 
-// How a run of the script ends over any reader and any writer.
+// Returns the outcome of a run of the script over any reader and any writer.
 fn runs<R: Threads + Wait + Sync, I: Source, O: Sink>(
     rt: &R,
     alloc: Global,
@@ -110,7 +110,7 @@ fn runs<R: Threads + Wait + Sync, I: Source, O: Sink>(
     ended
 }
 
-// How a run of the script ends, and whether it wrote this.
+// Returns the outcome of a run of the script, and whether it wrote this.
 fn run_of<R: Threads + Wait + Sync>(
     rt: &R,
     alloc: Global,
@@ -199,7 +199,7 @@ fn three_workers_and_no_call(rt: HostRuntime) -> Result<(), Fail> {
     Ok(())
 }
 
-// How a check of the journal ends, and whether it wrote this.
+// Returns the outcome of a check of the journal, and whether it wrote this.
 fn check_of(
     alloc: Global,
     journal: &str,

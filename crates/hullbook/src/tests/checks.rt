@@ -1,4 +1,4 @@
-//! How a check ends where its input or its output is at fault.
+//! The end of a check if its input or its output has a fault.
 use super::{JOURNAL, Silence};
 use crate::check::{check_text, check_text_with, check_whole_text};
 use crate::run::RunFault;
@@ -42,7 +42,7 @@ const FAULTY: [(&str, u8, u32); 8] = [
         1,
         2,
     ),
-    // behind a line that is not right
+    // after a wrong line
     (
         "hullbook journal 1 first 0 limit 4 capacity 4\n0 0 add 5 5 = absent\nend 2\n",
         1,
@@ -50,7 +50,7 @@ const FAULTY: [(&str, u8, u32); 8] = [
     ),
 ];
 
-// How a check of the journal ends, and how many bytes it wrote.
+// Returns the outcome of a check of the journal, and how many bytes it wrote.
 fn ends(
     alloc: Global,
     journal: &str,
@@ -63,7 +63,7 @@ fn ends(
     Ok((ended, output.get_ref().bytes().len()))
 }
 
-/// A text that is no journal is told with its fault, and not as an illegal journal or want of memory.
+/// A text that is no journal is reported with its fault, and not as an illegal journal or refused memory.
 #[test]
 fn faults_of_a_journal_are_told(rt: HostRuntime) -> Result<(), Fail> {
     for (journal, number, line) in FAULTY {
@@ -76,7 +76,7 @@ fn faults_of_a_journal_are_told(rt: HostRuntime) -> Result<(), Fail> {
     Ok(())
 }
 
-// The first wrong line that each of the two checks tells, where both write no more than that.
+// Returns the first wrong line that each of the two checks finds, if both write nothing else.
 fn wrong_lines(alloc: Global, journal: &str, wanted: &str) -> Result<[Option<u32>; 2], Fail> {
     let mut output = Counted::new(Spout::new(alloc, 64, 5)?);
     let mut input = Counted::new(Pieces::new(journal.as_bytes(), 7));
@@ -90,7 +90,7 @@ fn wrong_lines(alloc: Global, journal: &str, wanted: &str) -> Result<[Option<u32
     Ok([told.unwrap_or(None), kept.unwrap_or(None)])
 }
 
-/// The first line that is not right is told, whether the lines are kept or not, and none behind it.
+/// The first wrong line is reported, whether the lines are kept or not, and none after it.
 #[test]
 fn the_first_wrong_line_is_told(rt: HostRuntime) -> Result<(), Fail> {
     let journal =
@@ -119,7 +119,7 @@ fn output_of_a_check_fails_midway(rt: HostRuntime) -> Result<(), Fail> {
     Ok(())
 }
 
-// Whether a check that ends well leaves this, and no more, at the device behind a block.
+// Whether a check that succeeds leaves this, and nothing else, at the device after a block.
 fn reaches_the_device(alloc: Global, journal: &str, wanted: &str) -> Result<bool, Fail> {
     let mut input = Counted::new(Pieces::new(journal.as_bytes(), 7));
     let device = Spout::new(alloc, 64, 64)?;
@@ -128,7 +128,7 @@ fn reaches_the_device(alloc: Global, journal: &str, wanted: &str) -> Result<bool
     Ok(ended.is_ok() && output.get_ref().get_ref().bytes() == wanted.as_bytes())
 }
 
-/// No contract sees a flush: a writer of blocks would hold back what it was not told to hand on.
+/// No contract sees a flush: a buffered writer would keep what it was not asked to write.
 #[test]
 fn a_verdict_reaches_the_device_behind_a_block(rt: HostRuntime) -> Result<(), Fail> {
     let wrong = "hullbook journal 1 first 0 limit 4 capacity 4\n0 0 add 5 5 = absent\nend 1\n";

@@ -1,4 +1,4 @@
-//! A journal that comes in parts.
+//! A journal in segments.
 ghost use Rattle.std.specs.Prelude.{map};
 ghost use Rattle.hullbook.specs.Parts.{any_files};
 
@@ -19,8 +19,8 @@ const SECOND: &str =
 
 const THIRD: &str = "hullbook journal 3 first 10 limit 4 capacity 4\n10 1 count = count 2\nend 1\n";
 
-/// Texts by their names. The parts behind the first are read by a device that fails at a call, and an empty one is not
-/// opened for want of memory.
+/// Texts by their names. The segments after the first are read by a device that fails at a call, and an empty one is
+/// not opened because memory is refused.
 #[derive(Drop)]
 struct Texts<'a> {
     names: &'a [&'a str],
@@ -53,7 +53,7 @@ impl<'a> Parts for Texts<'a> {
     }
 }
 
-// How a check of these parts ends, where it writes this.
+// Returns the outcome of a check of these segments, if it writes this.
 fn ends(
     alloc: Global,
     texts: &[&str],

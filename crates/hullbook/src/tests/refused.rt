@@ -13,11 +13,11 @@ use std::thread::Threads;
 use text_io::Counted;
 use text_io::testing::{Pieces, Spout};
 
-/// The report of the five calls where memory for the first point was refused.
+/// The report of the five calls if memory for the first point was refused.
 const FIRST_REFUSED: &str =
     "0 add 0 2 = nomemory\n0 add 2 2 = added\n0 extreme 0 1 = point 2 2\n0 remove 0 2 = absent\n0 extreme 0 1 = point 2 2\nledger 0 5\nsum 5 journal 5 capacity 65536\n";
 
-// A writer with room for a report. Where memory is refused, the second attempt has it.
+// Makes a writer with capacity for a report. If memory is refused, the second attempt succeeds.
 fn spout(rt: &impl Abort, alloc: Global) -> Spout {
     if let Ok(spout) = Spout::new(alloc, 4096, 5) {
         return spout;
@@ -28,7 +28,8 @@ fn spout(rt: &impl Abort, alloc: Global) -> Spout {
     }
 }
 
-// The line of a text that its reader has in hand after so many calls that gave a byte each, or found the end.
+// Returns the line of a text that its reader is reading after so many calls that returned a byte each, or found the
+// end.
 fn line_in_hand(text: &str, calls: u64) -> u32 {
     let mut line = 1u32;
     for (i, b) in text.as_bytes().iter().enumerate() {
@@ -39,7 +40,7 @@ fn line_in_hand(text: &str, calls: u64) -> u32 {
     line
 }
 
-// Whether the fault tells that memory was refused: to the reader, in the line that it had in hand, or elsewhere.
+// Whether the fault is that memory was refused: to the reader, in the line that it was reading, or elsewhere.
 fn is_memory(fault: RunFault, text: &str, calls: u64) -> bool {
     match fault {
         RunFault::Memory => true,
@@ -50,8 +51,8 @@ fn is_memory(fault: RunFault, text: &str, calls: u64) -> bool {
     }
 }
 
-// How a run of the five calls ends, how many bytes it wrote, whether they are its report or that of a refused point, and
-// how often it read.
+// Returns the outcome of a run of the five calls, how many bytes it wrote, whether they are its report or that of a
+// refused point, and how often it read.
 fn five_run<R: Threads + Wait + Sync + Abort>(
     rt: &R,
     alloc: Global,
@@ -64,8 +65,8 @@ fn five_run<R: Threads + Wait + Sync + Abort>(
     (ended, written.len(), reported, input.get_ref().calls())
 }
 
-/// A run that is refused memory writes nothing and says so, and the next run ends well. Where it is a point that memory
-/// is refused to, the run goes on with that reply.
+/// A run to which memory is refused writes nothing and reports that, and the next run succeeds. If it is memory for a
+/// point that is refused, the run continues with that reply.
 #[test]
 fn refused_memory_run(rt: HostRuntime) -> Result<(), Fail> {
     let (ended, written, reported, calls) = five_run(&rt, rt.alloc());
@@ -80,7 +81,8 @@ fn refused_memory_run(rt: HostRuntime) -> Result<(), Fail> {
     Ok(())
 }
 
-// How a check of the journal ends, how many bytes it wrote, whether they call it legal, and how often it read.
+// Returns the outcome of a check of the journal, how many bytes it wrote, whether they are `legal`, and how often it
+// read.
 fn journal_check(rt: &impl Abort, alloc: Global) -> (Result<bool, RunFault>, usize, bool, u64) {
     let mut input = Counted::new(Pieces::new(JOURNAL.as_bytes(), 1));
     let mut output = Counted::new(spout(rt, alloc));
@@ -90,7 +92,7 @@ fn journal_check(rt: &impl Abort, alloc: Global) -> (Result<bool, RunFault>, usi
     (ended, written.len(), legal, input.get_ref().calls())
 }
 
-/// A check that is refused memory writes nothing and says so, and the next check ends well.
+/// A check to which memory is refused writes nothing and reports that, and the next check succeeds.
 #[test]
 fn refused_memory_check(rt: HostRuntime) -> Result<(), Fail> {
     let (ended, written, legal, calls) = journal_check(&rt, rt.alloc());
@@ -107,7 +109,7 @@ fn refused_memory_check(rt: HostRuntime) -> Result<(), Fail> {
     Ok(())
 }
 
-/// Words that memory is refused to are not refused as words.
+/// Words for which memory is refused are not refused as words.
 #[test]
 fn refused_memory_options(rt: HostRuntime) -> Result<(), Fail> {
     let words = ["run", "x", "--limit", "7"];

@@ -8,7 +8,7 @@ use std::io;
 use std::io::{ErrorKind, Read};
 use std::marker::Model;
 
-/// A reader over bytes that gives them in pieces and fails at a chosen call, for tests of what reads texts.
+/// A reader over bytes that returns them in pieces and fails at a chosen call, for tests of readers of texts.
 #[derive(Drop)]
 pub struct Pieces<'a> {
     rest: &'a [u8],
@@ -26,7 +26,7 @@ impl<'a> Model for Pieces<'a> {
 }
 
 impl<'a> Pieces<'a> {
-    /// A reader of `bytes` that gives at most `size` of them at a call (0 counts as 1) and never fails.
+    /// Makes a reader of `bytes` that returns at most `size` of them at a call (0 counts as 1) and never fails.
     pub fn new(bytes: &'a [u8], size: usize) -> Pieces<'a>
         ensures rest { result.rest ≡ bytes.now }
         ensures size { result.size ≡ size }
@@ -41,7 +41,7 @@ impl<'a> Pieces<'a> {
         }
     }
 
-    /// The same reader, which fails at the call with this number; calls are counted from 1.
+    /// Returns the same reader, which fails at the call with this number; calls are counted from 1.
     pub fn failing_at(self, call: u64) -> Pieces<'a>
         ensures { result ≡ record self.entry { failing = call } }
     {
@@ -53,7 +53,7 @@ impl<'a> Pieces<'a> {
         }
     }
 
-    /// How many calls there were so far.
+    /// Returns how many calls there were so far.
     pub fn calls(&self) -> u64
         ensures { result ≡ self.now.calls }
     {

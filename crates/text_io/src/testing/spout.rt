@@ -9,8 +9,9 @@ use std::io;
 use std::io::{ErrorKind, Write};
 use std::marker::Model;
 
-/// A writer into memory that takes bytes in pieces, and fails or takes nothing at a chosen call, for tests of
-/// what writes texts. Its room is made with it: what doesn't fit any more is refused as by a full device.
+/// A writer into memory that takes bytes in pieces, and fails or takes nothing at a chosen call, for tests of writers
+/// of texts. Its capacity is allocated when it is made: bytes that do not fit any more are refused as by a full
+/// device.
 #[derive(Drop)]
 pub struct Spout {
     bytes: Vec<u8>,
@@ -41,12 +42,12 @@ impl Model for Spout {
 }
 
 impl Spout {
-    /// An empty writer that holds up to `room` bytes, takes at most `size` of them at a call (0 counts as 1)
+    /// Makes an empty writer that holds up to `room` bytes, takes at most `size` of them at a call (0 counts as 1)
     /// and doesn't fail before it is full.
     ///
     /// # Errors
     ///
-    /// `AllocError` where memory was refused.
+    /// Fails with `AllocError` if memory was refused.
     pub fn new(alloc: Global, room: usize, size: usize) -> Result<Spout, AllocError>
         ensures { IfOk result
             (λ s. s ≡ record { bytes = []; room = room; size = size; calls = 0; failing = 0; refusing = false }) }
@@ -61,7 +62,7 @@ impl Spout {
         })
     }
 
-    /// The same writer, which fails at the call of `write` with this number; calls are counted from 1.
+    /// Returns the same writer, which fails at the call of `write` with this number; calls are counted from 1.
     pub fn failing_at(self, call: u64) -> Spout
         ensures { result ≡ record self { failing = call; refusing = false } }
     {
@@ -75,7 +76,7 @@ impl Spout {
         }
     }
 
-    /// The same writer, which takes nothing at the call of `write` with this number.
+    /// Returns the same writer, which takes nothing at the call of `write` with this number.
     pub fn refusing_at(self, call: u64) -> Spout
         ensures { result ≡ record self { failing = call; refusing = true } }
     {
@@ -89,14 +90,14 @@ impl Spout {
         }
     }
 
-    /// What was taken so far.
+    /// Returns the bytes that were taken so far.
     pub fn bytes(&self) -> &[u8]
         ensures { result.now ≡ self.now.bytes }
     {
         self.bytes.as_slice()
     }
 
-    /// How many calls of `write` there were so far.
+    /// Returns how many calls of `write` there were so far.
     pub fn calls(&self) -> u64
         ensures { result ≡ self.now.calls }
     {

@@ -1,7 +1,7 @@
 use Rattle.std.proofs.Common.{◌≡◌, length, take, drop}
 use Rattle.hull_c.proofs.bridges.write_bridges.Given as goal
 
--- the first i bridges stand at the front, and what lies behind them is as it was
+-- the first i bridges are at the front, and the rest of the array is unchanged
 abbrev pub invariant-loop-i : goal.invariant-loop-i
 invariant-loop-i l = record {
   front : take l.i l.out ≡ take l.i l.bridges;

@@ -1,4 +1,4 @@
--- the answer of the outline
+-- the answer of the convex polygon
 use Rattle.std.proofs.Common.{rules, sym, subst}
 use Rattle.hull_outline.specs.Outlines.{IsOutlineOf}
 use Rattle.hull_c.proofs.clearances.relation.Goals as goal

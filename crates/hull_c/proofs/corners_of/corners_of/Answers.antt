@@ -1,4 +1,4 @@
--- what the hull tells of the points read anew is told of those of the array, which has not changed
+-- the answer of the hull for the points that were read again holds for those of the array, which has not changed
 use Rattle.std.proofs.Common.{◌∙◌, ◌⊎◌, inr, List, subst}
 use Rattle.lattice.specs.Plane.{Pair}
 use Rattle.hull_c.specs.CornersOf.{AreTooManyOrRefused, WritesCornersOf}

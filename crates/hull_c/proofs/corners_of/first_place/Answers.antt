@@ -1,4 +1,4 @@
--- a point before the one at the place takes it
+-- a point before the one at the index replaces it
 use Rattle.std.proofs.Common.{◌≡◌, false, true, ℕ, ◌+◌, ◌<◌, ◌∙◌, List, arith, inl, inr, refl, subst, sym}
 use Rattle.std.proofs.lemmas.Bool.{cases_lt}
 use Rattle.lattice.specs.Plane.{Pair, IsBefore}
@@ -8,18 +8,18 @@ use Rattle.hull_geometry.proofs.PointLists.{get_or_free}
 use Rattle.hull_c.proofs.corners_of.first_place.Goals as goal
 use Rattle.hull_c.proofs.corners_of.first_place.Goals.{then-before, else-before}
 
--- none of the first n points stands before the one at f
+-- none of the first n points is before the one at f
 abbrev IsFirstOf : List Pair → ℕ → ℕ → Type 0
 IsFirstOf V n f = (k : ℕ) → k < n → ¬ IsBefore (point_at V k) (point_at V f)
 
--- nor does the next
+-- if the next point is not before it either, it stays
 stays : (V : List Pair) (n f : ℕ) → IsFirstOf V n f → ¬ IsBefore (point_at V n) (point_at V f) → IsFirstOf V (n + 1) f
 stays V n f h b k l = elim (cases_lt k n) [
   | inl m ↦ h k m
   | inr m ↦ subst (λ (z : ℕ). ¬ IsBefore (point_at V z) (point_at V f)) (omega (arith, l, m)) b
 ]
 
--- the next does, and none stands before that
+-- if the next point is before it, no point is before the next one
 moves : (V : List Pair) (n f : ℕ) → IsFirstOf V n f → IsBefore (point_at V n) (point_at V f) → IsFirstOf V (n + 1) n
 moves V n f h b k l = elim (cases_lt k n) [
   | inl m ↦ λ d. h k m (before_trans (point_at V k) (point_at V n) (point_at V f) d b)

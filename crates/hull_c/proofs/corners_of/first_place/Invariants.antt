@@ -1,4 +1,4 @@
--- none of the points so far stands before the one at the place
+-- none of the points so far is before the one at the index
 use Rattle.std.proofs.Common.{ℕ, ◌<◌, length}
 use Rattle.lattice.specs.Plane.{IsBefore}
 use Rattle.hull_geometry.specs.Positions.{point_at}

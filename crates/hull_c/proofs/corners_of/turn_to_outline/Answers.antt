@@ -1,4 +1,4 @@
--- the points only change their places, and an outline is that of its own points
+-- the points only change their order, and a convex polygon has its own points
 use Rattle.std.proofs.Common.{◌≡◌, ◌∙◌, ◌<◌, ℕ, false, true, inl, inr, List, length, Vec, vec_len, arith, refl, subst, sym}
 use Rattle.std.specs.List.{ReversedBelow, RotatedLeft}
 use Rattle.lattice.specs.Plane.{Pair}
@@ -18,7 +18,7 @@ returns-then-are_outline-clause-corners c = λ _.
     (subst (λ (z : List Pair). IsOwnOutline z) c.deref-2.ensures.value (c.are_outline.ensures.own c.if-are_outline.true))
     (turned_same c.first_place-first.result c.args.points.now.items c.rotate_left.new.self.items c.rotate_left.ensures.items)
 
--- behind the second turn and the reversal, too
+-- so it is after the second rotation and the reversal
 both : (c : goal.After-are_outline-2) → HaveSamePoints c.reverse.new.self.items c.args.points.now.items
 both c =
     same_after c.args.points.now.items c.rotate_left-2.new.self.items c.reverse.new.self.items
@@ -38,16 +38,16 @@ returns-clause-corners c = λ e.
 pub returns-then-are_outline-clause-rings : goal.returns-then-are_outline-clause-rings
 returns-then-are_outline-clause-rings c = λ _. refl
 
--- a vector has as many items as it says
+-- a vector has as many items as its length
 long : {Z : Type 0} (v : Vec Pair Z) → vec_len v ≡ length v.items
 long v = omega (arith, v.ok.0)
 
--- a turned vector, by its items
+-- a rotated vector, by its items
 turned_items : {Z : Type 0} (v w : Vec Pair Z) (f : ℕ) → RotatedLeft v.items w.items (vec_len v) f
     → RotatedLeft v.items w.items (length v.items) f
 turned_items v w f r = subst (λ (n : ℕ). RotatedLeft v.items w.items n f) (long v) r
 
--- where the ring begins
+-- the index at which the ring begins
 begins : (c : goal.After-are_outline-2) → IsLeastAt c.args.points.now.items c.first_place-first.result
 begins c = subst (λ (z : List Pair). IsLeastAt z c.first_place-first.result) c.deref.ensures.value c.first_place-first.ensures.first
 

@@ -1,4 +1,4 @@
--- where there are corners, what is not parted meets
+-- if there are vertices, two shapes that are not separated intersect
 use Rattle.std.proofs.Common.{◌≡◌, ◌<◌, ◌⊎◌, List, [], length, sym, subst, arith, inl, inr}
 use Rattle.lattice.specs.Plane.{Pair}
 use Rattle.hull_outline.specs.Meetings.{Meets, segment}
@@ -6,14 +6,14 @@ use Rattle.hull_outline.specs.Outlines.{HoldsOfSetsOf, IsOutlineOf}
 use Rattle.hull_outline.proofs.Corners.{corner_extreme}
 use Rattle.hull_c.proofs.findings.parting.Goals as goal
 
--- a set with corners is not empty
+-- a set with vertices is not empty
 not_empty : (S V : List Pair) → IsOutlineOf S V → 0 < length V → S ≡ [] → ⊥
 not_empty S V o n e =
     let m = (corner_extreme S V 0 o.1 n).0 in
     let l : 0 < length S = omega (arith, m.1) in
     absurd (omega (arith, subst (λ (z : List Pair). 0 < length z) e l))
 
--- so what is said of it or of an empty one is said of it
+-- a property of it or of an empty set is a property of it
 said_of : (V : List Pair) (P : List Pair → Type 0) → 0 < length V
     → HoldsOfSetsOf V (λ S. (S ≡ []) ⊎ P S) → HoldsOfSetsOf V P
 said_of V P n h S o = elim (h S o) [ inl e ↦ absurd (not_empty S V o n e) | inr p ↦ p ]

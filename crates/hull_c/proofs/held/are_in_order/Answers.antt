@@ -1,4 +1,4 @@
--- a point that does not stand before the next one tells against the order, and one that does goes on with it
+-- a point that is not before the next one shows that the order is wrong, and one that is continues it
 use Rattle.std.proofs.Common.{◌∙◌, sym, arith, ◌-◌, ◌≤◌}
 use Rattle.std.proofs.lemmas.Bool.{false≢true}
 use Rattle.std.proofs.lemmas.Map.Entries.{length-keys_of}

@@ -1,4 +1,4 @@
--- memory was refused, and so some point is held
+-- memory was refused, so the set has a point
 use Rattle.std.proofs.Common.{◌≢◌, [], refl, inr, subst}
 use Rattle.bucket_tree.specs.Roots.{points_of_root}
 use Rattle.bucket_tree.specs.Sets.{LimitedTree}

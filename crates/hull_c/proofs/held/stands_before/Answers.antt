@@ -1,4 +1,4 @@
--- the rules alone close these at once; what is tried first takes long
+-- the rules close these at once; what is tried first takes long
 use Rattle.std.proofs.Common.{rules}
 use Rattle.hull_c.proofs.held.stands_before.Goals as goal
 

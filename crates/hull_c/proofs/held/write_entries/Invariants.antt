@@ -1,7 +1,7 @@
 use Rattle.std.proofs.Common.{◌≡◌, length, take, drop}
 use Rattle.hull_c.proofs.held.write_entries.Given as goal
 
--- the first i entries stand at the front, and what lies behind them is as it was
+-- the first i entries are at the front, and the rest of the array is unchanged
 abbrev pub invariant-loop-i : goal.invariant-loop-i
 invariant-loop-i l = record {
   front : take l.i l.out ≡ take l.i l.entries;

@@ -1,4 +1,4 @@
--- One request more is answered, in its place.
+-- One request more is answered, at its index.
 use Rattle.std.proofs.Common.{ℕ, ◌+◌, ◌<◌, List, length, drop, get_or, set, inl, inr, subst, sym, ap, arith, ◌∙◌}
 use Rattle.std.proofs.Common.{rules}
 use Rattle.std.proofs.lemmas.Bool.{cases_lt}
@@ -8,7 +8,7 @@ use Rattle.hull_reply.specs.declared.reply.HullReply.{HullReply}
 use Rattle.hull_c.specs.Outlines.{AnswersAt}
 use Rattle.hull_c.proofs.outline.ask_all.Goals as goal
 
--- what holds below a number and at it holds below the next
+-- a property of all numbers below n and of n is one of all numbers below n + 1
 one_more : (P : ℕ → Type 0) (n k : ℕ) → ((k : ℕ) → k < n → P k) → P n → k < n + 1 → P k
 one_more P n k h p l = elim (cases_lt k n) [ inl b ↦ h k b | inr b ↦ subst P (omega (arith, b, l)) p ]
 

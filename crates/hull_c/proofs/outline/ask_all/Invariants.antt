@@ -1,4 +1,4 @@
--- the first i requests are answered, and what lies behind their replies is as it was
+-- the first i requests are answered, and the array is unchanged after their replies
 use Rattle.std.proofs.Common.{ℕ, ◌≡◌, ◌<◌, length, drop, get_or}
 use Rattle.hull_reply.specs.declared.reply.HullReply.{HullReply}
 use Rattle.hull_c.specs.Outlines.{AnswersAt}

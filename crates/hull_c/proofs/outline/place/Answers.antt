@@ -1,4 +1,4 @@
--- What the outline answers is allowed for each set with its corners.
+-- The answer of the convex polygon is allowed for each set with its vertices.
 use Rattle.hull_set.specs.declared.reply.Reply.TheVariants.{Lies}
 use Rattle.hull_c.proofs.outline.place.Goals as goal
 

@@ -1,4 +1,4 @@
--- What the outline answers is allowed for each set with its corners.
+-- The answer of the convex polygon is allowed for each set with its vertices.
 use Rattle.std.proofs.Common.{subst}
 use Rattle.hull_reply.specs.Told.{Tells}
 use Rattle.hull_set.specs.Replies.{reply_to_tangents}

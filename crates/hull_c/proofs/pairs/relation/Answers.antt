@@ -1,4 +1,4 @@
--- the answer of the two outlines
+-- the answer of the two convex polygons
 use Rattle.std.proofs.Common.{rules, sym, subst}
 use Rattle.hull_outline.specs.Outlines.{IsOutlineOf}
 use Rattle.hull_c.proofs.pairs.relation.Goals as goal

@@ -2,7 +2,7 @@ use Rattle.std.proofs.Common.{length, ◌-◌, ◌≡◌, drop}
 use Rattle.hull_c.proofs.Served.{GoesOn}
 use Rattle.hull_c.proofs.requests.calls_of.Given as goal
 
--- the first `made` requests were served, and the array is as it was behind their replies
+-- the first `made` requests were served, and the array is unchanged after their replies
 abbrev pub invariant-loop-made : goal.invariant-loop-made
 invariant-loop-made l = record {
   on : GoesOn l.requests l.fn.replies l.fn.hull l.hull l.replies l.made;

@@ -1,4 +1,4 @@
--- At first there are none, and each level comes behind those before it.
+-- At first there are none, and each level comes after those before it.
 use Rattle.std.proofs.Common.{◌∙◌, sym, ap, ◌++◌, List}
 use Rattle.hull_tree.specs.Nodes.{tree_of}
 use Rattle.leaf_trees.specs.declared.bridge.Bridge.{Bridge}

@@ -1,4 +1,4 @@
--- The pieces in a row are the text.
+-- The pieces in order are the text.
 use Rattle.std.proofs.Common.{◌≡◌, ◌==◌, false}
 use Rattle.std.proofs.lemmas.Bool.{ne_eqb}
 use Rattle.text_io.proofs.Chains.{◌▸◌}

@@ -1,4 +1,4 @@
--- A frame's text stands before those of the frames behind it.
+-- A frame's text comes before those of the frames after it.
 use Rattle.std.proofs.Common.{◌≡◌, ◌+◌, length, refl, arith}
 use Rattle.text_io.proofs.Chains.{chained_end, chained_more, chained_start}
 use Rattle.hull_draw.proofs.Frames.{frames_cons, frames_none, frames_no_lines}

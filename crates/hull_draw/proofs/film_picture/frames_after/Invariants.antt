@@ -1,4 +1,4 @@
--- The texts of the frames so far went out.
+-- The texts of the frames so far were written.
 use Rattle.std.proofs.Common.{◌≡◌, ◌+◌, length}
 use Rattle.text_io.proofs.Chains.{Chained}
 use Rattle.hull_draw.specs.FilmTexts.{frames_text}

@@ -1,4 +1,4 @@
--- The parts in a row are the film.
+-- The parts in order are the film.
 use Rattle.text_io.proofs.Chains.{◌▸◌, written_whole}
 use Rattle.hull_draw.specs.FilmTexts.{film_text}
 use Rattle.hull_draw.proofs.film_picture.write_film.Goals as goal

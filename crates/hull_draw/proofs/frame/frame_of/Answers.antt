@@ -1,4 +1,4 @@
--- The frame holds one mark more, and all at the end.
+-- The frame contains one mark more, and all at the end.
 use Rattle.std.proofs.Common.{arith}
 use Rattle.hull_draw.proofs.Edges.{holds_more, holds_all, of_marks_more}
 use Rattle.hull_draw.proofs.frame.frame_of.Goals as goal

@@ -1,4 +1,4 @@
--- The label of a mark that has one stands before those of the marks behind it; another mark has none.
+-- The label of a mark that has one comes before those of the marks after it; another mark has none.
 use Rattle.std.proofs.Common.{sym, ◌∙◌}
 use Rattle.text_io.proofs.Chains.{chained_end, chained_more, chained_same}
 use Rattle.hull_draw.proofs.MarkLabels.{label_cons, label_passed, label_none}

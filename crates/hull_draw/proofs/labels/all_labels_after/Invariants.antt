@@ -1,4 +1,4 @@
--- The labels of the marks so far went out.
+-- The labels of the marks so far were written.
 use Rattle.std.proofs.Common.{length, None}
 use Rattle.text_io.proofs.Chains.{Chained}
 use Rattle.hull_draw.specs.Labels.{labelled, mark_label_text}

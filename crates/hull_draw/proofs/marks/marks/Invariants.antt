@@ -1,4 +1,4 @@
--- The points so far, each with how often it is held.
+-- The points so far, each with its multiplicity.
 use Rattle.std.proofs.Common.{◌≡◌, map, take}
 use Rattle.std.specs.List.{All}
 use Rattle.hull_tree.specs.Roots.{held_by}

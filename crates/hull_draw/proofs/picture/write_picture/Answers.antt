@@ -1,4 +1,4 @@
--- The parts in a row are the picture.
+-- The parts in order are the picture.
 use Rattle.text_io.proofs.Chains.{◌▸◌, written_whole}
 use Rattle.hull_draw.specs.Pictures.{picture_text}
 use Rattle.hull_draw.proofs.picture.write_picture.Goals as goal

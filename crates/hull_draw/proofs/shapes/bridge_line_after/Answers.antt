@@ -1,4 +1,4 @@
--- The pieces in a row are the text.
+-- The pieces in order are the text.
 use Rattle.text_io.proofs.Chains.{◌▸◌}
 use Rattle.hull_draw.proofs.shapes.bridge_line_after.Goals as goal
 

@@ -1,4 +1,4 @@
--- The text of the items so far went out.
+-- The text of the items so far was written.
 use Rattle.std.proofs.Common.{length}
 use Rattle.text_io.proofs.Chains.{Chained}
 use Rattle.hull_draw.specs.Shapes.{bridge_text}

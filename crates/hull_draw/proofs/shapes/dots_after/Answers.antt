@@ -1,4 +1,4 @@
--- The item's text stands before those of the items behind it.
+-- The item's text comes before those of the items after it.
 use Rattle.text_io.proofs.Chains.{chained_end, chained_more}
 use Rattle.hull_draw.proofs.Rows.{texts_cons, texts_none}
 use Rattle.hull_draw.proofs.shapes.dots_after.Goals as goal

@@ -1,4 +1,4 @@
--- The text of a mark that is drawn stands before those of the marks behind it; another mark has none.
+-- The text of a mark that is drawn comes before those of the marks after it; another mark has none.
 use Rattle.std.proofs.Common.{ap, List}
 use Rattle.hull_draw.specs.declared.marks.Mark.{Mark}
 use Rattle.hull_draw.specs.Shapes.{mark_dot_text}

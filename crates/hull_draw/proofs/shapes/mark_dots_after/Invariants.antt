@@ -1,4 +1,4 @@
--- The text of the marks so far went out, of those that are drawn.
+-- The text of those marks so far that are drawn was written.
 use Rattle.std.proofs.Common.{length}
 use Rattle.text_io.proofs.Chains.{Chained}
 use Rattle.hull_draw.specs.Shapes.{mark_dot_text, every}

@@ -1,4 +1,4 @@
--- The mark of a call's point, where it names one, stands behind those so far.
+-- The mark of a call's point, if it names one, comes after those so far.
 use Rattle.std.proofs.Common.{◌++◌, ◌∙◌, sym, ap, List, append_assoc, append-nil}
 use Rattle.hull_draw.specs.declared.marks.Mark.{Mark}
 use Rattle.hull_draw.specs.Films.{called_marks}

@@ -1,4 +1,4 @@
--- The marks so far, and those of the calls behind, are the marks of all calls.
+-- The marks so far, and those of the remaining calls, are the marks of all calls.
 use Rattle.std.proofs.Common.{◌≡◌, ◌++◌, length}
 use Rattle.hull_draw.specs.Films.{called_marks}
 use Rattle.hull_draw.proofs.shots.called_marks.Given as goal

@@ -1,4 +1,4 @@
--- A scene more is a shot more; the one that comes to a wrong line is the last.
+-- A scene more is a shot more; the one that ends at a wrong line is the last.
 use Rattle.std.proofs.Common.{◌≡◌, ◌≤◌, ◌+◌, inr, ℕ, suc, List, length, None, sym, ap, subst, ◌∙◌, arith, rules}
 use Rattle.std.proofs.lemmas.List.Elements.{All-nil, All-push}
 use Rattle.hull_draw.specs.Films.{AreShots, AreAllRight, shot_options, frames_of}

@@ -1,4 +1,4 @@
--- The scenes so far are shots, none of which came to a wrong line.
+-- The scenes so far are shots, none of which ended at a wrong line.
 use Rattle.std.proofs.Common.{◌≤◌, ◌-◌, length}
 use Rattle.hull_draw.specs.Films.{AreShots, AreAllRight}
 use Rattle.hull_draw.proofs.shots.scenes_of.Given as goal

@@ -1,4 +1,4 @@
--- A number that no fault has is neither that of a failed reader nor that of refused memory.
+-- A number that is of no fault is neither that of a failed reader nor that of refused memory.
 use Rattle.std.proofs.Common.{◌≡◌, sym, refl}
 use Rattle.std.specs.Prelude.{◌≢◌, ◌==◌, false}
 use Rattle.std.proofs.lemmas.Bool.{ne_eqb}

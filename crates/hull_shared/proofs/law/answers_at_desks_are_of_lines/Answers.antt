@@ -1,4 +1,4 @@
--- the law of the lock, at the book of a desk
+-- the law of the lock, at the book of a shared hull
 use Rattle.std.proofs.Common.{◌≡◌, ◌∙◌, ℕ, Bool, List, [], ◌∷◌, ◌++◌, sym}
 use Rattle.std.proofs.Common.{arith}
 use Rattle.std.proofs.lemmas.Grind.{common_steps}
@@ -15,7 +15,7 @@ use Rattle.hull_shared.specs.declared.answer.DeskAnswer.TheVariants.{Written, Un
 use Rattle.hull_shared.specs.declared.book.DeskHead.{DeskHead}
 use Rattle.hull_shared.proofs.law.answers_at_desks_are_of_lines.Goals as goal
 
--- a call that added a line was answered with its reply
+-- a call that added a line was answered with the reply of the line
 replied : (head : DeskHead) (drains : Bool) (t k : ℕ) (call : Call) (found after : List MarkedLine) (answer : DeskAnswer)
     (l : MarkedLine) → IsServed head drains t k call found after answer → after ≡ found ++ l ∷ []
     → (l.line.seat ≡ k) × (l.line.call ≡ call) × (answer ≡ Written l.line.reply)
@@ -25,7 +25,7 @@ replied head drains t k call found after Full l served adds =
 replied head drains t k call found after (Unwritten reply) l served adds =
     absurd (no_longer found l (sym served.same ∙ adds))
 
--- one that added none found no room, or was a question
+-- a call that added no line found no space, or was a question
 refused : (head : DeskHead) (drains : Bool) (t k : ℕ) (call : Call) (found after : List MarkedLine) (answer : DeskAnswer)
     → IsServed head drains t k call found after answer → after ≡ found → IsAnsweredWhenFull head call found answer
 refused head drains t k call found after (Written reply) served same =

@@ -1,4 +1,4 @@
--- the law of the lock leads to a good world, which says each sentence of the whole journal
+-- the law of the lock leads to a good world, which implies each sentence for the whole journal
 use Rattle.std.proofs.Common.{refl}
 use Rattle.hull_headline.proofs.Good.{first_come, one_holder, bridges, multiplicities, legal, in_order, ledgers}
 use Rattle.hull_headline.proofs.Tickets.{tickets}

@@ -1,4 +1,4 @@
--- the room has the seat, or is vacant still
+-- the storage has the seat, or is still vacant
 use Rattle.std.proofs.Common.{refl, sym, subst}
 use Rattle.std.specs.Prelude.{Result}
 use Rattle.hull_reply.specs.declared.code.Code.{Code}

@@ -1,4 +1,4 @@
--- the room is vacant, or has the seat still
+-- the storage is vacant, or still has the seat
 use Rattle.std.proofs.Common.{refl, sym, subst}
 use Rattle.std.specs.Prelude.{Option}
 use Rattle.hull_shared.specs.Desks.{IsLeftWith}

@@ -1,4 +1,4 @@
--- the seat that goes out was at home in its place
+-- the seat that is acquired was at home in its slot
 use Rattle.std.proofs.Common.{◌≡◌, ◌<◌, ℕ, Some, slice_get, length, refl, sym, ap, subst, arith, ◌∙◌}
 use Rattle.std.proofs.lemmas.Grind.{common_steps}
 use Rattle.std.specs.Mem.{manually_drop_value}

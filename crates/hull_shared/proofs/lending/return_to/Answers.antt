@@ -1,4 +1,4 @@
--- the seat that comes back is at home in its place
+-- the seat that is released is at home in its slot
 use Rattle.std.proofs.Common.{ℕ, Some, slice_get, sym, subst, arith}
 use Rattle.std.proofs.lemmas.Grind.{common_steps}
 use Rattle.std.proofs.lemmas.Option.{slice_get_read}

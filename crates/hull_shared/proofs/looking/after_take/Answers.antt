@@ -1,4 +1,4 @@
--- a seat with no number has taken one for the call that was asked for
+-- a seat with no number has taken one for the requested call
 use Rattle.std.proofs.Common.{refl}
 use Rattle.hull_shared.proofs.looking.after_take.Goals as goal
 

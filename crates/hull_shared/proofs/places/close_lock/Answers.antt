@@ -1,4 +1,4 @@
--- the seat of the last place that is left has the number behind those that are gathered
+-- the seat of the last remaining slot has the number after those that are gathered
 use Rattle.std.proofs.Common.{rules, ◌≡◌, ◌<◌, ◌+◌, ◌-◌, ℕ, List, [], ◌∷◌, ◌++◌, length, IsSome, Some}
 use Rattle.std.proofs.Common.{slice_get, sym, ap, subst, ◌∙◌, arith, length-append, inl, inr, vec_len}
 use Rattle.std.specs.Prelude.{Option}

@@ -1,4 +1,4 @@
--- the places that are left are a front of them, and the seats behind it are gathered in the order of their numbers
+-- the remaining slots are a prefix of all, and the seats after it are gathered in the order of their numbers
 use Rattle.std.proofs.Common.{◌≡◌, ◌≤◌, ◌<◌, ◌+◌, ℕ, All, IsSome, Some, slice_get, length, vec_capacity}
 use Rattle.std.specs.List.{AllZip}
 use Rattle.hull_book.specs.Ledgers.{IsLedgerOf}

@@ -1,4 +1,4 @@
--- the last seat that is left, with its ledger, goes behind those that are laid out
+-- the last remaining seat, with its ledger, goes after those that are laid out
 use Rattle.std.proofs.Common.{rules, ◌≡◌, ◌+◌, ℕ, List, [], ◌∷◌, ◌++◌, length, IsSome, Some, slice_get}
 use Rattle.std.proofs.Common.{refl, sym, ap, subst, ◌∙◌, arith, length-append, inl, inr}
 use Rattle.std.specs.Prelude.{Option, option_to_list}

@@ -1,4 +1,4 @@
--- what is left of the seats and their ledgers is a front of them, and those behind it are laid out
+-- the remaining seats and their ledgers are a prefix of all, and those after it are laid out
 use Rattle.std.proofs.Common.{◌≡◌, ◌≤◌, ◌+◌, ℕ, All, IsSome, Some, slice_get, length, vec_len, vec_capacity}
 use Rattle.hull_book.specs.Ledgers.{LedgerValue, IsLedger}
 use Rattle.hull_book.specs.LongBooks.{whole}

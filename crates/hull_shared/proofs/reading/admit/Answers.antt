@@ -1,4 +1,4 @@
--- as many as were asked for
+-- as many readers as were requested
 use Rattle.std.proofs.Common.{arith, inl, refl}
 use Rattle.std.proofs.lemmas.Bool.Decides.{nat_tests}
 use Rattle.hull_shared.proofs.reading.admit.Goals as goal

@@ -1,4 +1,4 @@
--- what the gate let in comes to the room
+-- the reader that the registry made goes into the storage
 use Rattle.std.proofs.Common.{refl, subst, sym}
 use Rattle.hull_shared.specs.Readings.{ComesToReader}
 use Rattle.hull_shared.specs.declared.reader.SharedReader.TheVariants.{Out, Vacant}

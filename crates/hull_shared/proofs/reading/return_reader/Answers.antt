@@ -1,4 +1,4 @@
--- the gate takes in what was out
+-- the registry counts the reader as released
 use Rattle.std.proofs.Common.{inl, inr, refl, rules}
 use Rattle.hull_shared.proofs.reading.return_reader.Goals as goal
 

@@ -1,4 +1,4 @@
--- the ledgers that were made with the book are all of its own
+-- the ledgers that were made with the book are all the ledgers of it
 use Rattle.std.proofs.Common.{◌∙◌, ap, sym, subst, box_value}
 use Rattle.hull_book.specs.Books.{BookValue}
 use Rattle.hull_book.specs.Ledgers.{AreAllLedgers}

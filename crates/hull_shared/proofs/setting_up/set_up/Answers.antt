@@ -1,4 +1,4 @@
--- the ledgers that were made with the book are all of its own
+-- the ledgers that were made with the book are all the ledgers of it
 use Rattle.std.proofs.Common.{◌≡◌, ◌∙◌, sym, subst}
 use Rattle.std.specs.Prelude.{Vec}
 use Rattle.std.specs.Global.{Global}

@@ -1,4 +1,4 @@
--- the teller has recorded all lines, which left what the set holds
+-- the publisher has recorded all lines, which led to the points of the set
 use Rattle.std.proofs.Common.{arith}
 use Rattle.std.proofs.lemmas.Grind.{common_steps}
 use Rattle.std.proofs.lemmas.List.{take_all}

@@ -1,4 +1,4 @@
--- the teller has recorded the lines so far, in the same hall
+-- the publisher has recorded the lines so far, with the same snapshot slots
 use Rattle.std.proofs.Common.{◌≡◌, Some, false, take}
 use Rattle.hull_views.specs.Tellers.{is_silent, recorded}
 use Rattle.hull_shared.specs.Tellings.{changes_of, hall_told}

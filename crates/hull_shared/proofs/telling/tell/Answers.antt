@@ -1,4 +1,4 @@
--- what is held is what is held behind the changes
+-- the set is the set after the changes
 use Rattle.std.proofs.Common.{arith}
 use Rattle.std.proofs.lemmas.Grind.{common_steps}
 use Rattle.hull_views.specs.Changes.{changed}

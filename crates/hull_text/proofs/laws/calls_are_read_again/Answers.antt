@@ -1,4 +1,4 @@
--- Each word is read as its call, and each number as itself; nothing is left behind them.
+-- Each word is read as its call, and each number as itself; nothing is left after them.
 use Rattle.hull_text.proofs.Formats.{alone}
 use Rattle.hull_text.proofs.Calls.{calls}
 use Rattle.hull_text.proofs.laws.calls_are_read_again.Goals as goal

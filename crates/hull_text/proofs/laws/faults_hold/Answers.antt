@@ -1,4 +1,4 @@
--- The first fault of the bytes is the fault that is read, and what is read is one thing.
+-- The first fault of the bytes is the fault that is read, and a reading has one result.
 use Rattle.hull_text.proofs.Grammars.{no_text_fails, one_answer, one_fault, text_or_fault}
 use Rattle.hull_text.proofs.ScriptTexts.{scripts}
 use Rattle.hull_text.proofs.JournalFaults.{journals}

@@ -1,4 +1,4 @@
--- What the grammar says of a text is what reading gives, and reading gives one thing.
+-- The grammar's value of a text is the result of reading, and a reading has one result.
 use Rattle.std.proofs.Common.{refl, ap, ◌∙◌}
 use Rattle.hull_text.specs.JournalReading.{journal_of}
 use Rattle.hull_text.proofs.Grammars.{one_value}

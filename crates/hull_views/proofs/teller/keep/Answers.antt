@@ -1,4 +1,4 @@
--- the list that was known, where it stays
+-- the known list, if it stays
 use Rattle.std.proofs.Common.{rules}
 use Rattle.hull_views.proofs.teller.keep.Goals as goal
 

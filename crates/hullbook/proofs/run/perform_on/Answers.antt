@@ -1,4 +1,4 @@
--- grind closes this at once, and refuses a wrong body that fails it sooner than a search
+-- grind closes this at once, and refuses a mutant that fails it sooner than a search
 use Rattle.std.proofs.Common.{arith}
 use Rattle.std.proofs.lemmas.Grind.{common_steps}
 use Rattle.hullbook.proofs.run.perform_on.Goals as goal

@@ -1,5 +1,5 @@
--- the book and the workers that were made for the script may run it, no worker having more calls than all have; and
--- ledgers in the order of their seats are all ledgers
+-- the book and the workers that were made for the script may run it, since no worker has more calls than all have;
+-- and ledgers in the order of their seats are all ledgers
 use Rattle.std.proofs.Common.{◌^◌, arith, rules}
 use Rattle.hull_book.proofs.Counts.{all_in_order, counts_within}
 use Rattle.hull_pool.proofs.Fronts.{few_each}

@@ -1,4 +1,4 @@
--- where the journal is asked for, the text is the journal's
+-- if the journal is requested, the text is the journal's
 use Rattle.hull_text.specs.Version.{written}
 use Rattle.hullbook.proofs.run.write_outcome.Goals as goal
 use Rattle.std.proofs.Common.{refl}

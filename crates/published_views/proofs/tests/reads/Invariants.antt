@@ -1,4 +1,4 @@
--- the reader is told of the hall's word
+-- the reader's watermark is of the word of these slots
 use Rattle.published_views.specs.Views.{IsToldOf}
 use Rattle.published_views.proofs.tests.reads.Given as goal
 

@@ -1,5 +1,5 @@
--- A write that took bytes appends them and leaves the count; so the front grows by what was taken, and the rest
--- shrinks.
+-- A write that took bytes appends them and leaves the count unchanged; so the written prefix grows by what was taken,
+-- and the rest shrinks.
 use Rattle.std.proofs.Common.{◌∙◌, length}
 use Rattle.text_io.proofs.Writing.{written_more, count_kept}
 use Rattle.text_io.proofs.write.put.Goals as goal

@@ -1,4 +1,4 @@
--- What went out is the front of the piece, no call has failed, and the rest gets shorter with each write.
+-- The bytes written are a prefix of the piece, no call has failed, and the rest gets shorter with each write.
 use Rattle.std.proofs.Common.{◌≡◌, length}
 use Rattle.text_io.proofs.Writing.{Written}
 use Rattle.text_io.proofs.write.put.Given as goal

@@ -1,4 +1,4 @@
--- Each edge goes no way inwards, and as far out as the point.
+-- No edge moves inwards, and each is as far out as the point.
 use Rattle.lattice.proofs.Numbers.{le_trans}
 use Rattle.hull_draw.proofs.frame.Frame.widened.Goals as goal
 

@@ -1,4 +1,4 @@
--- an item puts its call behind those of its worker, if it has one
+-- an item puts its call after those of its worker, if it has one
 use Rattle.std.proofs.Common.{◌≡◌, ℕ, ◌<◌, ◌∙◌, [], ◌∷◌, List, length, map, get_or, Some, None, Vec, refl, ap, sym, arith}
 use Rattle.std.specs.Global.{Global}
 use Rattle.std.proofs.lemmas.Bool.{false≢true}

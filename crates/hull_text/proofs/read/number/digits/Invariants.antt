@@ -1,4 +1,4 @@
--- The value so far tells the number of the digits so far; the rest is read behind them.
+-- The value so far is the number of the digits so far; the rest is read after them.
 use Rattle.std.proofs.Common.{◌≡◌, ◌^◌, ℕ, length}
 use Rattle.hull_text.specs.Number.{Tells, digits_after}
 use Rattle.hull_text.proofs.read.number.digits.Given as goal

@@ -1,5 +1,5 @@
--- A block goes on with the reading by its bytes; so a fault's line, like the text itself, is told by the blocks that
--- were taken.
+-- A block continues the reading by its bytes; so the blocks that were taken determine a fault's line, and the text
+-- itself.
 use Rattle.std.proofs.Common.{arith, refl, ◌∙◌, take}
 use Rattle.std.proofs.lemmas.Grind.{common_steps}
 use Rattle.std.proofs.lemmas.List.{length-take}

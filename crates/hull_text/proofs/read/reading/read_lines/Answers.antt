@@ -1,4 +1,4 @@
--- What the reader of blocks told of its end, clause by clause.
+-- The results of the reader of blocks at its end, clause by clause.
 use Rattle.hull_text.proofs.Results.{reads_to_end}
 use Rattle.hull_text.proofs.read.reading.read_lines.Goals as goal
 

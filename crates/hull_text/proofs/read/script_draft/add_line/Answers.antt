@@ -1,4 +1,4 @@
--- A line goes on with the reading by what it says, or has its fault.
+-- A line continues the reading by its item, or has its fault.
 use Rattle.std.proofs.Common.{ap, arith, ◌≡◌, ◌∷◌, ◌++◌, []}
 use Rattle.hull_text.specs.declared.fault.FaultKind.TheVariants.{NoMemory}
 use Rattle.hull_text.specs.declared.fault.TextFault.{TextFault}

@@ -1,4 +1,4 @@
--- The bytes so far have the form, so the whole has it where the rest has it behind them.
+-- The bytes so far have the form, so the whole has it if the rest has it after them.
 use Rattle.std.proofs.Common.{◌≡◌, length, true}
 use Rattle.hull_text.specs.Form.{has_form_after}
 use Rattle.hull_text.proofs.read.script_line.is_well_formed.Given as goal

@@ -1,5 +1,5 @@
--- The calls of a phase and of those behind it are the worker's calls; what is left of the count is compared with the
--- rest.
+-- The calls of a phase and of those after it are the worker's calls; the rest of the count is compared with the other
+-- phases.
 use Rattle.std.proofs.Common.{arith, ◌≡◌, length}
 use Rattle.hull_book.specs.Scripts.{PhaseValue}
 use Rattle.hull_text.proofs.Reports.{all_after, calls_long}

@@ -1,4 +1,4 @@
--- The fields in a row are the line.
+-- The fields in order are the line.
 use Rattle.hull_text.specs.Answers.{answer_fields}
 use Rattle.hull_text.specs.Spelling.{call_fields}
 use Rattle.hull_text.proofs.Spaces.{◌▹◌, field, fields, line_written}

@@ -1,4 +1,4 @@
--- The line of a call stands before those of the calls behind it.
+-- The line of a call comes before those of the calls after it.
 use Rattle.text_io.proofs.Chains.{chained_end, chained_more}
 use Rattle.hull_text.proofs.Reports.{answers_cons, answers_no_call, answers_no_answer}
 use Rattle.hull_text.proofs.write.report.answers_after.Goals as goal

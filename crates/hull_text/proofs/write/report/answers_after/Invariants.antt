@@ -1,4 +1,4 @@
--- The lines so far went out; those of the calls and answers left are still to come.
+-- The lines so far were written; those of the remaining calls and answers are not yet.
 use Rattle.std.proofs.Common.{length}
 use Rattle.hull_text.specs.Answers.{answers_text}
 use Rattle.text_io.proofs.Chains.{Chained}

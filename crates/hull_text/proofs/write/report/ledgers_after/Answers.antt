@@ -1,4 +1,4 @@
--- The line of a ledger stands before those of the ledgers behind it.
+-- The line of a ledger comes before those of the ledgers after it.
 use Rattle.text_io.proofs.Chains.{chained_end, chained_more}
 use Rattle.hull_text.proofs.Reports.{ledgers_more, ledgers_none}
 use Rattle.hull_text.proofs.write.report.ledgers_after.Goals as goal

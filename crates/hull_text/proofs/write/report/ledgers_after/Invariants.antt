@@ -1,4 +1,4 @@
--- The lines of the ledgers so far went out.
+-- The lines of the ledgers so far were written.
 use Rattle.std.proofs.Common.{drop}
 use Rattle.hull_text.specs.ReportText.{ledgers_text}
 use Rattle.text_io.proofs.Chains.{Chained}

@@ -1,4 +1,4 @@
--- The lines of a phase stand before those of the phases behind it, and each phase takes its share of the answers.
+-- The lines of a phase come before those of the phases after it, and each phase takes its share of the answers.
 use Rattle.std.proofs.Common.{arith, ◌≡◌, length}
 use Rattle.hull_book.specs.Scripts.{PhaseValue}
 use Rattle.text_io.proofs.Chains.{chained_end, chained_more}

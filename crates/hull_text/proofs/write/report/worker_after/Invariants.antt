@@ -1,4 +1,4 @@
--- The lines of the phases so far went out, and an answer is left for each call left.
+-- The lines of the phases so far were written, and an answer is left for each call left.
 use Rattle.std.proofs.Common.{◌≡◌, length, All}
 use Rattle.hull_book.specs.Scripts.{calls_of}
 use Rattle.hull_text.specs.Answers.{answers_text}

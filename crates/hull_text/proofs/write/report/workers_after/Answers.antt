@@ -1,4 +1,4 @@
--- The lines of a worker stand before those of the workers behind it, and its answers are as many as its calls.
+-- The lines of a worker come before those of the workers after it, and it has as many answers as calls.
 use Rattle.std.proofs.Common.{arith, ap, ◌∙◌, length}
 use Rattle.text_io.proofs.Chains.{chained_end, chained_more}
 use Rattle.hull_text.proofs.Reports.{answers_at, answers_each, workers_more, workers_none}

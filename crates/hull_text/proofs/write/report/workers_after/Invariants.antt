@@ -1,4 +1,4 @@
--- The lines of the workers so far went out.
+-- The lines of the workers so far were written.
 use Rattle.std.proofs.Common.{drop}
 use Rattle.hull_book.specs.Answers.{answers_in}
 use Rattle.hull_text.specs.ReportText.{workers_text}

@@ -1,4 +1,4 @@
--- The workers' lines, the ledgers' and the sum's in a row are the report.
+-- The lines of the workers, the ledgers and the sum in order are the report.
 use Rattle.text_io.proofs.Chains.{◌▸◌, written_whole}
 use Rattle.hull_text.proofs.write.report.write_report.Goals as goal
 

@@ -1,4 +1,4 @@
--- what the outline tells of every set with these corners
+-- the facts of the convex polygon, for every set with these vertices
 use Rattle.std.proofs.Common.{◌∙◌, subst, sym}
 use Rattle.lattice.specs.Covers.{with_point, without_point}
 use Rattle.lattice.specs.Vertices.{IsVertexList}

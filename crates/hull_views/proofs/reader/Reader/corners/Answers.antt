@@ -1,4 +1,4 @@
--- no corner is behind no line
+-- after no line there is no vertex
 use Rattle.std.proofs.lemmas.Grind.{merely}
 use Rattle.hull_geometry.proofs.Rounding.{small_list}
 use Rattle.std.proofs.Common.{arith, []}

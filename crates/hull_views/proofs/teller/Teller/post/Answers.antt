@@ -1,4 +1,4 @@
--- what was published is the last
+-- the number that was published is that of the last change
 use Rattle.std.proofs.Common.{◌≡◌, ◌∙◌, ap, arith, length, sym, true≢false}
 use mathlib.Core.Logic.{∥∥₁_map}
 use Rattle.published_views.specs.Numbers.{told_number}

@@ -1,4 +1,4 @@
--- the corners that are known are those behind what is recorded
+-- the known vertices are those after the recorded changes
 use Rattle.std.proofs.Common.{◌∙◌}
 use Rattle.std.specs.Arc.{arc_value}
 use Rattle.hull_views.specs.Lists.{corners_in}

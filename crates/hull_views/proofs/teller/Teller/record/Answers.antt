@@ -1,4 +1,4 @@
--- corners that stay are known behind the change, and what was shown is shown behind one that changes nothing
+-- vertices that stay are known after the change, and a set that was shown is still shown after a change of nothing
 use Rattle.std.specs.Arc.{arc_value}
 use Rattle.std.proofs.Common.{◌∙◌, arith, sym}
 use Rattle.hull_views.specs.Lists.{corners_in}

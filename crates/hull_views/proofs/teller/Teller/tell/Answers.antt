@@ -1,4 +1,4 @@
--- what is held behind the change, and shown
+-- the set after the change, and that it is shown
 use Rattle.std.proofs.Common.{◌∙◌, ap, sym}
 use mathlib.Core.Logic.{∥∥₁_map}
 use Rattle.hull_set.specs.Held.{nothing_held}

@@ -1,4 +1,4 @@
--- the strings are the words so far, and there is room for all
+-- the strings are the words so far, and there is capacity for all
 use Rattle.std.proofs.Common.{◌≡◌, ◌≤◌, length, take, vec_capacity}
 use Rattle.hull_program.specs.Words.{texts_of, words_as_texts}
 use Rattle.hullbook.proofs.options.parse.strings_of.Given as goal

@@ -1,4 +1,4 @@
--- grind closes these at once, and refuses a wrong body that fails one sooner than a search
+-- grind closes these at once, and refuses a mutant that fails one sooner than a search
 use Rattle.std.proofs.Common.{arith}
 use Rattle.std.proofs.lemmas.Grind.{common_steps}
 use Rattle.hullbook.proofs.watched.WatchedHullSet.remove.Goals as goal

@@ -1,4 +1,4 @@
--- the slots so far are of the history, one a turn
+-- the slots made so far belong to the history, and there is one for each round
 use Rattle.std.proofs.Common.{◌≡◌, All, length}
 use Rattle.published_views.proofs.hall.Hall.new.Given as goal
 

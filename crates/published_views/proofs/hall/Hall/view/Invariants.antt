@@ -1,4 +1,4 @@
--- what was told so far
+-- the watermark so far
 use Rattle.std.proofs.Common.{◌≡◌}
 use Rattle.published_views.specs.Numbers.{IsToldMore}
 use Rattle.published_views.proofs.hall.Hall.view.Given as goal

@@ -1,4 +1,4 @@
--- the exchange keeps the rule
+-- the exchange preserves the rule
 use Rattle.std.proofs.Common.{sym, ◌∙◌}
 use Rattle.published_views.proofs.AddedLines.{adds_moves}
 use Rattle.published_views.proofs.history.Front.add.Goals as goal

@@ -1,4 +1,4 @@
--- the shorter of two beginnings of what both have seen begins the other
+-- the shorter of two prefixes of all that either has seen is a prefix of the other
 use Rattle.std.proofs.Common.{ap, refl, subst}
 use mathlib.Core.List.{IsPrefix}
 use Rattle.published_views.proofs.Beginnings.{begins_by_count}

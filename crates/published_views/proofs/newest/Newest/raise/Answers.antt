@@ -1,4 +1,4 @@
--- the exchange keeps the rule
+-- the exchange preserves the rule
 use Rattle.std.proofs.Common.{◌∙◌, ap}
 use Rattle.published_views.specs.declared.newest.Rise.{Rise}
 use Rattle.published_views.proofs.RaisedWords.{raises_moves}

@@ -1,4 +1,4 @@
--- the view is still to be put
+-- the snapshot is not put into a slot yet
 use Rattle.std.proofs.Common.{◌≡◌}
 use Rattle.std.specs.Arc.{arc_value}
 use Rattle.published_views.proofs.publisher.Publisher.put.Given as goal
