@@ -9,31 +9,31 @@ hull_reply hull_proved_load(hull_set *h, const hull_point *points, size_t count)
 hull_reply hull_proved_held_from(const hull_set *h, int64_t x, int64_t y, hull_held *out, size_t room);
 hull_reply hull_proved_load_held(hull_set *h, const hull_held *held, size_t count);
 hull_reply hull_proved_bridges(const hull_set *h, uint32_t level, hull_bridge *out, size_t room);
-hull_reply hull_proved_outline_call(const hull_point *vertices, size_t count, uint32_t kind, int64_t x, int64_t y);
-size_t hull_proved_outline_calls(const hull_point *vertices, size_t count, const hull_request *requests, size_t request_count, hull_reply *replies, size_t reply_room);
-hull_reply hull_proved_outline_meets_segment(const hull_point *vertices, size_t count, int64_t ax, int64_t ay, int64_t bx, int64_t by);
-hull_reply hull_proved_outline_apart(const hull_point *vertices, size_t count, int64_t ax, int64_t ay, int64_t bx, int64_t by);
-hull_reply hull_proved_outline_nearest(const hull_point *vertices, size_t count, int64_t x, int64_t y);
-hull_reply hull_proved_outline_box(const hull_point *vertices, size_t count);
-hull_reply hull_proved_outline_width(const hull_point *vertices, size_t count, int64_t dx, int64_t dy);
-hull_reply hull_proved_outline_diameter(const hull_point *vertices, size_t count);
-hull_witness hull_proved_outline_least_width(const hull_point *vertices, size_t count);
-hull_reply hull_proved_outline_meets(const hull_point *vertices, size_t count, const hull_point *others, size_t other_count);
-hull_reply hull_proved_outline_contains(const hull_point *vertices, size_t count, const hull_point *others, size_t other_count);
-hull_reply hull_proved_outline_relation(const hull_point *vertices, size_t count, const hull_point *others, size_t other_count);
-hull_reply hull_proved_outline_contains_inside(const hull_point *vertices, size_t count, const hull_point *others, size_t other_count);
-hull_reply hull_proved_outline_within(const hull_point *vertices, size_t count, const hull_point *others, size_t other_count, uint64_t numerator, uint32_t denominator);
-hull_witness hull_proved_outline_witness(const hull_point *vertices, size_t count, const hull_point *others, size_t other_count);
-hull_witness hull_proved_outline_distance(const hull_point *vertices, size_t count, const hull_point *others, size_t other_count);
-hull_clearance hull_proved_outline_clearance(const hull_point *vertices, size_t count, const hull_point *others, size_t other_count);
-hull_clearance hull_proved_outline_clearance_to_segment(const hull_point *vertices, size_t count, int64_t ax, int64_t ay, int64_t bx, int64_t by);
-hull_reply hull_proved_outline_within_segment(const hull_point *vertices, size_t count, int64_t ax, int64_t ay, int64_t bx, int64_t by, uint64_t numerator, uint32_t denominator);
-hull_reply hull_proved_outline_relation_to_segment(const hull_point *vertices, size_t count, int64_t ax, int64_t ay, int64_t bx, int64_t by);
-hull_hit hull_proved_outline_cast_ray(const hull_point *vertices, size_t count, int64_t x, int64_t y, int64_t dx, int64_t dy);
-hull_hit hull_proved_outline_last_on_ray(const hull_point *vertices, size_t count, int64_t x, int64_t y, int64_t dx, int64_t dy);
-hull_hit hull_proved_outline_cast_segment(const hull_point *vertices, size_t count, int64_t ax, int64_t ay, int64_t bx, int64_t by);
-hull_reply hull_proved_is_outline(const hull_point *points, size_t count);
-hull_reply hull_proved_outline_of(const hull_point *points, size_t count, hull_point *out, size_t room);
+hull_reply hull_proved_polygon_call(const hull_point *vertices, size_t count, uint32_t kind, int64_t x, int64_t y);
+size_t hull_proved_polygon_calls(const hull_point *vertices, size_t count, const hull_request *requests, size_t request_count, hull_reply *replies, size_t reply_room);
+hull_reply hull_proved_polygon_intersects_segment(const hull_point *vertices, size_t count, int64_t ax, int64_t ay, int64_t bx, int64_t by);
+hull_reply hull_proved_polygon_separation(const hull_point *vertices, size_t count, int64_t ax, int64_t ay, int64_t bx, int64_t by);
+hull_reply hull_proved_polygon_nearest(const hull_point *vertices, size_t count, int64_t x, int64_t y);
+hull_reply hull_proved_polygon_box(const hull_point *vertices, size_t count);
+hull_reply hull_proved_polygon_width(const hull_point *vertices, size_t count, int64_t dx, int64_t dy);
+hull_reply hull_proved_polygon_diameter(const hull_point *vertices, size_t count);
+hull_witness hull_proved_polygon_least_width(const hull_point *vertices, size_t count);
+hull_reply hull_proved_polygon_intersects(const hull_point *vertices, size_t count, const hull_point *others, size_t other_count);
+hull_reply hull_proved_polygon_contains(const hull_point *vertices, size_t count, const hull_point *others, size_t other_count);
+hull_reply hull_proved_polygon_relation(const hull_point *vertices, size_t count, const hull_point *others, size_t other_count);
+hull_reply hull_proved_polygon_contains_inside(const hull_point *vertices, size_t count, const hull_point *others, size_t other_count);
+hull_reply hull_proved_polygon_within_distance(const hull_point *vertices, size_t count, const hull_point *others, size_t other_count, uint64_t numerator, uint32_t denominator);
+hull_witness hull_proved_polygon_witness(const hull_point *vertices, size_t count, const hull_point *others, size_t other_count);
+hull_witness hull_proved_polygon_distance(const hull_point *vertices, size_t count, const hull_point *others, size_t other_count);
+hull_distance_bounds hull_proved_polygon_distance_bounds(const hull_point *vertices, size_t count, const hull_point *others, size_t other_count);
+hull_distance_bounds hull_proved_polygon_distance_bounds_to_segment(const hull_point *vertices, size_t count, int64_t ax, int64_t ay, int64_t bx, int64_t by);
+hull_reply hull_proved_polygon_within_distance_of_segment(const hull_point *vertices, size_t count, int64_t ax, int64_t ay, int64_t bx, int64_t by, uint64_t numerator, uint32_t denominator);
+hull_reply hull_proved_polygon_relation_to_segment(const hull_point *vertices, size_t count, int64_t ax, int64_t ay, int64_t bx, int64_t by);
+hull_hit hull_proved_polygon_raycast(const hull_point *vertices, size_t count, int64_t x, int64_t y, int64_t dx, int64_t dy);
+hull_hit hull_proved_polygon_raycast_exit(const hull_point *vertices, size_t count, int64_t x, int64_t y, int64_t dx, int64_t dy);
+hull_hit hull_proved_polygon_raycast_segment(const hull_point *vertices, size_t count, int64_t ax, int64_t ay, int64_t bx, int64_t by);
+hull_reply hull_proved_is_polygon(const hull_point *points, size_t count);
+hull_reply hull_proved_polygon_of(const hull_point *points, size_t count, hull_point *out, size_t room);
 
 /* whether arrays of vertices are tested, as hull_check_arrays decides */
 static int is_checked;
@@ -58,8 +58,8 @@ static uint32_t fault_of(const hull_point *vertices, size_t count) {
     if (!__atomic_load_n(&is_checked, __ATOMIC_RELAXED)) {
         return HULL_OK;
     }
-    r = hull_proved_is_outline(vertices_at(vertices, count), count);
-    return r.code == HULL_NO_MEMORY ? HULL_NO_MEMORY : r.code == HULL_NUMBER && r.number == 1 ? HULL_OK : HULL_NO_OUTLINE;
+    r = hull_proved_is_polygon(vertices_at(vertices, count), count);
+    return r.code == HULL_NO_MEMORY ? HULL_NO_MEMORY : r.code == HULL_NUMBER && r.number == 1 ? HULL_OK : HULL_NO_POLYGON;
 }
 
 static uint32_t fault_of_both(const hull_point *vertices, size_t count, const hull_point *others, size_t other_count) {
@@ -72,8 +72,8 @@ static hull_witness witness_refusal(uint32_t code) {
     return w;
 }
 
-static hull_clearance clearance_refusal(uint32_t code) {
-    const hull_clearance c = {.code = code};
+static hull_distance_bounds clearance_refusal(uint32_t code) {
+    const hull_distance_bounds c = {.code = code};
     return c;
 }
 
@@ -117,12 +117,12 @@ hull_reply hull_bridges(const hull_set *h, uint32_t level, hull_bridge *out, siz
     return hull_proved_bridges(h, level, array(out, room), room);
 }
 
-hull_reply hull_outline_call(const hull_point *vertices, size_t count, uint32_t kind, int64_t x, int64_t y) {
+hull_reply hull_polygon_call(const hull_point *vertices, size_t count, uint32_t kind, int64_t x, int64_t y) {
     const uint32_t fault = fault_of(vertices, count);
-    return fault != HULL_OK ? hull_refusal(fault) : hull_proved_outline_call(vertices_at(vertices, count), count, kind, x, y);
+    return fault != HULL_OK ? hull_refusal(fault) : hull_proved_polygon_call(vertices_at(vertices, count), count, kind, x, y);
 }
 
-size_t hull_outline_calls(const hull_point *vertices, size_t count, const hull_request *requests, size_t request_count, hull_reply *replies, size_t reply_room) {
+size_t hull_polygon_calls(const hull_point *vertices, size_t count, const hull_request *requests, size_t request_count, hull_reply *replies, size_t reply_room) {
     const uint32_t fault = fault_of(vertices, count);
     if (fault != HULL_OK) {
         size_t made = request_count < reply_room ? request_count : reply_room, i;
@@ -131,130 +131,130 @@ size_t hull_outline_calls(const hull_point *vertices, size_t count, const hull_r
         }
         return made;
     }
-    return hull_proved_outline_calls(vertices_at(vertices, count), count,
+    return hull_proved_polygon_calls(vertices_at(vertices, count), count,
                               array(requests, request_count), request_count,
                               array(replies, reply_room), reply_room);
 }
 
-hull_reply hull_outline_meets_segment(const hull_point *vertices, size_t count, int64_t ax, int64_t ay, int64_t bx, int64_t by) {
+hull_reply hull_polygon_intersects_segment(const hull_point *vertices, size_t count, int64_t ax, int64_t ay, int64_t bx, int64_t by) {
     const uint32_t fault = fault_of(vertices, count);
-    return fault != HULL_OK ? hull_refusal(fault) : hull_proved_outline_meets_segment(vertices_at(vertices, count), count, ax, ay, bx, by);
+    return fault != HULL_OK ? hull_refusal(fault) : hull_proved_polygon_intersects_segment(vertices_at(vertices, count), count, ax, ay, bx, by);
 }
 
-hull_reply hull_outline_apart(const hull_point *vertices, size_t count, int64_t ax, int64_t ay, int64_t bx, int64_t by) {
+hull_reply hull_polygon_separation(const hull_point *vertices, size_t count, int64_t ax, int64_t ay, int64_t bx, int64_t by) {
     const uint32_t fault = fault_of(vertices, count);
-    return fault != HULL_OK ? hull_refusal(fault) : hull_proved_outline_apart(vertices_at(vertices, count), count, ax, ay, bx, by);
+    return fault != HULL_OK ? hull_refusal(fault) : hull_proved_polygon_separation(vertices_at(vertices, count), count, ax, ay, bx, by);
 }
 
-hull_reply hull_outline_nearest(const hull_point *vertices, size_t count, int64_t x, int64_t y) {
+hull_reply hull_polygon_nearest(const hull_point *vertices, size_t count, int64_t x, int64_t y) {
     const uint32_t fault = fault_of(vertices, count);
-    return fault != HULL_OK ? hull_refusal(fault) : hull_proved_outline_nearest(vertices_at(vertices, count), count, x, y);
+    return fault != HULL_OK ? hull_refusal(fault) : hull_proved_polygon_nearest(vertices_at(vertices, count), count, x, y);
 }
 
-hull_reply hull_outline_box(const hull_point *vertices, size_t count) {
+hull_reply hull_polygon_box(const hull_point *vertices, size_t count) {
     const uint32_t fault = fault_of(vertices, count);
-    return fault != HULL_OK ? hull_refusal(fault) : hull_proved_outline_box(vertices_at(vertices, count), count);
+    return fault != HULL_OK ? hull_refusal(fault) : hull_proved_polygon_box(vertices_at(vertices, count), count);
 }
 
-hull_reply hull_outline_width(const hull_point *vertices, size_t count, int64_t dx, int64_t dy) {
+hull_reply hull_polygon_width(const hull_point *vertices, size_t count, int64_t dx, int64_t dy) {
     const uint32_t fault = fault_of(vertices, count);
-    return fault != HULL_OK ? hull_refusal(fault) : hull_proved_outline_width(vertices_at(vertices, count), count, dx, dy);
+    return fault != HULL_OK ? hull_refusal(fault) : hull_proved_polygon_width(vertices_at(vertices, count), count, dx, dy);
 }
 
-hull_reply hull_outline_diameter(const hull_point *vertices, size_t count) {
+hull_reply hull_polygon_diameter(const hull_point *vertices, size_t count) {
     const uint32_t fault = fault_of(vertices, count);
-    return fault != HULL_OK ? hull_refusal(fault) : hull_proved_outline_diameter(vertices_at(vertices, count), count);
+    return fault != HULL_OK ? hull_refusal(fault) : hull_proved_polygon_diameter(vertices_at(vertices, count), count);
 }
 
-hull_witness hull_outline_least_width(const hull_point *vertices, size_t count) {
+hull_witness hull_polygon_least_width(const hull_point *vertices, size_t count) {
     const uint32_t fault = fault_of(vertices, count);
-    return fault != HULL_OK ? witness_refusal(fault) : hull_proved_outline_least_width(vertices_at(vertices, count), count);
+    return fault != HULL_OK ? witness_refusal(fault) : hull_proved_polygon_least_width(vertices_at(vertices, count), count);
 }
 
-hull_reply hull_outline_meets(const hull_point *vertices, size_t count, const hull_point *others, size_t other_count) {
+hull_reply hull_polygon_intersects(const hull_point *vertices, size_t count, const hull_point *others, size_t other_count) {
     const uint32_t fault = fault_of_both(vertices, count, others, other_count);
     return fault != HULL_OK ? hull_refusal(fault)
-                            : hull_proved_outline_meets(vertices_at(vertices, count), count, vertices_at(others, other_count), other_count);
+                            : hull_proved_polygon_intersects(vertices_at(vertices, count), count, vertices_at(others, other_count), other_count);
 }
 
-hull_reply hull_outline_contains(const hull_point *vertices, size_t count, const hull_point *others, size_t other_count) {
+hull_reply hull_polygon_contains(const hull_point *vertices, size_t count, const hull_point *others, size_t other_count) {
     const uint32_t fault = fault_of_both(vertices, count, others, other_count);
     return fault != HULL_OK ? hull_refusal(fault)
-                            : hull_proved_outline_contains(vertices_at(vertices, count), count, vertices_at(others, other_count), other_count);
+                            : hull_proved_polygon_contains(vertices_at(vertices, count), count, vertices_at(others, other_count), other_count);
 }
 
-hull_reply hull_outline_relation(const hull_point *vertices, size_t count, const hull_point *others, size_t other_count) {
+hull_reply hull_polygon_relation(const hull_point *vertices, size_t count, const hull_point *others, size_t other_count) {
     const uint32_t fault = fault_of_both(vertices, count, others, other_count);
     return fault != HULL_OK ? hull_refusal(fault)
-                            : hull_proved_outline_relation(vertices_at(vertices, count), count, vertices_at(others, other_count), other_count);
+                            : hull_proved_polygon_relation(vertices_at(vertices, count), count, vertices_at(others, other_count), other_count);
 }
 
-hull_reply hull_outline_contains_inside(const hull_point *vertices, size_t count, const hull_point *others, size_t other_count) {
+hull_reply hull_polygon_contains_inside(const hull_point *vertices, size_t count, const hull_point *others, size_t other_count) {
     const uint32_t fault = fault_of_both(vertices, count, others, other_count);
     return fault != HULL_OK ? hull_refusal(fault)
-                            : hull_proved_outline_contains_inside(vertices_at(vertices, count), count, vertices_at(others, other_count), other_count);
+                            : hull_proved_polygon_contains_inside(vertices_at(vertices, count), count, vertices_at(others, other_count), other_count);
 }
 
-hull_reply hull_outline_within(const hull_point *vertices, size_t count, const hull_point *others, size_t other_count, uint64_t numerator, uint32_t denominator) {
+hull_reply hull_polygon_within_distance(const hull_point *vertices, size_t count, const hull_point *others, size_t other_count, uint64_t numerator, uint32_t denominator) {
     const uint32_t fault = fault_of_both(vertices, count, others, other_count);
     return fault != HULL_OK ? hull_refusal(fault)
-                            : hull_proved_outline_within(vertices_at(vertices, count), count, vertices_at(others, other_count), other_count, numerator, denominator);
+                            : hull_proved_polygon_within_distance(vertices_at(vertices, count), count, vertices_at(others, other_count), other_count, numerator, denominator);
 }
 
-hull_witness hull_outline_witness(const hull_point *vertices, size_t count, const hull_point *others, size_t other_count) {
+hull_witness hull_polygon_witness(const hull_point *vertices, size_t count, const hull_point *others, size_t other_count) {
     const uint32_t fault = fault_of_both(vertices, count, others, other_count);
     return fault != HULL_OK ? witness_refusal(fault)
-                            : hull_proved_outline_witness(vertices_at(vertices, count), count, vertices_at(others, other_count), other_count);
+                            : hull_proved_polygon_witness(vertices_at(vertices, count), count, vertices_at(others, other_count), other_count);
 }
 
-hull_witness hull_outline_distance(const hull_point *vertices, size_t count, const hull_point *others, size_t other_count) {
+hull_witness hull_polygon_distance(const hull_point *vertices, size_t count, const hull_point *others, size_t other_count) {
     const uint32_t fault = fault_of_both(vertices, count, others, other_count);
     return fault != HULL_OK ? witness_refusal(fault)
-                            : hull_proved_outline_distance(vertices_at(vertices, count), count, vertices_at(others, other_count), other_count);
+                            : hull_proved_polygon_distance(vertices_at(vertices, count), count, vertices_at(others, other_count), other_count);
 }
 
-hull_clearance hull_outline_clearance(const hull_point *vertices, size_t count, const hull_point *others, size_t other_count) {
+hull_distance_bounds hull_polygon_distance_bounds(const hull_point *vertices, size_t count, const hull_point *others, size_t other_count) {
     const uint32_t fault = fault_of_both(vertices, count, others, other_count);
     return fault != HULL_OK ? clearance_refusal(fault)
-                            : hull_proved_outline_clearance(vertices_at(vertices, count), count, vertices_at(others, other_count), other_count);
+                            : hull_proved_polygon_distance_bounds(vertices_at(vertices, count), count, vertices_at(others, other_count), other_count);
 }
 
-hull_clearance hull_outline_clearance_to_segment(const hull_point *vertices, size_t count, int64_t ax, int64_t ay, int64_t bx, int64_t by) {
+hull_distance_bounds hull_polygon_distance_bounds_to_segment(const hull_point *vertices, size_t count, int64_t ax, int64_t ay, int64_t bx, int64_t by) {
     const uint32_t fault = fault_of(vertices, count);
     return fault != HULL_OK ? clearance_refusal(fault)
-                            : hull_proved_outline_clearance_to_segment(vertices_at(vertices, count), count, ax, ay, bx, by);
+                            : hull_proved_polygon_distance_bounds_to_segment(vertices_at(vertices, count), count, ax, ay, bx, by);
 }
 
-hull_reply hull_outline_within_segment(const hull_point *vertices, size_t count, int64_t ax, int64_t ay, int64_t bx, int64_t by, uint64_t numerator, uint32_t denominator) {
+hull_reply hull_polygon_within_distance_of_segment(const hull_point *vertices, size_t count, int64_t ax, int64_t ay, int64_t bx, int64_t by, uint64_t numerator, uint32_t denominator) {
     const uint32_t fault = fault_of(vertices, count);
     return fault != HULL_OK ? hull_refusal(fault)
-                            : hull_proved_outline_within_segment(vertices_at(vertices, count), count, ax, ay, bx, by, numerator, denominator);
+                            : hull_proved_polygon_within_distance_of_segment(vertices_at(vertices, count), count, ax, ay, bx, by, numerator, denominator);
 }
 
-hull_reply hull_outline_relation_to_segment(const hull_point *vertices, size_t count, int64_t ax, int64_t ay, int64_t bx, int64_t by) {
+hull_reply hull_polygon_relation_to_segment(const hull_point *vertices, size_t count, int64_t ax, int64_t ay, int64_t bx, int64_t by) {
     const uint32_t fault = fault_of(vertices, count);
-    return fault != HULL_OK ? hull_refusal(fault) : hull_proved_outline_relation_to_segment(vertices_at(vertices, count), count, ax, ay, bx, by);
+    return fault != HULL_OK ? hull_refusal(fault) : hull_proved_polygon_relation_to_segment(vertices_at(vertices, count), count, ax, ay, bx, by);
 }
 
-hull_hit hull_outline_cast_ray(const hull_point *vertices, size_t count, int64_t x, int64_t y, int64_t dx, int64_t dy) {
+hull_hit hull_polygon_raycast(const hull_point *vertices, size_t count, int64_t x, int64_t y, int64_t dx, int64_t dy) {
     const uint32_t fault = fault_of(vertices, count);
-    return fault != HULL_OK ? hit_refusal(fault) : hull_proved_outline_cast_ray(vertices_at(vertices, count), count, x, y, dx, dy);
+    return fault != HULL_OK ? hit_refusal(fault) : hull_proved_polygon_raycast(vertices_at(vertices, count), count, x, y, dx, dy);
 }
 
-hull_hit hull_outline_last_on_ray(const hull_point *vertices, size_t count, int64_t x, int64_t y, int64_t dx, int64_t dy) {
+hull_hit hull_polygon_raycast_exit(const hull_point *vertices, size_t count, int64_t x, int64_t y, int64_t dx, int64_t dy) {
     const uint32_t fault = fault_of(vertices, count);
-    return fault != HULL_OK ? hit_refusal(fault) : hull_proved_outline_last_on_ray(vertices_at(vertices, count), count, x, y, dx, dy);
+    return fault != HULL_OK ? hit_refusal(fault) : hull_proved_polygon_raycast_exit(vertices_at(vertices, count), count, x, y, dx, dy);
 }
 
-hull_hit hull_outline_cast_segment(const hull_point *vertices, size_t count, int64_t ax, int64_t ay, int64_t bx, int64_t by) {
+hull_hit hull_polygon_raycast_segment(const hull_point *vertices, size_t count, int64_t ax, int64_t ay, int64_t bx, int64_t by) {
     const uint32_t fault = fault_of(vertices, count);
-    return fault != HULL_OK ? hit_refusal(fault) : hull_proved_outline_cast_segment(vertices_at(vertices, count), count, ax, ay, bx, by);
+    return fault != HULL_OK ? hit_refusal(fault) : hull_proved_polygon_raycast_segment(vertices_at(vertices, count), count, ax, ay, bx, by);
 }
 
-hull_reply hull_is_outline(const hull_point *points, size_t count) {
-    return hull_proved_is_outline(vertices_at(points, count), count);
+hull_reply hull_is_polygon(const hull_point *points, size_t count) {
+    return hull_proved_is_polygon(vertices_at(points, count), count);
 }
 
-hull_reply hull_outline_of(const hull_point *points, size_t count, hull_point *out, size_t room) {
-    return hull_proved_outline_of(vertices_at(points, count), count, array(out, room), room);
+hull_reply hull_polygon_of(const hull_point *points, size_t count, hull_point *out, size_t room) {
+    return hull_proved_polygon_of(vertices_at(points, count), count, array(out, room), room);
 }

@@ -46,8 +46,8 @@
 /* the proved functions that those of the same name here call, as tools/product.sh names them: they know no gate */
 size_t hull_proved_shared_seat_size(void);
 void hull_proved_shared_make_seat(hull_shared_seat *room);
-uint32_t hull_proved_shared_lend(hull_shared_desk *desk, hull_shared_seat *room, uint32_t number);
-uint32_t hull_proved_shared_give_back(hull_shared_desk *desk, hull_shared_seat *room);
+uint32_t hull_proved_shared_acquire_seat(hull_shared *desk, hull_shared_seat *room, uint32_t number);
+uint32_t hull_proved_shared_release_seat(hull_shared *desk, hull_shared_seat *room);
 
 enum {
     INSIDE = 255,      /* the bits of the word that count the calls inside */
@@ -84,10 +84,10 @@ struct bed {
 
 struct line {
     /* set before calls are made */
-    const hull_shared_desk *desk; /* the shared hull of this gate, as long as seats are acquired */
+    const hull_shared *desk; /* the shared hull of this gate, as long as seats are acquired */
     hull_shared_hook *hook;
     void *context;
-    hull_shared_part *part;
+    hull_shared_segment *part;
     uint32_t out;    /* the seats that were acquired with this gate and not released */
     uint32_t beside; /* how many calls may be inside at once, minus 1 */
     uint32_t waits;  /* whether a call that found no space waits for some */
@@ -115,7 +115,7 @@ struct line {
     struct bed beds[HULL_SHARED_SEATS_MAX];
 };
 
-typedef char line_has_room[sizeof(struct line) <= sizeof(hull_shared_line) ? 1 : -1];
+typedef char line_has_room[sizeof(struct line) <= sizeof(hull_shared_gate) ? 1 : -1];
 
 /* The gate with which a seat was acquired, and its number; after the proved seat in its storage. */
 struct lent {
@@ -142,8 +142,8 @@ void hull_shared_make_seat(hull_shared_seat *room) {
 }
 
 /* Binds the gate to the shared hull, unless it is bound to another one; returns whether it is bound to this one. */
-static int is_bound(struct line *line, const hull_shared_desk *desk) {
-    const hull_shared_desk *other = NULL;
+static int is_bound(struct line *line, const hull_shared *desk) {
+    const hull_shared *other = NULL;
     return __atomic_compare_exchange_n(&line->desk, &other, desk, 0, __ATOMIC_SEQ_CST, __ATOMIC_SEQ_CST) || other == desk;
 }
 
@@ -155,31 +155,31 @@ static void let_go(struct line *line) {
     }
 }
 
-uint32_t hull_shared_lend(hull_shared_desk *desk, hull_shared_line *waiting, hull_shared_seat *room, uint32_t number) {
+uint32_t hull_shared_acquire_seat(hull_shared *desk, hull_shared_gate *waiting, hull_shared_seat *room, uint32_t number) {
     struct line *line = (struct line *)waiting;
     uint32_t code;
     if (line != NULL) {
         hull_is_atomic(line, sizeof *line);
         if (!is_bound(line, desk)) {
-            return HULL_OTHER_LINE;
+            return HULL_OTHER_GATE;
         }
     }
-    code = hull_proved_shared_lend(desk, room, number);
-    if (code == HULL_LENT) {
+    code = hull_proved_shared_acquire_seat(desk, room, number);
+    if (code == HULL_ACQUIRED) {
         lent_of(room)->line = line;
         lent_of(room)->number = number;
     }
     if (line != NULL) {
-        __atomic_fetch_add(&line->out, code == HULL_LENT, __ATOMIC_RELAXED);
+        __atomic_fetch_add(&line->out, code == HULL_ACQUIRED, __ATOMIC_RELAXED);
         let_go(line);
     }
     return code;
 }
 
-uint32_t hull_shared_give_back(hull_shared_desk *desk, hull_shared_seat *room) {
+uint32_t hull_shared_release_seat(hull_shared *desk, hull_shared_seat *room) {
     struct lent *lent = lent_of(room);
-    uint32_t code = hull_proved_shared_give_back(desk, room);
-    if (code == HULL_RETURNED && lent->line != NULL) {
+    uint32_t code = hull_proved_shared_release_seat(desk, room);
+    if (code == HULL_RELEASED && lent->line != NULL) {
         __atomic_fetch_sub(&lent->line->out, 1, __ATOMIC_RELAXED);
         let_go(lent->line);
         lent->line = NULL;
@@ -187,7 +187,7 @@ uint32_t hull_shared_give_back(hull_shared_desk *desk, hull_shared_seat *room) {
     return code;
 }
 
-int hull_shared_line_init(hull_shared_line *line, uint32_t inside) {
+int hull_shared_gate_init(hull_shared_gate *line, uint32_t inside) {
     if (inside < 1 || inside > HULL_SHARED_SEATS_MAX) {
         return 0;
     }
@@ -196,25 +196,25 @@ int hull_shared_line_init(hull_shared_line *line, uint32_t inside) {
     return 1;
 }
 
-void hull_shared_line_wait_for_room(hull_shared_line *line, int waits) {
+void hull_shared_gate_wait_for_space(hull_shared_gate *line, int waits) {
     ((struct line *)line)->waits = waits != 0;
 }
 
-int hull_shared_line_on_half_full(hull_shared_line *waiting, hull_shared_hook *hook, void *context) {
+int hull_shared_gate_on_half_full(hull_shared_gate *waiting, hull_shared_hook *hook, void *context) {
     struct line *line = (struct line *)waiting;
     if (line->part == NULL) {
-        line->part = hull_shared_part_new();
+        line->part = hull_shared_segment_new();
     }
     line->context = context;
     line->hook = line->part == NULL ? NULL : hook;
     return line->part != NULL;
 }
 
-void hull_shared_line_end(hull_shared_line *waiting) {
+void hull_shared_gate_end(hull_shared_gate *waiting) {
     struct line *line = (struct line *)waiting;
     if (line->part != NULL) {
-        hull_shared_part_end(line->part);
-        hull_shared_part_free(line->part);
+        hull_shared_segment_end(line->part);
+        hull_shared_segment_free(line->part);
     }
     line->part = NULL;
     line->hook = NULL;
@@ -470,7 +470,7 @@ static void is_served(struct line *line, uint64_t number) {
     }
 }
 
-void hull_shared_handed_on(hull_shared_line *waiting, uint64_t number) {
+void hull_shared_handed_on(hull_shared_gate *waiting, uint64_t number) {
     struct line *line = (struct line *)waiting;
     struct place *place = &line->places[number % HULL_SHARED_SEATS_MAX];
     int kept = errno;
@@ -509,11 +509,11 @@ static hull_shared_reply looks_and_wakes(struct line *line, hull_shared_seat *se
     case HULL_NOT_YET:
     case HULL_NO_NUMBER:
     case HULL_VACANT:
-    case HULL_NO_ROOM: return reply;
+    case HULL_NO_SPACE: return reply;
     }
     HULL_SHARED_STEP("served");
     __atomic_store_n(&line->held, reply.held, __ATOMIC_RELAXED);
-    hull_shared_handed_on((hull_shared_line *)line, reply.turn + 1);
+    hull_shared_handed_on((hull_shared_gate *)line, reply.turn + 1);
     if (to.part != NULL && reply.told.code != HULL_FULL) {
         room_again(line);
     }
@@ -610,11 +610,11 @@ static int is_drained(const struct call *call) {
     hull_shared_target to = {NULL, 0, line->part};
     struct call count = *call;
     uint32_t capacity = hull_shared_capacity(call->seat);
-    if (hull_shared_part_room(line->part) < capacity) {
-        hull_shared_part_end(line->part);
-        hull_shared_part_reserve(line->part, capacity);
+    if (hull_shared_segment_space(line->part) < capacity) {
+        hull_shared_segment_end(line->part);
+        hull_shared_segment_reserve(line->part, capacity);
     }
-    if (hull_shared_part_room(line->part) < capacity) {
+    if (hull_shared_segment_space(line->part) < capacity) {
         return 0;
     }
     count.kind = HULL_KIND_COUNT;
@@ -622,8 +622,8 @@ static int is_drained(const struct call *call) {
         return 0;
     }
     runs_hook(line);
-    hull_shared_part_end(line->part);
-    hull_shared_part_reserve(line->part, capacity);
+    hull_shared_segment_end(line->part);
+    hull_shared_segment_reserve(line->part, capacity);
     return 1;
 }
 
@@ -683,24 +683,24 @@ static hull_shared_reply made(const struct call *call, hull_shared_target to) {
     }
 }
 
-hull_shared_reply hull_shared_call_into(hull_shared_line *waiting, hull_shared_seat *seat, uint32_t kind, int64_t x, int64_t y,
+hull_shared_reply hull_shared_call_into(hull_shared_gate *waiting, hull_shared_seat *seat, uint32_t kind, int64_t x, int64_t y,
                                         hull_shared_target to, uint64_t until) {
     struct lent *lent = lent_of(seat);
     struct call call = {(struct line *)waiting, seat, lent->number + 1, kind, x, y, until};
     int kept = errno;
     hull_shared_reply reply;
     if (call.line == NULL || lent->line != call.line) {
-        return refused(lent->line == NULL && hull_shared_capacity(seat) == 0 ? HULL_VACANT : HULL_OTHER_LINE);
+        return refused(lent->line == NULL && hull_shared_capacity(seat) == 0 ? HULL_VACANT : HULL_OTHER_GATE);
     }
-    if (to.part != NULL && hull_shared_part_room(to.part) < hull_shared_capacity(seat)) {
-        return refused(HULL_NO_ROOM);
+    if (to.part != NULL && hull_shared_segment_space(to.part) < hull_shared_capacity(seat)) {
+        return refused(HULL_NO_SPACE);
     }
     reply = made(&call, to);
     errno = kept;
     return reply;
 }
 
-int hull_shared_line_drain(hull_shared_line *waiting, hull_shared_seat *seat) {
+int hull_shared_gate_drain(hull_shared_gate *waiting, hull_shared_seat *seat) {
     struct lent *lent = lent_of(seat);
     struct call call = {(struct line *)waiting, seat, lent->number + 1, HULL_KIND_COUNT, 0, 0, HULL_NEVER};
     int kept = errno, is_done;
@@ -722,29 +722,29 @@ int hull_shared_line_drain(hull_shared_line *waiting, hull_shared_seat *seat) {
 
 static const hull_shared_target nowhere = {NULL, 0, NULL};
 
-hull_shared_reply hull_shared_call(hull_shared_line *line, hull_shared_seat *seat, uint32_t kind, int64_t x, int64_t y) {
+hull_shared_reply hull_shared_call(hull_shared_gate *line, hull_shared_seat *seat, uint32_t kind, int64_t x, int64_t y) {
     return hull_shared_call_into(line, seat, kind, x, y, nowhere, HULL_NEVER);
 }
 
-hull_shared_reply hull_shared_try_call(hull_shared_line *line, hull_shared_seat *seat, uint32_t kind, int64_t x, int64_t y) {
+hull_shared_reply hull_shared_try_call(hull_shared_gate *line, hull_shared_seat *seat, uint32_t kind, int64_t x, int64_t y) {
     return hull_shared_call_into(line, seat, kind, x, y, nowhere, 0);
 }
 
-hull_shared_reply hull_shared_call_until(hull_shared_line *line, hull_shared_seat *seat, uint32_t kind, int64_t x, int64_t y,
+hull_shared_reply hull_shared_call_until(hull_shared_gate *line, hull_shared_seat *seat, uint32_t kind, int64_t x, int64_t y,
                                          uint64_t until) {
     return hull_shared_call_into(line, seat, kind, x, y, nowhere, until);
 }
 
-hull_shared_reply hull_shared_drain(hull_shared_line *line, hull_shared_seat *seat, hull_shared_part *part, uint32_t kind, int64_t x,
+hull_shared_reply hull_shared_drain(hull_shared_gate *line, hull_shared_seat *seat, hull_shared_segment *part, uint32_t kind, int64_t x,
                                     int64_t y) {
     hull_shared_target to = {NULL, 0, part};
-    if (hull_shared_part_room(part) < hull_shared_capacity(seat)) {
-        return refused(HULL_NO_ROOM);
+    if (hull_shared_segment_space(part) < hull_shared_capacity(seat)) {
+        return refused(HULL_NO_SPACE);
     }
     return hull_shared_call_into(line, seat, kind, x, y, to, HULL_NEVER);
 }
 
-hull_shared_reply hull_shared_vertices(hull_shared_line *line, hull_shared_seat *seat, hull_point *out, size_t room) {
+hull_shared_reply hull_shared_vertices(hull_shared_gate *line, hull_shared_seat *seat, hull_point *out, size_t room) {
     hull_point none = {0, 0};
     hull_shared_target to = {room == 0 ? &none : out, room, NULL};
     return hull_shared_call_into(line, seat, HULL_KIND_VERTICES, 0, 0, to, HULL_NEVER);
@@ -776,7 +776,7 @@ static uint64_t holder_since(const struct line *line, uint64_t turn, uint32_t *s
     return first;
 }
 
-hull_shared_state hull_shared_stats(const hull_shared_line *waiting) {
+hull_shared_state hull_shared_stats(const hull_shared_gate *waiting) {
     const struct line *line = (const struct line *)waiting;
     uint32_t door = door_of(line), draining = __atomic_load_n(&line->draining, __ATOMIC_SEQ_CST);
     uint64_t now = hull_lately(), since;

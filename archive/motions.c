@@ -42,10 +42,10 @@ static int is_shorter(const hull_hit *one, const hull_hit *other) {
 static void sooner(hull_motion *found, const hull_point *outline, size_t count, const hull_point *corners, size_t corner_count, int64_t dx,
                    int64_t dy, uint32_t moves) {
     for (size_t i = 0; i < corner_count; i++) {
-        const hull_hit hit = hull_outline_cast_ray(outline, count, corners[i].x, corners[i].y, dx, dy);
-        const int is_one = hit.code == HULL_COVERED || hit.code == HULL_EDGE || hit.code == HULL_CORNER;
+        const hull_hit hit = hull_polygon_raycast(outline, count, corners[i].x, corners[i].y, dx, dy);
+        const int is_one = hit.code == HULL_COVERED || hit.code == HULL_EDGE || hit.code == HULL_VERTEX;
         if (is_one && number(hit.high, hit.low) <= number(hit.divisor_high, hit.divisor_low) &&
-            (found->hit.code == HULL_APART || is_shorter(&hit, &found->hit))) {
+            (found->hit.code == HULL_DISJOINT || is_shorter(&hit, &found->hit))) {
             *found = (hull_motion){hit, corners[i], moves};
         }
     }
@@ -55,14 +55,14 @@ static int is_in_range(int64_t d) {
     return d >= -HULL_COORDINATE_MAX && d <= HULL_COORDINATE_MAX;
 }
 
-hull_motion hull_outline_first_meeting(const hull_point *corners, size_t count, const hull_point *others, size_t other_count, int64_t dx,
+hull_motion hull_polygon_first_meeting(const hull_point *corners, size_t count, const hull_point *others, size_t other_count, int64_t dx,
                                        int64_t dy) {
-    hull_motion found = {{.code = HULL_APART}, {0, 0}, 0};
+    hull_motion found = {{.code = HULL_DISJOINT}, {0, 0}, 0};
     if (!is_in_range(dx) || !is_in_range(dy)) {
         found.hit.code = HULL_OUT_OF_RANGE;
     } else if (count == 0 || other_count == 0) {
         found.hit.code = HULL_EMPTY;
-    } else if (hull_outline_meets(corners, count, others, other_count).number == 1) {
+    } else if (hull_polygon_intersects(corners, count, others, other_count).number == 1) {
         found.hit.code = HULL_COVERED;
         found.hit.divisor_low = 1;
     } else if (dx != 0 || dy != 0) {
@@ -72,9 +72,9 @@ hull_motion hull_outline_first_meeting(const hull_point *corners, size_t count, 
     return found;
 }
 
-hull_reply hull_outline_moved(const hull_point *corners, size_t count, int64_t dx, int64_t dy, hull_point *out) {
-    hull_reply reply = hull_refusal(HULL_CORNERS);
-    const hull_reply box = hull_outline_box(corners, count);
+hull_reply hull_polygon_translate(const hull_point *corners, size_t count, int64_t dx, int64_t dy, hull_point *out) {
+    hull_reply reply = hull_refusal(HULL_VERTICES);
+    const hull_reply box = hull_polygon_box(corners, count);
     const int64_t most = 2 * HULL_COORDINATE_MAX;
     reply.number = count;
     if (count != 0 && (dx < -most || dx > most || dy < -most || dy > most || !is_in_range(box.x + dx) || !is_in_range(box.other_x + dx) ||
@@ -102,10 +102,10 @@ static int comes_before(hull_point p, hull_point q) {
     return p.x != q.x ? p.x < q.x : p.y < q.y;
 }
 
-hull_reply hull_outline_turned(const hull_point *corners, size_t count, int64_t a, int64_t b, hull_point *out) {
+hull_reply hull_polygon_rotate(const hull_point *corners, size_t count, int64_t a, int64_t b, hull_point *out) {
     hull_point first = {0, 0}, turned;
     size_t from = 0;
-    hull_reply reply = hull_refusal(HULL_CORNERS);
+    hull_reply reply = hull_refusal(HULL_VERTICES);
     if (!is_in_range(a) || !is_in_range(b)) {
         return hull_refusal(HULL_OUT_OF_RANGE);
     }

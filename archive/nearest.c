@@ -43,7 +43,7 @@ static void looks(const hull_set *h, struct search *s, int64_t wide) {
         for (size_t i = 0; i < told.number && some[i].x <= right; i++) {
             meets(s, some[i]);
         }
-        from = hull_held_behind(some[AT_ONCE - 1]);
+        from = hull_held_after(some[AT_ONCE - 1]);
     }
 }
 

@@ -16,7 +16,7 @@ static size_t boxes_of(const hull_corners *outlines, size_t count, struct boxed 
     size_t found = 0;
     for (size_t i = 0; i < count; i++) {
         if (outlines[i].count != 0) {
-            const hull_reply box = hull_outline_box(outlines[i].corners, outlines[i].count);
+            const hull_reply box = hull_polygon_box(outlines[i].corners, outlines[i].count);
             boxes[found++] = (struct boxed){box.x, box.other_x, box.y, box.other_y, i};
         }
     }
@@ -45,12 +45,12 @@ static int64_t no_shorter(uint64_t numerator, uint32_t denominator) {
 /* Whether the distance of the two is at most that. */
 static int are_near(const hull_corners *a, const hull_corners *b, uint64_t numerator, uint32_t denominator) {
     const hull_reply told = numerator == 0 && denominator != 0
-                                ? hull_outline_meets(a->corners, a->count, b->corners, b->count)
-                                : hull_outline_within(a->corners, a->count, b->corners, b->count, numerator, denominator);
+                                ? hull_polygon_intersects(a->corners, a->count, b->corners, b->count)
+                                : hull_polygon_within_distance(a->corners, a->count, b->corners, b->count, numerator, denominator);
     return told.code == HULL_NUMBER && told.number == 1;
 }
 
-hull_reply hull_pairs_within(const hull_corners *outlines, size_t count, uint64_t numerator, uint32_t denominator, hull_pair *out,
+hull_reply hull_pairs_within_distance(const hull_corners *outlines, size_t count, uint64_t numerator, uint32_t denominator, hull_pair *out,
                              size_t room) {
     const int64_t length = no_shorter(numerator, denominator);
     struct boxed *boxes = count > SIZE_MAX / sizeof *boxes ? NULL : (struct boxed *)malloc((count + 1) * sizeof *boxes);
@@ -80,17 +80,17 @@ hull_reply hull_pairs_within(const hull_corners *outlines, size_t count, uint64_
     return reply;
 }
 
-void hull_outline_relations(const hull_point *corners, size_t count, const hull_corners *others, size_t other_count, uint8_t *out) {
+void hull_polygon_relations(const hull_point *corners, size_t count, const hull_corners *others, size_t other_count, uint8_t *out) {
     for (size_t i = 0; i < other_count; i++) {
-        out[i] = (uint8_t)hull_outline_relation(corners, count, others[i].corners, others[i].count).number;
+        out[i] = (uint8_t)hull_polygon_relation(corners, count, others[i].corners, others[i].count).number;
     }
 }
 
-size_t hull_outline_meets_segments(const hull_point *corners, size_t count, const hull_segment *segments, size_t segment_count,
+size_t hull_polygon_intersects_segments(const hull_point *corners, size_t count, const hull_segment *segments, size_t segment_count,
                                    uint8_t *out) {
     for (size_t i = 0; i < segment_count; i++) {
         const hull_segment s = segments[i];
-        const hull_reply told = hull_outline_meets_segment(corners, count, s.from.x, s.from.y, s.to.x, s.to.y);
+        const hull_reply told = hull_polygon_intersects_segment(corners, count, s.from.x, s.from.y, s.to.x, s.to.y);
         if (told.code != HULL_NUMBER) {
             return i;
         }
@@ -125,7 +125,7 @@ static size_t place_among(const hull_point *corners, size_t count, size_t last, 
     return count;
 }
 
-size_t hull_outline_indices(const hull_point *corners, size_t count, const hull_point *points, size_t point_count, size_t *out) {
+size_t hull_polygon_indices(const hull_point *corners, size_t count, const hull_point *points, size_t point_count, size_t *out) {
     size_t last = 0, met = 0;
     for (size_t i = 0; i < count; i++) {
         out[i] = point_count;

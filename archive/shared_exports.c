@@ -3,14 +3,14 @@
  * tools/product.sh gives them. */
 #include "hull_shared.h"
 
-hull_reply hull_proved_shared_reopen(hull_shared_desk *desk, const uint8_t *text, size_t length, uint32_t capacity, uint32_t seats);
-hull_reply hull_proved_shared_reopen_answering(hull_shared_desk *desk, const uint8_t *text, size_t length, uint32_t capacity, uint32_t seats);
+hull_reply hull_proved_shared_reopen(hull_shared *desk, const uint8_t *text, size_t length, uint32_t capacity, uint32_t seats);
+hull_reply hull_proved_shared_reopen_answering(hull_shared *desk, const uint8_t *text, size_t length, uint32_t capacity, uint32_t seats);
 hull_shared_reply hull_proved_shared_look_into(hull_shared_seat *seat, hull_point *out, size_t room);
-hull_reply hull_proved_shared_part_text(const hull_shared_part *part, uint8_t *out, size_t length);
-hull_reply hull_proved_shared_part_text_from(const hull_shared_part *part, uint64_t line, uint8_t *out, size_t length);
-hull_reply hull_proved_shared_text(const hull_shared_desk *desk, uint8_t *out, size_t length);
-hull_reply hull_proved_shared_text_from(const hull_shared_desk *desk, uint64_t line, uint8_t *out, size_t length);
-hull_reply hull_proved_shared_view_corners(hull_shared_reader *reader, hull_point *out, size_t room);
+hull_reply hull_proved_shared_segment_text(const hull_shared_segment *part, uint8_t *out, size_t length);
+hull_reply hull_proved_shared_segment_text_from(const hull_shared_segment *part, uint64_t line, uint8_t *out, size_t length);
+hull_reply hull_proved_shared_text(const hull_shared *desk, uint8_t *out, size_t length);
+hull_reply hull_proved_shared_text_from(const hull_shared *desk, uint64_t line, uint8_t *out, size_t length);
+hull_reply hull_proved_shared_snapshot_vertices(hull_shared_reader *reader, hull_point *out, size_t room);
 
 static void clear(uint8_t *text, size_t length) {
     if (length > 0) {
@@ -22,11 +22,11 @@ const char *hull_shared_library_version(void) {
     return HULL_VERSION;
 }
 
-hull_reply hull_shared_reopen(hull_shared_desk *desk, const uint8_t *text, size_t length, uint32_t capacity, uint32_t seats) {
+hull_reply hull_shared_reopen(hull_shared *desk, const uint8_t *text, size_t length, uint32_t capacity, uint32_t seats) {
     return hull_proved_shared_reopen(desk, hull_array(text, length), length, capacity, seats);
 }
 
-hull_reply hull_shared_reopen_answering(hull_shared_desk *desk, const uint8_t *text, size_t length, uint32_t capacity, uint32_t seats) {
+hull_reply hull_shared_reopen_answering(hull_shared *desk, const uint8_t *text, size_t length, uint32_t capacity, uint32_t seats) {
     return hull_proved_shared_reopen_answering(desk, hull_array(text, length), length, capacity, seats);
 }
 
@@ -34,26 +34,26 @@ hull_shared_reply hull_shared_look_into(hull_shared_seat *seat, hull_point *out,
     return hull_proved_shared_look_into(seat, hull_array(out, room), room);
 }
 
-hull_reply hull_shared_part_text(const hull_shared_part *part, uint8_t *out, size_t length) {
+hull_reply hull_shared_segment_text(const hull_shared_segment *part, uint8_t *out, size_t length) {
     clear(out, length);
-    return hull_proved_shared_part_text(part, hull_array(out, length), length);
+    return hull_proved_shared_segment_text(part, hull_array(out, length), length);
 }
 
-hull_reply hull_shared_part_text_from(const hull_shared_part *part, uint64_t line, uint8_t *out, size_t length) {
+hull_reply hull_shared_segment_text_from(const hull_shared_segment *part, uint64_t line, uint8_t *out, size_t length) {
     clear(out, length);
-    return hull_proved_shared_part_text_from(part, line, hull_array(out, length), length);
+    return hull_proved_shared_segment_text_from(part, line, hull_array(out, length), length);
 }
 
-hull_reply hull_shared_text(const hull_shared_desk *desk, uint8_t *out, size_t length) {
+hull_reply hull_shared_text(const hull_shared *desk, uint8_t *out, size_t length) {
     clear(out, length);
     return hull_proved_shared_text(desk, hull_array(out, length), length);
 }
 
-hull_reply hull_shared_text_from(const hull_shared_desk *desk, uint64_t line, uint8_t *out, size_t length) {
+hull_reply hull_shared_text_from(const hull_shared *desk, uint64_t line, uint8_t *out, size_t length) {
     clear(out, length);
     return hull_proved_shared_text_from(desk, line, hull_array(out, length), length);
 }
 
-hull_reply hull_shared_view_corners(hull_shared_reader *reader, hull_point *out, size_t room) {
-    return hull_proved_shared_view_corners(reader, hull_array(out, room), room);
+hull_reply hull_shared_snapshot_vertices(hull_shared_reader *reader, hull_point *out, size_t room) {
+    return hull_proved_shared_snapshot_vertices(reader, hull_array(out, room), room);
 }

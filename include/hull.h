@@ -68,7 +68,7 @@ uint32_t hull_end(hull_set *h);
 static inline hull_set *hull_new(uint32_t limit) {
     hull_set *h = NULL;
     if (limit >= 1 && limit <= HULL_LIMIT_MAX) {
-        h = (hull_set *)hull_room_new(hull_size(), hull_alignment());
+        h = (hull_set *)hull_storage_new(hull_size(), hull_alignment());
     }
     if (h != NULL) {
         hull_make(limit, h);
@@ -80,7 +80,7 @@ static inline hull_set *hull_new(uint32_t limit) {
 static inline void hull_free(hull_set *h) {
     if (h != NULL) {
         hull_end(h);
-        hull_room_free(h);
+        hull_storage_free(h);
     }
 }
 
@@ -88,7 +88,7 @@ static inline void hull_free(hull_set *h) {
  * are kept in an array, and questions are answered from it, in less time, until a change moves one. Returns HULL_NUMBER with how
  * many vertices are kept, 0 if none are. It allocates; if memory is refused, nothing is kept. hull_calls does this for each
  * place, tangents, extreme and area. */
-hull_reply hull_settle(hull_set *h);
+hull_reply hull_prepare(hull_set *h);
 
 /* Makes a call by its kind (hull_kind) with the point or direction (x, y), as the functions below that are named for a kind;
  * returns HULL_UNKNOWN_KIND if there is no such kind. Only HULL_KIND_ADD and HULL_KIND_VERTICES allocate. */
@@ -130,7 +130,7 @@ static inline hull_reply hull_multiplicity(const hull_set *h, int64_t x, int64_t
 }
 
 /* Writes the vertices to the front of the array of `room` points: counterclockwise from the first by x and then y, each once,
- * none inside an edge. Returns HULL_CORNERS; HULL_TOO_SMALL, and `number` points are needed; or HULL_NO_MEMORY. hull_count
+ * none inside an edge. Returns HULL_VERTICES; HULL_TOO_SMALL, and `number` points are needed; or HULL_NO_MEMORY. hull_count
  * points always suffice. `out` is aligned, and its points were written before, to anything (calloc does that). */
 hull_reply hull_vertices(const hull_set *h, hull_point *out, size_t room);
 
@@ -165,7 +165,7 @@ hull_reply hull_load(hull_set *h, const hull_point *points, size_t count);
 /* Writes the points from (x, y) on, in order by x and then y, each with its multiplicity, to the front of the array of `room`
  * points, until it is full or there are no more. Returns HULL_NUMBER with how many were written; HULL_OUT_OF_RANGE or
  * HULL_NO_MEMORY. All points are those from (-HULL_COORDINATE_MAX, -HULL_COORDINATE_MAX) on, into an array of hull_count, or a
- * block at a time, each from hull_held_behind the last point of the one before; the set may change between two blocks:
+ * block at a time, each from hull_held_after the last point of the one before; the set may change between two blocks:
  *
  *     hull_held block[1000];
  *     hull_point at = {-HULL_COORDINATE_MAX, -HULL_COORDINATE_MAX};
@@ -173,7 +173,7 @@ hull_reply hull_load(hull_set *h, const hull_point *points, size_t count);
  *     while (r.number > 0 && at.x <= HULL_COORDINATE_MAX) {
  *         r = hull_held_from(h, at.x, at.y, block, 1000);        // HULL_NO_MEMORY ends it: r.code is not HULL_NUMBER then
  *         for (size_t i = 0; i < r.number; i++) use(block[i]);
- *         if (r.number > 0) at = hull_held_behind(block[r.number - 1]);
+ *         if (r.number > 0) at = hull_held_after(block[r.number - 1]);
  *     }
  *
  * The array is as for hull_vertices. */
@@ -181,7 +181,7 @@ hull_reply hull_held_from(const hull_set *h, int64_t x, int64_t y, hull_held *ou
 
 /* Returns the first place after a point, from which the next block begins. After the last place of all it is out of range,
  * (HULL_COORDINATE_MAX + 1, -HULL_COORDINATE_MAX), and there is no block from there: HULL_OUT_OF_RANGE. */
-static inline hull_point hull_held_behind(hull_held last) {
+static inline hull_point hull_held_after(hull_held last) {
     hull_point next = {last.x, last.y + 1};
     if (last.y >= HULL_COORDINATE_MAX) {
         next.x++, next.y = -HULL_COORDINATE_MAX;
@@ -246,18 +246,18 @@ hull_reply hull_clear(hull_set *h);
 
 /* A convex polygon, called *outline* in the names below, is an array of vertices as hull_vertices writes it. The functions below
  * answer what those above answer of the set that it was taken from, as the set was then, in O(log h) for h vertices
- * (hull_outline_area in O(h)). They write nothing and allocate nothing, so any number of threads may query one array at once.
+ * (hull_polygon_area in O(h)). They write nothing and allocate nothing, so any number of threads may query one array at once.
  *
- * hull_outline_call answers the kinds HULL_KIND_PLACE, _TANGENTS, _EXTREME, _AREA and _VERTICES, and returns HULL_UNKNOWN_KIND
+ * hull_polygon_call answers the kinds HULL_KIND_PLACE, _TANGENTS, _EXTREME, _AREA and _VERTICES, and returns HULL_UNKNOWN_KIND
  * for all others.
  *
  * You must ensure: the array is a convex polygon of at most HULL_LIMIT_MAX vertices, one that hull_vertices wrote or for which
- * hull_is_outline returned 1; it is aligned, and nobody writes it during a call. Nothing checks that unless you ask for it by
+ * hull_is_polygon returned 1; it is aligned, and nobody writes it during a call. Nothing checks that unless you ask for it by
  * hull_check_arrays. */
-hull_reply hull_is_outline(const hull_point *points, size_t count);
+hull_reply hull_is_polygon(const hull_point *points, size_t count);
 
-/* Decides for the whole program whether each call on arrays of vertices first tests them as hull_is_outline does, and fails with
- * HULL_NO_OUTLINE or HULL_NO_MEMORY; 1 for yes, 0 (as at the start) for no. Call it before other threads do. Compile with
+/* Decides for the whole program whether each call on arrays of vertices first tests them as hull_is_polygon does, and fails with
+ * HULL_NO_POLYGON or HULL_NO_MEMORY; 1 for yes, 0 (as at the start) for no. Call it before other threads do. Compile with
  * -DHULL_CHECKED and it is called with 1 before main. */
 void hull_check_arrays(int is_on);
 #if defined(HULL_CHECKED)
@@ -269,68 +269,68 @@ __attribute__((constructor, unused)) static void hull_check_arrays_from_the_star
 }
 #endif
 
-hull_reply hull_outline_call(const hull_point *vertices, size_t count, uint32_t kind, int64_t x, int64_t y);
+hull_reply hull_polygon_call(const hull_point *vertices, size_t count, uint32_t kind, int64_t x, int64_t y);
 
-static inline hull_reply hull_outline_place(const hull_point *vertices, size_t count, int64_t x, int64_t y) {
-    return hull_outline_call(vertices, count, HULL_KIND_PLACE, x, y);
+static inline hull_reply hull_polygon_place(const hull_point *vertices, size_t count, int64_t x, int64_t y) {
+    return hull_polygon_call(vertices, count, HULL_KIND_PLACE, x, y);
 }
 
-static inline hull_reply hull_outline_tangents(const hull_point *vertices, size_t count, int64_t x, int64_t y) {
-    return hull_outline_call(vertices, count, HULL_KIND_TANGENTS, x, y);
+static inline hull_reply hull_polygon_tangents(const hull_point *vertices, size_t count, int64_t x, int64_t y) {
+    return hull_polygon_call(vertices, count, HULL_KIND_TANGENTS, x, y);
 }
 
-static inline hull_reply hull_outline_extreme(const hull_point *vertices, size_t count, int64_t x, int64_t y) {
-    return hull_outline_call(vertices, count, HULL_KIND_EXTREME, x, y);
+static inline hull_reply hull_polygon_extreme(const hull_point *vertices, size_t count, int64_t x, int64_t y) {
+    return hull_polygon_call(vertices, count, HULL_KIND_EXTREME, x, y);
 }
 
-static inline hull_reply hull_outline_area(const hull_point *vertices, size_t count) {
-    return hull_outline_call(vertices, count, HULL_KIND_AREA, 0, 0);
+static inline hull_reply hull_polygon_area(const hull_point *vertices, size_t count) {
+    return hull_polygon_call(vertices, count, HULL_KIND_AREA, 0, 0);
 }
 
 /* Makes the calls of the requests on the polygon, and writes a reply for each to the front of `replies`, up to the end of the
  * shorter array; returns how many it wrote. A request that is no valid call has its fault as its reply, and stops nothing. The
  * arrays are as for hull_calls. */
-size_t hull_outline_calls(const hull_point *vertices, size_t count, const hull_request *requests, size_t request_count,
+size_t hull_polygon_calls(const hull_point *vertices, size_t count, const hull_request *requests, size_t request_count,
                           hull_reply *replies, size_t reply_room);
 
 /* Questions of planners and collision checks. None of them allocates, and any number of threads may ask at once. A coordinate
  * out of range gives HULL_OUT_OF_RANGE. A polygon without vertices is disjoint from everything: HULL_EMPTY, and 0 from
- * hull_outline_meets_segment.
+ * hull_polygon_intersects_segment.
  *
  * Returns HULL_NUMBER with 1 if the polygon and the segment from (ax, ay) to (bx, by) intersect, ends and boundary included,
  * else with 0. The ends may be one point. O(log h). */
-hull_reply hull_outline_meets_segment(const hull_point *vertices, size_t count, int64_t ax, int64_t ay, int64_t bx, int64_t by);
+hull_reply hull_polygon_intersects_segment(const hull_point *vertices, size_t count, int64_t ax, int64_t ay, int64_t bx, int64_t by);
 
-/* Finds what separates the polygon from that segment. Returns HULL_APART with a vertex (x, y) and a direction (other_x, other_y)
+/* Finds what separates the polygon from that segment. Returns HULL_DISJOINT with a vertex (x, y) and a direction (other_x, other_y)
  * whose product with any vertex is at most that with (x, y), and whose products with both ends are greater (products of 128
- * bits: a component has up to 42); HULL_MEETING if they intersect. O(log h). */
-hull_reply hull_outline_apart(const hull_point *vertices, size_t count, int64_t ax, int64_t ay, int64_t bx, int64_t by);
+ * bits: a component has up to 42); HULL_INTERSECTING if they intersect. O(log h). */
+hull_reply hull_polygon_separation(const hull_point *vertices, size_t count, int64_t ax, int64_t ay, int64_t bx, int64_t by);
 
-/* Finds the point of the polygon that is nearest to (x, y): returns HULL_COVERED, HULL_CORNER or HULL_EDGE. The squared distance
+/* Finds the point of the polygon that is nearest to (x, y): returns HULL_COVERED, HULL_VERTEX or HULL_EDGE. The squared distance
  * is that to the vertex; or the square of (bx - ax) (y - ay) - (by - ay) (x - ax), of up to 84 bits, divided by the squared
  * length of the edge. O(log h). */
-hull_reply hull_outline_nearest(const hull_point *vertices, size_t count, int64_t x, int64_t y);
+hull_reply hull_polygon_nearest(const hull_point *vertices, size_t count, int64_t x, int64_t y);
 
 /* Returns HULL_BOX with the bounding box of the polygon. O(log h). */
-hull_reply hull_outline_box(const hull_point *vertices, size_t count);
+hull_reply hull_polygon_box(const hull_point *vertices, size_t count);
 
 /* Measures the polygon in the direction (dx, dy), each component at most HULL_COORDINATE_MAX in size. Returns HULL_NUMBER with
  * the greatest product of a vertex with it less the least, up to 84 bits in `number` and `high`; divide it by the length of the
  * direction for the width. Fails with HULL_EMPTY, HULL_OUT_OF_RANGE, HULL_ZERO_DIRECTION. O(log h). */
-hull_reply hull_outline_width(const hull_point *vertices, size_t count, int64_t dx, int64_t dy);
+hull_reply hull_polygon_width(const hull_point *vertices, size_t count, int64_t dx, int64_t dy);
 
 /* Finds the two vertices that are farthest from one another, equal if there is only one: returns HULL_POINTS or HULL_EMPTY. O(h
  * log h). */
-hull_reply hull_outline_diameter(const hull_point *vertices, size_t count);
+hull_reply hull_polygon_diameter(const hull_point *vertices, size_t count);
 
 /* A witness: points that show how polygons are related, so that you can verify it. What a code does not name is 0. */
 typedef struct hull_witness {
     uint32_t code; /* HULL_COVERED: the first polygon contains a, a vertex of the second. HULL_WITHIN: the second contains a, a vertex of
                     * the first. HULL_CROSSING: the segment from a to b, vertices of the first, crosses the one from c to d, vertices of
-                    * the second. HULL_APART: b is a direction, with components of at most 2^41 in size, in which a, a vertex of the
+                    * the second. HULL_DISJOINT: b is a direction, with components of at most 2^41 in size, in which a, a vertex of the
                     * first, is farthest of the first, and each vertex of the second is farther. HULL_EDGE: a strip between the line
                     * of an edge, from a to b, and its parallel through c. HULL_EMPTY: there are too few vertices. The codes of
-                    * hull_outline_distance are described there */
+                    * hull_polygon_distance are described there */
     hull_point a;
     hull_point b;
     hull_point c;
@@ -340,21 +340,21 @@ typedef struct hull_witness {
 /* Finds where the polygon is least wide. Returns HULL_EDGE with an edge from a to b, counterclockwise, and a vertex c farthest
  * from it; no direction has a narrower strip. The width squared is the square of (bx - ax) (cy - ay) - (by - ay) (cx - ax), of
  * up to 84 bits, divided by the squared length of the edge. HULL_EMPTY if there are fewer than two vertices. O(h log h). */
-hull_witness hull_outline_least_width(const hull_point *vertices, size_t count);
+hull_witness hull_polygon_least_width(const hull_point *vertices, size_t count);
 
 /* Questions of two polygons. Both arrays are as above, may be the same, and either may be empty. For h and k vertices they take
- * O(k log h), and hull_outline_witness O(h log k) more if they are disjoint.
+ * O(k log h), and hull_polygon_witness O(h log k) more if they are disjoint.
  *
  * Returns HULL_NUMBER with 1 if they intersect, boundaries included, else with 0. */
-hull_reply hull_outline_meets(const hull_point *vertices, size_t count, const hull_point *others, size_t other_count);
+hull_reply hull_polygon_intersects(const hull_point *vertices, size_t count, const hull_point *others, size_t other_count);
 
 /* Returns HULL_NUMBER with 1 if the first contains the second, boundaries included, else with 0. */
-hull_reply hull_outline_contains(const hull_point *vertices, size_t count, const hull_point *others, size_t other_count);
+hull_reply hull_polygon_contains(const hull_point *vertices, size_t count, const hull_point *others, size_t other_count);
 
 /* How the first polygon is related to the second. */
 typedef enum hull_relation {
     /* written by tools/table.py: relations */
-    HULL_RELATION_APART = 0,       /* they are disjoint */
+    HULL_RELATION_DISJOINT = 0,       /* they are disjoint */
     HULL_RELATION_TOUCHING = 1,    /* they intersect, and a line has them on its two sides: nothing inside the one is covered by the
                                     * other */
     HULL_RELATION_OVERLAPPING = 2, /* they intersect, and no line has them on its two sides */
@@ -366,24 +366,24 @@ typedef enum hull_relation {
 
 /* Returns HULL_NUMBER with their relation. A polygon without vertices is within any other. If they intersect it takes O(h log k
  * + k log h). */
-hull_reply hull_outline_relation(const hull_point *vertices, size_t count, const hull_point *others, size_t other_count);
+hull_reply hull_polygon_relation(const hull_point *vertices, size_t count, const hull_point *others, size_t other_count);
 
 /* Returns HULL_NUMBER with 1 if the first contains the second with no point of it on the boundary, else with 0. */
-hull_reply hull_outline_contains_inside(const hull_point *vertices, size_t count, const hull_point *others, size_t other_count);
+hull_reply hull_polygon_contains_inside(const hull_point *vertices, size_t count, const hull_point *others, size_t other_count);
 
 /* Returns HULL_NUMBER with 1 if their distance is at most numerator / denominator, exactly, else with 0; 0 if one has no
- * vertices. A length with the denominator 0 is longer than any distance. Cost as hull_outline_distance. */
-hull_reply hull_outline_within(const hull_point *vertices, size_t count, const hull_point *others, size_t other_count,
+ * vertices. A length with the denominator 0 is longer than any distance. Cost as hull_polygon_distance. */
+hull_reply hull_polygon_within_distance(const hull_point *vertices, size_t count, const hull_point *others, size_t other_count,
                                uint64_t numerator, uint32_t denominator);
 
-/* Finds what shows that they intersect, or what separates them: returns HULL_COVERED, HULL_WITHIN, HULL_CROSSING or HULL_APART;
+/* Finds what shows that they intersect, or what separates them: returns HULL_COVERED, HULL_WITHIN, HULL_CROSSING or HULL_DISJOINT;
  * HULL_EMPTY if one has no vertices. */
-hull_witness hull_outline_witness(const hull_point *vertices, size_t count, const hull_point *others, size_t other_count);
+hull_witness hull_polygon_witness(const hull_point *vertices, size_t count, const hull_point *others, size_t other_count);
 
 /* Questions of many polygons, each given by its vertices and their number. These are C over the calls above (archive/pairs.c),
  * tested and not proved; hull_check_arrays does not apply to their arrays, nor to those that translate and rotate polygons.
  *
- * Finds the pairs of polygons whose distance is at most numerator / denominator, as hull_outline_within; with 0 / 1 those that
+ * Finds the pairs of polygons whose distance is at most numerator / denominator, as hull_polygon_within_distance; with 0 / 1 those that
  * intersect. The pairs (first, second), of indices with first < second, are written to `out` in their order. Returns HULL_NUMBER
  * with how many there are; HULL_TOO_SMALL with the same, and then `out` contains some of them; or HULL_NO_MEMORY (it allocates
  * 40 bytes for each polygon). Polygons without vertices are in no pair. Boxes are swept in the order of their left sides, so
@@ -396,11 +396,11 @@ typedef struct hull_pair {
     size_t first;
     size_t second;
 } hull_pair;
-hull_reply hull_pairs_within(const hull_corners *outlines, size_t count, uint64_t numerator, uint32_t denominator, hull_pair *out,
+hull_reply hull_pairs_within_distance(const hull_corners *outlines, size_t count, uint64_t numerator, uint32_t denominator, hull_pair *out,
                              size_t room);
 
-/* Writes the hull_relation of the polygon to each of the others, as hull_outline_relation. */
-void hull_outline_relations(const hull_point *vertices, size_t count, const hull_corners *others, size_t other_count, uint8_t *out);
+/* Writes the hull_relation of the polygon to each of the others, as hull_polygon_relation. */
+void hull_polygon_relations(const hull_point *vertices, size_t count, const hull_corners *others, size_t other_count, uint8_t *out);
 
 /* Writes for each segment 1 if the polygon intersects it, else 0, up to the end or the first segment with a coordinate out of
  * range; returns how many it wrote. */
@@ -408,24 +408,24 @@ typedef struct hull_segment {
     hull_point from;
     hull_point to;
 } hull_segment;
-size_t hull_outline_meets_segments(const hull_point *vertices, size_t count, const hull_segment *segments, size_t segment_count,
+size_t hull_polygon_intersects_segments(const hull_point *vertices, size_t count, const hull_segment *segments, size_t segment_count,
                                    uint8_t *out);
 
 /* Writes for each vertex the index of the first of the points that is equal to it, or `point_count` if none is: which input a
- * vertex of hull_outline_of is. Returns how many vertices are among the points. */
-size_t hull_outline_indices(const hull_point *vertices, size_t count, const hull_point *points, size_t point_count, size_t *out);
+ * vertex of hull_polygon_of is. Returns how many vertices are among the points. */
+size_t hull_polygon_indices(const hull_point *vertices, size_t count, const hull_point *points, size_t point_count, size_t *out);
 
-/* Finds where two polygons are nearest to one another. Returns HULL_MEETING if they intersect. HULL_POINTS: at a vertex a of the
- * first and a vertex b of the second; the squared distance is that of the two. HULL_CORNER: at a vertex a of the first and its
+/* Finds where two polygons are nearest to one another. Returns HULL_INTERSECTING if they intersect. HULL_POINTS: at a vertex a of the
+ * first and a vertex b of the second; the squared distance is that of the two. HULL_VERTEX: at a vertex a of the first and its
  * foot on the edge of the second from b to c, counterclockwise, strictly between them. HULL_EDGE: at the foot on the edge of the
- * first from a to b, and a vertex c of the second. With an edge the squared distance is computed as for hull_outline_nearest.
+ * first from a to b, and a vertex c of the second. With an edge the squared distance is computed as for hull_polygon_nearest.
  * HULL_EMPTY if one has no vertices. O(k log h + h log k). */
-hull_witness hull_outline_distance(const hull_point *vertices, size_t count, const hull_point *others, size_t other_count);
+hull_witness hull_polygon_distance(const hull_point *vertices, size_t count, const hull_point *others, size_t other_count);
 
 /* The distance of two polygons, or of a polygon and a segment, in numbers that compare without a division; what the code does
  * not name is 0. */
-typedef struct hull_clearance {
-    uint32_t code;         /* HULL_NUMBER; HULL_EMPTY if one has no vertices; HULL_OUT_OF_RANGE, HULL_NO_OUTLINE */
+typedef struct hull_distance_bounds {
+    uint32_t code;         /* HULL_NUMBER; HULL_EMPTY if one has no vertices; HULL_OUT_OF_RANGE, HULL_NO_POLYGON */
     uint32_t shift;        /* the greatest double that is not above the distance is lower / 2^shift, */
     uint64_t lower;        /* of 53 bits, or 0, */
     uint64_t upper;        /* and the least that is not below it upper / 2^shift: the same if the distance is a double, else the next */
@@ -434,57 +434,57 @@ typedef struct hull_clearance {
     uint64_t low;
     uint64_t divisor_high; /* .. divided by (divisor_high 2^64 + divisor_low), not in lowest terms */
     uint64_t divisor_low;
-} hull_clearance;
+} hull_distance_bounds;
 
-/* Returns the distance of two polygons: 0 if they intersect. Cost as hull_outline_distance, which also finds where they are
+/* Returns the distance of two polygons: 0 if they intersect. Cost as hull_polygon_distance, which also finds where they are
  * nearest, and a microsecond. */
-hull_clearance hull_outline_clearance(const hull_point *vertices, size_t count, const hull_point *others, size_t other_count);
+hull_distance_bounds hull_polygon_distance_bounds(const hull_point *vertices, size_t count, const hull_point *others, size_t other_count);
 
 /* Returns the distance of the polygon from the segment from (ax, ay) to (bx, by), whose ends may be one point. */
-hull_clearance hull_outline_clearance_to_segment(const hull_point *vertices, size_t count, int64_t ax, int64_t ay, int64_t bx, int64_t by);
+hull_distance_bounds hull_polygon_distance_bounds_to_segment(const hull_point *vertices, size_t count, int64_t ax, int64_t ay, int64_t bx, int64_t by);
 
 /* Returns the distance of the polygon from the point (x, y). */
-static inline hull_clearance hull_outline_clearance_to_point(const hull_point *vertices, size_t count, int64_t x, int64_t y) {
-    return hull_outline_clearance_to_segment(vertices, count, x, y, x, y);
+static inline hull_distance_bounds hull_polygon_distance_bounds_to_point(const hull_point *vertices, size_t count, int64_t x, int64_t y) {
+    return hull_polygon_distance_bounds_to_segment(vertices, count, x, y, x, y);
 }
 
 /* Compares two distances exactly: returns a number below 0 if the first is less, 0 if they are equal, above 0 if it is greater.
  * Equal distances may have different fractions. */
-int32_t hull_clearance_compare(const hull_clearance *a, const hull_clearance *b);
+int32_t hull_distance_bounds_compare(const hull_distance_bounds *a, const hull_distance_bounds *b);
 
 /* Return the greatest double that is not above a distance, and the least that is not below it: equal if the distance is a
  * double, else neighbours. */
-static inline double hull_clearance_scaled(uint64_t number, uint32_t shift) {
+static inline double hull_distance_bounds_scaled(uint64_t number, uint32_t shift) {
     double scale = 1;
     for (uint32_t i = 0; i < shift; i++) {
         scale *= 2;
     }
     return (double)number / scale; /* exact: a power of two, and no more than 53 bits */
 }
-static inline double hull_clearance_down(const hull_clearance *c) { return hull_clearance_scaled(c->lower, c->shift); }
-static inline double hull_clearance_up(const hull_clearance *c) { return hull_clearance_scaled(c->upper, c->shift); }
+static inline double hull_distance_bounds_down(const hull_distance_bounds *c) { return hull_distance_bounds_scaled(c->lower, c->shift); }
+static inline double hull_distance_bounds_up(const hull_distance_bounds *c) { return hull_distance_bounds_scaled(c->upper, c->shift); }
 
 /* Returns HULL_NUMBER with 1 if the distance of the polygon from the segment from (ax, ay) to (bx, by), whose ends may be one
- * point, is at most numerator / denominator, exactly as hull_outline_within, else with 0; or HULL_OUT_OF_RANGE. */
-hull_reply hull_outline_within_segment(const hull_point *vertices, size_t count, int64_t ax, int64_t ay, int64_t bx, int64_t by,
+ * point, is at most numerator / denominator, exactly as hull_polygon_within_distance, else with 0; or HULL_OUT_OF_RANGE. */
+hull_reply hull_polygon_within_distance_of_segment(const hull_point *vertices, size_t count, int64_t ax, int64_t ay, int64_t bx, int64_t by,
                                        uint64_t numerator, uint32_t denominator);
 
 /* The same for the point (x, y). */
-static inline hull_reply hull_outline_within_point(const hull_point *vertices, size_t count, int64_t x, int64_t y, uint64_t numerator,
+static inline hull_reply hull_polygon_within_distance_of_point(const hull_point *vertices, size_t count, int64_t x, int64_t y, uint64_t numerator,
                                                    uint32_t denominator) {
-    return hull_outline_within_segment(vertices, count, x, y, x, y, numerator, denominator);
+    return hull_polygon_within_distance_of_segment(vertices, count, x, y, x, y, numerator, denominator);
 }
 
 /* Returns HULL_NUMBER with the hull_relation of the polygon to the segment from (ax, ay) to (bx, by), whose ends may be one
- * point, as hull_outline_relation; or HULL_OUT_OF_RANGE. A segment that the polygon contains gives HULL_RELATION_COVERS, also
+ * point, as hull_polygon_relation; or HULL_OUT_OF_RANGE. A segment that the polygon contains gives HULL_RELATION_COVERS, also
  * along an edge; one that leaves the polygon touches if it has no point inside, and else overlaps. */
-hull_reply hull_outline_relation_to_segment(const hull_point *vertices, size_t count, int64_t ax, int64_t ay, int64_t bx, int64_t by);
+hull_reply hull_polygon_relation_to_segment(const hull_point *vertices, size_t count, int64_t ax, int64_t ay, int64_t bx, int64_t by);
 
 /* Where a ray or a segment enters or leaves a polygon; what the code does not name is 0. */
 typedef struct hull_hit {
     uint32_t code;         /* HULL_COVERED: at its start. HULL_EDGE: across the edge from a to the next vertex, b, or at one of these.
-                            * HULL_CORNER: at the vertex a of a polygon that is on its line. HULL_APART: nowhere. HULL_EMPTY: there are
-                            * no vertices. HULL_OUT_OF_RANGE, HULL_ZERO_DIRECTION, HULL_NO_OUTLINE */
+                            * HULL_VERTEX: at the vertex a of a polygon that is on its line. HULL_DISJOINT: nowhere. HULL_EMPTY: there are
+                            * no vertices. HULL_OUT_OF_RANGE, HULL_ZERO_DIRECTION, HULL_NO_POLYGON */
     hull_point a;
     hull_point b;
     uint64_t high;         /* how far along: (high 2^64 + low) / (divisor_high 2^64 + divisor_low), exactly, not in lowest terms, */
@@ -495,45 +495,45 @@ typedef struct hull_hit {
 
 /* Casts the ray from (x, y) in the direction (dx, dy): returns where it enters the polygon, the first of several points that
  * they share. O(log h). */
-hull_hit hull_outline_cast_ray(const hull_point *vertices, size_t count, int64_t x, int64_t y, int64_t dx, int64_t dy);
+hull_hit hull_polygon_raycast(const hull_point *vertices, size_t count, int64_t x, int64_t y, int64_t dx, int64_t dy);
 
 /* Returns the last point of that ray in the polygon: HULL_EDGE with the edge across which it leaves, or at whose end it leaves,
- * or HULL_CORNER; and how far along the ray that is. If they share one point only, it is that. */
-hull_hit hull_outline_last_on_ray(const hull_point *vertices, size_t count, int64_t x, int64_t y, int64_t dx, int64_t dy);
+ * or HULL_VERTEX; and how far along the ray that is. If they share one point only, it is that. */
+hull_hit hull_polygon_raycast_exit(const hull_point *vertices, size_t count, int64_t x, int64_t y, int64_t dx, int64_t dy);
 
 /* Casts the segment from (ax, ay) to (bx, by), whose ends may be one point: returns where it enters the polygon. The last point
  * of it in the polygon is where the segment from (bx, by) to (ax, ay) enters. */
-hull_hit hull_outline_cast_segment(const hull_point *vertices, size_t count, int64_t ax, int64_t ay, int64_t bx, int64_t by);
+hull_hit hull_polygon_raycast_segment(const hull_point *vertices, size_t count, int64_t ax, int64_t ay, int64_t bx, int64_t by);
 
 /* When two polygons first intersect, of which the second moves straight by (dx, dy), each component at most HULL_COORDINATE_MAX
  * in size; boundaries count. This is C over the calls above (archive/motions.c), tested and not proved; one ray for each vertex
  * of both. */
 typedef struct hull_motion {
-    hull_hit hit;      /* HULL_COVERED: they intersect before it moves. HULL_EDGE or HULL_CORNER: where the vertex arrives, and how far
-                        * along. HULL_APART: they never do. HULL_EMPTY: one of them has no vertices. HULL_OUT_OF_RANGE */
-    hull_point corner; /* with HULL_EDGE or HULL_CORNER, a vertex that arrives first, */
+    hull_hit hit;      /* HULL_COVERED: they intersect before it moves. HULL_EDGE or HULL_VERTEX: where the vertex arrives, and how far
+                        * along. HULL_DISJOINT: they never do. HULL_EMPTY: one of them has no vertices. HULL_OUT_OF_RANGE */
+    hull_point corner; /* with HULL_EDGE or HULL_VERTEX, a vertex that arrives first, */
     uint32_t moves;    /* of the second polygon, if this is 1, at the first one; else of the first, at the second one as it was before
                         * it moved */
 } hull_motion;
-hull_motion hull_outline_first_meeting(const hull_point *vertices, size_t count, const hull_point *others, size_t other_count, int64_t dx,
+hull_motion hull_polygon_first_meeting(const hull_point *vertices, size_t count, const hull_point *others, size_t other_count, int64_t dx,
                                        int64_t dy);
 
-/* Writes the polygon translated by (dx, dy) to an array for as many vertices, which may be the same array. Returns HULL_CORNERS
+/* Writes the polygon translated by (dx, dy) to an array for as many vertices, which may be the same array. Returns HULL_VERTICES
  * with how many; or fails with HULL_OUT_OF_RANGE if a coordinate would be, and writes nothing. */
-hull_reply hull_outline_moved(const hull_point *vertices, size_t count, int64_t dx, int64_t dy, hull_point *out);
+hull_reply hull_polygon_translate(const hull_point *vertices, size_t count, int64_t dx, int64_t dy, hull_point *out);
 
 /* Writes the polygon rotated about the origin by the angle of (a, b), and scaled by its length, to another array for as many
  * vertices, in integers. For a rational angle, such as (3, 4), scale all other polygons alike, which (5, 0) does. Returns
- * HULL_CORNERS with how many; or fails with HULL_OUT_OF_RANGE if a coordinate is or would be, or HULL_ZERO_DIRECTION. */
-hull_reply hull_outline_turned(const hull_point *vertices, size_t count, int64_t a, int64_t b, hull_point *out);
+ * HULL_VERTICES with how many; or fails with HULL_OUT_OF_RANGE if a coordinate is or would be, or HULL_ZERO_DIRECTION. */
+hull_reply hull_polygon_rotate(const hull_point *vertices, size_t count, int64_t a, int64_t b, hull_point *out);
 
 /* A support function for directions in doubles: returns the first of the farthest points in the direction (dx, dy), scaled to
  * integers as hull_direction_from_doubles does (hull_exchange.h); for the direction (0, 0) the first point by x and then y.
  * Returns HULL_POINT, HULL_EMPTY, or HULL_OUT_OF_RANGE if a component is not finite. */
-static inline hull_reply hull_outline_extreme_d(const hull_point *vertices, size_t count, double dx, double dy) {
+static inline hull_reply hull_polygon_extreme_d(const hull_point *vertices, size_t count, double dx, double dy) {
     int64_t x = HULL_COORDINATE_MAX + 1, y = 0;
     hull_direction_from_doubles(dx, dy, &x, &y);
-    return hull_outline_extreme(vertices, count, x == 0 && y == 0 ? -1 : x, y);
+    return hull_polygon_extreme(vertices, count, x == 0 && y == 0 ? -1 : x, y);
 }
 
 static inline hull_reply hull_extreme_d(const hull_set *h, double dx, double dy) {
@@ -545,15 +545,15 @@ static inline hull_reply hull_extreme_d(const hull_set *h, double dx, double dy)
 /* Tests whether the points of any array are a convex polygon: returns HULL_NUMBER with 1 or 0; HULL_OUT_OF_RANGE or
  * HULL_NO_MEMORY (it copies the points for the time of the call). They are if they go from the first point by x and then y
  * counterclockwise around a convex polygon, with no point inside an edge; also if there is no point, one, or two in order. */
-hull_reply hull_is_outline(const hull_point *points, size_t count);
+hull_reply hull_is_polygon(const hull_point *points, size_t count);
 
 /* Writes the vertices of any points to the front of the array of `room` points, as a convex polygon: those that hull_vertices
- * writes for a set of these points. Returns HULL_CORNERS; HULL_TOO_SMALL, and `number` points are needed; or fails and leaves
+ * writes for a set of these points. Returns HULL_VERTICES; HULL_TOO_SMALL, and `number` points are needed; or fails and leaves
  * the array unchanged: HULL_OUT_OF_RANGE (any of them), else HULL_TOO_MANY (more different points than HULL_LIMIT_MAX, or one
  * more often than HULL_MULTIPLICITY_MAX) or HULL_NO_MEMORY. `count` points always suffice. If the points are the vertices of a
  * convex polygon in order, from any vertex on and in either sense, it makes a few passes over them; else it sorts them. The
  * arrays are as for hull_vertices and do not overlap. */
-hull_reply hull_outline_of(const hull_point *points, size_t count, hull_point *out, size_t room);
+hull_reply hull_polygon_of(const hull_point *points, size_t count, hull_point *out, size_t room);
 
 #ifdef __cplusplus
 }

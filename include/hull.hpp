@@ -73,7 +73,7 @@ enum class Refusal : std::uint32_t {
     too_many = HULL_TOO_MANY,               // there are as many points as the limit, or the multiplicity is the greatest
     no_memory = HULL_NO_MEMORY,             // memory was refused
     out_of_order = HULL_OUT_OF_ORDER,       // a point does not follow the one before it, by x and then y
-    no_outline = HULL_NO_OUTLINE,           // the points are not a convex polygon
+    no_outline = HULL_NO_POLYGON,           // the points are not a convex polygon
     out_of_limits = HULL_OUT_OF_LIMITS,     // a limit, a capacity or a number of seats is 0 or too great
     no_seat = HULL_NO_SEAT,                 // the seat is acquired, or there is none of this number
     not_open = HULL_NOT_OPEN,               // the shared hull is closed
@@ -154,7 +154,7 @@ struct Separation {
 struct Nearest {
     enum class Where : std::uint32_t {
         covered = HULL_COVERED, // the polygon covers the point, which is its own nearest
-        corner = HULL_CORNER,   // at the vertex `from`, which is also `to`
+        corner = HULL_VERTEX,   // at the vertex `from`, which is also `to`
         edge = HULL_EDGE        // at its foot on the edge from `from` to the next vertex, `to`, strictly between them
     };
     Where where;
@@ -172,7 +172,7 @@ struct Witness {
         covered = HULL_COVERED,   // the first polygon covers `a`, a vertex of the second
         within = HULL_WITHIN,     // the second covers `a`, a vertex of the first
         crossing = HULL_CROSSING, // the segment from `a` to `b`, vertices of the first, crosses the one from `c` to `d`, of the second
-        apart = HULL_APART        // no vertex of the first has a greater product with the direction `b` than `a`, a vertex of it, and
+        apart = HULL_DISJOINT        // no vertex of the first has a greater product with the direction `b` than `a`, a vertex of it, and
                                   // each vertex of the second has; a product takes 128 bits
     };
     Shows shows;
@@ -189,7 +189,7 @@ struct Strip {
 // overlapping; within the other; covering it; or equal to it.
 enum class Relation : std::uint32_t {
     // written by tools/table.py: relations
-    apart = HULL_RELATION_APART,
+    apart = HULL_RELATION_DISJOINT,
     touching = HULL_RELATION_TOUCHING,
     overlapping = HULL_RELATION_OVERLAPPING,
     within = HULL_RELATION_WITHIN,
@@ -202,9 +202,9 @@ enum class Relation : std::uint32_t {
 // edge it is the square of the side of the vertex at the edge, up to 84 bits, divided by the squared length of the edge.
 struct Distance {
     enum class Where : std::uint32_t {
-        zero = HULL_MEETING,           // they intersect
+        zero = HULL_INTERSECTING,           // they intersect
         corners = HULL_POINTS,         // at the vertex `a` of the first and the vertex `b` of the second
-        corner_and_edge = HULL_CORNER, // at the vertex `a` of the first and its foot on the edge from `b` to `c` of the second
+        corner_and_edge = HULL_VERTEX, // at the vertex `a` of the first and its foot on the edge from `b` to `c` of the second
         edge_and_corner = HULL_EDGE    // at the foot on the edge from `a` to `b` of the first, and the vertex `c` of the second
     };
     Where where;
@@ -214,14 +214,14 @@ struct Distance {
 // A distance of two polygons, or of a polygon and a segment. Distances are compared exactly, without rounding.
 class Clearance {
 public:
-    explicit Clearance(const hull_clearance &told) noexcept : told_(told) {}
+    explicit Clearance(const hull_distance_bounds &told) noexcept : told_(told) {}
 
     // The greatest double that is not above it, and the least that is not below it: equal if it is a double.
-    double down() const noexcept { return hull_clearance_down(&told_); }
-    double up() const noexcept { return hull_clearance_up(&told_); }
+    double down() const noexcept { return hull_distance_bounds_down(&told_); }
+    double up() const noexcept { return hull_distance_bounds_up(&told_); }
 
     // The words of its square, which is a fraction, and of those two doubles.
-    const hull_clearance &words() const noexcept { return told_; }
+    const hull_distance_bounds &words() const noexcept { return told_; }
 
     friend bool operator==(const Clearance &a, const Clearance &b) noexcept { return a.compared(b) == 0; }
     friend bool operator!=(const Clearance &a, const Clearance &b) noexcept { return a.compared(b) != 0; }
@@ -231,9 +231,9 @@ public:
     friend bool operator>=(const Clearance &a, const Clearance &b) noexcept { return a.compared(b) >= 0; }
 
 private:
-    std::int32_t compared(const Clearance &other) const noexcept { return hull_clearance_compare(&told_, &other.told_); }
+    std::int32_t compared(const Clearance &other) const noexcept { return hull_distance_bounds_compare(&told_, &other.told_); }
 
-    hull_clearance told_;
+    hull_distance_bounds told_;
 };
 
 // Where a ray or a segment enters a polygon, or a ray leaves it.
@@ -241,7 +241,7 @@ struct Hit {
     enum class Where : std::uint32_t {
         start = HULL_COVERED, // at its start, which the polygon covers
         edge = HULL_EDGE,     // across the edge from `from` to the next vertex, `to`, or at one of these
-        corner = HULL_CORNER  // at the vertex `from`, of a polygon that is on its line
+        corner = HULL_VERTEX  // at the vertex `from`, of a polygon that is on its line
     };
     Where where;
     Point from, to;
@@ -369,7 +369,7 @@ inline std::optional<Point> extreme(const hull_reply &r) {
 }
 
 inline Area number(const hull_reply &r) {
-    if (r.code != HULL_NUMBER && r.code != HULL_CORNERS) {
+    if (r.code != HULL_NUMBER && r.code != HULL_VERTICES) {
         fault(r.code);
     }
     return static_cast<Area>(r.high) << 64 | r.number;
@@ -377,8 +377,8 @@ inline Area number(const hull_reply &r) {
 
 inline std::optional<Separation> separation(const hull_reply &r) {
     switch (r.code) {
-    case HULL_APART: return Separation{{r.x, r.y}, {r.other_x, r.other_y}};
-    case HULL_MEETING:
+    case HULL_DISJOINT: return Separation{{r.x, r.y}, {r.other_x, r.other_y}};
+    case HULL_INTERSECTING:
     case HULL_EMPTY: return std::nullopt;
     default: fault(r.code);
     }
@@ -387,7 +387,7 @@ inline std::optional<Separation> separation(const hull_reply &r) {
 inline std::optional<Nearest> nearest(const hull_reply &r, Point asked) {
     switch (r.code) {
     case HULL_COVERED: return Nearest{Nearest::Where::covered, asked, asked};
-    case HULL_CORNER: return Nearest{Nearest::Where::corner, {r.x, r.y}, {r.x, r.y}};
+    case HULL_VERTEX: return Nearest{Nearest::Where::corner, {r.x, r.y}, {r.x, r.y}};
     case HULL_EDGE: return Nearest{Nearest::Where::edge, {r.x, r.y}, {r.other_x, r.other_y}};
     case HULL_EMPTY: return std::nullopt;
     default: fault(r.code);
@@ -417,7 +417,7 @@ inline std::optional<Witness> witness(const hull_witness &w) {
     return Witness{static_cast<Witness::Shows>(w.code), w.a, w.b, w.c, w.d};
 }
 
-inline std::optional<Clearance> clearance(const hull_clearance &c) {
+inline std::optional<Clearance> clearance(const hull_distance_bounds &c) {
     switch (c.code) {
     case HULL_NUMBER: return Clearance(c);
     case HULL_EMPTY: return std::nullopt;
@@ -430,9 +430,9 @@ inline std::optional<Hit> hit(const hull_hit &h) {
     switch (h.code) {
     case HULL_COVERED:
     case HULL_EDGE:
-    case HULL_CORNER:
+    case HULL_VERTEX:
         return Hit{static_cast<Hit::Where>(h.code), h.a, h.b, number(h.high, h.low), number(h.divisor_high, h.divisor_low)};
-    case HULL_APART:
+    case HULL_DISJOINT:
     case HULL_EMPTY: return std::nullopt;
     default: fault(h.code);
     }
@@ -499,29 +499,29 @@ class Outline;
 template <class Self> class OutlineQuestions {
     auto serve() const {
         return [this](const hull_request *requests, hull_reply *replies, std::size_t count) {
-            return hull_outline_calls(data(), size(), requests, count, replies, count);
+            return hull_polygon_calls(data(), size(), requests, count, replies, count);
         };
     }
 
 public:
-    Place place(Point p) const { return told::place(hull_outline_place(data(), size(), p.x, p.y)); }
+    Place place(Point p) const { return told::place(hull_polygon_place(data(), size(), p.x, p.y)); }
 
     std::optional<Tangents> tangents(Point p) const {
-        return told::tangents(hull_outline_tangents(data(), size(), p.x, p.y));
+        return told::tangents(hull_polygon_tangents(data(), size(), p.x, p.y));
     }
 
     std::optional<Point> extreme(Point direction) const {
-        return told::extreme(hull_outline_extreme(data(), size(), direction.x, direction.y));
+        return told::extreme(hull_polygon_extreme(data(), size(), direction.x, direction.y));
     }
 
     // Returns the farthest point in a direction of two doubles, scaled to integers as hull_direction_from_doubles; for the direction (0,
     // 0) the first point. Fails with Refusal::out_of_range if one is not finite.
     std::optional<Point> extreme_d(double dx, double dy) const {
-        return told::extreme(hull_outline_extreme_d(data(), size(), dx, dy));
+        return told::extreme(hull_polygon_extreme_d(data(), size(), dx, dy));
     }
 
     // Returns twice the area, 0 for a point and a segment.
-    Area doubled_area() const { return told::number(hull_outline_area(data(), size())); }
+    Area doubled_area() const { return told::number(hull_polygon_area(data(), size())); }
 
     // The same for each of many points, or directions, in order.
     std::vector<Place> place_all(const std::vector<Point> &points) const {
@@ -536,68 +536,68 @@ public:
 
     // Returns whether the polygon intersects the segment from `a` to `b`, which may be one point.
     bool meets_segment(Point a, Point b) const {
-        return told::number(hull_outline_meets_segment(data(), size(), a.x, a.y, b.x, b.y)) == 1;
+        return told::number(hull_polygon_intersects_segment(data(), size(), a.x, a.y, b.x, b.y)) == 1;
     }
 
     // Returns what separates the polygon from the segment; none if they intersect, and for a polygon without vertices.
     std::optional<Separation> apart_from_segment(Point a, Point b) const {
-        return told::separation(hull_outline_apart(data(), size(), a.x, a.y, b.x, b.y));
+        return told::separation(hull_polygon_separation(data(), size(), a.x, a.y, b.x, b.y));
     }
 
     // Returns where the nearest point is; none for a polygon without vertices.
     std::optional<Nearest> nearest(Point p) const {
-        return told::nearest(hull_outline_nearest(data(), size(), p.x, p.y), p);
+        return told::nearest(hull_polygon_nearest(data(), size(), p.x, p.y), p);
     }
 
     // Returns the bounding box; none for a polygon without vertices.
-    std::optional<Box> bounding_box() const { return told::box(hull_outline_box(data(), size())); }
+    std::optional<Box> bounding_box() const { return told::box(hull_polygon_box(data(), size())); }
 
     // Returns the extent of the polygon in a direction: the greatest product of a vertex with it less the least; none for a polygon
     // without vertices. Divide it by the length of the direction for the width along it.
     std::optional<Area> width_along(Point direction) const {
-        const hull_reply r = hull_outline_width(data(), size(), direction.x, direction.y);
+        const hull_reply r = hull_polygon_width(data(), size(), direction.x, direction.y);
         return r.code == HULL_EMPTY ? std::nullopt : std::optional<Area>(told::number(r));
     }
 
     // Returns the two vertices that are farthest from one another; none for a polygon without vertices.
     std::optional<std::pair<Point, Point>> diameter() const {
-        return told::points(hull_outline_diameter(data(), size()));
+        return told::points(hull_polygon_diameter(data(), size()));
     }
 
     // Returns where the polygon is least wide: no direction has a narrower strip; none if there are fewer than two vertices.
     std::optional<Strip> least_width() const {
-        const hull_witness w = hull_outline_least_width(data(), size());
+        const hull_witness w = hull_polygon_least_width(data(), size());
         return w.code == HULL_EDGE ? std::optional<Strip>(Strip{w.a, w.b, w.c}) : std::nullopt;
     }
 
     // Returns whether the two polygons intersect, boundaries included.
     template <class Other> bool meets(const OutlineQuestions<Other> &other) const {
-        return told::number(hull_outline_meets(data(), size(), other.data(), other.size())) == 1;
+        return told::number(hull_polygon_intersects(data(), size(), other.data(), other.size())) == 1;
     }
 
     // Returns whether this polygon contains the other one.
     template <class Other> bool contains(const OutlineQuestions<Other> &other) const {
-        return told::number(hull_outline_contains(data(), size(), other.data(), other.size())) == 1;
+        return told::number(hull_polygon_contains(data(), size(), other.data(), other.size())) == 1;
     }
 
     // Returns how this polygon is related to the other one.
     template <class Other> Relation relation(const OutlineQuestions<Other> &other) const {
-        return static_cast<Relation>(told::number(hull_outline_relation(data(), size(), other.data(), other.size())));
+        return static_cast<Relation>(told::number(hull_polygon_relation(data(), size(), other.data(), other.size())));
     }
 
     // Returns whether this polygon contains the other one with no point of it on the boundary.
     template <class Other> bool contains_inside(const OutlineQuestions<Other> &other) const {
-        return told::number(hull_outline_contains_inside(data(), size(), other.data(), other.size())) == 1;
+        return told::number(hull_polygon_contains_inside(data(), size(), other.data(), other.size())) == 1;
     }
 
     // Returns whether their distance is at most numerator / denominator, exactly; false if one of them has no vertices.
     template <class Other> bool within(const OutlineQuestions<Other> &other, std::uint64_t numerator, std::uint32_t denominator = 1) const {
-        return told::number(hull_outline_within(data(), size(), other.data(), other.size(), numerator, denominator)) == 1;
+        return told::number(hull_polygon_within_distance(data(), size(), other.data(), other.size(), numerator, denominator)) == 1;
     }
 
     // The same for the segment from `a` to `b`, which may be one point, and for a point.
     bool within_segment(Point a, Point b, std::uint64_t numerator, std::uint32_t denominator = 1) const {
-        return told::number(hull_outline_within_segment(data(), size(), a.x, a.y, b.x, b.y, numerator, denominator)) == 1;
+        return told::number(hull_polygon_within_distance_of_segment(data(), size(), a.x, a.y, b.x, b.y, numerator, denominator)) == 1;
     }
     bool within_point(Point p, std::uint64_t numerator, std::uint32_t denominator = 1) const {
         return within_segment(p, p, numerator, denominator);
@@ -605,38 +605,38 @@ public:
 
     // Returns how this polygon is related to the segment from `a` to `b`, which may be one point.
     Relation relation_to_segment(Point a, Point b) const {
-        return static_cast<Relation>(told::number(hull_outline_relation_to_segment(data(), size(), a.x, a.y, b.x, b.y)));
+        return static_cast<Relation>(told::number(hull_polygon_relation_to_segment(data(), size(), a.x, a.y, b.x, b.y)));
     }
 
     // Returns the distance of the other polygon, the segment from `a` to `b`, or a point; none if there are no vertices.
     template <class Other> std::optional<Clearance> clearance(const OutlineQuestions<Other> &other) const {
-        return told::clearance(hull_outline_clearance(data(), size(), other.data(), other.size()));
+        return told::clearance(hull_polygon_distance_bounds(data(), size(), other.data(), other.size()));
     }
     std::optional<Clearance> clearance_to_segment(Point a, Point b) const {
-        return told::clearance(hull_outline_clearance_to_segment(data(), size(), a.x, a.y, b.x, b.y));
+        return told::clearance(hull_polygon_distance_bounds_to_segment(data(), size(), a.x, a.y, b.x, b.y));
     }
     std::optional<Clearance> clearance_to_point(Point p) const { return clearance_to_segment(p, p); }
 
     // Returns where the ray from a point in a direction enters; none if it misses.
     std::optional<Hit> cast_ray(Point from, Point direction) const {
-        return told::hit(hull_outline_cast_ray(data(), size(), from.x, from.y, direction.x, direction.y));
+        return told::hit(hull_polygon_raycast(data(), size(), from.x, from.y, direction.x, direction.y));
     }
 
     // Returns the last point of that ray in the polygon; none if it misses.
     std::optional<Hit> last_on_ray(Point from, Point direction) const {
-        return told::hit(hull_outline_last_on_ray(data(), size(), from.x, from.y, direction.x, direction.y));
+        return told::hit(hull_polygon_raycast_exit(data(), size(), from.x, from.y, direction.x, direction.y));
     }
 
     // Returns where the segment from `a` to `b` enters; none if it misses. Its last point in the polygon is where that from `b` to `a`
     // enters.
     std::optional<Hit> cast_segment(Point a, Point b) const {
-        return told::hit(hull_outline_cast_segment(data(), size(), a.x, a.y, b.x, b.y));
+        return told::hit(hull_polygon_raycast_segment(data(), size(), a.x, a.y, b.x, b.y));
     }
 
     // Returns when the other polygon, which moves straight by `way`, each component at most HULL_COORDINATE_MAX in size, first
     // intersects this one.
     template <class Other> Motion first_meeting(const OutlineQuestions<Other> &other, Point way) const {
-        const hull_motion m = hull_outline_first_meeting(data(), size(), other.data(), other.size(), way.x, way.y);
+        const hull_motion m = hull_polygon_first_meeting(data(), size(), other.data(), other.size(), way.x, way.y);
         return {told::hit(m.hit), m.corner, m.moves == 1};
     }
 
@@ -645,7 +645,7 @@ public:
         std::vector<std::uint8_t> told;
         told::with_memory([&] { told.resize(segments.size()); });
         const auto *at = reinterpret_cast<const hull_segment *>(segments.data());
-        if (hull_outline_meets_segments(data(), size(), at, segments.size(), told.data()) != segments.size()) {
+        if (hull_polygon_intersects_segments(data(), size(), at, segments.size(), told.data()) != segments.size()) {
             told::fault(HULL_OUT_OF_RANGE);
         }
         return told::with_memory([&] { return std::vector<bool>(told.begin(), told.end()); });
@@ -656,18 +656,18 @@ public:
     std::vector<std::size_t> indices(const std::vector<Point> &points) const {
         std::vector<std::size_t> places;
         told::with_memory([&] { places.resize(size()); });
-        hull_outline_indices(data(), size(), points.data(), points.size(), places.data());
+        hull_polygon_indices(data(), size(), points.data(), points.size(), places.data());
         return places;
     }
 
     // Returns where the two intersect, or what separates them; none if one of them has no vertices.
     template <class Other> std::optional<Witness> witness(const OutlineQuestions<Other> &other) const {
-        return told::witness(hull_outline_witness(data(), size(), other.data(), other.size()));
+        return told::witness(hull_polygon_witness(data(), size(), other.data(), other.size()));
     }
 
     // Returns where the two are nearest to one another; none if one of them has no vertices.
     template <class Other> std::optional<Distance> distance(const OutlineQuestions<Other> &other) const {
-        return told::distance(hull_outline_distance(data(), size(), other.data(), other.size()));
+        return told::distance(hull_polygon_distance(data(), size(), other.data(), other.size()));
     }
 
 protected:
@@ -688,8 +688,8 @@ public:
     // The polygon of these vertices: counterclockwise from the first by x and then by y, none inside an edge, at most HULL_LIMIT_MAX.
     // Fails with Refusal::no_outline if they are not.
     explicit Outline(std::vector<Point> corners) : corners_(std::move(corners)) {
-        if (told::number(hull_is_outline(data(), size())) != 1) {
-            told::fault(HULL_NO_OUTLINE);
+        if (told::number(hull_is_polygon(data(), size())) != 1) {
+            told::fault(HULL_NO_POLYGON);
         }
     }
 
@@ -697,7 +697,7 @@ public:
     static Outline of(const std::vector<Point> &points) {
         Outline made;
         made.corners_ = told::corners(64, [&](Point *out, std::size_t room) {
-            return hull_outline_of(points.data(), points.size(), out, room);
+            return hull_polygon_of(points.data(), points.size(), out, room);
         });
         return made;
     }
@@ -714,8 +714,8 @@ public:
 
     // The same in place, without allocating.
     void move(Point by) {
-        const hull_reply r = hull_outline_moved(data(), size(), by.x, by.y, corners_.data());
-        if (r.code != HULL_CORNERS) {
+        const hull_reply r = hull_polygon_translate(data(), size(), by.x, by.y, corners_.data());
+        if (r.code != HULL_VERTICES) {
             told::fault(r.code);
         }
     }
@@ -725,8 +725,8 @@ public:
     Outline turned(Point by) const {
         Outline other;
         told::with_memory([&] { other.corners_.resize(size()); });
-        const hull_reply r = hull_outline_turned(data(), size(), by.x, by.y, other.corners_.data());
-        if (r.code != HULL_CORNERS) {
+        const hull_reply r = hull_polygon_rotate(data(), size(), by.x, by.y, other.corners_.data());
+        if (r.code != HULL_VERTICES) {
             told::fault(r.code);
         }
         return other;
@@ -762,7 +762,7 @@ template <class Self> std::vector<Relation> OutlineQuestions<Self>::relations(co
     std::vector<std::uint8_t> told;
     std::vector<Relation> relations;
     told::with_memory([&] { told.resize(all.size()), relations.reserve(all.size()); });
-    hull_outline_relations(data(), size(), all.data(), all.size(), told.data());
+    hull_polygon_relations(data(), size(), all.data(), all.size(), told.data());
     for (const std::uint8_t relation : told) {
         relations.push_back(static_cast<Relation>(relation));
     }
@@ -778,7 +778,7 @@ inline std::vector<std::pair<std::size_t, std::size_t>> pairs_within(const std::
     hull_reply r = {};
     for (r.number = all.size(); r.code != HULL_NUMBER;) {
         told::resize(pairs, r.number);
-        r = hull_pairs_within(all.data(), all.size(), numerator, denominator, pairs.data(), pairs.size());
+        r = hull_pairs_within_distance(all.data(), all.size(), numerator, denominator, pairs.data(), pairs.size());
         if (r.code != HULL_NUMBER && r.code != HULL_TOO_SMALL) {
             told::fault(r.code);
         }
@@ -958,10 +958,10 @@ private:
         }
         return at_.get();
     }
-    // The set, after a hint that a question follows: see hull_settle.
+    // The set, after a hint that a question follows: see hull_prepare.
     hull_set *counted() const {
         hull_set *const h = alive();
-        hull_settle(h);
+        hull_prepare(h);
         return h;
     }
     static void check(const std::vector<Point> &points) {
@@ -989,11 +989,11 @@ struct Limits {
 // A shared hull with its gate: it ends when the hull and all seats have dropped it.
 class Desk {
 public:
-    Desk() : at_(hull_shared_desk_new()) {
+    Desk() : at_(hull_shared_new()) {
         if (at_ == nullptr) {
             told::fault(HULL_NO_MEMORY);
         }
-        hull_shared_line_init(&line_, 1);
+        hull_shared_gate_init(&line_, 1);
     }
     ~Desk() {
         if (journal_ != nullptr) {
@@ -1001,8 +1001,8 @@ public:
         }
         hull_shared_close(at_);
         hull_shared_end(at_);
-        hull_shared_desk_free(at_);
-        hull_shared_line_end(&line_);
+        hull_shared_free(at_);
+        hull_shared_gate_end(&line_);
     }
     Desk(const Desk &) = delete;
     Desk &operator=(const Desk &) = delete;
@@ -1021,14 +1021,14 @@ private:
             told::fault(HULL_NOT_OPEN);
         }
         const hull_reply r = ask(journal_);
-        if (r.code != HULL_SAFE) {
+        if (r.code != HULL_DURABLE) {
             told::fault(r.code, r.code == HULL_NO_FILE ? r.high : 0);
         }
         return r.number;
     }
 
-    hull_shared_desk *at_;
-    hull_shared_line line_;
+    hull_shared *at_;
+    hull_shared_gate line_;
     std::mutex before_journal_lock_; // taken first, so that a close waits for threads that asked before, and for no later ones
     std::shared_mutex journal_lock_; // taken by close; shared by threads that ask what is durable
     hull_shared_journal *journal_ = nullptr;
@@ -1039,36 +1039,36 @@ class JournalPart {
 public:
     // Returns the text of the lines, with the number of the first as its own first number.
     std::string text() const {
-        return told::text([at = alive()](std::uint8_t *out, std::size_t room) { return hull_shared_part_text(at, out, room); });
+        return told::text([at = alive()](std::uint8_t *out, std::size_t room) { return hull_shared_segment_text(at, out, room); });
     }
 
     // Writes that text to a stream, some thousand bytes at a time: no more than those and the longest line are in memory.
     void write_to(std::ostream &out) const {
         told::pieces(out, [at = alive()](std::uint64_t line, std::uint8_t *piece, std::size_t room) {
-            return hull_shared_part_text_from(at, line, piece, room);
+            return hull_shared_segment_text_from(at, line, piece, room);
         });
     }
 
 private:
     friend class Seat;
     struct End {
-        void operator()(hull_shared_part *at) const noexcept {
-            hull_shared_part_end(at);
-            hull_shared_part_free(at);
+        void operator()(hull_shared_segment *at) const noexcept {
+            hull_shared_segment_end(at);
+            hull_shared_segment_free(at);
         }
     };
-    explicit JournalPart(std::uint32_t lines) : at_(hull_shared_part_new()) {
-        if (!at_ || hull_shared_part_reserve(at_.get(), lines) != HULL_RESERVED) {
+    explicit JournalPart(std::uint32_t lines) : at_(hull_shared_segment_new()) {
+        if (!at_ || hull_shared_segment_reserve(at_.get(), lines) != HULL_RESERVED) {
             told::fault(HULL_NO_MEMORY);
         }
     }
-    hull_shared_part *alive() const {
+    hull_shared_segment *alive() const {
         if (!at_) {
             told::fault(HULL_ENDED);
         }
         return at_.get();
     }
-    std::unique_ptr<hull_shared_part, End> at_;
+    std::unique_ptr<hull_shared_segment, End> at_;
 };
 
 // A seat of a shared hull, by which one thread at a time makes calls. It is released when it is destroyed.
@@ -1090,7 +1090,7 @@ public:
     void give_back() noexcept {
         if (desk_ && at_) {
             const std::lock_guard<std::mutex> lock(desk_->lock_);
-            hull_shared_give_back(desk_->at_, at_.get());
+            hull_shared_release_seat(desk_->at_, at_.get());
         }
         at_.reset();
         desk_.reset();
@@ -1131,7 +1131,7 @@ public:
             told::fault(HULL_VACANT);
         }
         desk_->safe([this](hull_shared_journal *at) {
-            return turn_ ? hull_shared_journal_wait(at, *turn_, until()) : hull_shared_journal_safe(at);
+            return turn_ ? hull_shared_journal_wait(at, *turn_, until()) : hull_shared_journal_durable(at);
         });
     }
 
@@ -1157,8 +1157,8 @@ private:
             told::fault(HULL_NO_MEMORY);
         }
         const std::lock_guard<std::mutex> lock(desk_->lock_);
-        const std::uint32_t code = hull_shared_lend(desk_->at_, &desk_->line_, at.get(), number);
-        if (code != HULL_LENT) {
+        const std::uint32_t code = hull_shared_acquire_seat(desk_->at_, &desk_->line_, at.get(), number);
+        if (code != HULL_ACQUIRED) {
             told::fault(code);
         }
         at_ = std::move(at);
@@ -1223,7 +1223,7 @@ public:
     void give_back() noexcept {
         if (desk_ && at_) {
             const std::lock_guard<std::mutex> lock(desk_->lock_);
-            hull_shared_return_reader(desk_->at_, at_.get());
+            hull_shared_release_reader(desk_->at_, at_.get());
         }
         at_.reset();
         desk_.reset();
@@ -1238,11 +1238,11 @@ public:
             if (corners_.size() < v.count) {
                 told::resize(corners_, v.count);
             }
-            hull_shared_view_corners(at_.get(), corners_.data(), corners_.size());
+            hull_shared_snapshot_vertices(at_.get(), corners_.data(), corners_.size());
             count_ = v.count, lines_ = v.lines, is_copied_ = true;
             line_ = v.has_line != 0 ? std::optional<std::uint64_t>(v.line) : std::nullopt;
         }
-        return v.code == HULL_VIEWED;
+        return v.code == HULL_SNAPSHOT_TAKEN;
     }
 
     // Returns whether the snapshot is still the newest: one load.
@@ -1273,8 +1273,8 @@ private:
         }
         {
             const std::lock_guard<std::mutex> lock(desk_->lock_);
-            const std::uint32_t code = hull_shared_lend_reader(desk_->at_, at.get());
-            if (code != HULL_LENT) {
+            const std::uint32_t code = hull_shared_acquire_reader(desk_->at_, at.get());
+            if (code != HULL_ACQUIRED) {
                 told::fault(code);
             }
         }
@@ -1349,7 +1349,7 @@ public:
     // (hull_shared_journal_compact).
     static std::uint64_t compact(const std::string &path) {
         const hull_reply r = hull_shared_journal_compact(path.c_str());
-        if (r.code != HULL_SAFE) {
+        if (r.code != HULL_DURABLE) {
             told::fault(r.code, r.number);
         }
         return r.number;
@@ -1357,7 +1357,7 @@ public:
 
     // Returns the number of the first line that is not durable. Fails with Refusal::no_file if a write failed: no later line will be
     // durable; not_open if the hull has no file, or is closed.
-    std::uint64_t safe() const { return desk()->safe(hull_shared_journal_safe); }
+    std::uint64_t safe() const { return desk()->safe(hull_shared_journal_durable); }
 
     // Waits until the lines of all calls that have returned are durable; returns the number of the first line that is not.
     std::uint64_t sync() const {
@@ -1365,14 +1365,14 @@ public:
     }
 
     // Decides whether a call that finds the journal full waits until a drain has made space. Call it before a seat is acquired.
-    void wait_for_room(bool waits) { hull_shared_line_wait_for_room(&desk()->line_, waits ? 1 : 0); }
+    void wait_for_room(bool waits) { hull_shared_gate_wait_for_space(&desk()->line_, waits ? 1 : 0); }
 
-    // Has the hull drain itself, as hull_shared_line_on_half_full; the hook throws nothing. Call it before a seat is acquired.
+    // Has the hull drain itself, as hull_shared_gate_on_half_full; the hook throws nothing. Call it before a seat is acquired.
     void on_half_full(hull_shared_hook *hook, void *context) {
         if (desk()->journal_ != nullptr) {
             told::fault(HULL_SEATS_OUT); // that of its file
         }
-        if (hull_shared_line_on_half_full(&desk()->line_, hook, context) == 0) {
+        if (hull_shared_gate_on_half_full(&desk()->line_, hook, context) == 0) {
             told::fault(HULL_NO_MEMORY);
         }
     }
@@ -1441,8 +1441,8 @@ private:
     static std::shared_ptr<Desk> new_desk(std::uint32_t readers) {
         std::shared_ptr<Desk> desk = told::with_memory([] { return std::make_shared<Desk>(); });
         if (readers != 0) {
-            const std::uint32_t code = hull_shared_admit(desk->at_, readers);
-            if (code != HULL_ADMITTED) {
+            const std::uint32_t code = hull_shared_set_max_readers(desk->at_, readers);
+            if (code != HULL_READERS_SET) {
                 told::fault(code);
             }
         }

@@ -57,18 +57,18 @@ typedef enum hull_code {
     HULL_TANGENTS = 15,      /* the left point (`x`, `y`) and the right one (`other_x`, `other_y`) */
     HULL_NO_TANGENT = 16,    /* there is no point, or the hull covers the one asked about */
     HULL_NUMBER = 17,        /* `number`; an area is 2^64 times `high` more */
-    HULL_CORNERS = 18,       /* there are `number` vertices, which are at the front of the array if one was passed */
+    HULL_VERTICES = 18,       /* there are `number` vertices, which are at the front of the array if one was passed */
     HULL_TOO_SMALL = 19,     /* the array is too small for the `number` vertices or bytes that are to be written */
     HULL_CLEARED = 20,       /* there is no point any more */
     HULL_OUT_OF_ORDER = 21,  /* a point of an array in order does not follow the one before it, by x and then y */
     HULL_UNKNOWN_KIND = 22,  /* no kind that can be asked here has this number */
 
     /* of convex polygons only */
-    HULL_MEETING = 23,       /* they have a point in common */
-    HULL_APART = 24,         /* a direction (`other_x`, `other_y`), at most 2^41 in size, separates them: of the one, no vertex is farther
+    HULL_INTERSECTING = 23,       /* they have a point in common */
+    HULL_DISJOINT = 24,         /* a direction (`other_x`, `other_y`), at most 2^41 in size, separates them: of the one, no vertex is farther
                               * in it than (`x`, `y`), and each vertex of the other is */
     HULL_COVERED = 25,       /* the polygon covers the point, which is its own nearest */
-    HULL_CORNER = 26,        /* the vertex (`x`, `y`) is the nearest */
+    HULL_VERTEX = 26,        /* the vertex (`x`, `y`) is the nearest */
     HULL_EDGE = 27,          /* the foot on the edge from (`x`, `y`) to the next vertex, (`other_x`, `other_y`), is the nearest */
     HULL_BOX = 28,           /* the box from its least point (`x`, `y`) to its greatest, (`other_x`, `other_y`) */
     HULL_WITHIN = 29,        /* the other polygon covers a vertex of this one */
@@ -79,14 +79,14 @@ typedef enum hull_code {
     HULL_OPEN = 32,          /* the shared hull is open now */
     HULL_OUT_OF_LIMITS = 33, /* a limit, a capacity or a number of seats is 0 or too great (a limit in hull_init, too) */
     HULL_WAS_OPENED = 34,    /* the shared hull was opened before */
-    HULL_LENT = 35,          /* the seat is in the storage now */
+    HULL_ACQUIRED = 35,          /* the seat is in the storage now */
     HULL_NO_SEAT = 36,       /* no seat of this number is free: it is acquired, or there never was one */
-    HULL_ROOM_IN_USE = 37,   /* the storage has a seat already */
+    HULL_STORAGE_IN_USE = 37,   /* the storage has a seat already */
     HULL_NOT_OPEN = 38,      /* the shared hull is not open */
-    HULL_RETURNED = 39,      /* the seat is released, and the storage has none */
+    HULL_RELEASED = 39,      /* the seat is released, and the storage has none */
     HULL_VACANT = 40,        /* the storage has no seat */
     HULL_WAITING = 41,       /* the seat has a number, whose call is not finished */
-    HULL_PLACE_IN_USE = 42,  /* the seat's slot of the shared hull is not free */
+    HULL_SLOT_IN_USE = 42,  /* the seat's slot of the shared hull is not free */
     HULL_TAKEN = 43,         /* the seat has a number now */
     HULL_NOT_YET = 44,       /* another number is served: look again */
     HULL_NO_NUMBER = 45,     /* the seat has no number to look for */
@@ -99,8 +99,8 @@ typedef enum hull_code {
     HULL_ENDED = 51,         /* the shared hull is ended */
     HULL_IN_USE = 52,        /* no seat is acquired, but a call on the shared hull or a seat is under way: it stays open */
     HULL_RESERVED = 53,      /* the segment has space for lines now */
-    HULL_PART_IN_USE = 54,   /* the segment has space or lines already */
-    HULL_NO_ROOM = 55,       /* the segment has too little space for the lines that the journal may have: no look was made */
+    HULL_SEGMENT_IN_USE = 54,   /* the segment has space or lines already */
+    HULL_NO_SPACE = 55,       /* the segment has too little space for the lines that the journal may have: no look was made */
     HULL_NO_LINES = 56,      /* the segment has no lines */
     HULL_NO_JOURNAL = 57,    /* the text is not a journal: line `number` of it, from 1, has the first fault, `high`: 1 its form, 2 a number,
                               * 3 a coordinate, 4 a seat, 5 a word, 6 the text ends before its end line, 7 no header */
@@ -109,20 +109,20 @@ typedef enum hull_code {
     HULL_TOO_FEW_SEATS = 60, /* the journal has lines by `number` seats (0 to `number` - 1), more than were asked for */
 
     /* of checked arrays only */
-    HULL_NO_OUTLINE = 61,    /* the array is not a convex polygon (only if arrays are checked) */
+    HULL_NO_POLYGON = 61,    /* the array is not a convex polygon (only if arrays are checked) */
 
     /* of admission, in which calls of seats wait, only */
     HULL_BUSY = 62,          /* the call was not admitted in time: no number was taken, and no call made */
-    HULL_OTHER_LINE = 63,    /* the line is that of another desk, or the seat was acquired with another: no call was made */
+    HULL_OTHER_GATE = 63,    /* the line is that of another desk, or the seat was acquired with another: no call was made */
 
     /* of journal files only */
     HULL_NO_FILE = 64,       /* the system refused a call on the file, for the reason in errno */
     HULL_DAMAGED = 65,       /* line `number` of the file, from 1, is wrong, and it is not the torn end of a segment */
-    HULL_SAFE = 66,          /* the lines before line `number` are durable */
+    HULL_DURABLE = 66,          /* the lines before line `number` are durable */
 
     /* of readers only */
-    HULL_ADMITTED = 67,      /* the shared hull takes so many readers */
-    HULL_VIEWED = 68,        /* the reader has this snapshot, which was the newest */
+    HULL_READERS_SET = 67,      /* the shared hull takes so many readers */
+    HULL_SNAPSHOT_TAKEN = 68,        /* the reader has this snapshot, which was the newest */
     HULL_OLD = 69            /* the reader has the snapshot that it had before: others delayed a newer one */
     /* end of what tools/table.py writes */
 } hull_code;
@@ -177,15 +177,15 @@ static inline const char *hull_code_name(uint32_t code) {
     case HULL_TANGENTS: return "HULL_TANGENTS";
     case HULL_NO_TANGENT: return "HULL_NO_TANGENT";
     case HULL_NUMBER: return "HULL_NUMBER";
-    case HULL_CORNERS: return "HULL_CORNERS";
+    case HULL_VERTICES: return "HULL_VERTICES";
     case HULL_TOO_SMALL: return "HULL_TOO_SMALL";
     case HULL_CLEARED: return "HULL_CLEARED";
     case HULL_OUT_OF_ORDER: return "HULL_OUT_OF_ORDER";
     case HULL_UNKNOWN_KIND: return "HULL_UNKNOWN_KIND";
-    case HULL_MEETING: return "HULL_MEETING";
-    case HULL_APART: return "HULL_APART";
+    case HULL_INTERSECTING: return "HULL_INTERSECTING";
+    case HULL_DISJOINT: return "HULL_DISJOINT";
     case HULL_COVERED: return "HULL_COVERED";
-    case HULL_CORNER: return "HULL_CORNER";
+    case HULL_VERTEX: return "HULL_VERTEX";
     case HULL_EDGE: return "HULL_EDGE";
     case HULL_BOX: return "HULL_BOX";
     case HULL_WITHIN: return "HULL_WITHIN";
@@ -194,14 +194,14 @@ static inline const char *hull_code_name(uint32_t code) {
     case HULL_OPEN: return "HULL_OPEN";
     case HULL_OUT_OF_LIMITS: return "HULL_OUT_OF_LIMITS";
     case HULL_WAS_OPENED: return "HULL_WAS_OPENED";
-    case HULL_LENT: return "HULL_LENT";
+    case HULL_ACQUIRED: return "HULL_ACQUIRED";
     case HULL_NO_SEAT: return "HULL_NO_SEAT";
-    case HULL_ROOM_IN_USE: return "HULL_ROOM_IN_USE";
+    case HULL_STORAGE_IN_USE: return "HULL_STORAGE_IN_USE";
     case HULL_NOT_OPEN: return "HULL_NOT_OPEN";
-    case HULL_RETURNED: return "HULL_RETURNED";
+    case HULL_RELEASED: return "HULL_RELEASED";
     case HULL_VACANT: return "HULL_VACANT";
     case HULL_WAITING: return "HULL_WAITING";
-    case HULL_PLACE_IN_USE: return "HULL_PLACE_IN_USE";
+    case HULL_SLOT_IN_USE: return "HULL_SLOT_IN_USE";
     case HULL_TAKEN: return "HULL_TAKEN";
     case HULL_NOT_YET: return "HULL_NOT_YET";
     case HULL_NO_NUMBER: return "HULL_NO_NUMBER";
@@ -213,21 +213,21 @@ static inline const char *hull_code_name(uint32_t code) {
     case HULL_ENDED: return "HULL_ENDED";
     case HULL_IN_USE: return "HULL_IN_USE";
     case HULL_RESERVED: return "HULL_RESERVED";
-    case HULL_PART_IN_USE: return "HULL_PART_IN_USE";
-    case HULL_NO_ROOM: return "HULL_NO_ROOM";
+    case HULL_SEGMENT_IN_USE: return "HULL_SEGMENT_IN_USE";
+    case HULL_NO_SPACE: return "HULL_NO_SPACE";
     case HULL_NO_LINES: return "HULL_NO_LINES";
     case HULL_NO_JOURNAL: return "HULL_NO_JOURNAL";
     case HULL_OLD_RULES: return "HULL_OLD_RULES";
     case HULL_ILLEGAL: return "HULL_ILLEGAL";
     case HULL_TOO_FEW_SEATS: return "HULL_TOO_FEW_SEATS";
-    case HULL_NO_OUTLINE: return "HULL_NO_OUTLINE";
+    case HULL_NO_POLYGON: return "HULL_NO_POLYGON";
     case HULL_BUSY: return "HULL_BUSY";
-    case HULL_OTHER_LINE: return "HULL_OTHER_LINE";
+    case HULL_OTHER_GATE: return "HULL_OTHER_GATE";
     case HULL_NO_FILE: return "HULL_NO_FILE";
     case HULL_DAMAGED: return "HULL_DAMAGED";
-    case HULL_SAFE: return "HULL_SAFE";
-    case HULL_ADMITTED: return "HULL_ADMITTED";
-    case HULL_VIEWED: return "HULL_VIEWED";
+    case HULL_DURABLE: return "HULL_DURABLE";
+    case HULL_READERS_SET: return "HULL_READERS_SET";
+    case HULL_SNAPSHOT_TAKEN: return "HULL_SNAPSHOT_TAKEN";
     case HULL_OLD: return "HULL_OLD";
     /* end of what tools/table.py writes */
     default: return "no code";
@@ -247,9 +247,9 @@ static inline void *hull_array(const void *array, size_t count) {
     return address;
 }
 
-/* Returns memory from malloc, of so many bytes at a multiple of the alignment (a power of 2), for hull_room_free; null if malloc
+/* Returns memory from malloc, of so many bytes at a multiple of the alignment (a power of 2), for hull_storage_free; null if malloc
  * refuses. (C99 and C++ need not have aligned_alloc.) */
-static inline void *hull_room_new(size_t size, size_t alignment) {
+static inline void *hull_storage_new(size_t size, size_t alignment) {
     void *block = malloc(sizeof(void *) + alignment - 1 + size);
     unsigned char *room;
     uintptr_t address;
@@ -264,8 +264,8 @@ static inline void *hull_room_new(size_t size, size_t alignment) {
     return room;
 }
 
-/* Frees memory of hull_room_new; does nothing for null. */
-static inline void hull_room_free(void *room) {
+/* Frees memory of hull_storage_new; does nothing for null. */
+static inline void hull_storage_free(void *room) {
     unsigned char *begin;
     void *block;
     if (room != NULL) {

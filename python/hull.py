@@ -1032,7 +1032,7 @@ def _corners_of(flat: "array[int]") -> "array[int]":
     """Returns the coordinates of the vertices of any points."""
     count = len(flat) // 2
     flat.extend((0, 0))  # so that no points have a place in memory, too
-    write: Any = _LIBRARY.hull_outline_of
+    write: Any = _LIBRARY.hull_polygon_of
     return _written_corners(functools.partial(write, flat.buffer_info()[0], count))
 
 
@@ -1071,7 +1071,7 @@ class Outline(_Questions):
 
     def __init__(self, corners: Any) -> None:
         held = _held_at(_flat(corners))
-        told = _LIBRARY.hull_is_outline(*held)
+        told = _LIBRARY.hull_is_polygon(*held)
         _told(told.code)
         if told.number != 1:
             raise ValueError("the points are not a convex polygon")
@@ -1135,14 +1135,14 @@ class Outline(_Questions):
         return reply
 
     def _call(self, kind: int, x: int = 0, y: int = 0) -> _Reply:
-        return self._found(_LIBRARY.hull_outline_call, kind, x, y)
+        return self._found(_LIBRARY.hull_polygon_call, kind, x, y)
 
     def _serve(self, requests: int, replies: int, count: int) -> None:
-        _LIBRARY.hull_outline_calls(*self._there(), requests, count, replies, count)
+        _LIBRARY.hull_polygon_calls(*self._there(), requests, count, replies, count)
 
     def meets_segment(self, ax: SupportsIndex, ay: SupportsIndex, bx: SupportsIndex, by: SupportsIndex) -> bool:
         """Returns whether the polygon intersects the segment from (ax, ay) to (bx, by), which may be one point."""
-        return self._found(_LIBRARY.hull_outline_meets_segment, _whole(ax), _whole(ay), _whole(bx), _whole(by)).number == 1
+        return self._found(_LIBRARY.hull_polygon_intersects_segment, _whole(ax), _whole(ay), _whole(bx), _whole(by)).number == 1
 
     def apart_from_segment(self, ax: SupportsIndex, ay: SupportsIndex, bx: SupportsIndex,
                            by: SupportsIndex) -> Optional[Tuple[Pair, Pair]]:
@@ -1150,7 +1150,7 @@ class Outline(_Questions):
 
         No vertex has a greater product with the direction than that one, and both ends of the segment have.
         """
-        reply = self._found(_LIBRARY.hull_outline_apart, _whole(ax), _whole(ay), _whole(bx), _whole(by))
+        reply = self._found(_LIBRARY.hull_polygon_separation, _whole(ax), _whole(ay), _whole(bx), _whole(by))
         return _two_pairs(reply) if reply.code == _Code.APART else None
 
     def nearest(self, x: SupportsIndex, y: SupportsIndex) -> Optional[Tuple[Pair, ...]]:
@@ -1158,7 +1158,7 @@ class Outline(_Questions):
 
         Of one pair it is at that vertex; of two, at the foot on the edge between them; of none the polygon covers (x, y).
         """
-        reply = self._found(_LIBRARY.hull_outline_nearest, _whole(x), _whole(y))
+        reply = self._found(_LIBRARY.hull_polygon_nearest, _whole(x), _whole(y))
         if reply.code == _Code.EMPTY:
             return None
         if reply.code == _Code.EDGE:
@@ -1172,7 +1172,7 @@ class Outline(_Questions):
 
     def bounding_box(self) -> Optional[Tuple[Pair, Pair]]:
         """Returns the least and the greatest point of the bounding box; None if there is no vertex."""
-        reply = self._found(_LIBRARY.hull_outline_box)
+        reply = self._found(_LIBRARY.hull_polygon_box)
         return _two_pairs(reply) if reply.code == _Code.BOX else None
 
     def width_along(self, dx: SupportsIndex, dy: SupportsIndex) -> Optional[int]:
@@ -1180,12 +1180,12 @@ class Outline(_Questions):
 
         Divide it by the length of the direction for the width along it.
         """
-        reply = self._found(_LIBRARY.hull_outline_width, _whole(dx), _whole(dy))
+        reply = self._found(_LIBRARY.hull_polygon_width, _whole(dx), _whole(dy))
         return None if reply.code == _Code.EMPTY else _area(reply)
 
     def diameter(self) -> Optional[Tuple[Pair, Pair]]:
         """Returns the two vertices that are farthest from one another; None if there is no vertex."""
-        reply = self._found(_LIBRARY.hull_outline_diameter)
+        reply = self._found(_LIBRARY.hull_polygon_diameter)
         return _two_pairs(reply) if reply.code == _Code.POINTS else None
 
     def least_width(self) -> Optional[Tuple[Pair, Pair, Pair]]:
@@ -1193,7 +1193,7 @@ class Outline(_Questions):
 
         No direction has a narrower strip. The width is the side of that vertex at the edge by the edge's length.
         """
-        told: _Witness = _LIBRARY.hull_outline_least_width(*self._there())
+        told: _Witness = _LIBRARY.hull_polygon_least_width(*self._there())
         return (told.point("a"), told.point("b"), told.point("c")) if told.code == _Code.EDGE else None
 
     def _beside(self, ask: Callable[..., Any], other: Outline) -> Any:
@@ -1204,17 +1204,17 @@ class Outline(_Questions):
 
     def meets(self, other: Outline) -> bool:
         """Returns whether the two polygons intersect, boundaries included."""
-        reply: _Reply = self._beside(_LIBRARY.hull_outline_meets, other)
+        reply: _Reply = self._beside(_LIBRARY.hull_polygon_intersects, other)
         return reply.number == 1
 
     def contains(self, other: Outline) -> bool:
         """Returns whether this polygon contains the other one."""
-        reply: _Reply = self._beside(_LIBRARY.hull_outline_contains, other)
+        reply: _Reply = self._beside(_LIBRARY.hull_polygon_contains, other)
         return reply.number == 1
 
     def relation(self, other: Outline) -> Relation:
         """Returns how this polygon is related to the other one."""
-        reply: _Reply = self._beside(_LIBRARY.hull_outline_relation, other)
+        reply: _Reply = self._beside(_LIBRARY.hull_polygon_relation, other)
         return Relation(reply.number)
 
     def turned(self, a: SupportsIndex, b: SupportsIndex) -> Outline:
@@ -1225,7 +1225,7 @@ class Outline(_Questions):
         made, (at, count) = Outline(()), self._there()
         corners = array("q", at.array)
         corners.extend((0, 0))
-        _told(_LIBRARY.hull_outline_turned(at, count, _whole(a), _whole(b), corners.buffer_info()[0]).code)
+        _told(_LIBRARY.hull_polygon_rotate(at, count, _whole(a), _whole(b), corners.buffer_info()[0]).code)
         made._hold(corners[:2 * count])
         return made
 
@@ -1236,13 +1236,13 @@ class Outline(_Questions):
             raise _out_of_range()
         at, count = self._there()
         corners = array("q", at.array)
-        _told(_LIBRARY.hull_outline_moved(at, count, x, y, corners.buffer_info()[0] if corners else 0).code)
+        _told(_LIBRARY.hull_polygon_translate(at, count, x, y, corners.buffer_info()[0] if corners else 0).code)
         made._hold(corners)
         return made
 
     def first_meeting(self, other: Outline, dx: SupportsIndex, dy: SupportsIndex) -> Optional[Motion]:
         """Returns when the other polygon, which moves straight by (dx, dy), first intersects this one; None if it never does."""
-        told: _Motion = self._beside(lambda *there: _LIBRARY.hull_outline_first_meeting(*there, _whole(dx), _whole(dy)), other)
+        told: _Motion = self._beside(lambda *there: _LIBRARY.hull_polygon_first_meeting(*there, _whole(dx), _whole(dy)), other)
         hit = self._hit_of(told.hit)
         if hit is None:
             return None
@@ -1253,7 +1253,7 @@ class Outline(_Questions):
         kept = _as_they_are(others)
         there, told = _there_of(kept), bytearray(len(kept) + 1)
         room = (ctypes.c_uint8 * len(told)).from_buffer(told)
-        _LIBRARY.hull_outline_relations(*self._there(), there.buffer_info()[0], len(kept), ctypes.addressof(room))
+        _LIBRARY.hull_polygon_relations(*self._there(), there.buffer_info()[0], len(kept), ctypes.addressof(room))
         return [Relation(relation) for relation in told[:-1]]
 
     @overload
@@ -1270,7 +1270,7 @@ class Outline(_Questions):
         flat = _flat(_ends_of(segments))
         count, room = len(flat) // 4, ctypes.create_string_buffer(max(len(flat) // 4, 1))
         flat.append(0)  # so that no segments have a place in memory, too
-        _LIBRARY.hull_outline_meets_segments(*self._there(), flat.buffer_info()[0], count, ctypes.addressof(room))
+        _LIBRARY.hull_polygon_intersects_segments(*self._there(), flat.buffer_info()[0], count, ctypes.addressof(room))
         return _like(segments, room.raw[:count])
 
     def indices(self, points: Any) -> List[Optional[int]]:
@@ -1278,12 +1278,12 @@ class Outline(_Questions):
         flat, (at, corners) = _flat(points), self._there()
         count, room = len(flat) // 2, array("Q", (0,)) * (corners + 1)
         flat.append(0)
-        _LIBRARY.hull_outline_indices(at, corners, flat.buffer_info()[0], count, room.buffer_info()[0])
+        _LIBRARY.hull_polygon_indices(at, corners, flat.buffer_info()[0], count, room.buffer_info()[0])
         return [place if place < count else None for place in room[:corners]]
 
     def contains_inside(self, other: Outline) -> bool:
         """Returns whether this polygon contains the other one with no point of it on the boundary."""
-        reply: _Reply = self._beside(_LIBRARY.hull_outline_contains_inside, other)
+        reply: _Reply = self._beside(_LIBRARY.hull_polygon_contains_inside, other)
         return reply.number == 1
 
     def within(self, other: Outline, distance: Union[int, float, Fraction]) -> bool:
@@ -1295,7 +1295,7 @@ class Outline(_Questions):
         if not short:
             squared = self.squared_distance(other)
             return squared is not None and squared <= length * length
-        reply: _Reply = self._beside(lambda *there: _LIBRARY.hull_outline_within(*there, length.numerator, length.denominator), other)
+        reply: _Reply = self._beside(lambda *there: _LIBRARY.hull_polygon_within_distance(*there, length.numerator, length.denominator), other)
         return reply.number == 1
 
     def within_segment(self, ax: SupportsIndex, ay: SupportsIndex, bx: SupportsIndex, by: SupportsIndex,
@@ -1307,7 +1307,7 @@ class Outline(_Questions):
             squared = self.squared_distance_to_segment(ax, ay, bx, by)
             return squared is not None and squared <= length * length
         ends = _whole(ax), _whole(ay), _whole(bx), _whole(by)
-        return self._found(_LIBRARY.hull_outline_within_segment, *ends, length.numerator, length.denominator).number == 1
+        return self._found(_LIBRARY.hull_polygon_within_distance_of_segment, *ends, length.numerator, length.denominator).number == 1
 
     def within_point(self, x: SupportsIndex, y: SupportsIndex, distance: Union[int, float, Fraction]) -> bool:
         """Returns whether the distance of the point (x, y) is at most that, exactly, as `within`."""
@@ -1320,7 +1320,7 @@ class Outline(_Questions):
         and else overlaps.
         """
         ends = _whole(ax), _whole(ay), _whole(bx), _whole(by)
-        return Relation(self._found(_LIBRARY.hull_outline_relation_to_segment, *ends).number)
+        return Relation(self._found(_LIBRARY.hull_polygon_relation_to_segment, *ends).number)
 
     def cast_ray(self, x: SupportsIndex, y: SupportsIndex, dx: SupportsIndex, dy: SupportsIndex) -> Optional[Tuple[Fraction, Tuple[Pair, ...]]]:
         """Returns where the ray from (x, y) in the direction (dx, dy) enters; None if it misses.
@@ -1328,16 +1328,16 @@ class Outline(_Questions):
         That is how far along, in lengths of the direction, and where: of two pairs across the edge between them, or at one of them; of one
         at that vertex of a polygon on its line; of none at its start, which the polygon covers.
         """
-        return self._hit(_LIBRARY.hull_outline_cast_ray, x, y, dx, dy)
+        return self._hit(_LIBRARY.hull_polygon_raycast, x, y, dx, dy)
 
     def last_on_ray(self, x: SupportsIndex, y: SupportsIndex, dx: SupportsIndex, dy: SupportsIndex) -> Optional[Tuple[Fraction, Tuple[Pair, ...]]]:
         """Returns the last point of that ray in the polygon, in the same way; None if it misses."""
-        return self._hit(_LIBRARY.hull_outline_last_on_ray, x, y, dx, dy)
+        return self._hit(_LIBRARY.hull_polygon_raycast_exit, x, y, dx, dy)
 
     def cast_segment(self, ax: SupportsIndex, ay: SupportsIndex, bx: SupportsIndex,
                      by: SupportsIndex) -> Optional[Tuple[Fraction, Tuple[Pair, ...]]]:
         """The same for the segment from (ax, ay) to (bx, by), in its lengths; its last point is where that from (bx, by) enters."""
-        return self._hit(_LIBRARY.hull_outline_cast_segment, ax, ay, bx, by)
+        return self._hit(_LIBRARY.hull_polygon_raycast_segment, ax, ay, bx, by)
 
     def _hit(self, ask: Callable[..., Any], *numbers: SupportsIndex) -> Optional[Tuple[Fraction, Tuple[Pair, ...]]]:
         """Returns where and how far along a segment or a ray enters."""
@@ -1355,7 +1355,7 @@ class Outline(_Questions):
 
     def witness(self, other: Outline) -> Optional[Witness]:
         """Returns where the two polygons intersect, or what separates them: a `Witness`; None if one of them has no vertex."""
-        told: _Witness = self._beside(_LIBRARY.hull_outline_witness, other)
+        told: _Witness = self._beside(_LIBRARY.hull_polygon_witness, other)
         if told.code == _Code.EMPTY:
             return None
         shows = Shows(told.code)
@@ -1368,7 +1368,7 @@ class Outline(_Questions):
         Of one pair a feature is that vertex; of two it is a foot on the edge between them; of none the polygons intersect.
         `squared_distance` has the number.
         """
-        told: _Witness = self._beside(_LIBRARY.hull_outline_distance, other)
+        told: _Witness = self._beside(_LIBRARY.hull_polygon_distance, other)
         if told.code == _Code.EMPTY:
             return None
         ours, theirs = {int(_Code.POINTS): (1, 1), int(_Code.CORNER): (1, 2), int(_Code.EDGE): (2, 1)}.get(told.code, (0, 0))
@@ -1385,7 +1385,7 @@ class Outline(_Questions):
 
         They are equal if the distance is a float, else neighbours. None if one has no vertex.
         """
-        return _bounds(self._beside(_LIBRARY.hull_outline_clearance, other))
+        return _bounds(self._beside(_LIBRARY.hull_polygon_distance_bounds, other))
 
     def squared_distance_to_segment(self, ax: SupportsIndex, ay: SupportsIndex, bx: SupportsIndex,
                                     by: SupportsIndex) -> Optional[Fraction]:
@@ -1404,7 +1404,7 @@ class Outline(_Questions):
     def _clearance_to_segment(self, ax: SupportsIndex, ay: SupportsIndex, bx: SupportsIndex, by: SupportsIndex) -> _Clearance:
         """Returns the distance of a segment."""
         ends = _whole(ax), _whole(ay), _whole(bx), _whole(by)
-        told: _Clearance = _LIBRARY.hull_outline_clearance_to_segment(*self._there(), *ends)
+        told: _Clearance = _LIBRARY.hull_polygon_distance_bounds_to_segment(*self._there(), *ends)
         _told(told.code)
         return told
 
@@ -1496,7 +1496,7 @@ def pairs_within(outlines: Sequence[Outline], distance: Union[int, float, Fracti
     there, room = _there_of(kept), len(kept) + 1
     while True:
         pairs = array("Q", (0, 0)) * room
-        told = _LIBRARY.hull_pairs_within(there.buffer_info()[0], len(kept), asked.numerator, asked.denominator,
+        told = _LIBRARY.hull_pairs_within_distance(there.buffer_info()[0], len(kept), asked.numerator, asked.denominator,
                                           pairs.buffer_info()[0], room)
         if told.code != _Code.TOO_SMALL:
             break

@@ -30,7 +30,7 @@ void hull_python_free(hull_python *h) {
 /* Makes a call; counts a question that the vertices answer before it. */
 static hull_reply hull_counted_call(hull_set *h, uint32_t kind, int64_t x, int64_t y) {
     if (kind >= HULL_KIND_PLACE && kind <= HULL_KIND_AREA && kind != HULL_KIND_VERTICES) {
-        hull_settle(h);
+        hull_prepare(h);
     }
     return hull_call(h, kind, x, y);
 }

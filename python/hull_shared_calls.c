@@ -6,8 +6,8 @@
 /* A shared hull with its gate; it ends when the Python object and all acquired seats have dropped it. */
 typedef struct hull_python_desk {
     hull_owned owned;
-    hull_shared_line line;
-    hull_shared_desk *desk;
+    hull_shared_gate line;
+    hull_shared *desk;
     uint64_t out; /* bit k: seat k is acquired */
     uint32_t owners;
     uint32_t asking; /* how many threads wait for durable lines of the journal file */
@@ -34,14 +34,14 @@ typedef struct hull_python_reader {
 
 typedef struct hull_python_part {
     hull_owned owned;
-    hull_shared_part *part;
+    hull_shared_segment *part;
 } hull_python_part;
 
 hull_python_desk *hull_python_desk_new(void) {
-    hull_python_desk *d = (hull_python_desk *)hull_room_new(sizeof *d, 64);
-    hull_shared_desk *desk = d == NULL ? NULL : hull_shared_desk_new();
+    hull_python_desk *d = (hull_python_desk *)hull_storage_new(sizeof *d, 64);
+    hull_shared *desk = d == NULL ? NULL : hull_shared_new();
     if (desk == NULL) {
-        hull_room_free(d);
+        hull_storage_free(d);
         return NULL;
     }
     d->desk = desk;
@@ -49,7 +49,7 @@ hull_python_desk *hull_python_desk_new(void) {
     d->owners = 1;
     d->asking = 0;
     d->journal = NULL;
-    hull_shared_line_init(&d->line, 1);
+    hull_shared_gate_init(&d->line, 1);
     hull_begins(&d->owned, 0);
     return d;
 }
@@ -66,8 +66,8 @@ void hull_python_desk_free(hull_python_desk *d) {
         }
         hull_shared_close(d->desk);
         hull_shared_end(d->desk);
-        hull_shared_desk_free(d->desk);
-        hull_room_free(d);
+        hull_shared_free(d->desk);
+        hull_storage_free(d);
     }
 }
 
@@ -81,7 +81,7 @@ uint32_t hull_python_open_answering(hull_python_desk *d, uint32_t limit, uint64_
 
 /* Decides whether calls wait for space; before any seat is acquired. */
 uint32_t hull_python_wait_for_room(hull_python_desk *d, uint32_t waits) {
-    hull_shared_line_wait_for_room(&d->line, waits != 0);
+    hull_shared_gate_wait_for_space(&d->line, waits != 0);
     return 0;
 }
 
@@ -145,7 +145,7 @@ static hull_reply safe(hull_python_desk *d, uint32_t how, uint64_t line, uint64_
     memset(&reply, 0, sizeof reply);
     reply.code = d->owned.is_ended ? HULL_ENDED : HULL_NOT_OPEN;
     if (journal != NULL) {
-        reply = how == HULL_PYTHON_NOW    ? hull_shared_journal_safe(journal)
+        reply = how == HULL_PYTHON_NOW    ? hull_shared_journal_durable(journal)
                 : how == HULL_PYTHON_SYNC ? hull_shared_journal_sync(journal, until)
                                           : hull_shared_journal_wait(journal, line, until);
         stops_asking(d);
@@ -232,8 +232,8 @@ static uint64_t until(const hull_python_seat *s) {
 
 /* Acquires seat `number` into the storage, which owns the shared hull from then on. */
 static uint32_t lend(hull_python_seat *s, hull_python_desk *d, uint32_t number) {
-    uint32_t code = hull_shared_lend(d->desk, &d->line, s->seat, number);
-    if (code == HULL_LENT) {
+    uint32_t code = hull_shared_acquire_seat(d->desk, &d->line, s->seat, number);
+    if (code == HULL_ACQUIRED) {
         s->desk = d;
         s->number = number;
         d->owners++;
@@ -251,7 +251,7 @@ static void give_back(hull_python_seat *s) {
     hull_python_desk *d = s->desk;
     s->desk = NULL;
     if (d != NULL && hull_enters(&d->owned)) {
-        hull_shared_give_back(d->desk, s->seat);
+        hull_shared_release_seat(d->desk, s->seat);
         d->out &= ~((uint64_t)1 << s->number);
         hull_leaves(&d->owned);
         hull_python_desk_free(d);
@@ -364,7 +364,7 @@ uint32_t hull_python_turn(hull_python_seat *s, uint64_t *turn) {
 
 /* Sets for how many readers the shared hull is opened. */
 uint32_t hull_python_admit(hull_python_desk *d, uint32_t readers) {
-    HULL_CODE_OF(d, hull_shared_admit(d->desk, readers));
+    HULL_CODE_OF(d, hull_shared_set_max_readers(d->desk, readers));
 }
 
 hull_python_reader *hull_python_reader_new(void) {
@@ -381,8 +381,8 @@ hull_python_reader *hull_python_reader_new(void) {
 
 /* Acquires a reader into the storage, which owns the shared hull from then on. */
 static uint32_t lend_reader(hull_python_reader *r, hull_python_desk *d) {
-    const uint32_t code = hull_shared_lend_reader(d->desk, r->reader);
-    if (code == HULL_LENT) {
+    const uint32_t code = hull_shared_acquire_reader(d->desk, r->reader);
+    if (code == HULL_ACQUIRED) {
         r->desk = d;
         d->owners++;
     }
@@ -398,7 +398,7 @@ static void return_reader(hull_python_reader *r) {
     hull_python_desk *d = r->desk;
     r->desk = NULL;
     if (d != NULL && hull_enters(&d->owned)) {
-        hull_shared_return_reader(d->desk, r->reader);
+        hull_shared_release_reader(d->desk, r->reader);
         hull_leaves(&d->owned);
         hull_python_desk_free(d);
     }
@@ -438,7 +438,7 @@ static hull_reply read_into(hull_python_reader *r, hull_point *out, size_t room)
     reply.code = HULL_VACANT;
     if (r->desk != NULL) {
         const hull_shared_view view = hull_shared_read(r->reader);
-        reply = hull_shared_view_corners(r->reader, out, room);
+        reply = hull_shared_snapshot_vertices(r->reader, out, room);
         reply.x = view.has_line;
         reply.high = view.line;
     }
@@ -452,9 +452,9 @@ hull_reply hull_python_read(hull_python_reader *r, hull_point *out, size_t room)
 /* Makes a segment with space for so many lines. */
 hull_python_part *hull_python_part_new(uint32_t lines) {
     hull_python_part *p = (hull_python_part *)malloc(sizeof *p);
-    hull_shared_part *part = p == NULL ? NULL : hull_shared_part_new();
-    if (part == NULL || hull_shared_part_reserve(part, lines) != HULL_RESERVED) {
-        hull_shared_part_free(part);
+    hull_shared_segment *part = p == NULL ? NULL : hull_shared_segment_new();
+    if (part == NULL || hull_shared_segment_reserve(part, lines) != HULL_RESERVED) {
+        hull_shared_segment_free(part);
         free(p);
         return NULL;
     }
@@ -465,16 +465,16 @@ hull_python_part *hull_python_part_new(uint32_t lines) {
 
 void hull_python_part_free(hull_python_part *p) {
     if (hull_goes(&p->owned)) {
-        hull_shared_part_end(p->part);
-        hull_shared_part_free(p->part);
+        hull_shared_segment_end(p->part);
+        hull_shared_segment_free(p->part);
         free(p);
     }
 }
 
 hull_reply hull_python_part_text(hull_python_part *p, uint8_t *out, size_t length) {
-    HULL_REPLY_OF(p, hull_shared_part_text(p->part, out, length));
+    HULL_REPLY_OF(p, hull_shared_segment_text(p->part, out, length));
 }
 
 hull_reply hull_python_part_text_from(hull_python_part *p, uint64_t line, uint8_t *out, size_t length) {
-    HULL_REPLY_OF(p, hull_shared_part_text_from(p->part, line, out, length));
+    HULL_REPLY_OF(p, hull_shared_segment_text_from(p->part, line, out, length));
 }

@@ -206,11 +206,11 @@ def stretches(lists):
     yield "web/hull.d.ts", "relations", f"    | {' | '.join(quoted)};\n"
     yield "web/journal.js", "operands", object_of(f"{it.words()[0]}: {len(it.words()) - 1}" for it in calls)
     yield "web/hull.js", "kinds", object_of(f"{it.small()}: {it.number}" for it in kinds)
-    yield "web/hull.js", "codes", object_of(f"{it.small()}: {it.number}" for it in codes if it.group.name in ("sets", "outlines"))
+    yield "web/hull.js", "codes", object_of(f"{it.small()}: {it.number}" for it in codes if it.group.name in ("sets", "polygons"))
     yield "man/hull.3", "refusals", manual([it for it in codes if it.mark == "refuses"])
     yield "docs/FORMATS.md", "words", words_table(lists)
     for path, what, rows, module in (
-        ("hull_reply/specs/Told", "code", proved, "code"),
+        ("hull_reply/specs/Encoded", "code", proved, "code"),
         ("hull_reply/specs/Requests", "kind", kinds, "kind"),
         ("hull_c/specs/Pairs", "relation", relations, "relation"),
     ):  # `rt fmt` leaves an empty line after a definition

@@ -514,7 +514,7 @@ class OutlineOfInstance extends Questions {
         super(instance, () => instance.heap.give(room));
         [this.#at, this.#count, this.#address, this.#corners] = [room, count, BigInt(room), BigInt(count)];
         try {
-            instance.ask("hull_is_outline", this.#address, this.#corners);
+            instance.ask("hull_is_polygon", this.#address, this.#corners);
             if (instance.number() !== 1) throw new NoOutline("the points are not the corners of a hull in their order");
         } catch (error) {
             this.free();
@@ -523,7 +523,7 @@ class OutlineOfInstance extends Questions {
     }
 
     _callAll(requests, count, replies, room) {
-        this._live().call("hull_outline_calls", this.#address, this.#corners, requests, count, replies, room);
+        this._live().call("hull_polygon_calls", this.#address, this.#corners, requests, count, replies, room);
     }
 
     count() {
@@ -554,87 +554,87 @@ class OutlineOfInstance extends Questions {
     }
 
     meetsSegment(ax, ay, bx, by) {
-        this.#found("hull_outline_meets_segment", whole(ax), whole(ay), whole(bx), whole(by));
+        this.#found("hull_polygon_intersects_segment", whole(ax), whole(ay), whole(bx), whole(by));
         return this._live().number() === 1;
     }
 
     apartFromSegment(ax, ay, bx, by) {
-        if (this.#found("hull_outline_apart", whole(ax), whole(ay), whole(bx), whole(by)) !== CODE.apart) return null;
+        if (this.#found("hull_polygon_separation", whole(ax), whole(ay), whole(bx), whole(by)) !== CODE.apart) return null;
         const [corner, direction] = this._live().pair();
         return { corner, direction };
     }
 
     nearest(x, y) {
-        const code = this.#found("hull_outline_nearest", whole(x), whole(y)), points = this._live().pair();
+        const code = this.#found("hull_polygon_nearest", whole(x), whole(y)), points = this._live().pair();
         return { [CODE.covered]: [], [CODE.corner]: points.slice(0, 1), [CODE.edge]: points }[code] ?? null;
     }
 
     boundingBox() {
-        return this.#found("hull_outline_box") === CODE.box ? this._live().pair() : null;
+        return this.#found("hull_polygon_box") === CODE.box ? this._live().pair() : null;
     }
 
     widthAlong(dx, dy) {
-        return this.#found("hull_outline_width", whole(dx), whole(dy)) === CODE.empty ? null : this._live().wide();
+        return this.#found("hull_polygon_width", whole(dx), whole(dy)) === CODE.empty ? null : this._live().wide();
     }
 
     diameter() {
-        return this.#found("hull_outline_diameter") === CODE.points ? this._live().pair() : null;
+        return this.#found("hull_polygon_diameter") === CODE.points ? this._live().pair() : null;
     }
 
     leastWidth() {
-        const [code, points] = this._live().witnessed("hull_outline_least_width", this.#address, this.#corners);
+        const [code, points] = this._live().witnessed("hull_polygon_least_width", this.#address, this.#corners);
         return code === CODE.edge ? points.slice(0, 3) : null;
     }
 
     meets(other) {
-        return this.#numberBeside("hull_outline_meets", other) === 1;
+        return this.#numberBeside("hull_polygon_intersects", other) === 1;
     }
 
     contains(other) {
-        return this.#numberBeside("hull_outline_contains", other) === 1;
+        return this.#numberBeside("hull_polygon_contains", other) === 1;
     }
 
     relation(other) {
-        return RELATIONS[this.#numberBeside("hull_outline_relation", other)];
+        return RELATIONS[this.#numberBeside("hull_polygon_relation", other)];
     }
 
     containsInside(other) {
-        return this.#numberBeside("hull_outline_contains_inside", other) === 1;
+        return this.#numberBeside("hull_polygon_contains_inside", other) === 1;
     }
 
     within(other, numerator, denominator = 1) {
-        return this.#numberBeside("hull_outline_within", other, ...lengthOf(numerator, denominator)) === 1;
+        return this.#numberBeside("hull_polygon_within_distance", other, ...lengthOf(numerator, denominator)) === 1;
     }
 
     withinSegment(ax, ay, bx, by, numerator, denominator = 1) {
-        this.#found("hull_outline_within_segment", whole(ax), whole(ay), whole(bx), whole(by), ...lengthOf(numerator, denominator));
+        this.#found("hull_polygon_within_distance_of_segment", whole(ax), whole(ay), whole(bx), whole(by), ...lengthOf(numerator, denominator));
         return this._live().number() === 1;
     }
 
     relationToSegment(ax, ay, bx, by) {
-        this.#found("hull_outline_relation_to_segment", whole(ax), whole(ay), whole(bx), whole(by));
+        this.#found("hull_polygon_relation_to_segment", whole(ax), whole(ay), whole(bx), whole(by));
         return RELATIONS[this._live().number()];
     }
 
     castRay(x, y, dx, dy) {
-        return this._live().met("hull_outline_cast_ray", this.#address, this.#corners, whole(x), whole(y), whole(dx), whole(dy));
+        return this._live().met("hull_polygon_raycast", this.#address, this.#corners, whole(x), whole(y), whole(dx), whole(dy));
     }
 
     lastOnRay(x, y, dx, dy) {
-        return this._live().met("hull_outline_last_on_ray", this.#address, this.#corners, whole(x), whole(y), whole(dx), whole(dy));
+        return this._live().met("hull_polygon_raycast_exit", this.#address, this.#corners, whole(x), whole(y), whole(dx), whole(dy));
     }
 
     castSegment(ax, ay, bx, by) {
-        return this._live().met("hull_outline_cast_segment", this.#address, this.#corners, whole(ax), whole(ay), whole(bx), whole(by));
+        return this._live().met("hull_polygon_raycast_segment", this.#address, this.#corners, whole(ax), whole(ay), whole(bx), whole(by));
     }
 
     witness(other) {
-        const [code, points] = this.#beside("witnessed", "hull_outline_witness", other), shown = SHOWN[code];
+        const [code, points] = this.#beside("witnessed", "hull_polygon_witness", other), shown = SHOWN[code];
         return shown ? { shows: shown[0], points: points.slice(0, shown[1]) } : null;
     }
 
     distance(other) {
-        const [code, points] = this.#beside("witnessed", "hull_outline_distance", other);
+        const [code, points] = this.#beside("witnessed", "hull_polygon_distance", other);
         if (code === CODE.empty) return null;
         const [ours, theirs] = PLACES_OF[code] ?? [0, 0];
         return [points.slice(0, ours), points.slice(ours, ours + theirs)];
@@ -655,7 +655,7 @@ class OutlineOfInstance extends Questions {
     }
 
     distanceBounds(other) {
-        return this.#beside("measured", "hull_outline_clearance", other)?.bounds ?? null;
+        return this.#beside("measured", "hull_polygon_distance_bounds", other)?.bounds ?? null;
     }
 
     distanceBoundsToSegment(ax, ay, bx, by) {
@@ -665,7 +665,7 @@ class OutlineOfInstance extends Questions {
     /** Returns the distance of a segment. */
     #measuredTo(ax, ay, bx, by) {
         const ends = [whole(ax), whole(ay), whole(bx), whole(by)];
-        return this._live().measured("hull_outline_clearance_to_segment", this.#address, this.#corners, ...ends);
+        return this._live().measured("hull_polygon_distance_bounds_to_segment", this.#address, this.#corners, ...ends);
     }
 }
 
@@ -751,7 +751,7 @@ function classesOf(instance) {
         static of(points) {
             const coordinates = flat(points), array = instance.placed(coordinates);
             try {
-                const count = instance.filled(POINT.size, "hull_outline_of", BigInt(array), BigInt(coordinates.length / 2));
+                const count = instance.filled(POINT.size, "hull_polygon_of", BigInt(array), BigInt(coordinates.length / 2));
                 return new Outline(instance.points(instance.out.at, count));
             } finally {
                 instance.heap.give(array);

@@ -50,7 +50,7 @@ std::vector<Shape> drawn(int corners) {
         for (hull_point &p : points) {
             p = {x + part(chance), y + part(chance)};
         }
-        const hull_reply r = hull_outline_of(points.data(), points.size(), out.data(), out.size());
+        const hull_reply r = hull_polygon_of(points.data(), points.size(), out.data(), out.size());
         out.resize(r.number);
         if (out.size() < 3) {
             continue;
@@ -75,7 +75,7 @@ std::vector<std::pair<const Shape *, const Shape *>> neighbours(const std::vecto
         corners.push_back({shape.corners.data(), shape.corners.size()});
     }
     std::vector<hull_pair> found(1 << 22);
-    const hull_reply r = hull_pairs_within(corners.data(), corners.size(), 300, 1, found.data(), found.size());
+    const hull_reply r = hull_pairs_within_distance(corners.data(), corners.size(), 300, 1, found.data(), found.size());
     found.resize(r.number);
     std::shuffle(found.begin(), found.end(), std::mt19937_64(3));
     for (std::size_t i = 0; i < found.size() && i < pairs; i++) {
@@ -152,7 +152,7 @@ double by_box2d_ray(const Shape &a, hull_point from, hull_point way) {
 }
 
 double part_of(const hull_hit &hit) {
-    if (hit.code == HULL_APART) {
+    if (hit.code == HULL_DISJOINT) {
         return 2;
     }
     const auto number = [](std::uint64_t high, std::uint64_t low) { return std::ldexp(static_cast<double>(high), 64) + static_cast<double>(low); };
@@ -223,7 +223,7 @@ void all_pairs(const std::vector<Shape> &all, int rounds) {
     }
     std::vector<hull_pair> found(1 << 16);
     row("all pairs of 4,000 that meet, in all", "Box2D", 1, rounds, 0,
-        [&](std::size_t) { return static_cast<double>(hull_pairs_within(corners.data(), corners.size(), 0, 1, found.data(), found.size()).number); },
+        [&](std::size_t) { return static_cast<double>(hull_pairs_within_distance(corners.data(), corners.size(), 0, 1, found.data(), found.size()).number); },
         [&](std::size_t) { return static_cast<double>(all_by_box2d(all)); });
 }
 
@@ -248,27 +248,27 @@ int main(int words, char **word) {
     const auto second = [&](std::size_t i) { return near[i].second->corners.data(); };
     const auto second_count = [&](std::size_t i) { return near[i].second->corners.size(); };
     const auto meets = [&](std::size_t i) {
-        return static_cast<double>(hull_outline_meets(first(i), first_count(i), second(i), second_count(i)).number);
+        return static_cast<double>(hull_polygon_intersects(first(i), first_count(i), second(i), second_count(i)).number);
     };
     row("do two meet", "Box2D", near.size(), rounds, 0, meets, [&](std::size_t i) { return by_box2d(*near[i].first, *near[i].second) ? 1.0 : 0.0; });
     row("do two meet", "libccd", near.size(), rounds, 0, meets, [&](std::size_t i) { return by_ccd(*near[i].first, *near[i].second) ? 1.0 : 0.0; });
     row("how far apart, rounded down", "Box2D", near.size(), rounds, 0.01,
         [&](std::size_t i) {
-            const hull_clearance c = hull_outline_clearance(first(i), first_count(i), second(i), second_count(i));
-            return hull_clearance_down(&c);
+            const hull_distance_bounds c = hull_polygon_distance_bounds(first(i), first_count(i), second(i), second_count(i));
+            return hull_distance_bounds_down(&c);
         },
         [&](std::size_t i) { return by_box2d_distance(*near[i].first, *near[i].second); });
     row("no farther apart than 100", "Box2D", near.size(), rounds, 0,
-        [&](std::size_t i) { return static_cast<double>(hull_outline_within(first(i), first_count(i), second(i), second_count(i), 100, 1).number); },
+        [&](std::size_t i) { return static_cast<double>(hull_polygon_within_distance(first(i), first_count(i), second(i), second_count(i), 100, 1).number); },
         [&](std::size_t i) { return by_box2d_distance(*near[i].first, *near[i].second) <= 100 ? 1.0 : 0.0; });
     near.erase(std::remove_if(near.begin(), near.end(), [](const auto &pair) { return by_box2d(*pair.first, *pair.second); }), near.end());
     row("when two that are apart first meet", "Box2D", near.size(), rounds, 0.01,
-        [&](std::size_t i) { return part_of(hull_outline_first_meeting(first(i), first_count(i), second(i), second_count(i), ways[i].x, ways[i].y).hit); },
+        [&](std::size_t i) { return part_of(hull_polygon_first_meeting(first(i), first_count(i), second(i), second_count(i), ways[i].x, ways[i].y).hit); },
         [&](std::size_t i) { return by_box2d_cast(*near[i].first, *near[i].second, ways[i]); });
     row("where a ray from outside comes in", "Box2D", near.size(), rounds, 0.001,
         [&](std::size_t i) {
             const hull_point from = near[i].second->corners[0];
-            const double part = part_of(hull_outline_cast_ray(first(i), first_count(i), from.x, from.y, ways[i].x, ways[i].y));
+            const double part = part_of(hull_polygon_raycast(first(i), first_count(i), from.x, from.y, ways[i].x, ways[i].y));
             return part > 1 ? 2 : part;
         },
         [&](std::size_t i) { return by_box2d_ray(*near[i].first, near[i].second->corners[0], ways[i]); });

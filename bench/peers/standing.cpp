@@ -188,7 +188,7 @@ class Geos {
         return within && covers ? HULL_RELATION_EQUAL
                : within         ? HULL_RELATION_WITHIN
                : covers         ? HULL_RELATION_COVERS
-               : apart          ? HULL_RELATION_APART
+               : apart          ? HULL_RELATION_DISJOINT
                : flat           ? HULL_RELATION_TOUCHING
                                 : HULL_RELATION_OVERLAPPING;
     }
@@ -328,7 +328,7 @@ void time_places(Table &table, const Ours &ours, const Ours &known, const Chain 
     };
     const Point *corners = chain.corners.data();
     const size_t h = chain.corners.size();
-    time("hull_outline_place", [&](size_t i) { return hull_outline_place(corners, h, asked[i].x, asked[i].y).code != HULL_OUTSIDE; });
+    time("hull_polygon_place", [&](size_t i) { return hull_polygon_place(corners, h, asked[i].x, asked[i].y).code != HULL_OUTSIDE; });
     time("hull_place", [&](size_t i) { return hull_place(ours.place, asked[i].x, asked[i].y).code != HULL_OUTSIDE; });
     time("hull_place, known", [&](size_t i) { return hull_place(known.place, asked[i].x, asked[i].y).code != HULL_OUTSIDE; });
     time("bisection behind a call", [&](size_t i) { return place_behind_a_call(chain, asked[i].x, asked[i].y).code != HULL_OUTSIDE; });
@@ -354,7 +354,7 @@ double distance_of(const hull_witness &w) {
     };
     switch (w.code) {
     case HULL_POINTS: return far(w.a, w.b);
-    case HULL_CORNER: return beside(w.b, w.c, w.a);
+    case HULL_VERTEX: return beside(w.b, w.c, w.a);
     case HULL_EDGE: return beside(w.a, w.b, w.c);
     default: return 0;
     }
@@ -408,10 +408,10 @@ void time_meetings(Table &table, const Chain &chain, const Points &asked) {
     size_t ours = 0, theirs = 0;
     {
         const Geos geos(chain.corners, motions);
-        ours += table.time("motion", "hull_outline_meets_segment", n, [&] {
+        ours += table.time("motion", "hull_polygon_intersects_segment", n, [&] {
             return count_of(asked, [&](size_t i) {
                 const Points &m = motions[i];
-                return hull_outline_meets_segment(corners, h, m[0].x, m[0].y, m[1].x, m[1].y).number;
+                return hull_polygon_intersects_segment(corners, h, m[0].x, m[0].y, m[1].x, m[1].y).number;
             });
         });
         theirs += table.time("motion", "GEOS prepared", n, [&] { return count_of(asked, [&](size_t i) { return geos.meets(i); }); });
@@ -421,23 +421,23 @@ void time_meetings(Table &table, const Chain &chain, const Points &asked) {
         if (cut != ours) {
             std::printf("of %zu motions %zu meet, and by half planes in doubles %zu\n", n, ours, cut);
         }
-        table.time("motion", "hull_outline_apart", n, [&] {
+        table.time("motion", "hull_polygon_separation", n, [&] {
             return count_of(asked, [&](size_t i) {
                 const Points &m = motions[i];
-                return hull_outline_apart(corners, h, m[0].x, m[0].y, m[1].x, m[1].y).code == HULL_APART;
+                return hull_polygon_separation(corners, h, m[0].x, m[0].y, m[1].x, m[1].y).code == HULL_DISJOINT;
             });
         });
     }
     const Geos geos(chain.corners, triangles);
-    ours += table.time("triangle", "hull_outline_meets", n, [&] {
+    ours += table.time("triangle", "hull_polygon_intersects", n, [&] {
         return count_of(asked, [&](size_t i) {
-            return hull_outline_meets(corners, h, triangles[i].data(), triangles[i].size()).number;
+            return hull_polygon_intersects(corners, h, triangles[i].data(), triangles[i].size()).number;
         });
     });
     theirs += table.time("triangle", "GEOS prepared", n, [&] { return count_of(asked, [&](size_t i) { return geos.meets(i); }); });
-    table.time("triangle", "hull_outline_witness", n, [&] {
+    table.time("triangle", "hull_polygon_witness", n, [&] {
         return count_of(asked, [&](size_t i) {
-            return hull_outline_witness(corners, h, triangles[i].data(), triangles[i].size()).code == HULL_APART;
+            return hull_polygon_witness(corners, h, triangles[i].data(), triangles[i].size()).code == HULL_DISJOINT;
         });
     });
     if (ours != theirs) {
@@ -455,16 +455,16 @@ void time_distances(Table &table, const Chain &chain, const Points &asked) {
         const std::string name = right == 0 ? "triangle" : "beside";
         const std::vector<Points> triangles = triangles_of(asked, right);
         const Geos geos(chain.corners, triangles);
-        table.time(name, "hull_outline_distance", n, [&] {
+        table.time(name, "hull_polygon_distance", n, [&] {
             return count_of(asked, [&](size_t i) {
-                return hull_outline_distance(corners, h, triangles[i].data(), triangles[i].size()).code != HULL_MEETING;
+                return hull_polygon_distance(corners, h, triangles[i].data(), triangles[i].size()).code != HULL_INTERSECTING;
             });
         });
         table.time(name, "GEOS prepared, the distance", n, [&] {
             return count_of(asked, [&](size_t i) { return geos.distance(i) > 0; });
         });
         const size_t differ = count_of(asked, [&](size_t i) {
-            const double told = distance_of(hull_outline_distance(corners, h, triangles[i].data(), triangles[i].size()));
+            const double told = distance_of(hull_polygon_distance(corners, h, triangles[i].data(), triangles[i].size()));
             return std::abs(told - geos.distance(i)) > 1e-9 * told + 1e-6;
         });
         if (differ > 0) {
@@ -482,9 +482,9 @@ void time_relations(Table &table, const Chain &chain, const Points &asked) {
     const Geos geos(chain.corners, triangles);
     std::vector<hull_relation> ours(n), theirs(n);
     const auto relation = [&](size_t i) {
-        return static_cast<hull_relation>(hull_outline_relation(chain.corners.data(), h, triangles[i].data(), triangles[i].size()).number);
+        return static_cast<hull_relation>(hull_polygon_relation(chain.corners.data(), h, triangles[i].data(), triangles[i].size()).number);
     };
-    table.time("relation", "hull_outline_relation", n, [&] { return count_of(some, [&](size_t i) { return ours[i] = relation(i); }); });
+    table.time("relation", "hull_polygon_relation", n, [&] { return count_of(some, [&](size_t i) { return ours[i] = relation(i); }); });
     table.time("relation", "GEOS, the nine intersections", n, [&] { return count_of(some, [&](size_t i) { return theirs[i] = geos.relation(i); }); });
     table.time("relation", "GEOS prepared, whether they touch", n, [&] { return count_of(some, [&](size_t i) { return geos.touches(i); }); });
     size_t differ = 0;
@@ -505,9 +505,9 @@ void time_lengths(Table &table, const Chain &chain, const Points &asked) {
     const int64_t width = greatest->x - least->x;
     const std::vector<Points> triangles = triangles_of(asked, 2 * width);
     const Geos geos(chain.corners, triangles);
-    const size_t ours = table.time("length", "hull_outline_within", n, [&] {
+    const size_t ours = table.time("length", "hull_polygon_within_distance", n, [&] {
         return count_of(asked, [&](size_t i) {
-            return hull_outline_within(corners, h, triangles[i].data(), triangles[i].size(), static_cast<uint64_t>(3 * width), 2).number;
+            return hull_polygon_within_distance(corners, h, triangles[i].data(), triangles[i].size(), static_cast<uint64_t>(3 * width), 2).number;
         });
     });
     const double far = 1.5 * static_cast<double>(width);
@@ -527,7 +527,7 @@ double place_time(const Chain &chain, const Points &asked, size_t threads, int r
         for (size_t thread = 0; thread < threads; thread++) {
             all.emplace_back([&] {
                 volatile size_t covered = count_of(asked, [&](size_t i) {
-                    return hull_outline_place(chain.corners.data(), chain.corners.size(), asked[i].x, asked[i].y).code != HULL_OUTSIDE;
+                    return hull_polygon_place(chain.corners.data(), chain.corners.size(), asked[i].x, asked[i].y).code != HULL_OUTSIDE;
                 });
                 (void)covered;
             });
@@ -545,8 +545,8 @@ void time_extremes(Table &table, const Ours &ours, const Ours &known, const Chai
     const size_t n = asked.size();
     const Point *corners = chain.corners.data();
     const size_t h = chain.corners.size();
-    const size_t outline_sum = table.time("extreme", "hull_outline_extreme", n, [&] {
-        return count_of(asked, [&](size_t i) { return static_cast<size_t>(hull_outline_extreme(corners, h, asked[i].x, asked[i].y).x); });
+    const size_t outline_sum = table.time("extreme", "hull_polygon_extreme", n, [&] {
+        return count_of(asked, [&](size_t i) { return static_cast<size_t>(hull_polygon_extreme(corners, h, asked[i].x, asked[i].y).x); });
     });
     const size_t ours_sum = table.time("extreme", "hull_extreme", n, [&] {
         return count_of(asked, [&](size_t i) { return static_cast<size_t>(hull_extreme(ours.place, asked[i].x, asked[i].y).x); });
@@ -599,7 +599,7 @@ int main(int argc, char **argv) {
     }
     Ours ours, known;
     load(points, ours.place), load(points, known.place);
-    while (hull_settle(known.place).number == 0) {
+    while (hull_prepare(known.place).number == 0) {
     }
     Table table;
     for (int round = 0; round < rounds; round++) {
@@ -615,6 +615,6 @@ int main(int argc, char **argv) {
     std::printf("%s, %zu points, %zu corners\n", shape.c_str(), count, chain.corners.size());
     table.print();
     const double one = place_time(chain, asked, 1, 5 * rounds), four = place_time(chain, asked, 4, 5 * rounds);
-    std::printf("  %-9s %-34s %10.1f ns  of one thread's speed %.2f\n", "place", "hull_outline_place by 4 threads", four, one / four);
+    std::printf("  %-9s %-34s %10.1f ns  of one thread's speed %.2f\n", "place", "hull_polygon_place by 4 threads", four, one / four);
     return 0;
 }

@@ -13,8 +13,8 @@
 enum { EVERY = 100000, ROOM = 2000000 };
 static unsigned long calls;
 static int drains, writes;
-static hull_shared_line line;
-static hull_shared_desk *desk;
+static hull_shared_gate line;
+static hull_shared *desk;
 static hull_shared_seat *seats[HULL_SHARED_SEATS_MAX];
 static int wrong[HULL_SHARED_SEATS_MAX];
 static pthread_barrier_t begin;
@@ -26,11 +26,11 @@ static uint64_t next(uint64_t *state) {
     return *state;
 }
 
-static int write_out(hull_shared_part *part) {
-    hull_reply told = hull_shared_part_text_size(part);
+static int write_out(hull_shared_segment *part) {
+    hull_reply told = hull_shared_segment_text_size(part);
     uint8_t *text = calloc(told.number, 1);
     FILE *out = fopen("/dev/null", "wb");
-    int good = text != NULL && out != NULL && hull_shared_part_text(part, text, told.number).code == HULL_TEXT &&
+    int good = text != NULL && out != NULL && hull_shared_segment_text(part, text, told.number).code == HULL_TEXT &&
                fwrite(text, 1, told.number, out) == told.number;
     free(text);
     return out != NULL && fclose(out) == 0 && good;
@@ -39,7 +39,7 @@ static int write_out(hull_shared_part *part) {
 static void *work(void *place) {
     unsigned me = (unsigned)((hull_shared_seat **)place - seats);
     uint64_t state = 88172645463325252u ^ (me + 1) * UINT64_C(0x9E3779B97F4A7C15), out = 0;
-    hull_shared_part *part = me == 0 ? hull_shared_part_new() : NULL;
+    hull_shared_segment *part = me == 0 ? hull_shared_segment_new() : NULL;
     pthread_barrier_wait(&begin);
     for (unsigned long i = 0; i < calls; i++) {
         int64_t x = (int64_t)(next(&state) % 101) - 50, y = (int64_t)(next(&state) % 101) - 50;
@@ -47,14 +47,14 @@ static void *work(void *place) {
         hull_shared_reply reply = hull_shared_call(&line, seats[me], kind, x, y);
         wrong[me] |= reply.told.code < HULL_ADDED || reply.told.code > HULL_ABSENT;
         if (drains && me == 0 && reply.turn - out >= EVERY) {
-            wrong[0] |= hull_shared_part_reserve(part, hull_shared_capacity(seats[0])) != HULL_RESERVED;
+            wrong[0] |= hull_shared_segment_reserve(part, hull_shared_capacity(seats[0])) != HULL_RESERVED;
             reply = hull_shared_drain(&line, seats[0], part, HULL_KIND_COUNT, 0, 0);
             wrong[0] |= reply.told.code != HULL_NUMBER || (writes && !write_out(part));
-            hull_shared_part_end(part);
+            hull_shared_segment_end(part);
             out = reply.turn;
         }
     }
-    hull_shared_part_free(part);
+    hull_shared_segment_free(part);
     return NULL;
 }
 
@@ -71,14 +71,14 @@ int main(int count, char **words) {
     writes = strcmp(words[3], "written") == 0;
     drains = writes || strcmp(words[3], "drained") == 0;
     keeps = strcmp(words[3], "none") != 0;
-    desk = hull_shared_desk_new();
-    hull_shared_line_init(&line, 1);
+    desk = hull_shared_new();
+    hull_shared_gate_init(&line, 1);
     bad |= (keeps ? hull_shared_open(desk, HULL_LIMIT_MAX, 0, drains ? ROOM : (uint32_t)(threads * calls), threads)
                   : hull_shared_open_without_journal(desk, HULL_LIMIT_MAX, 0, threads)) != HULL_OPEN;
     pthread_barrier_init(&begin, NULL, threads + 1);
     for (unsigned k = 0; k < threads; k++) {
         seats[k] = hull_shared_seat_new();
-        bad |= hull_shared_lend(desk, &line, seats[k], k) != HULL_LENT || pthread_create(&ids[k], NULL, work, &seats[k]) != 0;
+        bad |= hull_shared_acquire_seat(desk, &line, seats[k], k) != HULL_ACQUIRED || pthread_create(&ids[k], NULL, work, &seats[k]) != 0;
     }
     pthread_barrier_wait(&begin);
     clock_gettime(CLOCK_MONOTONIC, &from);

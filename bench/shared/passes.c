@@ -7,8 +7,8 @@
 #include <stdlib.h>
 #include <unistd.h>
 
-static hull_shared_line line;
-static hull_shared_desk *desk;
+static hull_shared_gate line;
+static hull_shared *desk;
 static hull_shared_seat *seats[HULL_SHARED_SEATS_MAX];
 static struct { uint64_t waited, passed, made; } told[HULL_SHARED_SEATS_MAX];
 static uint64_t turn; /* the number after the last call that was answered */
@@ -36,13 +36,13 @@ int main(int count, char **words) {
     pthread_t threads[HULL_SHARED_SEATS_MAX];
     uint64_t waited = 0, passed = 0, all = 0, least = UINT64_MAX, most = 0;
     unsigned many = count == 3 ? (unsigned)atoi(words[1]) : 0;
-    desk = hull_shared_desk_new();
+    desk = hull_shared_new();
     if (many < 1 || many > HULL_SHARED_SEATS_MAX || hull_shared_open_without_journal(desk, 100000, 0, many) != HULL_OPEN) {
         return 2;
     }
     for (size_t k = 0; k < many; k++) {
         seats[k] = hull_shared_seat_new();
-        if (hull_shared_lend(desk, &line, seats[k], (uint32_t)k) != HULL_LENT || pthread_create(&threads[k], NULL, work, (void *)k) != 0) {
+        if (hull_shared_acquire_seat(desk, &line, seats[k], (uint32_t)k) != HULL_ACQUIRED || pthread_create(&threads[k], NULL, work, (void *)k) != 0) {
             return 2;
         }
     }

@@ -62,17 +62,17 @@ template <class Place> unsigned long asked(const std::atomic<bool> &stops, Point
 class Shared : public Way {
 public:
     explicit Shared(unsigned readers, std::uint32_t lines = 0) {
-        desk_ = hull_shared_desk_new();
-        bool good = desk_ != nullptr && (readers == 0 || hull_shared_admit(desk_, readers) == HULL_ADMITTED);
+        desk_ = hull_shared_new();
+        bool good = desk_ != nullptr && (readers == 0 || hull_shared_set_max_readers(desk_, readers) == HULL_READERS_SET);
         good = good && (lines > 0 ? hull_shared_open(desk_, HULL_LIMIT_MAX, 0, lines, most_threads + 1)
                                   : hull_shared_open_without_journal(desk_, HULL_LIMIT_MAX, 0, most_threads + 1)) == HULL_OPEN;
         for (unsigned k = 0; good && k < readers; k++) {
             readers_.push_back(hull_shared_reader_new());
-            good = readers_[k] != nullptr && hull_shared_lend_reader(desk_, readers_[k]) == HULL_LENT;
+            good = readers_[k] != nullptr && hull_shared_acquire_reader(desk_, readers_[k]) == HULL_ACQUIRED;
         }
         for (unsigned k = 0; good && k <= most_threads; k++) {
             seats_.push_back(hull_shared_seat_new());
-            good = seats_[k] != nullptr && hull_shared_lend(desk_, &line_, seats_[k], k) == HULL_LENT;
+            good = seats_[k] != nullptr && hull_shared_acquire_seat(desk_, &line_, seats_[k], k) == HULL_ACQUIRED;
         }
         if (!good) {
             std::abort();
@@ -80,20 +80,20 @@ public:
     }
     ~Shared() override {
         for (hull_shared_seat *seat : seats_) {
-            hull_shared_give_back(desk_, seat), hull_shared_seat_free(seat);
+            hull_shared_release_seat(desk_, seat), hull_shared_seat_free(seat);
         }
         for (hull_shared_reader *reader : readers_) {
-            hull_shared_return_reader(desk_, reader), hull_shared_reader_free(reader);
+            hull_shared_release_reader(desk_, reader), hull_shared_reader_free(reader);
         }
-        hull_shared_close(desk_), hull_shared_end(desk_), hull_shared_desk_free(desk_);
+        hull_shared_close(desk_), hull_shared_end(desk_), hull_shared_free(desk_);
     }
     void change(bool adds, std::int64_t x, std::int64_t y) override {
         hull_shared_call(&line_, seats_[most_threads], adds ? HULL_KIND_ADD : HULL_KIND_REMOVE, x, y);
     }
 
 protected:
-    hull_shared_line line_ = {};
-    hull_shared_desk *desk_;
+    hull_shared_gate line_ = {};
+    hull_shared *desk_;
     std::vector<hull_shared_seat *> seats_;
     std::vector<hull_shared_reader *> readers_;
 };
@@ -116,8 +116,8 @@ public:
         std::vector<hull_point> corners(1 << 12);
         return asked(stops, points, [&](std::int64_t x, std::int64_t y) {
             const hull_shared_view view = hull_shared_read(readers_[me]);
-            hull_shared_view_corners(readers_[me], corners.data(), corners.size());
-            return hull_outline_place(corners.data(), view.count, x, y).code;
+            hull_shared_snapshot_vertices(readers_[me], corners.data(), corners.size());
+            return hull_polygon_place(corners.data(), view.count, x, y).code;
         });
     }
 };
@@ -130,13 +130,13 @@ public:
         std::vector<hull_point> corners(1 << 12);
         hull_shared_reader *const reader = readers_[me];
         hull_shared_view view = hull_shared_read(reader);
-        hull_shared_view_corners(reader, corners.data(), corners.size());
+        hull_shared_snapshot_vertices(reader, corners.data(), corners.size());
         return asked(stops, points, [&](std::int64_t x, std::int64_t y) {
             if (hull_shared_is_newest(reader) == 0) {
                 view = hull_shared_read(reader);
-                hull_shared_view_corners(reader, corners.data(), corners.size());
+                hull_shared_snapshot_vertices(reader, corners.data(), corners.size());
             }
-            return hull_outline_place(corners.data(), view.count, x, y).code;
+            return hull_polygon_place(corners.data(), view.count, x, y).code;
         });
     }
 };
@@ -175,7 +175,7 @@ public:
     unsigned long ask(unsigned, const std::atomic<bool> &stops, Points points) override {
         return asked(stops, points, [&](std::int64_t x, std::int64_t y) {
             const std::shared_ptr<const Corners> corners = newest_.load();
-            return hull_outline_place(corners->data(), corners->size(), x, y).code;
+            return hull_polygon_place(corners->data(), corners->size(), x, y).code;
         });
     }
 
@@ -193,7 +193,7 @@ public:
     }
     unsigned long ask(unsigned, const std::atomic<bool> &stops, Points points) override {
         return asked(stops, points, [&](std::int64_t x, std::int64_t y) {
-            return hull_outline_place(corners_.data(), corners_.size(), x, y).code;
+            return hull_polygon_place(corners_.data(), corners_.size(), x, y).code;
         });
     }
     void take() {

@@ -18,7 +18,7 @@ typedef struct plate {
 /* the point of a plate that is farthest in a direction: GJK asks for nothing else */
 static void farthest(const void *object, const ccd_vec3_t *direction, ccd_vec3_t *point) {
     const plate *p = (const plate *)object;
-    hull_reply r = hull_outline_extreme_d(p->corners, p->count, ccdVec3X(direction), ccdVec3Y(direction));
+    hull_reply r = hull_polygon_extreme_d(p->corners, p->count, ccdVec3X(direction), ccdVec3Y(direction));
     ccdVec3Set(point, (ccd_real_t)(r.x + p->x), (ccd_real_t)(r.y + p->y), p->z + (ccdVec3Z(direction) < 0 ? -1 : 1));
 }
 
@@ -47,7 +47,7 @@ static int meet(const plate *one, const plate *other, int64_t dx, int64_t dy) {
     for (size_t i = 0; i < other->count; i++) {
         those[i].x = 16 * (other->corners[i].x + other->x) + dx, those[i].y = 16 * (other->corners[i].y + other->y) + dy;
     }
-    return hull_outline_meets(these, one->count, those, other->count).number == 1;
+    return hull_polygon_intersects(these, one->count, those, other->count).number == 1;
 }
 
 int main(void) {

@@ -12,9 +12,9 @@ static int64_t squared(hull_point a, hull_point b) { return (a.x - b.x) * (a.x -
 
 /* the squared distance of a point from the obstacle, as one number over another */
 static void tell_room(hull_point p) {
-    hull_reply r = hull_outline_nearest(obstacle, corners, p.x, p.y);
+    hull_reply r = hull_polygon_nearest(obstacle, corners, p.x, p.y);
     hull_point from = {r.x, r.y}, to = {r.other_x, r.other_y};
-    if (r.code == HULL_CORNER) {
+    if (r.code == HULL_VERTEX) {
         printf(", %" PRId64 " from a corner, squared", squared(from, p));
     } else if (r.code == HULL_EDGE) {
         int64_t side = (to.x - from.x) * (p.y - from.y) - (to.y - from.y) * (p.x - from.x);
@@ -33,14 +33,14 @@ static int is_parted(hull_reply r, hull_point a, hull_point b) {
 
 int main(void) {
     static const hull_point path[] = {{-4, -4}, {-3, 6}, {4, 10}, {10, 9}, {2, -4}, {-4, -4}, {3, 3}};
-    if (hull_is_outline(obstacle, corners).number != 1) {
+    if (hull_is_polygon(obstacle, corners).number != 1) {
         return 1;
     }
     for (size_t i = 0; i + 1 < sizeof path / sizeof *path; i++) {
         hull_point a = path[i], b = path[i + 1];
-        hull_reply r = hull_outline_apart(obstacle, corners, a.x, a.y, b.x, b.y);
-        printf("to (%" PRId64 ", %" PRId64 "): %s", b.x, b.y, r.code == HULL_APART ? "free" : "blocked");
-        if (r.code == HULL_APART) {
+        hull_reply r = hull_polygon_separation(obstacle, corners, a.x, a.y, b.x, b.y);
+        printf("to (%" PRId64 ", %" PRId64 "): %s", b.x, b.y, r.code == HULL_DISJOINT ? "free" : "blocked");
+        if (r.code == HULL_DISJOINT) {
             printf(is_parted(r, a, b) ? ", parted along (%" PRId64 ", %" PRId64 ")" : ", not parted", r.other_x, r.other_y);
             tell_room(b);
         }

@@ -30,7 +30,7 @@ static int is_beyond(const hull_point *from, const hull_point *to, const rectang
 /* whether an edge of the hull has the rectangle beyond it, given room for all corners of the hull */
 static int is_beyond_an_edge(const hull_set *placed, const rectangle *r, hull_point *corners, size_t room) {
     hull_reply told = hull_vertices(placed, corners, room);
-    for (size_t i = 0; told.code == HULL_CORNERS && i < told.number; i++) {
+    for (size_t i = 0; told.code == HULL_VERTICES && i < told.number; i++) {
         if (is_beyond(&corners[i], &corners[(i + 1) % told.number], r)) {
             return 1;
         }

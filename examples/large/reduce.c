@@ -41,8 +41,8 @@ static hull_point *array_of(size_t count) {
 
 /* Writes the corners of points to an array of `space` points; how many they are. */
 static size_t corners_of(const hull_point *points, size_t count, hull_point *out, size_t space) {
-    const hull_reply told = hull_outline_of(points, count, out, space);
-    if (told.code != HULL_CORNERS) {
+    const hull_reply told = hull_polygon_of(points, count, out, space);
+    if (told.code != HULL_VERTICES) {
         give_up(hull_code_name(told.code));
     }
     return (size_t)told.number;
@@ -122,7 +122,7 @@ static hull_point *reduced(hull_point *ours, int rank) {
 
 static void tell(uint64_t points, const hull_point *element) {
     const size_t count = count_of(element);
-    const hull_reply area = hull_outline_area(element + 1, count), far = hull_outline_diameter(element + 1, count);
+    const hull_reply area = hull_polygon_area(element + 1, count), far = hull_polygon_diameter(element + 1, count);
     unsigned __int128 doubled = (unsigned __int128)area.high << 64 | area.number;
     char digits[40], *at = digits + sizeof digits - 1;
     for (*at = 0; doubled > 0 || *at == 0; doubled /= 10) {

@@ -8,7 +8,7 @@
 
 enum { SEATS = 2, POINTS = 10, LINES = 20000, EACH = 10000000 };
 
-static hull_shared_line line;
+static hull_shared_gate line;
 static hull_shared_journal *journal;
 static hull_shared_seat *seats[SEATS];
 
@@ -16,7 +16,7 @@ static void *insert(void *seat) {
     long number = (hull_shared_seat **)seat - seats;
     for (long i = 0; i < POINTS; i++) {
         hull_shared_reply reply = hull_shared_call(&line, seats[number], HULL_KIND_ADD, i, number * i * i);
-        if (!reply.has_line || hull_shared_journal_wait(journal, reply.line, HULL_SHARED_NEVER).code != HULL_SAFE) {
+        if (!reply.has_line || hull_shared_journal_wait(journal, reply.line, HULL_SHARED_NEVER).code != HULL_DURABLE) {
             return seat; /* it is not told to anybody */
         }
     }
@@ -24,7 +24,7 @@ static void *insert(void *seat) {
 }
 
 /* Opens the desk by the file; why not, where it can't. */
-static int open_desk(hull_shared_desk *desk, const char *file) {
+static int open_desk(hull_shared *desk, const char *file) {
     hull_reply r = hull_shared_journal_open(file, &journal);
     if (r.code == HULL_OPEN) {
         printf("goes on with line %llu, %llu bytes were cut off\n", (unsigned long long)r.number, (unsigned long long)r.high);
@@ -39,7 +39,7 @@ static int open_desk(hull_shared_desk *desk, const char *file) {
 }
 
 int main(int count, char **words) {
-    hull_shared_desk *desk = hull_shared_desk_new();
+    hull_shared *desk = hull_shared_new();
     pthread_t threads[SEATS];
     void *failed = NULL, *one;
     if (count != 2 || desk == NULL || !open_desk(desk, words[1])) {
@@ -47,7 +47,7 @@ int main(int count, char **words) {
     }
     for (unsigned i = 0; i < SEATS; i++) {
         seats[i] = hull_shared_seat_new();
-        if (seats[i] == NULL || hull_shared_lend(desk, &line, seats[i], i) != HULL_LENT ||
+        if (seats[i] == NULL || hull_shared_acquire_seat(desk, &line, seats[i], i) != HULL_ACQUIRED ||
             pthread_create(&threads[i], NULL, insert, &seats[i]) != 0) {
             return 1;
         }
@@ -58,11 +58,11 @@ int main(int count, char **words) {
     }
     printf("%d points\n", (int)hull_shared_call(&line, seats[0], HULL_KIND_COUNT, 0, 0).told.number);
     for (int i = 0; i < SEATS; i++) {
-        hull_shared_give_back(desk, seats[i]);
+        hull_shared_release_seat(desk, seats[i]);
         hull_shared_seat_free(seats[i]);
     }
     int wrong = failed != NULL || hull_shared_journal_close(journal).code != HULL_CLOSED;
     hull_shared_end(desk);
-    hull_shared_desk_free(desk);
+    hull_shared_free(desk);
     return wrong;
 }

@@ -8,7 +8,7 @@
 
 enum { INSERTING = 3, SEATS = INSERTING + 1, ROUNDS = 200 };
 
-static hull_shared_line line;
+static hull_shared_gate line;
 static hull_shared_seat *rooms[SEATS];
 
 static void *insert(void *seat) {
@@ -33,7 +33,7 @@ static void *ask(void *free_looks) {
 }
 
 /* The text of the closed desk, in an array of its own. */
-static int write_journal(const hull_shared_desk *desk) {
+static int write_journal(const hull_shared *desk) {
     uint8_t none = 0;
     hull_reply told = hull_shared_text(desk, &none, 0);
     uint8_t *text = calloc(told.number, 1);
@@ -47,7 +47,7 @@ static int write_journal(const hull_shared_desk *desk) {
 }
 
 int main(void) {
-    hull_shared_desk *desk = hull_shared_desk_new();
+    hull_shared *desk = hull_shared_new();
     pthread_t threads[SEATS];
     long looks = 0;
     if (desk == NULL) {
@@ -58,7 +58,7 @@ int main(void) {
     }
     for (unsigned i = 0; i < SEATS; i++) {
         rooms[i] = hull_shared_seat_new();
-        if (rooms[i] == NULL || hull_shared_lend(desk, &line, rooms[i], i) != HULL_LENT) {
+        if (rooms[i] == NULL || hull_shared_acquire_seat(desk, &line, rooms[i], i) != HULL_ACQUIRED) {
             return 1;
         }
     }
@@ -68,13 +68,13 @@ int main(void) {
     pthread_create(&threads[INSERTING], NULL, ask, &looks);
     for (int i = 0; i < SEATS; i++) {
         pthread_join(threads[i], NULL);
-        if (hull_shared_give_back(desk, rooms[i]) != HULL_RETURNED) {
+        if (hull_shared_release_seat(desk, rooms[i]) != HULL_RELEASED) {
             return 1;
         }
         hull_shared_seat_free(rooms[i]);
     }
     int wrong = hull_shared_close(desk) != HULL_CLOSED || write_journal(desk);
     hull_shared_end(desk);
-    hull_shared_desk_free(desk);
+    hull_shared_free(desk);
     return wrong;
 }

@@ -162,7 +162,7 @@ static void corners(void) {
     for (int i = 0; i < 6; i++) {
         out[i] = mark;
     }
-    CHECK(number(hull_vertices(h, out, 0), HULL_CORNERS, 0));
+    CHECK(number(hull_vertices(h, out, 0), HULL_VERTICES, 0));
     hull_add(h, 0, 0), hull_add(h, 10, 0), hull_add(h, 10, 10), hull_add(h, 0, 10), hull_add(h, 4, 4), hull_add(h, 5, 0);
     for (size_t room = 0; room < 4; room++) {
         CHECK(number(hull_vertices(h, out, room), HULL_TOO_SMALL, 4));
@@ -173,11 +173,11 @@ static void corners(void) {
     for (int i = 0; i < 6; i++) {
         CHECK(memcmp(&out[i], &mark, sizeof mark) == 0);
     }
-    CHECK(number(hull_vertices(h, out, 5), HULL_CORNERS, 4));
+    CHECK(number(hull_vertices(h, out, 5), HULL_VERTICES, 4));
     static const hull_point wanted[] = {{0, 0}, {10, 0}, {10, 10}, {0, 10}, {-1, -2}, {-1, -2}};
     CHECK(memcmp(out, wanted, sizeof wanted) == 0);
-    CHECK(number(hull_vertices(h, out, 4), HULL_CORNERS, 4));
-    CHECK(number(hull_call(h, HULL_KIND_VERTICES, -1, INT64_MIN), HULL_CORNERS, 4));
+    CHECK(number(hull_vertices(h, out, 4), HULL_VERTICES, 4));
+    CHECK(number(hull_call(h, HULL_KIND_VERTICES, -1, INT64_MIN), HULL_VERTICES, 4));
     refused_from = 0, asked = 0;
     CHECK(bare(hull_call(h, HULL_KIND_VERTICES, 0, 0), HULL_NO_MEMORY));
     refused_from = -1;
@@ -193,8 +193,8 @@ static void many_corners(void) {
     for (int64_t i = 0; i < NUMBER; i++) {
         right &= hull_add(h, i, i * i).code == HULL_ADDED;
     }
-    CHECK(right && number(hull_vertices(h, out, NUMBER), HULL_CORNERS, NUMBER));
-    CHECK(number(hull_call(h, HULL_KIND_VERTICES, 0, 0), HULL_CORNERS, NUMBER));
+    CHECK(right && number(hull_vertices(h, out, NUMBER), HULL_VERTICES, NUMBER));
+    CHECK(number(hull_call(h, HULL_KIND_VERTICES, 0, 0), HULL_VERTICES, NUMBER));
     for (int64_t i = 0; i < NUMBER; i++) {
         right &= out[i].x == i && out[i].y == i * i;
     }
@@ -284,11 +284,11 @@ static void held_points(void) {
             right &= piece[i].x == 0 && piece[i].y == 0 && piece[i].times == 0;
         }
         seen += more;
-        from = more > 0 ? hull_held_behind(piece[more - 1]) : from;
+        from = more > 0 ? hull_held_after(piece[more - 1]) : from;
     }
     CHECK(right && seen == count && from.x == far + 1 && from.y == -far);
     CHECK(number(hull_held_from(h, 3, far, piece, 1), HULL_NUMBER, 1) && piece[0].x == 3 && piece[0].y == far);
-    from = hull_held_behind(piece[0]);
+    from = hull_held_after(piece[0]);
     CHECK(from.x == 4 && from.y == -far && number(hull_held_from(h, 0, 0, piece, 0), HULL_NUMBER, 0));
     CHECK(bare(hull_held_from(h, far + 1, 0, piece, 1), HULL_OUT_OF_RANGE) && piece[0].x == 3);
 
@@ -369,11 +369,11 @@ static void outlines(void) {
     memset(out, 0, sizeof out);
     for (int step = 0; step < 12; step++) {
         size_t count = hull_vertices(h, out, 50).number;
-        int same = number(hull_is_outline(out, count), HULL_NUMBER, 1);
+        int same = number(hull_is_polygon(out, count), HULL_NUMBER, 1);
         for (int64_t x = -6; x <= 6; x++) {
             for (int64_t y = -6; y <= 6; y++) {
                 for (uint32_t kind = HULL_KIND_PLACE; kind <= HULL_KIND_AREA; kind++) {
-                    hull_reply asked = hull_outline_call(out, count, kind, x, y), wanted = hull_call(h, kind, x, y);
+                    hull_reply asked = hull_polygon_call(out, count, kind, x, y), wanted = hull_call(h, kind, x, y);
                     same &= memcmp(&asked, &wanted, sizeof asked) == 0;
                 }
             }
@@ -385,26 +385,26 @@ static void outlines(void) {
     CHECK(count > 4);
     static const uint32_t none[] = {0, HULL_KIND_ADD, HULL_KIND_REMOVE, HULL_KIND_COUNT, HULL_KIND_MULTIPLICITY, 10};
     for (int i = 0; i < 6; i++) {
-        CHECK(bare(hull_outline_call(out, count, none[i], 0, 0), HULL_UNKNOWN_KIND));
+        CHECK(bare(hull_polygon_call(out, count, none[i], 0, 0), HULL_UNKNOWN_KIND));
     }
-    CHECK(bare(hull_outline_place(out, count, HULL_COORDINATE_MAX + 1, 0), HULL_OUT_OF_RANGE));
+    CHECK(bare(hull_polygon_place(out, count, HULL_COORDINATE_MAX + 1, 0), HULL_OUT_OF_RANGE));
     static const hull_request many[] = {{HULL_KIND_PLACE, 0, 0}, {HULL_KIND_ADD, 1, 1}, {HULL_KIND_EXTREME, 0, 0}, {HULL_KIND_AREA, 0, 0}};
     hull_reply told[6], mark;
     memset(told, 5, sizeof told), memset(&mark, 5, sizeof mark);
-    CHECK(hull_outline_calls(out, count, many, 4, told, 2) == 2 && memcmp(&told[2], &mark, sizeof mark) == 0);
-    CHECK(hull_outline_calls(out, count, many, 4, told, 6) == 4 && memcmp(&told[4], &mark, sizeof mark) == 0);
+    CHECK(hull_polygon_calls(out, count, many, 4, told, 2) == 2 && memcmp(&told[2], &mark, sizeof mark) == 0);
+    CHECK(hull_polygon_calls(out, count, many, 4, told, 6) == 4 && memcmp(&told[4], &mark, sizeof mark) == 0);
     CHECK(told[0].code == hull_place(h, 0, 0).code && bare(told[1], HULL_UNKNOWN_KIND) && bare(told[2], HULL_ZERO_DIRECTION));
     CHECK(number(told[3], HULL_NUMBER, hull_area(h).number));
-    CHECK(bare(hull_outline_extreme(out, count, 0, 0), HULL_ZERO_DIRECTION));
+    CHECK(bare(hull_polygon_extreme(out, count, 0, 0), HULL_ZERO_DIRECTION));
     refused_from = 0, asked = 0;
-    CHECK(bare(hull_is_outline(out, count), HULL_NO_MEMORY) && number(hull_is_outline(out, 0), HULL_NUMBER, 1));
-    CHECK(bare(hull_outline_tangents(out, count, 0, 0), HULL_NO_TANGENT) && hull_outline_area(out, count).number > 0);
+    CHECK(bare(hull_is_polygon(out, count), HULL_NO_MEMORY) && number(hull_is_polygon(out, 0), HULL_NUMBER, 1));
+    CHECK(bare(hull_polygon_tangents(out, count, 0, 0), HULL_NO_TANGENT) && hull_polygon_area(out, count).number > 0);
     refused_from = -1;
     hull_point first = out[0];
     out[0] = out[1];
-    CHECK(number(hull_is_outline(out, count), HULL_NUMBER, 0));
+    CHECK(number(hull_is_polygon(out, count), HULL_NUMBER, 0));
     out[0] = first, out[1].x = INT64_MIN;
-    CHECK(bare(hull_is_outline(out, count), HULL_OUT_OF_RANGE));
+    CHECK(bare(hull_is_polygon(out, count), HULL_OUT_OF_RANGE));
     ended(h);
 }
 
@@ -417,13 +417,13 @@ static __int128 product(int64_t x, int64_t y, int64_t px, int64_t py) { return (
 
 /* a segment that is parted is told so that a caller sees it, and one that is not has a point of the outline */
 static int parted(const hull_point *out, size_t count, const int64_t s[4]) {
-    hull_reply meets = hull_outline_meets_segment(out, count, s[0], s[1], s[2], s[3]);
-    hull_reply r = hull_outline_apart(out, count, s[0], s[1], s[2], s[3]);
-    if (r.code == HULL_MEETING) {
-        return bare(r, HULL_MEETING) && number(meets, HULL_NUMBER, 1);
+    hull_reply meets = hull_polygon_intersects_segment(out, count, s[0], s[1], s[2], s[3]);
+    hull_reply r = hull_polygon_separation(out, count, s[0], s[1], s[2], s[3]);
+    if (r.code == HULL_INTERSECTING) {
+        return bare(r, HULL_INTERSECTING) && number(meets, HULL_NUMBER, 1);
     }
     __int128 reach = product(r.other_x, r.other_y, r.x, r.y);
-    int same = r.code == HULL_APART && number(meets, HULL_NUMBER, 0), there = 0;
+    int same = r.code == HULL_DISJOINT && number(meets, HULL_NUMBER, 0), there = 0;
     for (size_t i = 0; i < count; i++) {
         same &= product(r.other_x, r.other_y, out[i].x, out[i].y) <= reach;
         there |= out[i].x == r.x && out[i].y == r.y;
@@ -443,7 +443,7 @@ static int is_among(const hull_point *corners, size_t count, hull_point p) {
 static int64_t side(hull_point a, hull_point b, hull_point c) { return (b.x - a.x) * (c.y - a.y) - (b.y - a.y) * (c.x - a.x); }
 
 static int covers(const hull_point *corners, size_t count, hull_point p) {
-    return hull_outline_place(corners, count, p.x, p.y).code != HULL_OUTSIDE;
+    return hull_polygon_place(corners, count, p.x, p.y).code != HULL_OUTSIDE;
 }
 
 /* whether the line through two points of the first has the two on its two sides: by all pairs of points */
@@ -468,7 +468,7 @@ static int divides(const hull_point *a, size_t n, const hull_point *b, size_t m)
 static size_t lie_so(const hull_point *a, size_t n, const hull_point *b, size_t m, uint32_t code) {
     size_t found = 0;
     for (size_t i = 0; i < n; i++) {
-        found += hull_outline_place(b, m, a[i].x, a[i].y).code == code;
+        found += hull_polygon_place(b, m, a[i].x, a[i].y).code == code;
     }
     return found;
 }
@@ -479,31 +479,31 @@ static hull_relation slow_relation(const hull_point *a, size_t n, const hull_poi
     if (covers || within) {
         return covers && within ? HULL_RELATION_EQUAL : covers ? HULL_RELATION_COVERS : HULL_RELATION_WITHIN;
     }
-    if (hull_outline_meets(a, n, b, m).number == 0) {
-        return HULL_RELATION_APART;
+    if (hull_polygon_intersects(a, n, b, m).number == 0) {
+        return HULL_RELATION_DISJOINT;
     }
     return divides(a, n, b, m) || divides(b, m, a, n) ? HULL_RELATION_TOUCHING : HULL_RELATION_OVERLAPPING;
 }
 
 /* whether they are so far apart at most, by the squared distance as a fraction of small numbers */
 static int slow_within(const hull_point *a, size_t n, const hull_point *b, size_t m, int64_t up, int64_t down) {
-    const hull_witness w = hull_outline_distance(a, n, b, m);
+    const hull_witness w = hull_polygon_distance(a, n, b, m);
     const hull_point from = w.code == HULL_EDGE ? w.a : w.b, to = w.code == HULL_EDGE ? w.b : w.c;
     const hull_point corner = w.code == HULL_EDGE ? w.c : w.a;
     const int64_t over = side(from, to, corner);
     const int64_t edge = (to.x - from.x) * (to.x - from.x) + (to.y - from.y) * (to.y - from.y);
     const int64_t apart = (w.b.x - w.a.x) * (w.b.x - w.a.x) + (w.b.y - w.a.y) * (w.b.y - w.a.y);
-    return w.code == HULL_MEETING || (w.code == HULL_POINTS ? apart * down * down <= up * up : over * over * down * down <= up * up * edge);
+    return w.code == HULL_INTERSECTING || (w.code == HULL_POINTS ? apart * down * down <= up * up : over * over * down * down <= up * up * edge);
 }
 
 /* what is told of how two outlines stand to one another is what the slow ones tell; counts the relations */
 static int stands(const hull_point *a, size_t n, const hull_point *b, size_t m, int counts[6]) {
     const hull_relation relation = slow_relation(a, n, b, m);
-    int same = number(hull_outline_relation(a, n, b, m), HULL_NUMBER, relation);
-    same &= number(hull_outline_contains_inside(a, n, b, m), HULL_NUMBER, lie_so(b, m, a, n, HULL_INSIDE) == m);
+    int same = number(hull_polygon_relation(a, n, b, m), HULL_NUMBER, relation);
+    same &= number(hull_polygon_contains_inside(a, n, b, m), HULL_NUMBER, lie_so(b, m, a, n, HULL_INSIDE) == m);
     for (int64_t up = 0; up < 24; up += 5) {
         for (int64_t down = 1; down < 4; down++) {
-            same &= number(hull_outline_within(a, n, b, m, (uint64_t)up, (uint32_t)down), HULL_NUMBER, slow_within(a, n, b, m, up, down));
+            same &= number(hull_polygon_within_distance(a, n, b, m, (uint64_t)up, (uint32_t)down), HULL_NUMBER, slow_within(a, n, b, m, up, down));
         }
     }
     counts[relation]++;
@@ -512,14 +512,14 @@ static int stands(const hull_point *a, size_t n, const hull_point *b, size_t m, 
 
 /* what is told of two outlines is so, as a caller can see by itself, and nothing stands beside it */
 static int shown(const hull_point *out, size_t count, const hull_point *others, size_t other_count, int *met) {
-    const hull_witness w = hull_outline_witness(out, count, others, other_count), none = {w.code, w.a, w.b, {0, 0}, {0, 0}};
-    int same = number(hull_outline_meets(out, count, others, other_count), HULL_NUMBER, w.code != HULL_APART);
+    const hull_witness w = hull_polygon_witness(out, count, others, other_count), none = {w.code, w.a, w.b, {0, 0}, {0, 0}};
+    int same = number(hull_polygon_intersects(out, count, others, other_count), HULL_NUMBER, w.code != HULL_DISJOINT);
     int holds = 1;
     for (size_t i = 0; i < other_count; i++) {
         holds &= covers(out, count, others[i]);
     }
-    same &= number(hull_outline_contains(out, count, others, other_count), HULL_NUMBER, holds);
-    *met += w.code != HULL_APART;
+    same &= number(hull_polygon_contains(out, count, others, other_count), HULL_NUMBER, holds);
+    *met += w.code != HULL_DISJOINT;
     if (w.code == HULL_CROSSING) {
         return same && is_among(out, count, w.a) && is_among(out, count, w.b) && is_among(others, other_count, w.c) &&
                is_among(others, other_count, w.d) && side(w.a, w.b, w.c) < 0 && side(w.a, w.b, w.d) > 0 &&
@@ -533,7 +533,7 @@ static int shown(const hull_point *out, size_t count, const hull_point *others, 
         return same && is_among(out, count, w.a) && covers(others, other_count, w.a) && w.b.x == 0 && w.b.y == 0;
     }
     __int128 reach = product(w.b.x, w.b.y, w.a.x, w.a.y);
-    same &= w.code == HULL_APART && is_among(out, count, w.a);
+    same &= w.code == HULL_DISJOINT && is_among(out, count, w.a);
     for (size_t i = 0; i < count; i++) {
         same &= product(w.b.x, w.b.y, out[i].x, out[i].y) <= reach;
     }
@@ -585,17 +585,17 @@ static int is_edge(const hull_point *corners, size_t count, hull_point a, hull_p
 
 /* where two outlines are nearest is on them, so far off and no farther than any corner and edge; and nothing stands beside it */
 static int nearest_told(const hull_point *out, size_t count, const hull_point *others, size_t other_count, int *edges) {
-    const hull_witness w = hull_outline_distance(out, count, others, other_count);
+    const hull_witness w = hull_polygon_distance(out, count, others, other_count);
     const fraction least = least_between(out, count, others, other_count);
     int foot = 1, same = w.d.x == 0 && w.d.y == 0;
     fraction told = {0, 1};
-    if (hull_outline_meets(out, count, others, other_count).number == 1) {
-        return same && w.code == HULL_MEETING && !w.a.x && !w.a.y && !w.b.x && !w.b.y && !w.c.x && !w.c.y;
+    if (hull_polygon_intersects(out, count, others, other_count).number == 1) {
+        return same && w.code == HULL_INTERSECTING && !w.a.x && !w.a.y && !w.b.x && !w.b.y && !w.c.x && !w.c.y;
     }
     if (w.code == HULL_POINTS) {
         same &= is_among(out, count, w.a) && is_among(others, other_count, w.b) && w.c.x == 0 && w.c.y == 0;
         told.over = apart_squared(w.a, w.b);
-    } else if (w.code == HULL_CORNER) {
+    } else if (w.code == HULL_VERTEX) {
         same &= is_among(out, count, w.a) && is_edge(others, other_count, w.b, w.c);
         told = to_segment(w.b, w.c, w.a, &foot);
     } else {
@@ -629,27 +629,27 @@ static void two_outlines(void) {
     CHECK(stand);
     CHECK(same && met > 900 && met < tries - 900);
     CHECK(near && edges > 900 && edges < tries - met - 900);
-    CHECK(number(hull_outline_meets(shapes[0], 0, shapes[1], 3), HULL_NUMBER, 0));
-    CHECK(number(hull_outline_meets(shapes[0], 4, shapes[1], 0), HULL_NUMBER, 0));
-    CHECK(number(hull_outline_contains(shapes[0], 0, shapes[1], 0), HULL_NUMBER, 1));
-    CHECK(number(hull_outline_contains(shapes[0], 0, shapes[1], 1), HULL_NUMBER, 0));
-    CHECK(number(hull_outline_relation(shapes[0], 0, shapes[1], 0), HULL_NUMBER, HULL_RELATION_EQUAL));
-    CHECK(number(hull_outline_relation(shapes[0], 0, shapes[1], 3), HULL_NUMBER, HULL_RELATION_WITHIN));
-    CHECK(number(hull_outline_contains_inside(shapes[0], 0, shapes[1], 0), HULL_NUMBER, 1));
-    CHECK(number(hull_outline_within(shapes[0], 0, shapes[1], 3, 1u << 20, 1), HULL_NUMBER, 0));
-    CHECK(number(hull_outline_within(shapes[0], 4, shapes[1], 3, 1, 0), HULL_NUMBER, 1));
-    CHECK(hull_outline_witness(shapes[0], 0, shapes[1], 3).code == HULL_EMPTY);
-    CHECK(hull_outline_witness(shapes[0], 4, shapes[1], 0).code == HULL_EMPTY);
-    CHECK(hull_outline_distance(shapes[0], 0, shapes[1], 3).code == HULL_EMPTY);
-    CHECK(hull_outline_distance(shapes[0], 4, shapes[1], 0).code == HULL_EMPTY);
+    CHECK(number(hull_polygon_intersects(shapes[0], 0, shapes[1], 3), HULL_NUMBER, 0));
+    CHECK(number(hull_polygon_intersects(shapes[0], 4, shapes[1], 0), HULL_NUMBER, 0));
+    CHECK(number(hull_polygon_contains(shapes[0], 0, shapes[1], 0), HULL_NUMBER, 1));
+    CHECK(number(hull_polygon_contains(shapes[0], 0, shapes[1], 1), HULL_NUMBER, 0));
+    CHECK(number(hull_polygon_relation(shapes[0], 0, shapes[1], 0), HULL_NUMBER, HULL_RELATION_EQUAL));
+    CHECK(number(hull_polygon_relation(shapes[0], 0, shapes[1], 3), HULL_NUMBER, HULL_RELATION_WITHIN));
+    CHECK(number(hull_polygon_contains_inside(shapes[0], 0, shapes[1], 0), HULL_NUMBER, 1));
+    CHECK(number(hull_polygon_within_distance(shapes[0], 0, shapes[1], 3, 1u << 20, 1), HULL_NUMBER, 0));
+    CHECK(number(hull_polygon_within_distance(shapes[0], 4, shapes[1], 3, 1, 0), HULL_NUMBER, 1));
+    CHECK(hull_polygon_witness(shapes[0], 0, shapes[1], 3).code == HULL_EMPTY);
+    CHECK(hull_polygon_witness(shapes[0], 4, shapes[1], 0).code == HULL_EMPTY);
+    CHECK(hull_polygon_distance(shapes[0], 0, shapes[1], 3).code == HULL_EMPTY);
+    CHECK(hull_polygon_distance(shapes[0], 4, shapes[1], 0).code == HULL_EMPTY);
     static const int64_t far = HULL_COORDINATE_MAX;
     static const hull_point rising[] = {{-far, -far}, {far, far - 1}}, above[] = {{-far + 1, far}}, falling[] = {{-far, far}, {far, -far + 2}};
-    const hull_witness wide = hull_outline_distance(rising, 2, above, 1);
+    const hull_witness wide = hull_polygon_distance(rising, 2, above, 1);
     CHECK(wide.code == HULL_EDGE && wide.a.x == far && wide.b.x == -far && wide.c.x == above[0].x);
-    CHECK(hull_outline_distance(above, 1, falling, 2).code == HULL_CORNER && hull_outline_distance(rising, 2, falling, 2).code == HULL_MEETING);
+    CHECK(hull_polygon_distance(above, 1, falling, 2).code == HULL_VERTEX && hull_polygon_distance(rising, 2, falling, 2).code == HULL_INTERSECTING);
     refused_from = 0, asked = 0;
-    CHECK(hull_outline_witness(shapes[0], 4, shapes[1], 3).code != HULL_NO_MEMORY && asked == 0);
-    CHECK(hull_outline_distance(shapes[0], 4, shapes[1], 3).code != HULL_NO_MEMORY && asked == 0);
+    CHECK(hull_polygon_witness(shapes[0], 4, shapes[1], 3).code != HULL_NO_MEMORY && asked == 0);
+    CHECK(hull_polygon_distance(shapes[0], 4, shapes[1], 3).code != HULL_NO_MEMORY && asked == 0);
     refused_from = -1;
 }
 
@@ -675,12 +675,12 @@ static void scattered(hull_point corners[MANY][4], hull_corners *all, uint64_t *
 /* Whether the pairs that are told are those that are found one by one, in their order; `found` is how many. */
 static int pairs_told(const hull_corners *all, uint64_t numerator, uint32_t denominator, uint64_t *found) {
     hull_pair pairs[MANY * MANY];
-    const hull_reply told = hull_pairs_within(all, MANY, numerator, denominator, pairs, MANY * MANY);
+    const hull_reply told = hull_pairs_within_distance(all, MANY, numerator, denominator, pairs, MANY * MANY);
     int same = told.code == HULL_NUMBER;
     *found = 0;
     for (size_t i = 0; i < MANY; i++) {
         for (size_t j = i + 1; j < MANY; j++) {
-            if (hull_outline_within(all[i].corners, all[i].count, all[j].corners, all[j].count, numerator, denominator).number == 1) {
+            if (hull_polygon_within_distance(all[i].corners, all[i].count, all[j].corners, all[j].count, numerator, denominator).number == 1) {
                 same &= *found < told.number && pairs[*found].first == i && pairs[*found].second == j;
                 ++*found;
             }
@@ -706,26 +706,26 @@ static void many_outlines(void) {
             grows &= found >= last;
             last = found;
         }
-        hull_outline_relations(all[0].corners, all[0].count, all, MANY, relations);
+        hull_polygon_relations(all[0].corners, all[0].count, all, MANY, relations);
         for (int i = 0; i < MANY; i++) {
-            same &= relations[i] == hull_outline_relation(all[0].corners, all[0].count, all[i].corners, all[i].count).number;
+            same &= relations[i] == hull_polygon_relation(all[0].corners, all[0].count, all[i].corners, all[i].count).number;
         }
     }
     CHECK(same && grows && last == 32 * 31 / 2);
-    CHECK(number(hull_pairs_within(all, MANY, UINT64_MAX, 1, pairs, MANY), HULL_TOO_SMALL, 32 * 31 / 2));
-    CHECK(number(hull_pairs_within(all, MANY, 1, 0, NULL, 0), HULL_TOO_SMALL, 32 * 31 / 2));
-    CHECK(number(hull_pairs_within(NULL, 0, 1, 1, NULL, 0), HULL_NUMBER, 0));
+    CHECK(number(hull_pairs_within_distance(all, MANY, UINT64_MAX, 1, pairs, MANY), HULL_TOO_SMALL, 32 * 31 / 2));
+    CHECK(number(hull_pairs_within_distance(all, MANY, 1, 0, NULL, 0), HULL_TOO_SMALL, 32 * 31 / 2));
+    CHECK(number(hull_pairs_within_distance(NULL, 0, 1, 1, NULL, 0), HULL_NUMBER, 0));
     refused_from = 0, asked = 0;
-    CHECK(bare(hull_pairs_within(all, MANY, 0, 1, pairs, MANY), HULL_NO_MEMORY) && asked == 1);
+    CHECK(bare(hull_pairs_within_distance(all, MANY, 0, 1, pairs, MANY), HULL_NO_MEMORY) && asked == 1);
     refused_from = -1;
     const hull_segment segments[] = {{{-1, 1}, {9, 1}}, {{9, 9}, {20, 20}}, {{0, 0}, {0, HULL_COORDINATE_MAX + 1}}, {{0, 0}, {0, 0}}};
     static const hull_point square[] = {{0, 0}, {8, 0}, {8, 8}, {0, 8}}, points[] = {{8, 8}, {1, 1}, {0, 0}, {8, 8}, {8, 0}};
     uint8_t meets[4] = {9, 9, 9, 9};
     size_t places[4];
-    CHECK(hull_outline_meets_segments(square, 4, segments, 4, meets) == 2 && meets[0] == 1 && meets[1] == 0 && meets[2] == 9);
-    CHECK(hull_outline_meets_segments(square, 4, NULL, 0, NULL) == 0);
-    CHECK(hull_outline_indices(square, 4, points, 5, places) == 3 && places[0] == 2 && places[1] == 4 && places[2] == 0 && places[3] == 5);
-    CHECK(hull_outline_indices(square, 4, NULL, 0, places) == 0 && places[0] == 0 && hull_outline_indices(NULL, 0, points, 5, NULL) == 0);
+    CHECK(hull_polygon_intersects_segments(square, 4, segments, 4, meets) == 2 && meets[0] == 1 && meets[1] == 0 && meets[2] == 9);
+    CHECK(hull_polygon_intersects_segments(square, 4, NULL, 0, NULL) == 0);
+    CHECK(hull_polygon_indices(square, 4, points, 5, places) == 3 && places[0] == 2 && places[1] == 4 && places[2] == 0 && places[3] == 5);
+    CHECK(hull_polygon_indices(square, 4, NULL, 0, places) == 0 && places[0] == 0 && hull_polygon_indices(NULL, 0, points, 5, NULL) == 0);
 }
 
 /* A shape k times as large, moved by a vector. */
@@ -740,17 +740,17 @@ static int meet_at(const hull_point *a, size_t count, const hull_point *b, size_
                    int64_t whole) {
     hull_point first[4], second[4];
     placed(a, count, whole, 0, 0, first), placed(b, other_count, whole, part * dx, part * dy, second);
-    return hull_outline_meets(first, count, second, other_count).number == 1;
+    return hull_polygon_intersects(first, count, second, other_count).number == 1;
 }
 
 /* Whether the moment that is told is the first: they meet then, and not at one that lies before it by less than any two moments of such
  * small shapes are apart; where none is told, they meet at none of many. `hits` counts those that meet on the way. */
 static int is_first_moment(const hull_point *a, size_t count, const hull_point *b, size_t other_count, int64_t dx, int64_t dy, int *hits) {
-    const hull_motion m = hull_outline_first_meeting(a, count, b, other_count, dx, dy);
+    const hull_motion m = hull_polygon_first_meeting(a, count, b, other_count, dx, dy);
     if (m.hit.code == HULL_COVERED) {
         return meet_at(a, count, b, other_count, dx, dy, 0, 1) && m.hit.low == 0 && m.hit.divisor_low == 1;
     }
-    if (m.hit.code == HULL_APART) {
+    if (m.hit.code == HULL_DISJOINT) {
         int never = 1;
         for (int64_t part = 0; part <= 60; part++) {
             never &= !meet_at(a, count, b, other_count, dx, dy, part, 60);
@@ -764,7 +764,7 @@ static int is_first_moment(const hull_point *a, size_t count, const hull_point *
         is_corner |= from[i].x == m.corner.x && from[i].y == m.corner.y;
     }
     ++*hits;
-    return (m.hit.code == HULL_EDGE || m.hit.code == HULL_CORNER) && is_corner && m.hit.high == 0 && part > 0 && part <= whole &&
+    return (m.hit.code == HULL_EDGE || m.hit.code == HULL_VERTEX) && is_corner && m.hit.high == 0 && part > 0 && part <= whole &&
            meet_at(a, count, b, other_count, dx, dy, part, whole) &&
            !meet_at(a, count, b, other_count, dx, dy, part * times - 1, whole * times);
 }
@@ -784,35 +784,35 @@ static void motions(void) {
     CHECK(same && hits > 500 && hits < tries - 500);
     const int64_t far = HULL_COORDINATE_MAX;
     const hull_point left[] = {{-far, -far}, {-far + 2, -far}, {-far, -far + 5}}, right[] = {{far - 1, -1}, {far, 1}};
-    const hull_motion wide = hull_outline_first_meeting(left, 3, right, 2, -far, 0);
-    CHECK(wide.hit.code == HULL_APART && hull_outline_first_meeting(left, 3, right, 0, 1, 1).hit.code == HULL_EMPTY);
-    CHECK(hull_outline_first_meeting(left, 3, right, 2, far + 1, 0).hit.code == HULL_OUT_OF_RANGE);
-    CHECK(hull_outline_first_meeting(left, 3, right, 2, 0, -far - 1).hit.code == HULL_OUT_OF_RANGE);
+    const hull_motion wide = hull_polygon_first_meeting(left, 3, right, 2, -far, 0);
+    CHECK(wide.hit.code == HULL_DISJOINT && hull_polygon_first_meeting(left, 3, right, 0, 1, 1).hit.code == HULL_EMPTY);
+    CHECK(hull_polygon_first_meeting(left, 3, right, 2, far + 1, 0).hit.code == HULL_OUT_OF_RANGE);
+    CHECK(hull_polygon_first_meeting(left, 3, right, 2, 0, -far - 1).hit.code == HULL_OUT_OF_RANGE);
     hull_point moved[3] = {{7, 7}, {7, 7}, {7, 7}};
-    CHECK(bare(hull_outline_moved(left, 3, -1, 0, moved), HULL_OUT_OF_RANGE) && bare(hull_outline_moved(right, 2, 0, 4 * far, moved), HULL_OUT_OF_RANGE));
-    CHECK(moved[0].x == 7 && number(hull_outline_moved(left, 3, 2 * far - 2, far, moved), HULL_CORNERS, 3));
+    CHECK(bare(hull_polygon_translate(left, 3, -1, 0, moved), HULL_OUT_OF_RANGE) && bare(hull_polygon_translate(right, 2, 0, 4 * far, moved), HULL_OUT_OF_RANGE));
+    CHECK(moved[0].x == 7 && number(hull_polygon_translate(left, 3, 2 * far - 2, far, moved), HULL_VERTICES, 3));
     CHECK(moved[0].x == far - 2 && moved[0].y == 0 && moved[1].x == far && moved[2].y == 5);
     static const hull_point shape[] = {{0, 0}, {3, -1}, {5, 2}, {1, 3}};
     hull_point turned[4] = {{7, 7}, {7, 7}, {7, 7}, {7, 7}};
     int outlines = 1;
     for (int i = 0; i < 11 * 11; i++) {
         const int64_t a = i % 11 - 5, b = i / 11 - 5, length = a * a + b * b;
-        const hull_reply told = hull_outline_turned(shape, 4, a, b, turned);
+        const hull_reply told = hull_polygon_rotate(shape, 4, a, b, turned);
         outlines &= length == 0 ? bare(told, HULL_ZERO_DIRECTION)
-                                : number(told, HULL_CORNERS, 4) && number(hull_is_outline(turned, 4), HULL_NUMBER, 1) &&
-                                      hull_outline_area(turned, 4).number == (uint64_t)length * hull_outline_area(shape, 4).number &&
-                                      hull_outline_place(turned, 4, 3 * a + b, 3 * b - a).code == HULL_ON;
+                                : number(told, HULL_VERTICES, 4) && number(hull_is_polygon(turned, 4), HULL_NUMBER, 1) &&
+                                      hull_polygon_area(turned, 4).number == (uint64_t)length * hull_polygon_area(shape, 4).number &&
+                                      hull_polygon_place(turned, 4, 3 * a + b, 3 * b - a).code == HULL_ON;
     }
-    CHECK(outlines && bare(hull_outline_turned(shape, 4, far, 1, turned), HULL_OUT_OF_RANGE));
+    CHECK(outlines && bare(hull_polygon_rotate(shape, 4, far, 1, turned), HULL_OUT_OF_RANGE));
     for (int64_t at = 1; at <= 2; at++) { /* a point on each axis, turned to the edge of what is in range, or beyond it */
         const hull_point axes[] = {{at, 0}, {-at, 0}, {0, at}, {0, -at}};
         for (int i = 0; i < 16; i++) {
-            const hull_reply told = hull_outline_turned(&axes[i / 4], 1, far * (axes[i % 4].x / at), far * (axes[i % 4].y / at), turned);
-            CHECK(at == 1 ? number(told, HULL_CORNERS, 1) : bare(told, HULL_OUT_OF_RANGE));
+            const hull_reply told = hull_polygon_rotate(&axes[i / 4], 1, far * (axes[i % 4].x / at), far * (axes[i % 4].y / at), turned);
+            CHECK(at == 1 ? number(told, HULL_VERTICES, 1) : bare(told, HULL_OUT_OF_RANGE));
         }
     }
-    CHECK(bare(hull_outline_turned(shape, 4, far + 1, 0, turned), HULL_OUT_OF_RANGE) && number(hull_outline_turned(NULL, 0, 1, 1, NULL), HULL_CORNERS, 0));
-    CHECK(number(hull_is_outline(moved, 3), HULL_NUMBER, 1) && number(hull_outline_moved(NULL, 0, 5 * far, 0, NULL), HULL_CORNERS, 0));
+    CHECK(bare(hull_polygon_rotate(shape, 4, far + 1, 0, turned), HULL_OUT_OF_RANGE) && number(hull_polygon_rotate(NULL, 0, 1, 1, NULL), HULL_VERTICES, 0));
+    CHECK(number(hull_is_polygon(moved, 3), HULL_NUMBER, 1) && number(hull_polygon_translate(NULL, 0, 5 * far, 0, NULL), HULL_VERTICES, 0));
 }
 
 /* Whether the nearest of these points, the first of several, is told, with the square of how far it is. */
@@ -864,19 +864,19 @@ static void nearest_held(void) {
 }
 
 /* nothing but a code */
-static int no_clearance(hull_clearance c, uint32_t code) {
+static int no_clearance(hull_distance_bounds c, uint32_t code) {
     return c.code == code && !c.shift && !c.lower && !c.upper && !c.high && !c.middle && !c.low && !c.divisor_high && !c.divisor_low;
 }
 
 /* a clearance of these two doubles, with a square of these words */
-static int is_clearance(hull_clearance c, double down, double up, uint64_t high, uint64_t middle, uint64_t low, uint64_t divisor) {
-    return c.code == HULL_NUMBER && hull_clearance_down(&c) == down && hull_clearance_up(&c) == up && c.high == high && c.middle == middle
+static int is_clearance(hull_distance_bounds c, double down, double up, uint64_t high, uint64_t middle, uint64_t low, uint64_t divisor) {
+    return c.code == HULL_NUMBER && hull_distance_bounds_down(&c) == down && hull_distance_bounds_up(&c) == up && c.high == high && c.middle == middle
         && c.low == low && c.divisor_high == 0 && c.divisor_low == divisor;
 }
 
 /* the doubles next to a distance follow one another, or are one whose square it is */
-static int is_next(hull_clearance c) {
-    const double ends[] = {hull_clearance_down(&c), hull_clearance_up(&c)};
+static int is_next(hull_distance_bounds c) {
+    const double ends[] = {hull_distance_bounds_down(&c), hull_distance_bounds_up(&c)};
     uint64_t bits[2];
     memcpy(bits, ends, sizeof bits);
     return c.code == HULL_NUMBER && bits[1] - bits[0] <= 1;
@@ -885,32 +885,32 @@ static int is_next(hull_clearance c) {
 /* how far outlines, segments and points are, in numbers: whole, between doubles, none, and the longest; which of two is the greater */
 static void clearances(void) {
     static const hull_point square[] = {{0, 0}, {4, 0}, {4, 4}, {0, 4}}, right[] = {{7, 8}, {9, 8}}, high[] = {{2, 5}}, slope[] = {{5, 0}, {6, 1}};
-    CHECK(is_clearance(hull_outline_clearance(square, 4, right, 2), 5, 5, 0, 0, 25, 1));
-    CHECK(is_clearance(hull_outline_clearance(square, 4, square, 4), 0, 0, 0, 0, 0, 1));
-    CHECK(is_clearance(hull_outline_clearance_to_point(square, 4, 5, 5), 0x1.6a09e667f3bccp+0, 0x1.6a09e667f3bcdp+0, 0, 0, 2, 1));
-    CHECK(is_next(hull_outline_clearance_to_point(square, 4, 5, 5)) && is_next(hull_outline_clearance(square, 4, slope, 2)));
-    CHECK(is_clearance(hull_outline_clearance(high, 1, square, 4), 1, 1, 0, 0, 16, 16));
-    CHECK(is_clearance(hull_outline_clearance_to_segment(square, 4, 9, 8, 7, 8), 5, 5, 0, 0, 25, 1));
-    CHECK(is_clearance(hull_outline_clearance_to_segment(square, 4, 1, 1, 9, 9), 0, 0, 0, 0, 0, 1));
-    CHECK(no_clearance(hull_outline_clearance(square, 0, right, 2), HULL_EMPTY) && no_clearance(hull_outline_clearance(right, 2, square, 0), HULL_EMPTY));
-    CHECK(no_clearance(hull_outline_clearance_to_point(NULL, 0, 1, 1), HULL_EMPTY));
+    CHECK(is_clearance(hull_polygon_distance_bounds(square, 4, right, 2), 5, 5, 0, 0, 25, 1));
+    CHECK(is_clearance(hull_polygon_distance_bounds(square, 4, square, 4), 0, 0, 0, 0, 0, 1));
+    CHECK(is_clearance(hull_polygon_distance_bounds_to_point(square, 4, 5, 5), 0x1.6a09e667f3bccp+0, 0x1.6a09e667f3bcdp+0, 0, 0, 2, 1));
+    CHECK(is_next(hull_polygon_distance_bounds_to_point(square, 4, 5, 5)) && is_next(hull_polygon_distance_bounds(square, 4, slope, 2)));
+    CHECK(is_clearance(hull_polygon_distance_bounds(high, 1, square, 4), 1, 1, 0, 0, 16, 16));
+    CHECK(is_clearance(hull_polygon_distance_bounds_to_segment(square, 4, 9, 8, 7, 8), 5, 5, 0, 0, 25, 1));
+    CHECK(is_clearance(hull_polygon_distance_bounds_to_segment(square, 4, 1, 1, 9, 9), 0, 0, 0, 0, 0, 1));
+    CHECK(no_clearance(hull_polygon_distance_bounds(square, 0, right, 2), HULL_EMPTY) && no_clearance(hull_polygon_distance_bounds(right, 2, square, 0), HULL_EMPTY));
+    CHECK(no_clearance(hull_polygon_distance_bounds_to_point(NULL, 0, 1, 1), HULL_EMPTY));
     const int64_t far = HULL_COORDINATE_MAX, beyond = far + 1;
-    CHECK(no_clearance(hull_outline_clearance_to_segment(square, 4, beyond, 0, 0, 0), HULL_OUT_OF_RANGE));
-    CHECK(no_clearance(hull_outline_clearance_to_segment(square, 4, 0, 0, 0, -beyond), HULL_OUT_OF_RANGE));
+    CHECK(no_clearance(hull_polygon_distance_bounds_to_segment(square, 4, beyond, 0, 0, 0), HULL_OUT_OF_RANGE));
+    CHECK(no_clearance(hull_polygon_distance_bounds_to_segment(square, 4, 0, 0, 0, -beyond), HULL_OUT_OF_RANGE));
     const hull_point rising[] = {{-far, -far}, {far, far - 1}}, corner[] = {{-far, far}};
-    const hull_clearance longest = hull_outline_clearance_to_point(corner, 1, far, -far), wide = hull_outline_clearance(rising, 2, corner, 1);
-    const hull_clearance least = hull_outline_clearance_to_point(rising, 2, 0, 0);
-    CHECK(longest.middle == 1ull << 19 && longest.low == 0 && longest.high == 0 && is_next(longest) && hull_clearance_up(&longest) > 3.1e12);
-    CHECK(wide.high == 1ull << 36 && wide.middle == 0 && wide.low == 0 && wide.divisor_high > 0 && is_next(wide) && is_next(least) && hull_clearance_up(&least) < 1);
-    CHECK(hull_clearance_compare(&longest, &wide) > 0 && hull_clearance_compare(&wide, &longest) < 0 && hull_clearance_compare(&least, &wide) < 0);
-    const hull_clearance one = hull_outline_clearance(high, 1, square, 4), same = hull_outline_clearance_to_point(high, 1, 2, 6);
-    CHECK(one.divisor_low != same.divisor_low && hull_clearance_compare(&one, &same) == 0 && hull_clearance_compare(&same, &least) > 0);
-    CHECK(number(hull_outline_within_segment(square, 4, 9, 8, 7, 8, 5, 1), HULL_NUMBER, 1));
-    CHECK(number(hull_outline_within_segment(square, 4, 9, 8, 7, 8, 49, 10), HULL_NUMBER, 0));
-    CHECK(number(hull_outline_within_point(square, 4, 7, 8, 499, 100), HULL_NUMBER, 0) && number(hull_outline_within_point(square, 4, 8, 7, 499, 100), HULL_NUMBER, 0));
-    CHECK(number(hull_outline_within_point(square, 4, 7, 8, 5, 1), HULL_NUMBER, 1) && number(hull_outline_within_point(square, 0, 0, 0, 1, 0), HULL_NUMBER, 0));
-    CHECK(bare(hull_outline_within_segment(square, 4, 0, 0, beyond, 0, 1, 1), HULL_OUT_OF_RANGE));
-    CHECK(bare(hull_outline_within_point(square, 4, 0, -beyond, 1, 1), HULL_OUT_OF_RANGE));
+    const hull_distance_bounds longest = hull_polygon_distance_bounds_to_point(corner, 1, far, -far), wide = hull_polygon_distance_bounds(rising, 2, corner, 1);
+    const hull_distance_bounds least = hull_polygon_distance_bounds_to_point(rising, 2, 0, 0);
+    CHECK(longest.middle == 1ull << 19 && longest.low == 0 && longest.high == 0 && is_next(longest) && hull_distance_bounds_up(&longest) > 3.1e12);
+    CHECK(wide.high == 1ull << 36 && wide.middle == 0 && wide.low == 0 && wide.divisor_high > 0 && is_next(wide) && is_next(least) && hull_distance_bounds_up(&least) < 1);
+    CHECK(hull_distance_bounds_compare(&longest, &wide) > 0 && hull_distance_bounds_compare(&wide, &longest) < 0 && hull_distance_bounds_compare(&least, &wide) < 0);
+    const hull_distance_bounds one = hull_polygon_distance_bounds(high, 1, square, 4), same = hull_polygon_distance_bounds_to_point(high, 1, 2, 6);
+    CHECK(one.divisor_low != same.divisor_low && hull_distance_bounds_compare(&one, &same) == 0 && hull_distance_bounds_compare(&same, &least) > 0);
+    CHECK(number(hull_polygon_within_distance_of_segment(square, 4, 9, 8, 7, 8, 5, 1), HULL_NUMBER, 1));
+    CHECK(number(hull_polygon_within_distance_of_segment(square, 4, 9, 8, 7, 8, 49, 10), HULL_NUMBER, 0));
+    CHECK(number(hull_polygon_within_distance_of_point(square, 4, 7, 8, 499, 100), HULL_NUMBER, 0) && number(hull_polygon_within_distance_of_point(square, 4, 8, 7, 499, 100), HULL_NUMBER, 0));
+    CHECK(number(hull_polygon_within_distance_of_point(square, 4, 7, 8, 5, 1), HULL_NUMBER, 1) && number(hull_polygon_within_distance_of_point(square, 0, 0, 0, 1, 0), HULL_NUMBER, 0));
+    CHECK(bare(hull_polygon_within_distance_of_segment(square, 4, 0, 0, beyond, 0, 1, 1), HULL_OUT_OF_RANGE));
+    CHECK(bare(hull_polygon_within_distance_of_point(square, 4, 0, -beyond, 1, 1), HULL_OUT_OF_RANGE));
 }
 
 /* how an outline stands to segments: beside it, along an edge, from its inside, through it, around it */
@@ -919,19 +919,19 @@ static void segments_beside(void) {
     static const struct {
         int64_t ax, ay, bx, by;
         hull_relation how;
-    } tries[] = {{5, 0, 5, 4, HULL_RELATION_APART}, {4, 5, 4, -1, HULL_RELATION_TOUCHING}, {8, 0, 0, 8, HULL_RELATION_TOUCHING},
+    } tries[] = {{5, 0, 5, 4, HULL_RELATION_DISJOINT}, {4, 5, 4, -1, HULL_RELATION_TOUCHING}, {8, 0, 0, 8, HULL_RELATION_TOUCHING},
                  {6, 4, 4, 4, HULL_RELATION_TOUCHING}, {2, 2, 9, 9, HULL_RELATION_OVERLAPPING}, {-1, 2, 5, 2, HULL_RELATION_OVERLAPPING},
                  {1, 0, 3, 0, HULL_RELATION_COVERS}, {3, 3, 1, 1, HULL_RELATION_COVERS}, {4, 4, 4, 4, HULL_RELATION_COVERS},
-                 {5, 5, 5, 5, HULL_RELATION_APART}};
+                 {5, 5, 5, 5, HULL_RELATION_DISJOINT}};
     for (size_t i = 0; i < sizeof tries / sizeof tries[0]; i++) {
-        CHECK(number(hull_outline_relation_to_segment(square, 4, tries[i].ax, tries[i].ay, tries[i].bx, tries[i].by), HULL_NUMBER, tries[i].how));
-        CHECK(number(hull_outline_relation_to_segment(square, 4, tries[i].bx, tries[i].by, tries[i].ax, tries[i].ay), HULL_NUMBER, tries[i].how));
+        CHECK(number(hull_polygon_relation_to_segment(square, 4, tries[i].ax, tries[i].ay, tries[i].bx, tries[i].by), HULL_NUMBER, tries[i].how));
+        CHECK(number(hull_polygon_relation_to_segment(square, 4, tries[i].bx, tries[i].by, tries[i].ax, tries[i].ay), HULL_NUMBER, tries[i].how));
     }
-    CHECK(number(hull_outline_relation_to_segment(line, 2, 4, 4, 0, 0), HULL_NUMBER, HULL_RELATION_EQUAL));
-    CHECK(number(hull_outline_relation_to_segment(line, 2, 5, 5, -1, -1), HULL_NUMBER, HULL_RELATION_WITHIN));
-    CHECK(number(hull_outline_relation_to_segment(line, 0, 5, 5, -1, -1), HULL_NUMBER, HULL_RELATION_WITHIN));
-    CHECK(bare(hull_outline_relation_to_segment(line, 2, HULL_COORDINATE_MAX + 1, 0, 0, 0), HULL_OUT_OF_RANGE));
-    CHECK(bare(hull_outline_relation_to_segment(line, 2, 0, 0, 0, INT64_MIN), HULL_OUT_OF_RANGE));
+    CHECK(number(hull_polygon_relation_to_segment(line, 2, 4, 4, 0, 0), HULL_NUMBER, HULL_RELATION_EQUAL));
+    CHECK(number(hull_polygon_relation_to_segment(line, 2, 5, 5, -1, -1), HULL_NUMBER, HULL_RELATION_WITHIN));
+    CHECK(number(hull_polygon_relation_to_segment(line, 0, 5, 5, -1, -1), HULL_NUMBER, HULL_RELATION_WITHIN));
+    CHECK(bare(hull_polygon_relation_to_segment(line, 2, HULL_COORDINATE_MAX + 1, 0, 0, 0), HULL_OUT_OF_RANGE));
+    CHECK(bare(hull_polygon_relation_to_segment(line, 2, 0, 0, 0, INT64_MIN), HULL_OUT_OF_RANGE));
 }
 
 /* a hit with these corners, so far on the way */
@@ -943,44 +943,44 @@ static int is_hit(hull_hit h, uint32_t code, hull_point a, hull_point b, uint64_
 /* where rays and segments come in: at a start, across an edge, at a corner, along an edge, on a line; or nowhere */
 static void casts(void) {
     static const hull_point square[] = {{0, 0}, {4, 0}, {4, 4}, {0, 4}}, line[] = {{0, 0}, {4, 4}}, none = {0, 0};
-    CHECK(is_hit(hull_outline_cast_ray(square, 4, -2, 1, 3, 1), HULL_EDGE, square[3], square[0], 8, 12));
-    CHECK(is_hit(hull_outline_cast_segment(square, 4, -2, 1, 7, 4), HULL_EDGE, square[3], square[0], 8, 36));
-    CHECK(is_hit(hull_outline_cast_segment(square, 4, 7, 4, -2, 1), HULL_EDGE, square[1], square[2], 12, 36));
-    CHECK(is_hit(hull_outline_cast_ray(square, 4, 1, 1, 1, 0), HULL_COVERED, none, none, 0, 1));
-    CHECK(is_hit(hull_outline_cast_segment(square, 4, 4, 4, 9, 9), HULL_COVERED, none, none, 0, 1));
-    CHECK(is_hit(hull_outline_cast_segment(square, 4, 3, 7, 5, -1), HULL_EDGE, square[2], square[3], 12, 32));
-    CHECK(hull_outline_cast_ray(square, 4, -3, 4, 1, 0).code == HULL_EDGE && hull_outline_cast_ray(square, 4, 9, 4, -1, 0).code == HULL_EDGE);
-    CHECK(is_hit(hull_outline_cast_ray(line, 2, 7, 7, -1, -1), HULL_CORNER, line[1], none, 6, 2));
-    CHECK(is_hit(hull_outline_cast_segment(line, 2, 4, 0, 0, 4), HULL_EDGE, line[0], line[1], 16, 32));
-    CHECK(is_hit(hull_outline_cast_segment(line, 1, -1, 0, 3, 0), HULL_CORNER, line[0], none, 4, 16));
-    CHECK(is_hit(hull_outline_last_on_ray(square, 4, -2, 1, 3, 1), HULL_EDGE, square[1], square[2], 24, 12));
-    CHECK(is_hit(hull_outline_last_on_ray(square, 4, 1, 1, 1, 0), HULL_EDGE, square[1], square[2], 12, 4));
-    CHECK(is_hit(hull_outline_last_on_ray(line, 2, 7, 7, -1, -1), HULL_CORNER, line[0], none, 14, 2));
-    CHECK(is_hit(hull_outline_last_on_ray(square, 4, -2, 1, -3, 1), HULL_APART, none, none, 0, 0));
-    CHECK(is_hit(hull_outline_last_on_ray(NULL, 0, 0, 0, 1, 0), HULL_EMPTY, none, none, 0, 0));
-    CHECK(is_hit(hull_outline_last_on_ray(square, 4, 9, 0, 0, 0), HULL_ZERO_DIRECTION, none, none, 0, 0));
-    CHECK(is_hit(hull_outline_last_on_ray(square, 4, 0, -HULL_COORDINATE_MAX - 1, 0, 1), HULL_OUT_OF_RANGE, none, none, 0, 0));
-    CHECK(is_hit(hull_outline_cast_ray(square, 4, -2, 1, -3, 1), HULL_APART, none, none, 0, 0));
-    CHECK(is_hit(hull_outline_cast_segment(square, 4, -2, 1, -1, 1), HULL_APART, none, none, 0, 0));
-    CHECK(is_hit(hull_outline_cast_ray(square, 4, -2, 5, 1, 0), HULL_APART, none, none, 0, 0));
-    CHECK(is_hit(hull_outline_cast_ray(square, 0, 0, 0, 1, 0), HULL_EMPTY, none, none, 0, 0));
-    CHECK(is_hit(hull_outline_cast_segment(NULL, 0, 0, 0, 1, 0), HULL_EMPTY, none, none, 0, 0));
+    CHECK(is_hit(hull_polygon_raycast(square, 4, -2, 1, 3, 1), HULL_EDGE, square[3], square[0], 8, 12));
+    CHECK(is_hit(hull_polygon_raycast_segment(square, 4, -2, 1, 7, 4), HULL_EDGE, square[3], square[0], 8, 36));
+    CHECK(is_hit(hull_polygon_raycast_segment(square, 4, 7, 4, -2, 1), HULL_EDGE, square[1], square[2], 12, 36));
+    CHECK(is_hit(hull_polygon_raycast(square, 4, 1, 1, 1, 0), HULL_COVERED, none, none, 0, 1));
+    CHECK(is_hit(hull_polygon_raycast_segment(square, 4, 4, 4, 9, 9), HULL_COVERED, none, none, 0, 1));
+    CHECK(is_hit(hull_polygon_raycast_segment(square, 4, 3, 7, 5, -1), HULL_EDGE, square[2], square[3], 12, 32));
+    CHECK(hull_polygon_raycast(square, 4, -3, 4, 1, 0).code == HULL_EDGE && hull_polygon_raycast(square, 4, 9, 4, -1, 0).code == HULL_EDGE);
+    CHECK(is_hit(hull_polygon_raycast(line, 2, 7, 7, -1, -1), HULL_VERTEX, line[1], none, 6, 2));
+    CHECK(is_hit(hull_polygon_raycast_segment(line, 2, 4, 0, 0, 4), HULL_EDGE, line[0], line[1], 16, 32));
+    CHECK(is_hit(hull_polygon_raycast_segment(line, 1, -1, 0, 3, 0), HULL_VERTEX, line[0], none, 4, 16));
+    CHECK(is_hit(hull_polygon_raycast_exit(square, 4, -2, 1, 3, 1), HULL_EDGE, square[1], square[2], 24, 12));
+    CHECK(is_hit(hull_polygon_raycast_exit(square, 4, 1, 1, 1, 0), HULL_EDGE, square[1], square[2], 12, 4));
+    CHECK(is_hit(hull_polygon_raycast_exit(line, 2, 7, 7, -1, -1), HULL_VERTEX, line[0], none, 14, 2));
+    CHECK(is_hit(hull_polygon_raycast_exit(square, 4, -2, 1, -3, 1), HULL_DISJOINT, none, none, 0, 0));
+    CHECK(is_hit(hull_polygon_raycast_exit(NULL, 0, 0, 0, 1, 0), HULL_EMPTY, none, none, 0, 0));
+    CHECK(is_hit(hull_polygon_raycast_exit(square, 4, 9, 0, 0, 0), HULL_ZERO_DIRECTION, none, none, 0, 0));
+    CHECK(is_hit(hull_polygon_raycast_exit(square, 4, 0, -HULL_COORDINATE_MAX - 1, 0, 1), HULL_OUT_OF_RANGE, none, none, 0, 0));
+    CHECK(is_hit(hull_polygon_raycast(square, 4, -2, 1, -3, 1), HULL_DISJOINT, none, none, 0, 0));
+    CHECK(is_hit(hull_polygon_raycast_segment(square, 4, -2, 1, -1, 1), HULL_DISJOINT, none, none, 0, 0));
+    CHECK(is_hit(hull_polygon_raycast(square, 4, -2, 5, 1, 0), HULL_DISJOINT, none, none, 0, 0));
+    CHECK(is_hit(hull_polygon_raycast(square, 0, 0, 0, 1, 0), HULL_EMPTY, none, none, 0, 0));
+    CHECK(is_hit(hull_polygon_raycast_segment(NULL, 0, 0, 0, 1, 0), HULL_EMPTY, none, none, 0, 0));
     const int64_t far = HULL_COORDINATE_MAX, beyond = far + 1;
-    CHECK(is_hit(hull_outline_cast_ray(square, 4, beyond, 0, 1, 0), HULL_OUT_OF_RANGE, none, none, 0, 0));
-    CHECK(is_hit(hull_outline_cast_ray(square, 4, 9, 0, 0, -beyond), HULL_OUT_OF_RANGE, none, none, 0, 0));
-    CHECK(is_hit(hull_outline_cast_ray(square, 4, 9, 0, 0, 0), HULL_ZERO_DIRECTION, none, none, 0, 0));
-    CHECK(is_hit(hull_outline_cast_segment(square, 4, 9, 0, 0, beyond), HULL_OUT_OF_RANGE, none, none, 0, 0));
+    CHECK(is_hit(hull_polygon_raycast(square, 4, beyond, 0, 1, 0), HULL_OUT_OF_RANGE, none, none, 0, 0));
+    CHECK(is_hit(hull_polygon_raycast(square, 4, 9, 0, 0, -beyond), HULL_OUT_OF_RANGE, none, none, 0, 0));
+    CHECK(is_hit(hull_polygon_raycast(square, 4, 9, 0, 0, 0), HULL_ZERO_DIRECTION, none, none, 0, 0));
+    CHECK(is_hit(hull_polygon_raycast_segment(square, 4, 9, 0, 0, beyond), HULL_OUT_OF_RANGE, none, none, 0, 0));
     const hull_point wide[] = {{-far, -far}, {far, -far}, {far, far - 1}};
-    const hull_hit long_way = hull_outline_cast_segment(wide, 3, -far, far, far, -far + 1);
+    const hull_hit long_way = hull_polygon_raycast_segment(wide, 3, -far, far, far, -far + 1);
     CHECK(long_way.code == HULL_EDGE && long_way.high > 0 && long_way.divisor_high > long_way.high && long_way.a.x == far && long_way.b.x == -far);
     refused_from = 0, asked = 0;
-    CHECK(hull_outline_cast_ray(square, 4, -2, 1, 3, 1).code == HULL_EDGE && asked == 0);
+    CHECK(hull_polygon_raycast(square, 4, -2, 1, 3, 1).code == HULL_EDGE && asked == 0);
     refused_from = -1;
 }
 
 /* where corners are least wide is no wider than along any direction of a grid, and no narrower than the strip of each edge */
 static int is_least(const hull_point *corners, size_t count) {
-    hull_witness w = hull_outline_least_width(corners, count);
+    hull_witness w = hull_polygon_least_width(corners, count);
     if (w.code != HULL_EDGE || !is_among(corners, count, w.a) || !is_among(corners, count, w.b) || !is_among(corners, count, w.c)) {
         return 0;
     }
@@ -990,11 +990,11 @@ static int is_least(const hull_point *corners, size_t count) {
     for (int64_t i = 0; i < 41 * 41; i++) {
         int64_t dx = i % 41 - 20, dy = i / 41 - 20;
         if (dx != 0 || dy != 0) {
-            __int128 wide = hull_outline_width(corners, count, dx, dy).number;
+            __int128 wide = hull_polygon_width(corners, count, dx, dy).number;
             same &= told * (dx * dx + dy * dy) <= wide * wide * edge;
         }
     }
-    hull_reply along = hull_outline_width(corners, count, -step.y, step.x);
+    hull_reply along = hull_polygon_width(corners, count, -step.y, step.x);
     return same && (int64_t)along.number == side(w.a, w.b, w.c);
 }
 
@@ -1002,7 +1002,7 @@ static int is_least(const hull_point *corners, size_t count) {
 static void extents(void) {
     static const hull_point corners[] = {{-7, 2}, {-5, -6}, {1, -9}, {8, -3}, {9, 4}, {3, 10}, {-4, 9}};
     for (size_t count = 1; count <= 7; count++) {
-        hull_reply r = hull_outline_diameter(corners, count);
+        hull_reply r = hull_polygon_diameter(corners, count);
         int64_t best = 0, told = (r.x - r.other_x) * (r.x - r.other_x) + (r.y - r.other_y) * (r.y - r.other_y);
         for (size_t i = 0; i < count * count; i++) {
             int64_t dx = corners[i % count].x - corners[i / count].x, dy = corners[i % count].y - corners[i / count].y;
@@ -1017,23 +1017,23 @@ static void extents(void) {
                 int64_t at = dx * corners[j].x + dy * corners[j].y;
                 most = at > most ? at : most, least = at < least ? at : least;
             }
-            hull_reply width = hull_outline_width(corners, count, dx, dy);
+            hull_reply width = hull_polygon_width(corners, count, dx, dy);
             same &= dx == 0 && dy == 0 ? bare(width, HULL_ZERO_DIRECTION) : number(width, HULL_NUMBER, (uint64_t)(most - least));
         }
         CHECK(same && (count < 2 || is_least(corners, count)));
     }
-    CHECK(hull_outline_least_width(corners, 0).code == HULL_EMPTY && hull_outline_least_width(corners, 1).code == HULL_EMPTY);
+    CHECK(hull_polygon_least_width(corners, 0).code == HULL_EMPTY && hull_polygon_least_width(corners, 1).code == HULL_EMPTY);
     static const hull_point largest[] = {{-HULL_COORDINATE_MAX, -HULL_COORDINATE_MAX},
                                          {HULL_COORDINATE_MAX, -HULL_COORDINATE_MAX + 1},
                                          {HULL_COORDINATE_MAX, HULL_COORDINATE_MAX},
                                          {-HULL_COORDINATE_MAX, HULL_COORDINATE_MAX - 1}};
-    hull_witness at_limit = hull_outline_least_width(largest, 4);
+    hull_witness at_limit = hull_polygon_least_width(largest, 4);
     CHECK(at_limit.code == HULL_EDGE && at_limit.a.x == at_limit.b.x - 2 * HULL_COORDINATE_MAX);
-    CHECK(bare(hull_outline_diameter(corners, 0), HULL_EMPTY) && bare(hull_outline_width(corners, 0, 1, 0), HULL_EMPTY));
-    CHECK(bare(hull_outline_width(corners, 3, HULL_COORDINATE_MAX + 1, 0), HULL_OUT_OF_RANGE));
+    CHECK(bare(hull_polygon_diameter(corners, 0), HULL_EMPTY) && bare(hull_polygon_width(corners, 0, 1, 0), HULL_EMPTY));
+    CHECK(bare(hull_polygon_width(corners, 3, HULL_COORDINATE_MAX + 1, 0), HULL_OUT_OF_RANGE));
     static const int64_t far = HULL_COORDINATE_MAX;
     const hull_point wide[] = {{-far, -far}, {far, far}};
-    hull_reply whole = hull_outline_width(wide, 2, far, far);
+    hull_reply whole = hull_polygon_width(wide, 2, far, far);
     CHECK(whole.code == HULL_NUMBER && whole.number == 0 && whole.high == (uint64_t)1 << 18);
 }
 
@@ -1056,14 +1056,14 @@ static void in_doubles(void) {
     int same = 1;
     for (int64_t i = 0; i < 961; i++) {
         int64_t dx = i % 31 - 15, dy = i / 31 - 15;
-        hull_reply wanted = dx == 0 && dy == 0 ? hull_outline_extreme(corners, 7, -1, 0) : hull_outline_extreme(corners, 7, dx, dy);
-        hull_reply told = hull_outline_extreme_d(corners, 7, (double)dx * 0x1p-900, (double)dy * 0x1p-900);
+        hull_reply wanted = dx == 0 && dy == 0 ? hull_polygon_extreme(corners, 7, -1, 0) : hull_polygon_extreme(corners, 7, dx, dy);
+        hull_reply told = hull_polygon_extreme_d(corners, 7, (double)dx * 0x1p-900, (double)dy * 0x1p-900);
         same &= told.code == HULL_POINT && told.x == wanted.x && told.y == wanted.y;
     }
     CHECK(same);
-    CHECK(bare(hull_outline_extreme_d(corners, 7, NAN, 0), HULL_OUT_OF_RANGE));
-    CHECK(bare(hull_outline_extreme_d(corners, 7, 0, -INFINITY), HULL_OUT_OF_RANGE));
-    CHECK(bare(hull_outline_extreme_d(corners, 0, 0, 0), HULL_EMPTY));
+    CHECK(bare(hull_polygon_extreme_d(corners, 7, NAN, 0), HULL_OUT_OF_RANGE));
+    CHECK(bare(hull_polygon_extreme_d(corners, 7, 0, -INFINITY), HULL_OUT_OF_RANGE));
+    CHECK(bare(hull_polygon_extreme_d(corners, 0, 0, 0), HULL_EMPTY));
     hull_set *h = hull_new(10);
     CHECK(bare(hull_extreme_d(h, 1, 1), HULL_EMPTY));
     hull_add(h, 4, 4), hull_add(h, 1, 5), hull_add(h, 1, 3);
@@ -1079,26 +1079,26 @@ static void encounters(void) {
     for (int64_t i = 0; i < 14641; i++) {
         const int64_t s[] = {i % 11 - 1, i / 11 % 11 - 2, i / 121 % 11 - 1, i / 1331 - 2};
         same &= parted(corners, 3, s) && parted(corners, 2, s) && parted(corners, 1, s);
-        meeting += hull_outline_meets_segment(corners, 3, s[0], s[1], s[2], s[3]).number == 1;
+        meeting += hull_polygon_intersects_segment(corners, 3, s[0], s[1], s[2], s[3]).number == 1;
     }
     CHECK(same && meeting > 1000 && meeting < 14000);
-    CHECK(number(hull_outline_meets_segment(corners, 3, 8, 6, 0, 6), HULL_NUMBER, 1));
-    CHECK(number(hull_outline_meets_segment(corners, 3, 8, 1, 1, 6), HULL_NUMBER, 0));
-    CHECK(number(hull_outline_meets_segment(corners, 3, -1, 3, 9, 3), HULL_NUMBER, 1));
-    CHECK(two(hull_outline_apart(corners, 3, -1, -2, 9, -2), HULL_APART, 0, 0, 0, -10));
-    CHECK(bare(hull_outline_nearest(corners, 3, 1, 1), HULL_COVERED) && bare(hull_outline_nearest(corners, 3, 4, 3), HULL_COVERED));
-    CHECK(two(hull_outline_nearest(corners, 3, -1, -1), HULL_CORNER, 0, 0, 0, 0));
-    CHECK(two(hull_outline_nearest(corners, 3, 8, -5), HULL_CORNER, 8, 0, 0, 0));
-    CHECK(two(hull_outline_nearest(corners, 3, 8, 6), HULL_EDGE, 8, 0, 0, 6));
-    CHECK(two(hull_outline_nearest(corners, 2, 4, 1), HULL_EDGE, 8, 0, 0, 0));
-    CHECK(two(hull_outline_box(corners, 3), HULL_BOX, 0, 0, 8, 6) && two(hull_outline_box(corners, 1), HULL_BOX, 0, 0, 0, 0));
-    CHECK(bare(hull_outline_box(corners, 0), HULL_EMPTY) && bare(hull_outline_nearest(corners, 0, 1, 1), HULL_EMPTY));
-    CHECK(bare(hull_outline_apart(corners, 0, 0, 0, 1, 1), HULL_EMPTY));
-    CHECK(number(hull_outline_meets_segment(corners, 0, 0, 0, 1, 1), HULL_NUMBER, 0));
+    CHECK(number(hull_polygon_intersects_segment(corners, 3, 8, 6, 0, 6), HULL_NUMBER, 1));
+    CHECK(number(hull_polygon_intersects_segment(corners, 3, 8, 1, 1, 6), HULL_NUMBER, 0));
+    CHECK(number(hull_polygon_intersects_segment(corners, 3, -1, 3, 9, 3), HULL_NUMBER, 1));
+    CHECK(two(hull_polygon_separation(corners, 3, -1, -2, 9, -2), HULL_DISJOINT, 0, 0, 0, -10));
+    CHECK(bare(hull_polygon_nearest(corners, 3, 1, 1), HULL_COVERED) && bare(hull_polygon_nearest(corners, 3, 4, 3), HULL_COVERED));
+    CHECK(two(hull_polygon_nearest(corners, 3, -1, -1), HULL_VERTEX, 0, 0, 0, 0));
+    CHECK(two(hull_polygon_nearest(corners, 3, 8, -5), HULL_VERTEX, 8, 0, 0, 0));
+    CHECK(two(hull_polygon_nearest(corners, 3, 8, 6), HULL_EDGE, 8, 0, 0, 6));
+    CHECK(two(hull_polygon_nearest(corners, 2, 4, 1), HULL_EDGE, 8, 0, 0, 0));
+    CHECK(two(hull_polygon_box(corners, 3), HULL_BOX, 0, 0, 8, 6) && two(hull_polygon_box(corners, 1), HULL_BOX, 0, 0, 0, 0));
+    CHECK(bare(hull_polygon_box(corners, 0), HULL_EMPTY) && bare(hull_polygon_nearest(corners, 0, 1, 1), HULL_EMPTY));
+    CHECK(bare(hull_polygon_separation(corners, 0, 0, 0, 1, 1), HULL_EMPTY));
+    CHECK(number(hull_polygon_intersects_segment(corners, 0, 0, 0, 1, 1), HULL_NUMBER, 0));
     static const int64_t over = HULL_COORDINATE_MAX + 1;
-    CHECK(bare(hull_outline_meets_segment(corners, 3, over, 0, 0, 0), HULL_OUT_OF_RANGE));
-    CHECK(bare(hull_outline_apart(corners, 3, 0, 0, 0, -over), HULL_OUT_OF_RANGE));
-    CHECK(bare(hull_outline_nearest(corners, 3, INT64_MIN, 0), HULL_OUT_OF_RANGE));
+    CHECK(bare(hull_polygon_intersects_segment(corners, 3, over, 0, 0, 0), HULL_OUT_OF_RANGE));
+    CHECK(bare(hull_polygon_separation(corners, 3, 0, 0, 0, -over), HULL_OUT_OF_RANGE));
+    CHECK(bare(hull_polygon_nearest(corners, 3, INT64_MIN, 0), HULL_OUT_OF_RANGE));
 }
 
 static void calls(void) {
@@ -1186,7 +1186,7 @@ static void pieces(void) {
                     r = hull_held_from(h, at.x, at.y, piece, room);
                     seen += (size_t)r.number;
                     if (r.number > 0) {
-                        at = hull_held_behind(piece[r.number - 1]);
+                        at = hull_held_after(piece[r.number - 1]);
                     }
                 }
                 CHECK(seen == count && rounds < 20 && r.code == HULL_NUMBER);
@@ -1195,7 +1195,7 @@ static void pieces(void) {
                 do {
                     r = hull_held_from(h, at.x, at.y, piece, room);
                     seen += (size_t)r.number;
-                    at = r.number > 0 ? hull_held_behind(piece[r.number - 1]) : at;
+                    at = r.number > 0 ? hull_held_after(piece[r.number - 1]) : at;
                 } while (r.number == room && rounds++ < 20);
                 CHECK(seen == count && rounds < 20);
             }
@@ -1270,7 +1270,7 @@ static void numbers(void) {
     }
 }
 
-/* whether hull_outline_of writes what a hull of these points has */
+/* whether hull_polygon_of writes what a hull of these points has */
 static int is_outline_of(const hull_point *points, size_t count) {
     enum { ROOM = 64 };
     hull_point wanted[ROOM], got[ROOM];
@@ -1278,9 +1278,9 @@ static int is_outline_of(const hull_point *points, size_t count) {
     memset(got, 5, sizeof got);
     memset(wanted, 5, sizeof wanted);
     hull_load(h, points, count);
-    hull_reply r = hull_vertices(h, wanted, ROOM), told = hull_outline_of(points, count, got, ROOM);
-    int same = number(told, HULL_CORNERS, r.number) && memcmp(wanted, got, sizeof got) == 0;
-    same &= r.number == 0 || number(hull_outline_of(points, count, got, (size_t)r.number - 1), HULL_TOO_SMALL, r.number);
+    hull_reply r = hull_vertices(h, wanted, ROOM), told = hull_polygon_of(points, count, got, ROOM);
+    int same = number(told, HULL_VERTICES, r.number) && memcmp(wanted, got, sizeof got) == 0;
+    same &= r.number == 0 || number(hull_polygon_of(points, count, got, (size_t)r.number - 1), HULL_TOO_SMALL, r.number);
     hull_free(h);
     return same && memcmp(wanted, got, sizeof got) == 0;
 }
@@ -1315,27 +1315,27 @@ static void outlines_of_points(void) {
     /* a kind that no outline can be asked is told, whatever the numbers are */
     for (uint32_t kind = 0; kind < 12; kind++) {
         if (kind < HULL_KIND_PLACE || kind > HULL_KIND_AREA) {
-            CHECK(bare(hull_outline_call(ring, 7, kind, far + 1, 0), HULL_UNKNOWN_KIND));
-            CHECK(bare(hull_outline_call(ring, 7, kind, 0, 0), HULL_UNKNOWN_KIND));
+            CHECK(bare(hull_polygon_call(ring, 7, kind, far + 1, 0), HULL_UNKNOWN_KIND));
+            CHECK(bare(hull_polygon_call(ring, 7, kind, 0, 0), HULL_UNKNOWN_KIND));
         }
     }
     hull_point out[4] = {{5, 5}}, widest[] = {{far, far}, {-far, far}, {-far, -far}, {far, -far}};
     CHECK(is_outline_of(widest, 4));
     widest[2].x = -far - 1;
-    CHECK(bare(hull_outline_of(widest, 4, out, 4), HULL_OUT_OF_RANGE) && out[0].x == 5);
-    CHECK(number(hull_outline_of(NULL, 0, NULL, 0), HULL_CORNERS, 0));
+    CHECK(bare(hull_polygon_of(widest, 4, out, 4), HULL_OUT_OF_RANGE) && out[0].x == 5);
+    CHECK(number(hull_polygon_of(NULL, 0, NULL, 0), HULL_VERTICES, 0));
     hull_point *often = calloc(HULL_MULTIPLICITY_MAX + 1, sizeof *often);
-    CHECK(number(hull_outline_of(often, HULL_MULTIPLICITY_MAX, out, 4), HULL_CORNERS, 1) && out[0].x == 0);
+    CHECK(number(hull_polygon_of(often, HULL_MULTIPLICITY_MAX, out, 4), HULL_VERTICES, 1) && out[0].x == 0);
     out[0].x = 5;
-    CHECK(bare(hull_outline_of(often, HULL_MULTIPLICITY_MAX + 1, out, 4), HULL_TOO_MANY) && out[0].x == 5);
+    CHECK(bare(hull_polygon_of(often, HULL_MULTIPLICITY_MAX + 1, out, 4), HULL_TOO_MANY) && out[0].x == 5);
     free(often);
     int refusals = 0;
     for (int request = 0;; request++, refusals++) {
         refused_from = request, asked = 0;
         const hull_point inner[] = {{0, 0}, {4, 0}, {1, 1}, {0, 4}};
-        hull_reply r = hull_outline_of(inner, 4, out, 4);
+        hull_reply r = hull_polygon_of(inner, 4, out, 4);
         refused_from = -1;
-        if (r.code == HULL_CORNERS) {
+        if (r.code == HULL_VERTICES) {
             break;
         }
         CHECK(bare(r, HULL_NO_MEMORY) && out[0].x == 5);
@@ -1356,37 +1356,37 @@ static void new_ones(void) {
     CHECK(hull_new(1) == NULL);
     refused_from = -1;
     for (size_t alignment = 1; alignment <= 4096; alignment *= 2) {
-        unsigned char *room = hull_room_new(17, alignment);
+        unsigned char *room = hull_storage_new(17, alignment);
         CHECK(room != NULL && (uintptr_t)room % alignment == 0);
         memset(room, 7, 17);
-        hull_room_free(room);
+        hull_storage_free(room);
     }
     /* in the order of their numbers, which will not change */
     static const char *const names[] = {
         "HULL_OK", "HULL_OUT_OF_RANGE", "HULL_ZERO_DIRECTION", "HULL_ADDED", "HULL_AGAIN", "HULL_TOO_MANY", "HULL_NO_MEMORY",
         "HULL_REMOVED", "HULL_LEFT", "HULL_ABSENT", "HULL_POINT", "HULL_EMPTY", "HULL_INSIDE", "HULL_ON", "HULL_OUTSIDE",
-        "HULL_TANGENTS", "HULL_NO_TANGENT", "HULL_NUMBER", "HULL_CORNERS", "HULL_TOO_SMALL", "HULL_CLEARED",
-        "HULL_OUT_OF_ORDER", "HULL_UNKNOWN_KIND", "HULL_MEETING", "HULL_APART", "HULL_COVERED", "HULL_CORNER", "HULL_EDGE",
+        "HULL_TANGENTS", "HULL_NO_TANGENT", "HULL_NUMBER", "HULL_VERTICES", "HULL_TOO_SMALL", "HULL_CLEARED",
+        "HULL_OUT_OF_ORDER", "HULL_UNKNOWN_KIND", "HULL_INTERSECTING", "HULL_DISJOINT", "HULL_COVERED", "HULL_VERTEX", "HULL_EDGE",
         "HULL_BOX", "HULL_WITHIN", "HULL_CROSSING", "HULL_POINTS", "HULL_OPEN", "HULL_OUT_OF_LIMITS", "HULL_WAS_OPENED",
-        "HULL_LENT", "HULL_NO_SEAT", "HULL_ROOM_IN_USE", "HULL_NOT_OPEN", "HULL_RETURNED", "HULL_VACANT", "HULL_WAITING",
-        "HULL_PLACE_IN_USE", "HULL_TAKEN", "HULL_NOT_YET", "HULL_NO_NUMBER", "HULL_FULL", "HULL_SEATS_OUT", "HULL_CLOSED",
-        "HULL_NOT_CLOSED", "HULL_TEXT", "HULL_ENDED", "HULL_IN_USE", "HULL_RESERVED", "HULL_PART_IN_USE", "HULL_NO_ROOM",
-        "HULL_NO_LINES", "HULL_NO_JOURNAL", "HULL_OLD_RULES", "HULL_ILLEGAL", "HULL_TOO_FEW_SEATS", "HULL_NO_OUTLINE",
-        "HULL_BUSY", "HULL_OTHER_LINE", "HULL_NO_FILE", "HULL_DAMAGED", "HULL_SAFE", "HULL_ADMITTED",
-        "HULL_VIEWED", "HULL_OLD"};
+        "HULL_ACQUIRED", "HULL_NO_SEAT", "HULL_STORAGE_IN_USE", "HULL_NOT_OPEN", "HULL_RELEASED", "HULL_VACANT", "HULL_WAITING",
+        "HULL_SLOT_IN_USE", "HULL_TAKEN", "HULL_NOT_YET", "HULL_NO_NUMBER", "HULL_FULL", "HULL_SEATS_OUT", "HULL_CLOSED",
+        "HULL_NOT_CLOSED", "HULL_TEXT", "HULL_ENDED", "HULL_IN_USE", "HULL_RESERVED", "HULL_SEGMENT_IN_USE", "HULL_NO_SPACE",
+        "HULL_NO_LINES", "HULL_NO_JOURNAL", "HULL_OLD_RULES", "HULL_ILLEGAL", "HULL_TOO_FEW_SEATS", "HULL_NO_POLYGON",
+        "HULL_BUSY", "HULL_OTHER_GATE", "HULL_NO_FILE", "HULL_DAMAGED", "HULL_DURABLE", "HULL_READERS_SET",
+        "HULL_SNAPSHOT_TAKEN", "HULL_OLD"};
     const uint32_t count = sizeof names / sizeof *names;
     for (uint32_t code = 0; code < count; code++) {
         check(strcmp(hull_code_name(code), names[code]) == 0, names[code], __LINE__);
     }
     CHECK(strcmp(hull_code_name(count), "no code") == 0 && strcmp(hull_code_name(UINT32_MAX), "no code") == 0);
-    CHECK(HULL_ABSENT == 9 && HULL_IN_USE == 52 && HULL_OUT_OF_ORDER == 21 && HULL_TOO_FEW_SEATS == 60 && HULL_NO_OUTLINE == 61 && HULL_SAFE == 66);
+    CHECK(HULL_ABSENT == 9 && HULL_IN_USE == 52 && HULL_OUT_OF_ORDER == 21 && HULL_TOO_FEW_SEATS == 60 && HULL_NO_POLYGON == 61 && HULL_DURABLE == 66);
 }
 
 /* Each call that is passed an array, with none: null and no elements. */
 static void no_arrays(void) {
     hull_set *h = made(2);
     hull_point at = {1, 1};
-    CHECK(number(hull_vertices(h, NULL, 0), HULL_CORNERS, 0));
+    CHECK(number(hull_vertices(h, NULL, 0), HULL_VERTICES, 0));
     CHECK(hull_calls(h, NULL, 0, NULL, 0) == 0);
     CHECK(number(hull_load(h, NULL, 0), HULL_NUMBER, 0));
     CHECK(number(hull_held_from(h, 0, 0, NULL, 0), HULL_NUMBER, 0));
@@ -1395,21 +1395,21 @@ static void no_arrays(void) {
     CHECK(bare(hull_add(h, 1, 1), HULL_ADDED));
     CHECK(number(hull_vertices(h, NULL, 0), HULL_TOO_SMALL, 1));
     CHECK(number(hull_held_from(h, 0, 0, NULL, 0), HULL_NUMBER, 0));
-    CHECK(bare(hull_outline_place(NULL, 0, 1, 1), HULL_OUTSIDE));
-    CHECK(bare(hull_outline_extreme(NULL, 0, 1, 1), HULL_EMPTY));
-    CHECK(hull_outline_calls(NULL, 0, NULL, 0, NULL, 0) == 0);
-    CHECK(number(hull_outline_meets_segment(NULL, 0, 0, 0, 1, 1), HULL_NUMBER, 0));
-    CHECK(bare(hull_outline_apart(NULL, 0, 0, 0, 1, 1), HULL_EMPTY));
-    CHECK(bare(hull_outline_nearest(NULL, 0, 1, 1), HULL_EMPTY));
-    CHECK(bare(hull_outline_box(NULL, 0), HULL_EMPTY));
-    CHECK(bare(hull_outline_width(NULL, 0, 1, 1), HULL_EMPTY));
-    CHECK(bare(hull_outline_diameter(NULL, 0), HULL_EMPTY));
-    CHECK(hull_outline_least_width(NULL, 0).code == HULL_EMPTY);
-    CHECK(number(hull_outline_meets(NULL, 0, &at, 1), HULL_NUMBER, 0));
-    CHECK(number(hull_outline_contains(&at, 1, NULL, 0), HULL_NUMBER, 1));
-    CHECK(hull_outline_witness(NULL, 0, NULL, 0).code == HULL_EMPTY);
-    CHECK(hull_outline_distance(NULL, 0, &at, 1).code == HULL_EMPTY);
-    CHECK(number(hull_is_outline(NULL, 0), HULL_NUMBER, 1));
+    CHECK(bare(hull_polygon_place(NULL, 0, 1, 1), HULL_OUTSIDE));
+    CHECK(bare(hull_polygon_extreme(NULL, 0, 1, 1), HULL_EMPTY));
+    CHECK(hull_polygon_calls(NULL, 0, NULL, 0, NULL, 0) == 0);
+    CHECK(number(hull_polygon_intersects_segment(NULL, 0, 0, 0, 1, 1), HULL_NUMBER, 0));
+    CHECK(bare(hull_polygon_separation(NULL, 0, 0, 0, 1, 1), HULL_EMPTY));
+    CHECK(bare(hull_polygon_nearest(NULL, 0, 1, 1), HULL_EMPTY));
+    CHECK(bare(hull_polygon_box(NULL, 0), HULL_EMPTY));
+    CHECK(bare(hull_polygon_width(NULL, 0, 1, 1), HULL_EMPTY));
+    CHECK(bare(hull_polygon_diameter(NULL, 0), HULL_EMPTY));
+    CHECK(hull_polygon_least_width(NULL, 0).code == HULL_EMPTY);
+    CHECK(number(hull_polygon_intersects(NULL, 0, &at, 1), HULL_NUMBER, 0));
+    CHECK(number(hull_polygon_contains(&at, 1, NULL, 0), HULL_NUMBER, 1));
+    CHECK(hull_polygon_witness(NULL, 0, NULL, 0).code == HULL_EMPTY);
+    CHECK(hull_polygon_distance(NULL, 0, &at, 1).code == HULL_EMPTY);
+    CHECK(number(hull_is_polygon(NULL, 0), HULL_NUMBER, 1));
     ended(h);
 }
 

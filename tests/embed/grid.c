@@ -81,7 +81,7 @@ static hull_relation relation(const outline *s, const outline *t) {
     if (covers || within) {
         return covers && within ? HULL_RELATION_EQUAL : covers ? HULL_RELATION_COVERS : HULL_RELATION_WITHIN;
     }
-    return !meet(s, t) ? HULL_RELATION_APART : divided(s, t) ? HULL_RELATION_TOUCHING : HULL_RELATION_OVERLAPPING;
+    return !meet(s, t) ? HULL_RELATION_DISJOINT : divided(s, t) ? HULL_RELATION_TOUCHING : HULL_RELATION_OVERLAPPING;
 }
 
 static int is_less(fraction a, fraction b) { return a.over * b.under < b.over * a.under; }
@@ -113,7 +113,7 @@ static fraction distance(const outline *s, const outline *t) {
 static int tells(hull_reply r, uint64_t number) { return r.code == HULL_NUMBER && r.number == number; }
 
 /* whether what is told is that squared distance, and the doubles next to its root */
-static int is_told(hull_clearance c, fraction f) {
+static int is_told(hull_distance_bounds c, fraction f) {
     const __int128 over = (__int128)f.over << 2 * c.shift, low = c.lower, high = c.upper;
     int same = c.code == HULL_NUMBER && !c.high && !c.middle && !c.divisor_high;
     same &= (int64_t)c.low * f.under == f.over * (int64_t)c.divisor_low && c.divisor_low > 0;
@@ -139,9 +139,9 @@ static void check_segment(const outline *s, const outline *t, hull_relation how,
     const int within = length.over * length.over * squared.under >= squared.over * length.under * length.under;
     for (size_t from = 0; from < t->count; from++) {
         const hull_point a = t->at[from], b = behind(t, from);
-        check(tells(hull_outline_relation_to_segment(s->at, s->count, a.x, a.y, b.x, b.y), how), "relation_to_segment", s, t);
-        check(is_told(hull_outline_clearance_to_segment(s->at, s->count, a.x, a.y, b.x, b.y), squared), "clearance_to_segment", s, t);
-        check(tells(hull_outline_within_segment(s->at, s->count, a.x, a.y, b.x, b.y, (uint64_t)length.over, (uint32_t)length.under), within),
+        check(tells(hull_polygon_relation_to_segment(s->at, s->count, a.x, a.y, b.x, b.y), how), "relation_to_segment", s, t);
+        check(is_told(hull_polygon_distance_bounds_to_segment(s->at, s->count, a.x, a.y, b.x, b.y), squared), "clearance_to_segment", s, t);
+        check(tells(hull_polygon_within_distance_of_segment(s->at, s->count, a.x, a.y, b.x, b.y, (uint64_t)length.over, (uint32_t)length.under), within),
               "within_segment", s, t);
     }
 }
@@ -166,11 +166,11 @@ static int meet_at(const outline *s, const outline *t, int64_t dx, int64_t dy, f
 static void check_motion(const outline *s, const outline *t) {
     const int64_t dx = -1 - (int64_t)(pairs % 9), dy = (int64_t)(pairs / 9 % 7) - 3, beside = 4 + (int64_t)(pairs % 3);
     outline from = {.count = t->count};
-    const hull_reply placed = hull_outline_moved(t->at, t->count, beside, dy % 2, from.at);
-    const hull_motion m = hull_outline_first_meeting(s->at, s->count, from.at, from.count, dx, dy);
+    const hull_reply placed = hull_polygon_translate(t->at, t->count, beside, dy % 2, from.at);
+    const hull_motion m = hull_polygon_first_meeting(s->at, s->count, from.at, from.count, dx, dy);
     const fraction part = {(int64_t)m.hit.low, (int64_t)m.hit.divisor_low};
-    check(placed.code == HULL_CORNERS && m.hit.code != HULL_COVERED && m.hit.high == 0 && m.hit.divisor_high == 0, "moved", s, t);
-    if (m.hit.code == HULL_APART) {
+    check(placed.code == HULL_VERTICES && m.hit.code != HULL_COVERED && m.hit.high == 0 && m.hit.divisor_high == 0, "moved", s, t);
+    if (m.hit.code == HULL_DISJOINT) {
         for (int64_t k = 0; k <= 12; k++) {
             check(!meet_at(s, &from, dx, dy, (fraction){k, 12}), "no meeting", s, &from);
         }
@@ -186,29 +186,29 @@ static void check_many(const outline *s, const outline *t, hull_relation how, fr
     const hull_corners all[] = {{t->at, t->count}, {NULL, 0}, {s->at, s->count}};
     hull_pair found[1];
     uint8_t relations[3];
-    const hull_reply near = hull_pairs_within(all, 3, (uint64_t)length.over, (uint32_t)length.under, found, 1);
-    const hull_reply touch = hull_pairs_within(all, 3, 0, 1, found, 1);
-    check(tells(near, (uint64_t)within) && tells(touch, how != HULL_RELATION_APART), "pairs_within", s, t);
+    const hull_reply near = hull_pairs_within_distance(all, 3, (uint64_t)length.over, (uint32_t)length.under, found, 1);
+    const hull_reply touch = hull_pairs_within_distance(all, 3, 0, 1, found, 1);
+    check(tells(near, (uint64_t)within) && tells(touch, how != HULL_RELATION_DISJOINT), "pairs_within", s, t);
     check(touch.number == 0 || (found[0].first == 0 && found[0].second == 2), "the pair", s, t);
-    hull_outline_relations(s->at, s->count, all, 3, relations);
+    hull_polygon_relations(s->at, s->count, all, 3, relations);
     check(relations[0] == how && relations[1] == HULL_RELATION_COVERS && relations[2] == HULL_RELATION_EQUAL, "relations", s, t);
 }
 
 static void check_pair(const outline *s, const outline *t) {
     static fraction last = {0, 1};
-    static hull_clearance told_last;
+    static hull_distance_bounds told_last;
     const hull_relation how = relation(s, t);
     const fraction squared = distance(s, t), length = near(squared, pairs);
     const int within = length.over * length.over * squared.under >= squared.over * length.under * length.under;
-    check(tells(hull_outline_relation(s->at, s->count, t->at, t->count), how), "relation", s, t);
-    check(tells(hull_outline_meets(s->at, s->count, t->at, t->count), how != HULL_RELATION_APART), "meets", s, t);
-    check(tells(hull_outline_contains(s->at, s->count, t->at, t->count), how >= HULL_RELATION_COVERS), "contains", s, t);
-    check(tells(hull_outline_contains_inside(s->at, s->count, t->at, t->count), placed(s, t, 1) == t->count), "contains_inside", s, t);
-    check(tells(hull_outline_within(s->at, s->count, t->at, t->count, (uint64_t)length.over, (uint32_t)length.under), within), "within", s, t);
-    const hull_clearance told = hull_outline_clearance(s->at, s->count, t->at, t->count);
+    check(tells(hull_polygon_relation(s->at, s->count, t->at, t->count), how), "relation", s, t);
+    check(tells(hull_polygon_intersects(s->at, s->count, t->at, t->count), how != HULL_RELATION_DISJOINT), "meets", s, t);
+    check(tells(hull_polygon_contains(s->at, s->count, t->at, t->count), how >= HULL_RELATION_COVERS), "contains", s, t);
+    check(tells(hull_polygon_contains_inside(s->at, s->count, t->at, t->count), placed(s, t, 1) == t->count), "contains_inside", s, t);
+    check(tells(hull_polygon_within_distance(s->at, s->count, t->at, t->count, (uint64_t)length.over, (uint32_t)length.under), within), "within", s, t);
+    const hull_distance_bounds told = hull_polygon_distance_bounds(s->at, s->count, t->at, t->count);
     check(is_told(told, squared), "clearance", s, t);
     if (pairs > 0) {
-        const int order = hull_clearance_compare(&told, &told_last), back = hull_clearance_compare(&told_last, &told);
+        const int order = hull_distance_bounds_compare(&told, &told_last), back = hull_distance_bounds_compare(&told_last, &told);
         check(order == is_less(last, squared) - is_less(squared, last) && back == -order, "compare", s, t);
     }
     if (t->count <= 2) {

@@ -80,14 +80,14 @@ void *__wrap_realloc(void *block, size_t size) {
     }
 
 #ifdef SHARED
-SLOW(uint32_t, hull_shared_lend, (hull_shared_desk * at, hull_shared_line *waiting, hull_shared_seat *room, uint32_t number), (at, waiting, room, number))
-SLOW(uint32_t, hull_shared_give_back, (hull_shared_desk * at, hull_shared_seat *room), (at, room))
-SLOW(uint32_t, hull_shared_close, (hull_shared_desk * at), (at))
-SLOW(hull_reply, hull_shared_text, (const hull_shared_desk *at, uint8_t *out, size_t length), (at, out, length))
+SLOW(uint32_t, hull_shared_acquire_seat, (hull_shared * at, hull_shared_gate *waiting, hull_shared_seat *room, uint32_t number), (at, waiting, room, number))
+SLOW(uint32_t, hull_shared_release_seat, (hull_shared * at, hull_shared_seat *room), (at, room))
+SLOW(uint32_t, hull_shared_close, (hull_shared * at), (at))
+SLOW(hull_reply, hull_shared_text, (const hull_shared *at, uint8_t *out, size_t length), (at, out, length))
 SLOW(hull_shared_reply, hull_shared_take, (hull_shared_seat * at, uint32_t kind, int64_t x, int64_t y), (at, kind, x, y))
 SLOW(uint32_t, hull_shared_capacity, (const hull_shared_seat *at), (at))
-SLOW(hull_reply, hull_shared_part_text, (const hull_shared_part *at, uint8_t *out, size_t length), (at, out, length))
-SLOW(hull_reply, hull_shared_part_text_from, (const hull_shared_part *at, uint64_t line, uint8_t *out, size_t length), (at, line, out, length))
+SLOW(hull_reply, hull_shared_segment_text, (const hull_shared_segment *at, uint8_t *out, size_t length), (at, out, length))
+SLOW(hull_reply, hull_shared_segment_text_from, (const hull_shared_segment *at, uint64_t line, uint8_t *out, size_t length), (at, line, out, length))
 #else
 SLOW(hull_reply, hull_call, (hull_set * at, uint32_t kind, int64_t x, int64_t y), (at, kind, x, y))
 SLOW(size_t, hull_calls, (hull_set * at, const hull_request *asked, size_t count, hull_reply *replies, size_t room), (at, asked, count, replies, room))

@@ -37,9 +37,9 @@ static int is_there(const outline *s, hull_hit h, hull_point a, hull_point b) {
     int corner = 0;
     for (size_t i = 0; i < s->count; i++) {
         const hull_point c = s->at[i], d = behind(s, i);
-        corner |= c.x == h.a.x && c.y == h.a.y && (h.code == HULL_CORNER || (d.x == h.b.x && d.y == h.b.y));
+        corner |= c.x == h.a.x && c.y == h.a.y && (h.code == HULL_VERTEX || (d.x == h.b.x && d.y == h.b.y));
     }
-    if (h.code == HULL_CORNER) {
+    if (h.code == HULL_VERTEX) {
         return corner && at.x == p.x && at.y == p.y && h.b.x == 0 && h.b.y == 0;
     }
     return corner && h.code == HULL_EDGE && side(p, q, at) == 0 && along(p, q, at) >= 0 && along(p, q, at) <= along(p, q, q);
@@ -58,10 +58,10 @@ static int is_right(const outline *s, hull_hit h, hull_point a, hull_point b, in
     }
     if (f.under == 0 || (ends && f.over > f.under)) {
         missed++;
-        return is_bare(h, HULL_APART);
+        return is_bare(h, HULL_DISJOINT);
     }
     crossed += h.code == HULL_EDGE;
-    met += h.code == HULL_CORNER;
+    met += h.code == HULL_VERTEX;
     return h.high == 0 && h.divisor_high == 0 && (int64_t)h.low * f.under == f.over * (int64_t)h.divisor_low && is_there(s, h, a, b);
 }
 
@@ -71,7 +71,7 @@ static int is_last(const outline *s, hull_hit h, hull_point a, hull_point b) {
     const hull_point beyond = {a.x + steps * x, a.y + steps * y}, back = {beyond.x - x, beyond.y - y};
     const fraction f = entry(s, beyond, back);
     if (f.under == 0 || f.over > steps * f.under) {
-        return is_bare(h, HULL_APART);
+        return is_bare(h, HULL_DISJOINT);
     }
     return h.high == 0 && h.divisor_high == 0 && is_there(s, h, a, b)
         && (int64_t)h.low * f.under == (steps * f.under - f.over) * (int64_t)h.divisor_low;
@@ -88,15 +88,15 @@ static void check(int truth, const char *question, const outline *s, hull_point 
 }
 
 static void cast(const outline *s, hull_point a, hull_point b) {
-    const hull_hit segment = hull_outline_cast_segment(s->at, s->count, a.x, a.y, b.x, b.y);
+    const hull_hit segment = hull_polygon_raycast_segment(s->at, s->count, a.x, a.y, b.x, b.y);
     if (a.x == b.x && a.y == b.y) {
-        check(is_bare(segment, place(s, a) >= 0 ? HULL_COVERED : HULL_APART), "a point", s, a, b);
-        check(is_bare(hull_outline_cast_ray(s->at, s->count, a.x, a.y, 0, 0), HULL_ZERO_DIRECTION), "no direction", s, a, b);
+        check(is_bare(segment, place(s, a) >= 0 ? HULL_COVERED : HULL_DISJOINT), "a point", s, a, b);
+        check(is_bare(hull_polygon_raycast(s->at, s->count, a.x, a.y, 0, 0), HULL_ZERO_DIRECTION), "no direction", s, a, b);
         return;
     }
     check(is_right(s, segment, a, b, 1), "segment", s, a, b);
-    check(is_last(s, hull_outline_last_on_ray(s->at, s->count, a.x, a.y, b.x - a.x, b.y - a.y), a, b), "last", s, a, b);
-    check(is_right(s, hull_outline_cast_ray(s->at, s->count, a.x, a.y, b.x - a.x, b.y - a.y), a, b, 0), "ray", s, a, b);
+    check(is_last(s, hull_polygon_raycast_exit(s->at, s->count, a.x, a.y, b.x - a.x, b.y - a.y), a, b), "last", s, a, b);
+    check(is_right(s, hull_polygon_raycast(s->at, s->count, a.x, a.y, b.x - a.x, b.y - a.y), a, b, 0), "ray", s, a, b);
     ways++;
 }
 

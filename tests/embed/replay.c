@@ -48,7 +48,7 @@ static int is_right(hull_set *h, uint32_t kind, int64_t x, int64_t y, const char
         }
         return strcmp(told, wanted) == 0;
     }
-    hull_reply of_outline = hull_outline_call(corners, count, kind, x, y);
+    hull_reply of_outline = hull_polygon_call(corners, count, kind, x, y);
     tell(hull_call(h, kind, x, y), kind, told);
     if (strcmp(told, wanted) != 0) {
         return 0;

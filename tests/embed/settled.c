@@ -44,7 +44,7 @@ int main(void) {
                                adds ? hull_add(plain, x, y) : hull_remove(plain, x, y));
         }
         refusing = i % 7 == 0;
-        uint64_t now = hull_settle(settled).number;
+        uint64_t now = hull_prepare(settled).number;
         refusing = 0;
         known_often += now != 0, lost += known != 0 && now == 0, known = now;
         failed += !is_same(hull_place(settled, x, y), hull_place(plain, x, y));

@@ -14,7 +14,7 @@ static void is(const char *what, uint64_t got, uint64_t wanted) {
     }
 }
 
-static hull_shared_line room;
+static hull_shared_gate room;
 static struct line *const line = (struct line *)&room;
 
 static void turn_is_over(int is_over) {
@@ -24,7 +24,7 @@ static void turn_is_over(int is_over) {
 /* How many come in by a door that `inside` may pass. */
 static uint32_t come_in(uint32_t inside) {
     uint32_t count = 0;
-    is("a line", (uint64_t)hull_shared_line_init(&room, inside), 1);
+    is("a line", (uint64_t)hull_shared_gate_init(&room, inside), 1);
     while (comes_in(line, 0)) {
         count++;
     }
@@ -35,8 +35,8 @@ static void numbers_inside(void) {
     is("one inside", come_in(1), 1);
     is("two inside", come_in(2), 2);
     is("all inside", come_in(HULL_SHARED_SEATS_MAX), HULL_SHARED_SEATS_MAX);
-    is("none may be inside", (uint64_t)hull_shared_line_init(&room, 0), 0);
-    is("too many inside", (uint64_t)hull_shared_line_init(&room, HULL_SHARED_SEATS_MAX + 1), 0);
+    is("none may be inside", (uint64_t)hull_shared_gate_init(&room, 0), 0);
+    is("too many inside", (uint64_t)hull_shared_gate_init(&room, HULL_SHARED_SEATS_MAX + 1), 0);
     is("the line is as it was", line->door, HULL_SHARED_SEATS_MAX);
     is("the line is as it was", line->beside, HULL_SHARED_SEATS_MAX - 1);
     memset(&room, 0, sizeof room);

@@ -13,8 +13,8 @@ static unsigned long calls, every;
 static unsigned threads, others;
 static int keeps;
 static const char *folder;
-static hull_shared_line line;
-static hull_shared_desk *desk;
+static hull_shared_gate line;
+static hull_shared *desk;
 static hull_shared_seat *seats[HULL_SHARED_SEATS_MAX];
 static int wrong[HULL_SHARED_SEATS_MAX];
 static unsigned parts;
@@ -40,26 +40,26 @@ static int written(uint8_t *text, size_t length, uint64_t first) {
 }
 
 /* Drains with a call, and writes the part to the next file. */
-static int drain(hull_shared_seat *seat, hull_shared_part *part) {
+static int drain(hull_shared_seat *seat, hull_shared_segment *part) {
     hull_shared_reply reply;
     hull_reply told;
     uint8_t *text;
-    int good = hull_shared_part_reserve(part, hull_shared_capacity(seat)) == HULL_RESERVED;
+    int good = hull_shared_segment_reserve(part, hull_shared_capacity(seat)) == HULL_RESERVED;
     reply = hull_shared_drain(&line, seat, part, HULL_KIND_COUNT, 0, 0);
-    told = hull_shared_part_text_size(part);
+    told = hull_shared_segment_text_size(part);
     text = calloc(told.number, 1);
     good = good && reply.told.code == HULL_NUMBER && told.code == HULL_TOO_SMALL && text != NULL;
-    good = good && hull_shared_part_text(part, text, told.number).code == HULL_TEXT &&
+    good = good && hull_shared_segment_text(part, text, told.number).code == HULL_TEXT &&
            written(text, told.number, taken_out);
     free(text);
     taken_out = reply.turn + 1;
-    return good && hull_shared_part_end(part) == HULL_ENDED;
+    return good && hull_shared_segment_end(part) == HULL_ENDED;
 }
 
 static void *work(void *place) {
     unsigned me = (unsigned)((hull_shared_seat **)place - seats);
     uint64_t state = 88172645463325252u ^ (me + 1) * UINT64_C(0x9E3779B97F4A7C15);
-    hull_shared_part *part = me == 0 ? hull_shared_part_new() : NULL;
+    hull_shared_segment *part = me == 0 ? hull_shared_segment_new() : NULL;
     for (unsigned long i = 0; i < calls || (me == 0 && __atomic_load_n(&others, __ATOMIC_SEQ_CST) > 0); i++) {
         int64_t x = (int64_t)(next(&state) % 2001) - 1000, y = (int64_t)(next(&state) % 2001) - 1000;
         uint32_t kind = next(&state) % 2 == 0 ? HULL_KIND_ADD : HULL_KIND_REMOVE;
@@ -72,7 +72,7 @@ static void *work(void *place) {
     if (me != 0) {
         __atomic_fetch_sub(&others, 1, __ATOMIC_SEQ_CST);
     }
-    hull_shared_part_free(part);
+    hull_shared_segment_free(part);
     return NULL;
 }
 
@@ -100,8 +100,8 @@ int main(int count, char **words) {
     folder = words[4];
     keeps = strcmp(folder, "-") != 0;
     others = threads - 1;
-    hull_shared_line_init(&line, 1);
-    desk = hull_shared_desk_new();
+    hull_shared_gate_init(&line, 1);
+    desk = hull_shared_new();
     if (desk == NULL) {
         return 2;
     }
@@ -109,7 +109,7 @@ int main(int count, char **words) {
                   : hull_shared_open_without_journal(desk, HULL_LIMIT_MAX, 0, threads)) != HULL_OPEN;
     for (unsigned k = 0; k < threads; k++) {
         seats[k] = hull_shared_seat_new();
-        bad |= seats[k] == NULL || hull_shared_lend(desk, &line, seats[k], k) != HULL_LENT;
+        bad |= seats[k] == NULL || hull_shared_acquire_seat(desk, &line, seats[k], k) != HULL_ACQUIRED;
     }
     for (unsigned k = 0; k < threads && !bad; k++) {
         bad |= pthread_create(&ids[k], NULL, work, &seats[k]) != 0;
@@ -118,11 +118,11 @@ int main(int count, char **words) {
         bad |= pthread_join(ids[k], NULL) != 0;
     }
     for (unsigned k = 0; k < threads; k++) {
-        bad |= wrong[k] || hull_shared_give_back(desk, seats[k]) != HULL_RETURNED;
+        bad |= wrong[k] || hull_shared_release_seat(desk, seats[k]) != HULL_RELEASED;
         hull_shared_seat_free(seats[k]);
     }
     bad |= !close_desk();
-    hull_shared_desk_free(desk);
+    hull_shared_free(desk);
     printf("%u\n", parts);
     return bad;
 }

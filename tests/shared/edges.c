@@ -19,8 +19,8 @@
 static const uint64_t MILLISECOND = 1000000, SECOND = 1000000000;
 static char path[4096], other[4096 + 8];
 static const char *test;
-static hull_shared_line line;
-static hull_shared_desk *desk;
+static hull_shared_gate line;
+static hull_shared *desk;
 static hull_shared_seat *seat;
 static int bad;
 
@@ -204,12 +204,12 @@ static hull_shared_journal *open_journal(uint64_t next) {
 static hull_shared_journal *start(uint64_t next, uint32_t capacity) {
     hull_shared_journal *journal = open_journal(next);
     is("start", hull_shared_journal_start(journal, desk, &line, 100000, capacity, 2, 0).code, HULL_OPEN);
-    is("lend", hull_shared_lend(desk, &line, seat, 0), HULL_LENT);
+    is("lend", hull_shared_acquire_seat(desk, &line, seat, 0), HULL_ACQUIRED);
     return journal;
 }
 
 static void stop(hull_shared_journal *journal, uint32_t code) {
-    is("give back", hull_shared_give_back(desk, seat), HULL_RETURNED);
+    is("give back", hull_shared_release_seat(desk, seat), HULL_RELEASED);
     is("close", hull_shared_journal_close(journal).code, code);
     is("end", hull_shared_end(desk), HULL_ENDED);
 }
@@ -240,22 +240,22 @@ static void sleep_for(uint64_t nanoseconds) {
 static void closes_with_a_reader_out(void) {
     hull_shared_reader *reader = hull_shared_reader_new();
     hull_shared_journal *journal;
-    is("admit", hull_shared_admit(desk, 2), HULL_ADMITTED);
+    is("admit", hull_shared_set_max_readers(desk, 2), HULL_READERS_SET);
     journal = start(0, 50);
-    is("lend a reader", hull_shared_lend_reader(desk, reader), HULL_LENT);
+    is("lend a reader", hull_shared_acquire_reader(desk, reader), HULL_ACQUIRED);
     for (int k = 0; k < 10; k++) {
         is("added", add(k, k * k).told.code, HULL_ADDED);
     }
-    is("give back", hull_shared_give_back(desk, seat), HULL_RETURNED);
+    is("give back", hull_shared_release_seat(desk, seat), HULL_RELEASED);
     for (int k = 0; k < 3; k++) {
         is("a reader is out", hull_shared_journal_close(journal).code, HULL_SEATS_OUT);
     }
-    is("lend", hull_shared_lend(desk, &line, seat, 0), HULL_LENT);
-    is("durable", add_durably(journal, 77, 0).code, HULL_SAFE);
+    is("lend", hull_shared_acquire_seat(desk, &line, seat, 0), HULL_ACQUIRED);
+    is("durable", add_durably(journal, 77, 0).code, HULL_DURABLE);
     for (int k = 0; k < 100; k++) {
         is("added", add(k, 1000 + k * k).told.code, HULL_ADDED);
     }
-    is("return the reader", hull_shared_return_reader(desk, reader), HULL_RETURNED);
+    is("return the reader", hull_shared_release_reader(desk, reader), HULL_RELEASED);
     hull_shared_reader_free(reader);
     stop(journal, HULL_CLOSED);
     is("the first line", has(path, " add 0 0 = added"), 1);
@@ -267,13 +267,13 @@ static void closes_with_a_reader_out(void) {
 static void closes_with_a_seat_of_no_line_out(void) {
     hull_shared_seat *bare = hull_shared_seat_new();
     hull_shared_journal *journal = start(0, 50);
-    is("lend", hull_shared_lend(desk, NULL, bare, 1), HULL_LENT);
+    is("lend", hull_shared_acquire_seat(desk, NULL, bare, 1), HULL_ACQUIRED);
     add(1, 2);
-    is("give back", hull_shared_give_back(desk, seat), HULL_RETURNED);
+    is("give back", hull_shared_release_seat(desk, seat), HULL_RELEASED);
     is("a seat is out", hull_shared_journal_close(journal).code, HULL_SEATS_OUT);
-    is("lend", hull_shared_lend(desk, &line, seat, 0), HULL_LENT);
-    is("durable", add_durably(journal, 3, 4).code, HULL_SAFE);
-    is("give it back", hull_shared_give_back(desk, bare), HULL_RETURNED);
+    is("lend", hull_shared_acquire_seat(desk, &line, seat, 0), HULL_ACQUIRED);
+    is("durable", add_durably(journal, 3, 4).code, HULL_DURABLE);
+    is("give it back", hull_shared_release_seat(desk, bare), HULL_RELEASED);
     hull_shared_seat_free(bare);
     stop(journal, HULL_CLOSED);
     is("the lines", has(path, " add 1 2 = added") && has(path, " add 3 4 = added"), 1);
@@ -292,7 +292,7 @@ static void *wait_until_durable(void *own) {
     __atomic_store_n(&w->is_begun, 1, __ATOMIC_SEQ_CST);
     hull_reply r = w->waits_for_all ? hull_shared_journal_sync(w->journal, HULL_SHARED_NEVER)
                                     : hull_shared_journal_wait(w->journal, w->line, HULL_SHARED_NEVER);
-    is("durable", r.code, HULL_SAFE);
+    is("durable", r.code, HULL_DURABLE);
     is("its line", r.number > w->line, 1);
     return NULL;
 }
@@ -338,12 +338,12 @@ static void syncs_before_it_reports(void) {
     logged = 0;
     hull_shared_journal *journal = start(6, 1000);
     logged = 0;
-    is("durable", add_durably(journal, 1, 1).code, HULL_SAFE);
+    is("durable", add_durably(journal, 1, 1).code, HULL_DURABLE);
     is("a segment is written and synced", strncmp(calls_made, "write file 72 ", 14) == 0, 1);
     is("and nothing else", strcmp(strchr(calls_made, '\n'), "\nsync file\n") == 0, 1);
     stop(journal, HULL_CLOSED);
     logged = 0;
-    is("compact", hull_shared_journal_compact(path).code, HULL_SAFE);
+    is("compact", hull_shared_journal_compact(path).code, HULL_DURABLE);
     const char *made = strstr(calls_made, "write beside");
     is("a new file takes the name once it is synced",
        made != NULL && strstr(made, "sync beside\nrename .new\nsync folder\n") != NULL, 1);
@@ -380,7 +380,7 @@ static void answers_all_waiters(void) {
 static void waits_for_nothing(void) {
     put_text(PART);
     hull_shared_journal *journal = open_journal(6);
-    is("sync", hull_shared_journal_sync(journal, HULL_SHARED_NEVER).code, HULL_SAFE);
+    is("sync", hull_shared_journal_sync(journal, HULL_SHARED_NEVER).code, HULL_DURABLE);
     is("wait", hull_shared_journal_wait(journal, 1000, HULL_SHARED_NEVER).number, 6);
     is("close", hull_shared_journal_close(journal).code, HULL_CLOSED);
 }
@@ -399,7 +399,7 @@ static void takes_no_signals(void) {
     sigaddset(&one, SIGUSR1);
     pthread_sigmask(SIG_BLOCK, &one, NULL);
     kill(getpid(), SIGUSR1);
-    is("durable", add_durably(journal, 1, 1).code, HULL_SAFE);
+    is("durable", add_durably(journal, 1, 1).code, HULL_DURABLE);
     is("it is not delivered", (uint64_t)signals, 0);
     is("but pending", sigpending(&pending) == 0 && sigismember(&pending, SIGUSR1), 1);
     pthread_sigmask(SIG_UNBLOCK, &one, NULL);
@@ -413,7 +413,7 @@ static void opens_what_has_the_name(void) {
     put(beside(".mine"), PART, strlen(PART));
     is_replaced_at_lock = 1;
     hull_shared_journal *journal = start(6, 100);
-    is("durable", add_durably(journal, 2, 2).code, HULL_SAFE);
+    is("durable", add_durably(journal, 2, 2).code, HULL_DURABLE);
     stop(journal, HULL_CLOSED);
     is("its lines", has(path, "\n6 0 add 2 2 = added\n"), 1);
 }
@@ -428,12 +428,12 @@ static void waits_past_the_last_number(void) {
     }
     is("its number", last, 2);
     hull_reply r = hull_shared_journal_wait(journal, last, hull_shared_now() + SECOND);
-    is("durable", r.code, HULL_SAFE);
+    is("durable", r.code, HULL_DURABLE);
     is("the first number that is not", r.number - last - 1 < 5, 1);
     is("it is in the file", has(path, "\n2 0 add 5 1 = added\n"), 1);
     stop(journal, HULL_CLOSED);
     journal = start(hull_shared_now() == 0 ? 0 : r.number, 1000);
-    is("a line of before", hull_shared_journal_wait(journal, UINT64_MAX, 0).code, HULL_SAFE);
+    is("a line of before", hull_shared_journal_wait(journal, UINT64_MAX, 0).code, HULL_DURABLE);
     stop(journal, HULL_CLOSED);
 }
 
@@ -489,7 +489,7 @@ static void is_harmless_or_reported(size_t at, const char *bytes, size_t count, 
     if (r.code == HULL_ILLEGAL) {
         return;
     }
-    is(what, r.code, HULL_SAFE);
+    is(what, r.code, HULL_DURABLE);
     text = contents(path, &length);
     is(what, is_coordinate(at) || strcmp(text, wanted) == 0, 1);
     free(text);
@@ -502,7 +502,7 @@ static void bears_changed_bytes(void) {
     char bytes[sizeof three], *wanted;
     syncs_do_nothing = 1;
     put(path, three, count);
-    is("compact", hull_shared_journal_compact(path).code, HULL_SAFE);
+    is("compact", hull_shared_journal_compact(path).code, HULL_DURABLE);
     wanted = contents(path, &length);
     is("what is left", strstr(wanted, "add 100 1 = added") != NULL && strstr(wanted, "30 41") == NULL, 1);
     for (size_t at = 0; at < count; at++) {
@@ -612,7 +612,7 @@ static void goes_on_at_each_limit(void) {
         hull_shared_journal *journal = start(right[k].next, 10);
         is("its points", hull_shared_call(&line, seat, HULL_KIND_COUNT, 0, 0).told.number, right[k].count);
         stop(journal, HULL_CLOSED);
-        is("compact", hull_shared_journal_compact(path).code, HULL_SAFE);
+        is("compact", hull_shared_journal_compact(path).code, HULL_DURABLE);
         journal = open_journal(right[k].next + 1);
         hull_shared_journal_close(journal);
     }
@@ -650,8 +650,8 @@ static void takes_what_it_wrote(void) {
     hull_shared_call(&line, seat, HULL_KIND_VERTICES, 0, 0);
     hull_shared_call(&line, seat, HULL_KIND_AREA, 0, 0);
     hull_shared_call(&line, seat, HULL_KIND_TANGENTS, far, 0);
-    is("sync", hull_shared_journal_sync(journal, HULL_SHARED_NEVER).code, HULL_SAFE);
-    uint64_t next = hull_shared_journal_safe(journal).number;
+    is("sync", hull_shared_journal_sync(journal, HULL_SHARED_NEVER).code, HULL_DURABLE);
+    uint64_t next = hull_shared_journal_durable(journal).number;
     stop(journal, HULL_CLOSED);
     static const char *words[] = {"added", "again ", "removed", "left ", "absent", "inside", "on", "outside", "tangents ", "notangent",
                                   "point ", "empty", "list 0", "list 4 -1099511627776 ", "area 0", "area 9671406556917033397649408", "count 5"};
@@ -687,7 +687,7 @@ static uint64_t time_to_make_short(int count, int are_chosen) {
     fprintf(file, "end %d\n", count);
     fclose(file);
     uint64_t begun = processor_time();
-    is("compact", hull_shared_journal_compact(path).code, HULL_SAFE);
+    is("compact", hull_shared_journal_compact(path).code, HULL_DURABLE);
     return processor_time() - begun;
 }
 
@@ -720,13 +720,13 @@ static void follows_no_link(void) {
     snprintf(target, sizeof target, "%s.target", path);
     put(target, "precious\n", 9);
     is("a link", (uint64_t)symlink(target, beside(".new")), 0);
-    is("compact", compact(&number), HULL_SAFE);
+    is("compact", compact(&number), HULL_DURABLE);
     is("the target", has_only(target, "precious\n"), 1);
     is("the link", is_there(beside(".new")), 1);
     unlink(beside(".new"));
     put(beside(".new"), PART, strlen(PART));
     is("a journal of that name", hull_shared_journal_open(beside(".new"), &theirs).code, HULL_OPEN);
-    is("compact", compact(&number), HULL_SAFE);
+    is("compact", compact(&number), HULL_DURABLE);
     is("their file", has_only(beside(".new"), PART), 1);
     hull_shared_journal_close(theirs);
     unlink(beside(".new"));
@@ -748,7 +748,7 @@ static void makes_the_file_itself_short(void) {
     strcpy(real, path);
     put_some();
     is("a link", (uint64_t)symlink(real, beside(".link")), 0);
-    is("compact by the link", hull_shared_journal_compact(beside(".link")).code, HULL_SAFE);
+    is("compact by the link", hull_shared_journal_compact(beside(".link")).code, HULL_DURABLE);
     is("the link is one", lstat(beside(".link"), &s) == 0 && S_ISLNK(s.st_mode), 1);
     is("the file is short", has(real, "first 5 ") && !has(real, "first 6 "), 1);
     unlink(beside(".link"));
@@ -769,7 +769,7 @@ static void makes_short_all_or_nothing(void) {
     put_some();
     is("mode", (uint64_t)chmod(path, 0640), 0);
     is("owner", geteuid() != 0 || chown(path, 12345, 54321) == 0, 1);
-    is("compact", compact(&number), HULL_SAFE);
+    is("compact", compact(&number), HULL_DURABLE);
     is("its mode", stat(path, &s) == 0 && (s.st_mode & 07777) == 0640, 1);
     is("its owner", geteuid() != 0 || (s.st_uid == 12345 && s.st_gid == 54321), 1);
     put_text(HEAD "end 0\n" "hullbook journal 3 first 5 limit 3 capacity 9\n5 0 add 0 0 = added\nend 1\n");
@@ -815,8 +815,8 @@ static void is_touched_by(int how, const char *left) {
     hull_shared_journal *journal;
     put_some();
     journal = start(7, 100);
-    is("durable", add_durably(journal, 2, 2).code, HULL_SAFE);
-    hull_reply before = hull_shared_journal_safe(journal);
+    is("durable", add_durably(journal, 2, 2).code, HULL_DURABLE);
+    hull_reply before = hull_shared_journal_durable(journal);
     switch (how) {
     case 0: is("cut", (uint64_t)truncate(path, (off_t)strlen(PART)), 0); break;
     case 1: is("extended", (uint64_t)truncate(path, 1000), 0); break;
@@ -856,8 +856,8 @@ static void waits_for_memory(void) {
     pthread_t thread;
     hull_shared_journal *journal = start(0, 20000);
     hull_shared_reply r = {.told = {.code = 0}};
-    is("lend", hull_shared_lend(desk, &line, two, 1), HULL_LENT);
-    is("durable", add_durably(journal, 1, 1).code, HULL_SAFE);
+    is("lend", hull_shared_acquire_seat(desk, &line, two, 1), HULL_ACQUIRED);
+    is("durable", add_durably(journal, 1, 1).code, HULL_DURABLE);
     refused_from = 1 << 20; /* the part that a drain fills */
     refusals = 1000000000;
     for (int k = 0; k < 60000 && r.told.code != HULL_FULL; k++) {
@@ -871,8 +871,8 @@ static void waits_for_memory(void) {
     is("the processor's time", processor_time() - begun < 60 * MILLISECOND, 1);
     refusals = 0;
     pthread_join(thread, NULL);
-    is("durable", add_durably(journal, 2, 2).code, HULL_SAFE);
-    is("give back", hull_shared_give_back(desk, two), HULL_RETURNED);
+    is("durable", add_durably(journal, 2, 2).code, HULL_DURABLE);
+    is("give back", hull_shared_release_seat(desk, two), HULL_RELEASED);
     hull_shared_seat_free(two);
     stop(journal, HULL_CLOSED);
 }
@@ -883,13 +883,13 @@ static void goes_on_after_a_refusal(void) {
     for (int k = 0; k < 6000; k++) {
         add(k, k * k);
     }
-    is("durable", hull_shared_journal_sync(journal, HULL_SHARED_NEVER).code, HULL_SAFE);
+    is("durable", hull_shared_journal_sync(journal, HULL_SHARED_NEVER).code, HULL_DURABLE);
     uint64_t last = hull_shared_call(&line, seat, HULL_KIND_VERTICES, 0, 0).line; /* a line of more bytes than are written at once */
     refused_from = 60000;
     for (int k = 0; k < 3; k++) {
         refusals = k + 1;
         hull_reply r = hull_shared_journal_wait(journal, last, hull_shared_now() + 5 * SECOND);
-        is("durable, though memory was refused", r.code, HULL_SAFE);
+        is("durable, though memory was refused", r.code, HULL_DURABLE);
         is("memory was refused", refusals <= 0, 1);
         for (int i = 0; i < 3000; i++) { /* some pieces of text */
             last = add(i, -1 - k).line;
@@ -897,7 +897,7 @@ static void goes_on_after_a_refusal(void) {
         refused_from = 4000;
     }
     refusals = 0;
-    is("durable", hull_shared_journal_wait(journal, last, HULL_SHARED_NEVER).code, HULL_SAFE);
+    is("durable", hull_shared_journal_wait(journal, last, HULL_SHARED_NEVER).code, HULL_DURABLE);
     stop(journal, HULL_CLOSED);
     is("the last of them", has(path, " add 2999 -3 = added"), 1);
 }
@@ -910,8 +910,8 @@ static void starts_after_a_refusal(void) {
     threads_fail = 0;
     is("the desk is fresh", hull_shared_close(desk), HULL_NOT_OPEN);
     is("start", hull_shared_journal_start(journal, desk, &line, 100, 10, 2, 0).code, HULL_OPEN);
-    is("lend", hull_shared_lend(desk, &line, seat, 0), HULL_LENT);
-    is("durable", add_durably(journal, 2, 2).code, HULL_SAFE);
+    is("lend", hull_shared_acquire_seat(desk, &line, seat, 0), HULL_ACQUIRED);
+    is("durable", add_durably(journal, 2, 2).code, HULL_DURABLE);
     stop(journal, HULL_CLOSED);
 }
 
@@ -949,7 +949,7 @@ int main(int count, char **words) {
         return 2;
     }
     alarm(120);
-    desk = hull_shared_desk_new();
+    desk = hull_shared_new();
     seat = hull_shared_seat_new();
     for (size_t k = 0; k < sizeof tests / sizeof *tests; k++) {
         test = tests[k].name;
@@ -957,11 +957,11 @@ int main(int count, char **words) {
             continue;
         }
         snprintf(path, sizeof path, "%s/%s", words[1], test);
-        hull_shared_line_init(&line, 1);
+        hull_shared_gate_init(&line, 1);
         tests[k].run();
         unlink(path);
     }
     hull_shared_seat_free(seat);
-    hull_shared_desk_free(desk);
+    hull_shared_free(desk);
     return bad;
 }

@@ -13,8 +13,8 @@
 #endif
 
 static unsigned long calls;
-static hull_shared_line line;
-static hull_shared_desk *desk;
+static hull_shared_gate line;
+static hull_shared *desk;
 static hull_shared_seat *rooms[HULL_SHARED_SEATS_MAX];
 static unsigned long unserved[HULL_SHARED_SEATS_MAX];
 static const char *folder;
@@ -45,14 +45,14 @@ static void count(const char *text, size_t length) {
 }
 
 /* Writes the part to the next file, in pieces: what the line calls. */
-static void keep(void *context, const hull_shared_part *part) {
+static void keep(void *context, const hull_shared_segment *part) {
     static uint8_t piece[1 << 16];
     FILE *file = file_of(++parts);
     uint64_t at = 0;
     hull_reply r;
     (void)context;
     do {
-        r = hull_shared_part_text_from(part, at, piece, sizeof piece);
+        r = hull_shared_segment_text_from(part, at, piece, sizeof piece);
         bad_parts |= r.code != HULL_TEXT || file == NULL || fwrite(piece, 1, r.number, file) != r.number;
         count((const char *)piece, r.code == HULL_TEXT ? r.number : 0);
         at = r.high;
@@ -97,21 +97,21 @@ int main(int argc, char **words) {
     }
     calls = strtoul(words[2], NULL, 10);
     folder = words[4];
-    hull_shared_line_init(&line, 1);
-    hull_shared_line_wait_for_room(&line, 1);
-    desk = hull_shared_desk_new();
-    bad |= !hull_shared_line_on_half_full(&line, keep, NULL);
+    hull_shared_gate_init(&line, 1);
+    hull_shared_gate_wait_for_space(&line, 1);
+    desk = hull_shared_new();
+    bad |= !hull_shared_gate_on_half_full(&line, keep, NULL);
     bad |= hull_shared_open(desk, 100000, 0, (uint32_t)atoi(words[3]), many) != HULL_OPEN;
     for (uint32_t i = 0; i < many; i++) {
         rooms[i] = hull_shared_seat_new();
-        bad |= hull_shared_lend(desk, &line, rooms[i], i) != HULL_LENT;
+        bad |= hull_shared_acquire_seat(desk, &line, rooms[i], i) != HULL_ACQUIRED;
     }
     for (size_t i = 0; i < many; i++) {
         bad |= pthread_create(&threads[i], NULL, work, (void *)i) != 0;
     }
     for (uint32_t i = 0; i < many; i++) {
         bad |= pthread_join(threads[i], NULL) != 0 || unserved[i] != 0;
-        bad |= hull_shared_give_back(desk, rooms[i]) != HULL_RETURNED;
+        bad |= hull_shared_release_seat(desk, rooms[i]) != HULL_RELEASED;
         hull_shared_seat_free(rooms[i]);
     }
     bad |= hull_shared_close(desk) != HULL_CLOSED;
@@ -119,8 +119,8 @@ int main(int argc, char **words) {
     bad |= bad_parts || lines != (unsigned long long)many * calls + (unsigned long long)(parts - 1);
     bad |= hull_shared_end(desk) != HULL_ENDED || hull_shared_stats(&line).inside != 0 || hull_shared_stats(&line).sleepers != 0 ||
            hull_shared_stats(&line).drainer != HULL_SHARED_SEATS_MAX;
-    hull_shared_desk_free(desk);
-    hull_shared_line_end(&line);
+    hull_shared_free(desk);
+    hull_shared_gate_end(&line);
     printf("%d\n", parts);
     return bad;
 }

@@ -12,8 +12,8 @@
 #include <unistd.h>
 
 static const char *path;
-static hull_shared_line line;
-static hull_shared_desk *desk;
+static hull_shared_gate line;
+static hull_shared *desk;
 static hull_shared_seat *seat;
 static int bad;
 static const uint64_t MILLISECOND = 1000000;
@@ -86,7 +86,7 @@ static hull_shared_journal *opened(uint64_t next, uint64_t cut) {
 static void started(hull_shared_journal *journal, uint32_t capacity, uint64_t every) {
     errno = 72;
     is("start", hull_shared_journal_start(journal, desk, &line, 50, capacity, 1, every).code, HULL_OPEN);
-    is("lend", hull_shared_lend(desk, &line, seat, 0), HULL_LENT);
+    is("lend", hull_shared_acquire_seat(desk, &line, seat, 0), HULL_ACQUIRED);
     is("errno", (uint64_t)errno, 72);
 }
 
@@ -94,7 +94,7 @@ static void started(hull_shared_journal *journal, uint32_t capacity, uint64_t ev
 static uint64_t closed(hull_shared_journal *journal, uint32_t code, uint64_t least) {
     hull_reply r;
     is("seats are out", hull_shared_journal_close(journal).code, HULL_SEATS_OUT);
-    is("give back", hull_shared_give_back(desk, seat), HULL_RETURNED);
+    is("give back", hull_shared_release_seat(desk, seat), HULL_RELEASED);
     r = hull_shared_journal_close(journal);
     is("close", r.code, code);
     is("the line to come", r.number >= least && r.number <= least + 2, 1);
@@ -116,14 +116,14 @@ static void goes_on(void) {
     is("no journal", other == NULL, 1);
     is("seats", hull_shared_journal_start(journal, desk, &line, 50, 10, HULL_SHARED_SEATS_MAX, 0).code, HULL_OUT_OF_LIMITS);
     is("limit", hull_shared_journal_start(journal, desk, &line, 0, 10, 1, 0).code, HULL_OUT_OF_LIMITS);
-    is("not started", hull_shared_journal_wait(journal, 5, HULL_SHARED_NEVER).code, HULL_SAFE);
+    is("not started", hull_shared_journal_wait(journal, 5, HULL_SHARED_NEVER).code, HULL_DURABLE);
     started(journal, 10, 0);
     is("started", hull_shared_journal_start(journal, desk, &line, 50, 10, 1, 0).code, HULL_WAS_OPENED);
     for (int k = 0; k < 60; k++) {
         hull_shared_reply reply = call(HULL_KIND_ADD, k / 2, -k / 2);
         is("added", reply.told.code, k % 2 == 0 ? HULL_ADDED : HULL_AGAIN);
         r = hull_shared_journal_wait(journal, reply.line, HULL_SHARED_NEVER);
-        is("safe", r.code, HULL_SAFE);
+        is("safe", r.code, HULL_DURABLE);
         is("its line", r.number > reply.line, 1);
     }
     is("removed", call(HULL_KIND_REMOVE, 3, -3).told.code, HULL_LEFT);
@@ -131,9 +131,9 @@ static void goes_on(void) {
     is("removed", call(HULL_KIND_REMOVE, 4, -4).told.code, HULL_REMOVED);
     is("corners", call(HULL_KIND_VERTICES, 0, 0).told.number, 2);
     r = hull_shared_journal_sync(journal, HULL_SHARED_NEVER);
-    is("sync", r.code, HULL_SAFE);
+    is("sync", r.code, HULL_DURABLE);
     uint64_t next = r.number;
-    is("all is safe", hull_shared_journal_safe(journal).number, next);
+    is("all is safe", hull_shared_journal_durable(journal).number, next);
     is("some number", call(HULL_KIND_COUNT, 0, 0).line, next);
     next = closed(journal, HULL_CLOSED, next + 1);
     for (int again = 0; again < 3; again++) {
@@ -144,10 +144,10 @@ static void goes_on(void) {
         is("a point that is held twice", call(HULL_KIND_REMOVE, 5, -5).told.code,
            again == 0 ? HULL_LEFT : again == 1 ? HULL_REMOVED : HULL_ABSENT);
         is("one that was removed", call(HULL_KIND_REMOVE, 4, -4).told.code, HULL_ABSENT);
-        while (again == 1 && hull_shared_journal_safe(journal).number < next + 4) {
+        while (again == 1 && hull_shared_journal_durable(journal).number < next + 4) {
             sched_yield(); /* its thread drains with nobody asking */
         }
-        next = closed(journal, HULL_CLOSED, again == 1 ? hull_shared_journal_safe(journal).number : next + 4);
+        next = closed(journal, HULL_CLOSED, again == 1 ? hull_shared_journal_durable(journal).number : next + 4);
     }
     journal = opened(next, 0);
     started(journal, 100, 0);
@@ -173,7 +173,7 @@ static void compact(void) {
         errno = 73;
         r = hull_shared_journal_compact(path);
         is("errno", (uint64_t)errno, 73);
-        is("made short", r.code, HULL_SAFE);
+        is("made short", r.code, HULL_DURABLE);
         is("the line to come", r.number, next);
     }
     room = contents(now, sizeof now);
@@ -193,7 +193,7 @@ static void compact(void) {
     is("a write that is refused", hull_shared_journal_compact(path).code, HULL_NO_FILE);
     hull_shared_journal_close(opened(6, 0));
     put_text("");
-    is("nothing", hull_shared_journal_compact(path).code, HULL_SAFE);
+    is("nothing", hull_shared_journal_compact(path).code, HULL_DURABLE);
 }
 
 /* Each length to which the last part may be cut, and a part that was never written: what stood before is there, and nothing else. */
@@ -287,8 +287,8 @@ static void refused(void) {
         journal = opened(6, 0);
         started(journal, 8, 0);
         reply = call(HULL_KIND_ADD, 1, 1);
-        is("safe", hull_shared_journal_wait(journal, reply.line, HULL_SHARED_NEVER).code, HULL_SAFE);
-        uint64_t safe = hull_shared_journal_safe(journal).number;
+        is("safe", hull_shared_journal_wait(journal, reply.line, HULL_SHARED_NEVER).code, HULL_DURABLE);
+        uint64_t safe = hull_shared_journal_durable(journal).number;
         *(syncs ? &syncs_fail : &writes_fail) = 1;
         r = hull_shared_journal_wait(journal, call(HULL_KIND_ADD, 2, 2).line, HULL_SHARED_NEVER);
         is("a refusal", r.code, HULL_NO_FILE);
@@ -306,16 +306,16 @@ static void refused(void) {
 
 /* A part that somebody else took out: the file has no gap. */
 static void drained_by_another(void) {
-    hull_shared_part *part = hull_shared_part_new();
+    hull_shared_segment *part = hull_shared_segment_new();
     hull_shared_journal *journal;
     put_text(PART);
     journal = opened(6, 0);
     started(journal, 8, 0);
-    is("room", hull_shared_part_reserve(part, 8), HULL_RESERVED);
+    is("room", hull_shared_segment_reserve(part, 8), HULL_RESERVED);
     is("drain", hull_shared_drain(&line, seat, part, HULL_KIND_COUNT, 0, 0).told.code, HULL_NUMBER);
     is("a gap", hull_shared_journal_wait(journal, 6, HULL_SHARED_NEVER).code, HULL_ILLEGAL);
-    hull_shared_part_end(part);
-    hull_shared_part_free(part);
+    hull_shared_segment_end(part);
+    hull_shared_segment_free(part);
     closed(journal, HULL_ILLEGAL, 6);
     hull_shared_journal_close(opened(6, 0));
 }
@@ -336,8 +336,8 @@ static void slowly(void) {
     begun = hull_shared_now();
     is("in time", hull_shared_journal_sync(journal, begun + 10 * MILLISECOND).code, HULL_BUSY);
     is("it did not wait", hull_shared_now() - begun < 90 * MILLISECOND, 1);
-    is("a line that is safe", hull_shared_journal_wait(journal, 40, 0).code, HULL_SAFE);
-    is("sync", hull_shared_journal_sync(journal, HULL_SHARED_NEVER).code, HULL_SAFE);
+    is("a line that is safe", hull_shared_journal_wait(journal, 40, 0).code, HULL_DURABLE);
+    is("sync", hull_shared_journal_sync(journal, HULL_SHARED_NEVER).code, HULL_DURABLE);
     syncs_take = 0;
     closed(journal, HULL_CLOSED, hull_shared_stats(&line).turn);
     writes_short = 0;
@@ -349,9 +349,9 @@ int main(int count, char **words) {
     }
     alarm(120);
     path = words[1];
-    desk = hull_shared_desk_new();
+    desk = hull_shared_new();
     seat = hull_shared_seat_new();
-    hull_shared_line_init(&line, 1);
+    hull_shared_gate_init(&line, 1);
     unlink(path);
     goes_on();
     torn();
@@ -369,6 +369,6 @@ int main(int count, char **words) {
     is("a folder", hull_shared_journal_open("/", &journal).number, EISDIR);
     is("a device", hull_shared_journal_open("/dev/zero", &journal).number, EINVAL);
     hull_shared_seat_free(seat);
-    hull_shared_desk_free(desk);
+    hull_shared_free(desk);
     return bad;
 }

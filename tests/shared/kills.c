@@ -127,7 +127,7 @@ int __wrap_fsync(int file) {
     return told;
 }
 
-static hull_shared_line line;
+static hull_shared_gate line;
 static hull_shared_journal *journal;
 static hull_shared_seat *seats[THREADS];
 
@@ -152,7 +152,7 @@ static void *works(void *own) {
         }
         hull_shared_reply reply = hull_shared_call(&line, seats[seat], kind, x, y);
         hull_reply safe = hull_shared_journal_wait(journal, reply.line, HULL_SHARED_NEVER);
-        if (safe.code != HULL_SAFE || !reply.has_line) {
+        if (safe.code != HULL_DURABLE || !reply.has_line) {
             __atomic_store_n(&shared->is_refused, 1, __ATOMIC_SEQ_CST);
         }
         keep(seat, kind, x, y, &reply);
@@ -162,11 +162,11 @@ static void *works(void *own) {
 
 /* The process that is killed. */
 static void lives(uint64_t every) {
-    hull_shared_desk *desk = hull_shared_desk_new();
+    hull_shared *desk = hull_shared_new();
     pthread_t thread;
     hull_reply opened;
     is_living = 1;
-    hull_shared_line_init(&line, 1);
+    hull_shared_gate_init(&line, 1);
     opened = hull_shared_journal_open(path, &journal);
     if (opened.code != HULL_OPEN) {
         _exit(STARTED_BADLY);
@@ -177,7 +177,7 @@ static void lives(uint64_t every) {
     }
     for (uint32_t k = 0; k < THREADS; k++) {
         seats[k] = hull_shared_seat_new();
-        if (hull_shared_lend(desk, &line, seats[k], k) != HULL_LENT || pthread_create(&thread, NULL, works, (void *)(size_t)k) != 0) {
+        if (hull_shared_acquire_seat(desk, &line, seats[k], k) != HULL_ACQUIRED || pthread_create(&thread, NULL, works, (void *)(size_t)k) != 0) {
             _exit(STARTED_BADLY);
         }
     }
@@ -335,7 +335,7 @@ static void is_made_short(void) {
     tries++;
     child = fork();
     if (child == 0) {
-        _exit(hull_shared_journal_compact(path).code == HULL_SAFE ? 0 : STARTED_BADLY);
+        _exit(hull_shared_journal_compact(path).code == HULL_DURABLE ? 0 : STARTED_BADLY);
     }
     usleep((useconds_t)draw(30000));
     kill(child, SIGKILL);

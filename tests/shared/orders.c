@@ -37,7 +37,7 @@ typedef struct {
 
 /* A desk in the middle of an order. */
 typedef struct {
-    hull_shared_desk *desk;
+    hull_shared *desk;
     hull_shared_seat *seats[SEATS];
     hull_shared_reader *reader;
     const request *waiting[SEATS];
@@ -48,18 +48,18 @@ typedef struct {
 } world;
 
 static unsigned calls, views, misses, is_short;
-static hull_shared_line line;
+static hull_shared_gate line;
 
 static int begin(world *w) {
     memset(w, 0, sizeof *w);
-    w->desk = hull_shared_desk_new();
+    w->desk = hull_shared_new();
     w->reader = hull_shared_reader_new();
-    int bad = w->desk == NULL || w->reader == NULL || hull_shared_admit(w->desk, 1) != HULL_ADMITTED ||
+    int bad = w->desk == NULL || w->reader == NULL || hull_shared_set_max_readers(w->desk, 1) != HULL_READERS_SET ||
               hull_shared_open(w->desk, HULL_LIMIT_MAX, 0, SEATS * MOST_CALLS, SEATS) != HULL_OPEN ||
-              hull_shared_lend_reader(w->desk, w->reader) != HULL_LENT;
+              hull_shared_acquire_reader(w->desk, w->reader) != HULL_ACQUIRED;
     for (unsigned k = 0; k < SEATS; k++) {
         w->seats[k] = hull_shared_seat_new();
-        bad |= w->seats[k] == NULL || hull_shared_lend(w->desk, &line, w->seats[k], k) != HULL_LENT;
+        bad |= w->seats[k] == NULL || hull_shared_acquire_seat(w->desk, &line, w->seats[k], k) != HULL_ACQUIRED;
     }
     return !bad;
 }
@@ -67,13 +67,13 @@ static int begin(world *w) {
 static int end(world *w) {
     int bad = 0;
     for (unsigned k = 0; k < SEATS; k++) {
-        bad |= hull_shared_give_back(w->desk, w->seats[k]) != HULL_RETURNED;
+        bad |= hull_shared_release_seat(w->desk, w->seats[k]) != HULL_RELEASED;
         hull_shared_seat_free(w->seats[k]);
     }
-    bad |= hull_shared_return_reader(w->desk, w->reader) != HULL_RETURNED;
+    bad |= hull_shared_release_reader(w->desk, w->reader) != HULL_RELEASED;
     bad |= hull_shared_close(w->desk) != HULL_CLOSED || hull_shared_end(w->desk) != HULL_ENDED;
     hull_shared_reader_free(w->reader);
-    hull_shared_desk_free(w->desk);
+    hull_shared_free(w->desk);
     return !bad;
 }
 
@@ -98,8 +98,8 @@ static void step_of_reader(world *w) {
     hull_point shown[MOST_CORNERS], right[MOST_CORNERS];
     memset(shown, 0, sizeof shown);
     memset(right, 0, sizeof right);
-    w->wrong |= view.code != HULL_VIEWED || view.lines < w->changed || view.lines > w->lines || view.lines < w->seen;
-    const size_t count = hull_shared_view_corners(w->reader, shown, MOST_CORNERS).number;
+    w->wrong |= view.code != HULL_SNAPSHOT_TAKEN || view.lines < w->changed || view.lines > w->lines || view.lines < w->seen;
+    const size_t count = hull_shared_snapshot_vertices(w->reader, shown, MOST_CORNERS).number;
     w->wrong |= count != replayed(w, view.lines - (is_short && view.lines > 0), right) || memcmp(shown, right, sizeof shown) != 0;
     w->seen = view.lines;
     w->views++;

@@ -62,7 +62,7 @@ static bool drains_by_itself() {
     {
         hull::SharedHull shared({1000, 0, 4, 1});
         shared.wait_for_room(true);
-        shared.on_half_full([](void *context, const hull_shared_part *) { ++*static_cast<std::size_t *>(context); }, &parts);
+        shared.on_half_full([](void *context, const hull_shared_segment *) { ++*static_cast<std::size_t *>(context); }, &parts);
         hull::Seat seat = shared.lend(0);
         for (std::int64_t x = 0; x < 100; x++) {
             seat.add({x, x});

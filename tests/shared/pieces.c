@@ -15,41 +15,41 @@ static int is_refused(void) { return left >= 0 && left-- == 0; }
 void *__wrap_malloc(size_t size) { return is_refused() ? NULL : __real_malloc(size); }
 void *__wrap_realloc(void *block, size_t size) { return is_refused() ? NULL : __real_realloc(block, size); }
 
-static int written(hull_shared_part *part, FILE *file) {
+static int written(hull_shared_segment *part, FILE *file) {
 #include "pieces.inc"
     free(piece);
     return is_whole;
 }
 
 /* A part with a line of many kilobytes. */
-static void fill(hull_shared_part *part) {
-    static hull_shared_line line;
+static void fill(hull_shared_segment *part) {
+    static hull_shared_gate line;
     static hull_point corners[1000];
-    hull_shared_desk *desk = hull_shared_desk_new();
+    hull_shared *desk = hull_shared_new();
     hull_shared_seat *seat = hull_shared_seat_new();
-    hull_shared_line_init(&line, 1);
+    hull_shared_gate_init(&line, 1);
     hull_shared_open(desk, 1000, 0, 5000, 1);
-    hull_shared_lend(desk, &line, seat, 0);
+    hull_shared_acquire_seat(desk, &line, seat, 0);
     for (int64_t x = 0; x < 1000; x++) {
         hull_shared_call(&line, seat, HULL_KIND_ADD, x, x * x);
     }
     hull_shared_vertices(&line, seat, corners, 1000);
-    hull_shared_part_reserve(part, hull_shared_capacity(seat));
+    hull_shared_segment_reserve(part, hull_shared_capacity(seat));
     hull_shared_drain(&line, seat, part, HULL_KIND_COUNT, 0, 0);
-    hull_shared_give_back(desk, seat);
+    hull_shared_release_seat(desk, seat);
     hull_shared_close(desk);
     hull_shared_end(desk);
     hull_shared_seat_free(seat);
-    hull_shared_desk_free(desk);
+    hull_shared_free(desk);
 }
 
 int main(void) {
-    hull_shared_part *part = hull_shared_part_new();
+    hull_shared_segment *part = hull_shared_segment_new();
     fill(part);
-    size_t length = (size_t)hull_shared_part_text_size(part).number, wholes = 0, cuts = 0;
+    size_t length = (size_t)hull_shared_segment_text_size(part).number, wholes = 0, cuts = 0;
     uint8_t *text = malloc(length);
     char *got = calloc(2 * length, 1);
-    hull_shared_part_text(part, text, length);
+    hull_shared_segment_text(part, text, length);
     int bad = length < 20000;
     for (long request = 0; request < 200; request++) {
         FILE *file = fmemopen(got, 2 * length, "w");
@@ -62,8 +62,8 @@ int main(void) {
         bad |= is_whole != (at == length) || memcmp(got, text, at) != 0;
         wholes += is_whole, cuts += !is_whole;
     }
-    hull_shared_part_end(part);
-    hull_shared_part_free(part);
+    hull_shared_segment_end(part);
+    hull_shared_segment_free(part);
     free(text), free(got);
     printf("%zu bytes, %zu times whole, %zu times told to be cut\n", length, wholes, cuts);
     return bad || wholes == 0 || cuts < 3;

@@ -34,8 +34,8 @@ typedef struct {
 
 static unsigned seats, readers;
 static unsigned long calls;
-static hull_shared_line line;
-static hull_shared_desk *desk;
+static hull_shared_gate line;
+static hull_shared *desk;
 static hull_shared_seat *rooms[HULL_SHARED_SEATS_MAX];
 static reader reading[HULL_SHARED_READERS_MAX];
 static made *history;
@@ -96,8 +96,8 @@ static void *work(void *place) {
 
 /* The sum over the corners of the view that is held. */
 static uint64_t sum_held(reader *me) {
-    const hull_reply told = hull_shared_view_corners(me->room, me->corners, MOST_CORNERS);
-    me->wrong |= told.code != HULL_CORNERS;
+    const hull_reply told = hull_shared_snapshot_vertices(me->room, me->corners, MOST_CORNERS);
+    me->wrong |= told.code != HULL_VERTICES;
     return sum_of(me->corners, (size_t)told.number);
 }
 
@@ -107,8 +107,8 @@ static hull_shared_view look(reader *me, uint64_t *last) {
     const hull_shared_view view = hull_shared_read(me->room);
     me->taken++;
     me->old += view.code == HULL_OLD;
-    me->wrong |= view.code != HULL_VIEWED && view.code != HULL_OLD;
-    me->wrong |= view.lines < *last || (view.code == HULL_VIEWED && view.lines < told);
+    me->wrong |= view.code != HULL_SNAPSHOT_TAKEN && view.code != HULL_OLD;
+    me->wrong |= view.lines < *last || (view.code == HULL_SNAPSHOT_TAKEN && view.lines < told);
     me->wrong |= view.has_line != (view.lines > 0) || (view.has_line == 1 && view.line + 1 != view.lines);
     if (view.lines != *last && me->count < MOST_KEPT) {
         me->views[me->count++] = (kept){view.lines, sum_held(me)};
@@ -126,7 +126,7 @@ static void *read_on(void *given) {
         if (me->taken % 16 == 0) {
             const uint64_t sum = sum_held(me);
             sched_yield();
-            me->wrong |= sum_held(me) != sum || hull_shared_view_corners(me->room, me->corners, 0).number != view.count;
+            me->wrong |= sum_held(me) != sum || hull_shared_snapshot_vertices(me->room, me->corners, 0).number != view.count;
         }
     }
     look(me, &last);
@@ -155,23 +155,23 @@ static unsigned long compared(kept *views, unsigned long count) {
         }
         hull_point corners[MOST_CORNERS];
         const hull_reply r = hull_vertices(set, corners, MOST_CORNERS);
-        right += r.code == HULL_CORNERS && sum_of(corners, r.number) == views[i].sum;
+        right += r.code == HULL_VERTICES && sum_of(corners, r.number) == views[i].sum;
     }
     hull_free(set);
     return right;
 }
 
 static int begin(void) {
-    int bad = hull_shared_admit(desk, readers) != HULL_ADMITTED ||
+    int bad = hull_shared_set_max_readers(desk, readers) != HULL_READERS_SET ||
               hull_shared_open(desk, HULL_LIMIT_MAX, 0, (uint32_t)(seats * calls), seats) != HULL_OPEN;
     for (unsigned k = 0; k < readers; k++) {
         reading[k].room = hull_shared_reader_new();
         reading[k].views = calloc(MOST_KEPT, sizeof(kept));
-        bad |= reading[k].room == NULL || reading[k].views == NULL || hull_shared_lend_reader(desk, reading[k].room) != HULL_LENT;
+        bad |= reading[k].room == NULL || reading[k].views == NULL || hull_shared_acquire_reader(desk, reading[k].room) != HULL_ACQUIRED;
     }
     for (unsigned k = 0; k < seats; k++) {
         rooms[k] = hull_shared_seat_new();
-        bad |= rooms[k] == NULL || hull_shared_lend(desk, &line, rooms[k], k) != HULL_LENT;
+        bad |= rooms[k] == NULL || hull_shared_acquire_seat(desk, &line, rooms[k], k) != HULL_ACQUIRED;
     }
     return !bad;
 }
@@ -194,16 +194,16 @@ static void storm(void) {
 static int end(void) {
     int bad = 0;
     for (unsigned k = 0; k < seats; k++) {
-        bad |= hull_shared_give_back(desk, rooms[k]) != HULL_RETURNED;
+        bad |= hull_shared_release_seat(desk, rooms[k]) != HULL_RELEASED;
         hull_shared_seat_free(rooms[k]);
     }
     bad |= readers > 0 && hull_shared_close(desk) != HULL_SEATS_OUT;
     for (unsigned k = 0; k < readers; k++) {
-        bad |= hull_shared_return_reader(desk, reading[k].room) != HULL_RETURNED;
+        bad |= hull_shared_release_reader(desk, reading[k].room) != HULL_RELEASED;
         hull_shared_reader_free(reading[k].room);
     }
     bad |= hull_shared_close(desk) != HULL_CLOSED || hull_shared_end(desk) != HULL_ENDED;
-    hull_shared_desk_free(desk);
+    hull_shared_free(desk);
     return !bad;
 }
 
@@ -211,7 +211,7 @@ int main(int words, char **word) {
     seats = words == 4 ? (unsigned)strtoul(word[1], NULL, 10) : 0;
     readers = words == 4 ? (unsigned)strtoul(word[2], NULL, 10) : 0;
     calls = words == 4 ? strtoul(word[3], NULL, 10) : 0;
-    desk = hull_shared_desk_new();
+    desk = hull_shared_new();
     history = calloc(seats * calls + 1, sizeof *history);
     kept *all = calloc((unsigned long)readers * MOST_KEPT + 1, sizeof *all);
     if (desk == NULL || history == NULL || all == NULL || seats < 1 || seats > HULL_SHARED_SEATS_MAX ||

@@ -30,7 +30,7 @@ void *__wrap_realloc(void *block, size_t size) {
     return refused() ? NULL : __real_realloc(block, size);
 }
 
-static hull_shared_line line;
+static hull_shared_gate line;
 static int bad;
 
 static void is(const char *what, uint64_t got, uint64_t wanted) {

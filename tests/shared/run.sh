@@ -240,7 +240,7 @@ journals() {
     killed_wrongly 'an opening syncs nothing' 's/fsync\(j->file\) == 0 && fsync\(j->folder\) == 0;/1;/'
     killed_wrongly 'an opening does not write the last segment again' 's/uint64_t at = j->last;/uint64_t at = j->end;/'
     killed_wrongly 'what was asked for is done before it is drained' \
-        's/hull_shared_line_drain\(j->line, j->seat\)\) \{/(__atomic_store_n(\&j->done, asked, __ATOMIC_SEQ_CST), notify(j), hull_shared_line_drain(j->line, j->seat))) {/'
+        's/hull_shared_gate_drain\(j->line, j->seat\)\) \{/(__atomic_store_n(\&j->done, asked, __ATOMIC_SEQ_CST), notify(j), hull_shared_gate_drain(j->line, j->seat))) {/'
 }
 
 # what the file has to bear: each test of edges.c

@@ -119,8 +119,8 @@ static uint64_t size_of(const char *name) {
 
 /* ---- the service */
 
-static hull_shared_line line;
-static hull_shared_desk *desk;
+static hull_shared_gate line;
+static hull_shared *desk;
 static hull_shared_journal *journal;
 static hull_shared_seat *seats[SEATS];
 static pthread_mutex_t last_seat = PTHREAD_MUTEX_INITIALIZER;
@@ -152,7 +152,7 @@ static hull_shared_reply calls(uint32_t thread, uint32_t kind, int64_t x, int64_
 
 /* Keeps up to where all lines are told as safe, and which of the changes are before that. */
 static void settles(struct thread *t, const hull_reply *safe) {
-    NEEDS(safe->code == HULL_SAFE);
+    NEEDS(safe->code == HULL_DURABLE);
     __atomic_store_n(&t->safe, safe->number, __ATOMIC_SEQ_CST);
     while (t->settled < t->begun && t->changes[t->settled % PENDING].line < safe->number) {
         const struct change *change = &t->changes[t->settled % PENDING];
@@ -210,7 +210,7 @@ static void *works(void *own) {
         }
         made = drawn / 4096 % 2 == 0 ? makes_change(thread, times, drawn / 8192) : asks(thread, drawn / 8192);
         __atomic_store_n(&t->calls, t->calls + 1, __ATOMIC_RELAXED);
-        safe = waits ? hull_shared_journal_wait(journal, made, HULL_SHARED_NEVER) : hull_shared_journal_safe(journal);
+        safe = waits ? hull_shared_journal_wait(journal, made, HULL_SHARED_NEVER) : hull_shared_journal_durable(journal);
         NEEDS(!waits || made < safe.number);
         settles(t, &safe);
     }
@@ -220,13 +220,13 @@ static void *works(void *own) {
 /* Makes the file short, opens it, and lends the seats: the next line has to have this number. */
 static void begins(uint64_t next) {
     hull_reply reply = hull_shared_journal_compact(path);
-    NEEDS(reply.code == HULL_SAFE && reply.number == next);
+    NEEDS(reply.code == HULL_DURABLE && reply.number == next);
     reply = hull_shared_journal_open(path, &journal);
     NEEDS(reply.code == HULL_OPEN && reply.number == next && reply.high == 0);
-    hull_shared_line_init(&line, 1);
+    hull_shared_gate_init(&line, 1);
     NEEDS(hull_shared_journal_start(journal, desk, &line, POINTS, CAPACITY, SEATS, EVERY).code == HULL_OPEN);
     for (uint32_t k = 0; k < SEATS; k++) {
-        NEEDS(hull_shared_lend(desk, &line, seats[k], k) == HULL_LENT);
+        NEEDS(hull_shared_acquire_seat(desk, &line, seats[k], k) == HULL_ACQUIRED);
     }
     __atomic_store_n(&shared->serves, 1, __ATOMIC_SEQ_CST);
 }
@@ -236,7 +236,7 @@ static uint64_t closes(void) {
     hull_reply reply;
     __atomic_store_n(&shared->serves, 0, __ATOMIC_SEQ_CST);
     for (uint32_t k = 0; k < SEATS; k++) {
-        NEEDS(hull_shared_give_back(desk, seats[k]) == HULL_RETURNED);
+        NEEDS(hull_shared_release_seat(desk, seats[k]) == HULL_RELEASED);
     }
     reply = hull_shared_journal_close(journal);
     NEEDS(reply.code == HULL_CLOSED && hull_shared_end(desk) == HULL_ENDED);
@@ -289,8 +289,8 @@ static void serves(void) {
 
 /* The process of the service. */
 static void lives(void) {
-    hull_reply all = {.code = HULL_SAFE};
-    desk = hull_shared_desk_new();
+    hull_reply all = {.code = HULL_DURABLE};
+    desk = hull_shared_new();
     for (uint32_t k = 0; k < SEATS; k++) {
         seats[k] = hull_shared_seat_new();
     }

@@ -10,8 +10,8 @@
 #include <string.h>
 
 static unsigned long calls;
-static hull_shared_line line;
-static hull_shared_desk *desk;
+static hull_shared_gate line;
+static hull_shared *desk;
 static hull_shared_seat *rooms[HULL_SHARED_SEATS_MAX];
 static uint64_t *turns[HULL_SHARED_SEATS_MAX];
 static int wrong[HULL_SHARED_SEATS_MAX];
@@ -42,7 +42,7 @@ static int answers(uint32_t kind, uint32_t code) {
     case HULL_KIND_EXTREME:
         return code == HULL_POINT || code == HULL_EMPTY;
     case HULL_KIND_VERTICES:
-        return code == HULL_CORNERS || code == HULL_TOO_SMALL;
+        return code == HULL_VERTICES || code == HULL_TOO_SMALL;
     default:
         return code == HULL_NUMBER;
     }
@@ -67,7 +67,7 @@ static hull_shared_reply corners_of(hull_shared_seat *seat, int *wrong) {
     hull_point corners[64];
     memset(corners, 7, sizeof corners);
     hull_shared_reply reply = hull_shared_vertices(&line, seat, corners, 40);
-    uint64_t written = reply.told.code == HULL_CORNERS ? reply.told.number : 0;
+    uint64_t written = reply.told.code == HULL_VERTICES ? reply.told.number : 0;
     *wrong |= written > 40 || !turn_left(corners, written);
     for (uint64_t i = written; i < 64; i++) {
         *wrong |= corners[i].x != INT64_C(0x0707070707070707) || corners[i].y != INT64_C(0x0707070707070707);
@@ -137,15 +137,15 @@ int main(int count, char **words) {
     pthread_t ids[HULL_SHARED_SEATS_MAX];
     int bad = 0;
     calls = count == 4 ? strtoul(words[2], NULL, 10) : 0;
-    hull_shared_line_init(&line, count == 4 ? (uint32_t)strtoul(words[3], NULL, 10) : 1);
-    desk = hull_shared_desk_new();
+    hull_shared_gate_init(&line, count == 4 ? (uint32_t)strtoul(words[3], NULL, 10) : 1);
+    desk = hull_shared_new();
     if (desk == NULL || hull_shared_open(desk, HULL_LIMIT_MAX, 0, (uint32_t)(threads * calls), threads) != HULL_OPEN) {
         return 2;
     }
     for (unsigned k = 0; k < threads; k++) {
         turns[k] = room_of(calls * sizeof(uint64_t));
         rooms[k] = hull_shared_seat_new();
-        bad |= rooms[k] == NULL || hull_shared_lend(desk, &line, rooms[k], k) != HULL_LENT;
+        bad |= rooms[k] == NULL || hull_shared_acquire_seat(desk, &line, rooms[k], k) != HULL_ACQUIRED;
     }
     for (unsigned k = 0; k < threads; k++) {
         bad |= pthread_create(&ids[k], NULL, work, &rooms[k]) != 0;
@@ -159,12 +159,12 @@ int main(int count, char **words) {
     bad |= hull_shared_call(&line, rooms[0], HULL_KIND_COUNT, 0, 0).told.code != HULL_FULL;
     for (unsigned k = 0; k < threads; k++) {
         bad |= hull_shared_close(desk) != HULL_SEATS_OUT;
-        bad |= hull_shared_give_back(desk, rooms[k]) != HULL_RETURNED;
+        bad |= hull_shared_release_seat(desk, rooms[k]) != HULL_RELEASED;
         hull_shared_seat_free(rooms[k]);
         free(turns[k]);
     }
     bad |= hull_shared_close(desk) != HULL_CLOSED || !write_text();
     bad |= hull_shared_end(desk) != HULL_ENDED;
-    hull_shared_desk_free(desk);
+    hull_shared_free(desk);
     return bad;
 }

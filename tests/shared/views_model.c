@@ -1,5 +1,5 @@
 /* views_model READERS SLOTS PUBLICATIONS VIEWS [FAULT]: every order of the single steps of one thread that publishes so often and of so many
- * that take so many views each, by a hall with so many slots. The steps are those of crates/published_views: of Publisher::publish and
+ * that take so many views each, by a hall with so many slots. The steps are those of crates/published_snapshots: of Publisher::publish and
  * Hall::view, each load, exchange and write of what threads share by itself.
  *
  * Told is whether in some order a slot is written while it is read, a reader's numbers go back, a view is older than what was published when

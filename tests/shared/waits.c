@@ -13,8 +13,8 @@
 
 enum { SEATS = 8 };
 
-static hull_shared_line line;
-static hull_shared_desk *desk;
+static hull_shared_gate line;
+static hull_shared *desk;
 static hull_shared_seat *seats[SEATS];
 static int bad;
 static const uint64_t MILLISECOND = 1000000;
@@ -56,16 +56,16 @@ static uint32_t count_by(hull_shared_seat *seat) {
 }
 
 static void opens(uint32_t capacity, uint32_t inside) {
-    is("line", (uint64_t)hull_shared_line_init(&line, inside), 1);
+    is("line", (uint64_t)hull_shared_gate_init(&line, inside), 1);
     is("open", hull_shared_open(desk, 1000, 7, capacity, SEATS), HULL_OPEN);
     for (uint32_t k = 0; k < SEATS; k++) {
-        is("lend", hull_shared_lend(desk, &line, seats[k], k), HULL_LENT);
+        is("lend", hull_shared_acquire_seat(desk, &line, seats[k], k), HULL_ACQUIRED);
     }
 }
 
 static void closes(void) {
     for (uint32_t k = 0; k < SEATS; k++) {
-        is("give back", hull_shared_give_back(desk, seats[k]), HULL_RETURNED);
+        is("give back", hull_shared_release_seat(desk, seats[k]), HULL_RELEASED);
     }
     is("close", hull_shared_close(desk), HULL_CLOSED);
     is("end", hull_shared_end(desk), HULL_ENDED);
@@ -96,32 +96,32 @@ static void looks(void) {
 
 /* One line for two desks, and calls with a line that is not the seat's. */
 static void lines_of_others(void) {
-    static hull_shared_line other;
-    hull_shared_desk *second = hull_shared_desk_new();
+    static hull_shared_gate other;
+    hull_shared *second = hull_shared_new();
     hull_shared_seat *seat = hull_shared_seat_new();
     opens(100, 1);
     is("open", hull_shared_open(second, 10, 0, 10, 1), HULL_OPEN);
-    is("one line for two desks", hull_shared_lend(second, &line, seat, 0), HULL_OTHER_LINE);
+    is("one line for two desks", hull_shared_acquire_seat(second, &line, seat, 0), HULL_OTHER_GATE);
     is("a room with no seat", hull_shared_call(&line, seat, HULL_KIND_COUNT, 0, 0).told.code, HULL_VACANT);
-    is("no seat", hull_shared_lend(second, &other, seat, 5), HULL_NO_SEAT);
-    is("lend", hull_shared_lend(second, &other, seat, 0), HULL_LENT);
-    is("another line", hull_shared_call(&line, seat, HULL_KIND_COUNT, 0, 0).told.code, HULL_OTHER_LINE);
-    is("another line", hull_shared_call(&other, seats[0], HULL_KIND_COUNT, 0, 0).told.code, HULL_OTHER_LINE);
+    is("no seat", hull_shared_acquire_seat(second, &other, seat, 5), HULL_NO_SEAT);
+    is("lend", hull_shared_acquire_seat(second, &other, seat, 0), HULL_ACQUIRED);
+    is("another line", hull_shared_call(&line, seat, HULL_KIND_COUNT, 0, 0).told.code, HULL_OTHER_GATE);
+    is("another line", hull_shared_call(&other, seats[0], HULL_KIND_COUNT, 0, 0).told.code, HULL_OTHER_GATE);
     is("its own line", hull_shared_call(&other, seat, HULL_KIND_COUNT, 0, 0).told.code, HULL_NUMBER);
-    is("give back", hull_shared_give_back(second, seat), HULL_RETURNED);
-    is("with no line", hull_shared_lend(second, NULL, seat, 0), HULL_LENT);
-    is("a call with no line", hull_shared_call(&other, seat, HULL_KIND_COUNT, 0, 0).told.code, HULL_OTHER_LINE);
-    is("nor a call in none", hull_shared_call(NULL, seat, HULL_KIND_COUNT, 0, 0).told.code, HULL_OTHER_LINE);
+    is("give back", hull_shared_release_seat(second, seat), HULL_RELEASED);
+    is("with no line", hull_shared_acquire_seat(second, NULL, seat, 0), HULL_ACQUIRED);
+    is("a call with no line", hull_shared_call(&other, seat, HULL_KIND_COUNT, 0, 0).told.code, HULL_OTHER_GATE);
+    is("nor a call in none", hull_shared_call(NULL, seat, HULL_KIND_COUNT, 0, 0).told.code, HULL_OTHER_GATE);
     is("a take and a look", hull_shared_take(seat, HULL_KIND_COUNT, 0, 0).told.code, HULL_TAKEN);
     is("a take and a look", hull_shared_look(seat).told.code, HULL_NUMBER);
-    is("give back", hull_shared_give_back(second, seat), HULL_RETURNED);
+    is("give back", hull_shared_release_seat(second, seat), HULL_RELEASED);
     closes();
-    is("the line is free again", hull_shared_lend(second, &line, seat, 0), HULL_LENT);
-    is("give back", hull_shared_give_back(second, seat), HULL_RETURNED);
+    is("the line is free again", hull_shared_acquire_seat(second, &line, seat, 0), HULL_ACQUIRED);
+    is("give back", hull_shared_release_seat(second, seat), HULL_RELEASED);
     is("close", hull_shared_close(second), HULL_CLOSED);
     is("end", hull_shared_end(second), HULL_ENDED);
     hull_shared_seat_free(seat);
-    hull_shared_desk_free(second);
+    hull_shared_free(second);
 }
 
 /* Calls with a deadline, and with none to wait, while one is inside and waits for a number that is not looked for. */
@@ -157,12 +157,12 @@ static void *adds_in_time(void *code) {
 
 /* Room that is waited for, no longer than until a deadline. */
 static void rooms(void) {
-    hull_shared_part *part = hull_shared_part_new();
+    hull_shared_segment *part = hull_shared_segment_new();
     pthread_t thread;
     uint32_t code = 0;
     uint64_t begun;
     opens(1, 1);
-    hull_shared_line_wait_for_room(&line, 1);
+    hull_shared_gate_wait_for_space(&line, 1);
     is("the only line", count_by(seats[0]), HULL_NUMBER);
     begun = hull_shared_now();
     is("at once", hull_shared_try_call(&line, seats[1], HULL_KIND_COUNT, 0, 0).told.code, HULL_FULL);
@@ -172,13 +172,13 @@ static void rooms(void) {
     while (hull_shared_stats(&line).for_room == 0) {
         naps(MILLISECOND / 10);
     }
-    is("room", hull_shared_part_reserve(part, 1), HULL_RESERVED);
+    is("room", hull_shared_segment_reserve(part, 1), HULL_RESERVED);
     is("drain", hull_shared_drain(&line, seats[0], part, HULL_KIND_COUNT, 0, 0).told.code, HULL_NUMBER);
     pthread_join(thread, NULL);
     is("once there is room", code, HULL_ADDED);
     is("held", hull_shared_stats(&line).held, 1);
-    hull_shared_part_end(part);
-    hull_shared_part_free(part);
+    hull_shared_segment_end(part);
+    hull_shared_segment_free(part);
     closes();
 }
 
@@ -244,7 +244,7 @@ static int hooks;
 static pthread_t in_hook;
 
 /* A hook in which its thread is cancelled, at a point where threads are, and which leaves another errno. */
-static void keeps(void *context, const hull_shared_part *part) {
+static void keeps(void *context, const hull_shared_segment *part) {
     (void)context, (void)part;
     hooks++;
     if (pthread_equal(pthread_self(), in_hook)) {
@@ -268,7 +268,7 @@ static void cancelled_in_hook(void) {
     pthread_t thread;
     void *told = NULL;
     opens(4, 1);
-    is("hook", (uint64_t)hull_shared_line_on_half_full(&line, keeps, NULL), 1);
+    is("hook", (uint64_t)hull_shared_gate_on_half_full(&line, keeps, NULL), 1);
     pthread_create(&thread, NULL, fills, seats[0]);
     pthread_join(thread, &told);
     is("it was cancelled behind its call", told == PTHREAD_CANCELED, 1);
@@ -278,7 +278,7 @@ static void cancelled_in_hook(void) {
     }
     is("and drain", hooks > 5, 1);
     closes();
-    hull_shared_line_end(&line);
+    hull_shared_gate_end(&line);
 }
 
 static void *keeps_errno(void *seat) {
@@ -297,8 +297,8 @@ static void *keeps_errno(void *seat) {
 static void errnos(void) {
     pthread_t threads[SEATS];
     opens(20, SEATS);
-    is("hook", (uint64_t)hull_shared_line_on_half_full(&line, keeps, NULL), 1);
-    hull_shared_line_wait_for_room(&line, 1);
+    is("hook", (uint64_t)hull_shared_gate_on_half_full(&line, keeps, NULL), 1);
+    hull_shared_gate_wait_for_space(&line, 1);
     for (int k = 0; k < SEATS; k++) {
         pthread_create(&threads[k], NULL, keeps_errno, seats[k]);
     }
@@ -306,7 +306,7 @@ static void errnos(void) {
         pthread_join(threads[k], NULL);
     }
     closes();
-    hull_shared_line_end(&line);
+    hull_shared_gate_end(&line);
 }
 
 static void *dies_inside(void *seat) {
@@ -344,11 +344,11 @@ static void dead_inside(void) {
 
 int main(void) {
     alarm(60);
-    desk = hull_shared_desk_new();
+    desk = hull_shared_new();
     for (int k = 0; k < SEATS; k++) {
         seats[k] = hull_shared_seat_new();
     }
-    is("a line of 65", (uint64_t)hull_shared_line_init(&line, HULL_SHARED_SEATS_MAX + 1), 0);
+    is("a line of 65", (uint64_t)hull_shared_gate_init(&line, HULL_SHARED_SEATS_MAX + 1), 0);
     lines_of_others();
     deadlines();
     rooms();

@@ -111,11 +111,11 @@ fn opens_for_all_seats(rt: HostRuntime) -> Result<(), Fail> {
     for (capacity, workers) in [(1, 64), (65536, 1)] {
         let set = PlainSet::new(rt.alloc(), 4);
         let (book, ledgers) = opened(&rt, set, rt.alloc(), 0, capacity, workers);
-        let told = (book.capacity(), book.workers(), ledgers.len());
+        let encoded = (book.capacity(), book.workers(), ledgers.len());
         let count = gather(&book, ledgers);
         drop(book);
         let expected = (capacity, workers, usize::from(workers));
-        assert!(rt; told == expected && count == 0);
+        assert!(rt; encoded == expected && count == 0);
     }
     Ok(())
 }
@@ -339,8 +339,8 @@ fn square_changes() -> Result<[(Call, Reply); 7], Fail> {
 // Each of the questions about it.
 fn square_questions(alloc: Global, count: u32) -> Result<[(Call, Reply); 7], Fail> {
     let (low, high) = (at(2, 0)?, at(2, 2)?);
-    let corners = [at(0, 0)?, low, high, at(0, 2)?];
-    let vertices = PointList::new(Vec::from_array(alloc, corners)?);
+    let vertices = [at(0, 0)?, low, high, at(0, 2)?];
+    let vertices = PointList::new(Vec::from_array(alloc, vertices)?);
     let right = Direction::new(1, 0)?;
     let (middle, side, away) = (at(1, 1)?, at(2, 1)?, at(4, 1)?);
     Ok([

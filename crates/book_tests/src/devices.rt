@@ -38,12 +38,12 @@ pub(super) fn is_cut(got: Got, call: u64) -> bool {
 /// number 0.
 pub(super) fn device(
     alloc: Global,
-    room: usize,
+    space: usize,
     size: usize,
     call: u64,
     refuses: bool,
 ) -> Option<Spout> {
-    match Spout::new(alloc, room, size) {
+    match Spout::new(alloc, space, size) {
         Ok(spout) if refuses => Some(spout.refusing_at(call)),
         Ok(spout) => Some(spout.failing_at(call)),
         Err(_) => None,
@@ -54,10 +54,10 @@ pub(super) fn device(
 pub(super) fn in_blocks(
     rt: &impl Abort,
     alloc: Global,
-    room: usize,
+    space: usize,
     call: u64,
 ) -> BufWriter<Spout> {
-    let Some(spout) = device(alloc, room, 4096, call, false) else {
+    let Some(spout) = device(alloc, space, 4096, call, false) else {
         panic!(rt; "there is memory for the device");
     };
     match BufWriter::with_capacity(alloc, 4096, spout) {
@@ -93,12 +93,12 @@ fn said(device: Spout) -> Option<(Result<(), WriteFault>, Got)> {
 // Does the same for a new device.
 fn said_to(
     alloc: Global,
-    room: usize,
+    space: usize,
     size: usize,
     call: u64,
     refuses: bool,
 ) -> Option<(Result<(), WriteFault>, Got)> {
-    said(device(alloc, room, size, call, refuses)?)
+    said(device(alloc, space, size, call, refuses)?)
 }
 
 #[test]

@@ -1,12 +1,14 @@
 //! A book that is full refuses all calls except questions that need no line, and continues after it is drained.
 ghost use Rattle.std.specs.Prelude.{◌≡◌, ◌≤◌, length};
 ghost use Rattle.hull_plain.specs.Sets.{plain_set};
-ghost use Rattle.hull_book.specs.Answers.{HasRoom};
+ghost use Rattle.hull_book.specs.Answers.{HasSpace};
 ghost use Rattle.hull_book.specs.Books.{IsLawful};
 ghost use Rattle.hull_book.specs.Ledgers.{AreLedgers};
 ghost use Rattle.hull_book.specs.LongBooks.{whole};
 
-use hull_book::{Book, Call, Journal, Ledger, LongAnswer, LongBook, Reply, Room, Then, gather};
+use hull_book::{
+    AfterCall, Book, Call, Journal, Ledger, LongAnswer, LongBook, Reply, Space, gather,
+};
 use hull_plain::PlainSet;
 use lattice::Point;
 use std::alloc::Global;
@@ -34,10 +36,10 @@ fn serve(
     book: &mut LongBook<PlainSet>,
     ledgers: &mut Vec<Ledger>,
     call: Call,
-    then: Then,
+    then: AfterCall,
 ) -> LongAnswer
     requires lawful { IsLawful plain_set (whole book.old) }
-    requires room { HasRoom then book.old.head.journal.capacity }
+    requires space { HasSpace then book.old.head.journal.capacity }
     requires ledgers { AreLedgers (whole book.old) ledgers.old.items }
     requires one { length ledgers.old.items ≡ 1 }
     ensures lawful { IsLawful plain_set (whole book.new) }
@@ -75,11 +77,11 @@ fn marks_of(book: &LongBook<PlainSet>) -> (u32, u64, u64) {
 
 // Returns the segment that was taken out and the reply, which is the number of points.
 fn drained_of(rt: &impl Abort, drained: LongAnswer) -> (Reply, Journal) {
-    let Ok((reply, part)) = drained else {
+    let Ok((reply, segment)) = drained else {
         panic!(rt; "a line is spare for a drain")
     };
-    match part {
-        Some(part) => (reply, part),
+    match segment {
+        Some(segment) => (reply, segment),
         None => panic!(rt; "lines are taken out"),
     }
 }
@@ -88,27 +90,32 @@ fn drained_of(rt: &impl Abort, drained: LongAnswer) -> (Reply, Journal) {
 fn a_full_book_goes_on(rt: HostRuntime) -> Result<(), Fail> {
     let alloc = rt.alloc();
     let p = Point::new(3, 4)?;
-    let room = Room::reserve(alloc, 2)?;
+    let space = Space::reserve(alloc, 2)?;
     let (mut book, mut ledgers) = opened(&rt, alloc, 2);
-    let added = serve(&mut book, &mut ledgers, Call::Add(p), Then::Keep);
-    let again = serve(&mut book, &mut ledgers, Call::Add(p), Then::Keep);
-    let refused = serve(&mut book, &mut ledgers, Call::Count, Then::Keep);
+    let added = serve(&mut book, &mut ledgers, Call::Add(p), AfterCall::Keep);
+    let again = serve(&mut book, &mut ledgers, Call::Add(p), AfterCall::Keep);
+    let refused = serve(&mut book, &mut ledgers, Call::Count, AfterCall::Keep);
     let asked = count_unwritten(&mut book, &ledgers);
     let before = marks_of(&book);
-    let drained = serve(&mut book, &mut ledgers, Call::Count, Then::TakeOut(room));
-    let left = serve(&mut book, &mut ledgers, Call::Remove(p), Then::Keep);
+    let drained = serve(
+        &mut book,
+        &mut ledgers,
+        Call::Count,
+        AfterCall::Drain(space),
+    );
+    let left = serve(&mut book, &mut ledgers, Call::Remove(p), AfterCall::Keep);
     let after = marks_of(&book);
     let sum = sum_of(&book, ledgers);
     drop(book);
     assert!(rt; matches!(added, Ok((Reply::Added, None))));
     assert!(rt; matches!(again, Ok((Reply::Again(2), None))));
-    assert!(rt; matches!(refused, Err(Then::Keep)) && asked == Reply::PointCount(1));
+    assert!(rt; matches!(refused, Err(AfterCall::Keep)) && asked == Reply::PointCount(1));
     assert!(rt; matches!(left, Ok((Reply::Left(1), None))));
     assert_eq!(rt; (before, after, sum), ((2, 9, 11), (1, 11, 13), 4));
-    let (counted, part) = drained_of(&rt, drained);
+    let (counted, segment) = drained_of(&rt, drained);
     assert!(rt; counted == Reply::PointCount(1));
     assert_eq!(rt;
-        (part.first(), part.capacity(), part.lines().len()),
+        (segment.first(), segment.capacity(), segment.lines().len()),
         (7, 3, 3)
     );
     Ok(())

@@ -91,7 +91,7 @@ fn stored_bridges_are_drawn(rt: HostRuntime) -> Result<(), Fail> {
 }
 
 #[test]
-fn wrong_line_is_told(rt: HostRuntime) -> Result<(), Fail> {
+fn wrong_line_is_encoded(rt: HostRuntime) -> Result<(), Fail> {
     assert!(rt; draws(rt.alloc(), WRONG, &ALL, WRONG_DRAWN)?);
     let before = DrawOptions {
         line: Some(2),
@@ -117,7 +117,7 @@ fn ends(alloc: Global, reads: u64, writes: u64) -> Option<(Result<(), DrawFault>
 }
 
 #[test]
-fn faults_are_told(rt: HostRuntime) -> Result<(), Fail> {
+fn faults_are_encoded(rt: HostRuntime) -> Result<(), Fail> {
     let device = Spout::new(rt.alloc(), 8192, 5)?;
     let unknown = ends_with(rt.alloc(), Pieces::new(b"hullbook journal 4\n", 7), device);
     let reading = ends(rt.alloc(), 2, 0);

@@ -1,12 +1,18 @@
 //! The numbers of all codes, each reply in numbers, and the points and directions of numbers.
-use hull_reply::{Code, HullReply, direction_of, point_of, told};
+use hull_reply::{Code, HullReply, direction_of, encoded, point_of};
 use hull_set::{Place, Reply};
 use lattice::{COORDINATE_LIMIT, Point};
 use std::process::Abort;
 use std::test::Fail;
 
 /// The reply has this code and these numbers.
-fn is_told(rt: &impl Abort, reply: HullReply, code: u32, ends: (i64, i64, i64, i64), number: u64) {
+fn is_encoded(
+    rt: &impl Abort,
+    reply: HullReply,
+    code: u32,
+    ends: (i64, i64, i64, i64),
+    number: u64,
+) {
     assert_eq!(rt; reply.code, code);
     assert_eq!(rt; (reply.x, reply.y, reply.other_x, reply.other_y), ends);
     assert_eq!(rt; (reply.number, reply.high), (number, 0));
@@ -31,7 +37,7 @@ const CODES_OF_CALLS: [(Code, u32); 22] = [
     (Code::Tangents, 15),
     (Code::NoTangent, 16),
     (Code::Number, 17),
-    (Code::Corners, 18),
+    (Code::Vertices, 18),
     (Code::TooSmall, 19),
     (Code::Cleared, 20),
     (Code::OutOfOrder, 21),
@@ -39,18 +45,18 @@ const CODES_OF_CALLS: [(Code, u32); 22] = [
 ];
 
 /// The codes of shared hulls and seats, by the numbers of the header.
-const CODES_OF_DESKS: [(Code, u32); 20] = [
+const CODES_OF_SHARED_HULLS: [(Code, u32); 20] = [
     (Code::Open, 32),
     (Code::OutOfLimits, 33),
     (Code::WasOpened, 34),
-    (Code::Lent, 35),
+    (Code::Acquired, 35),
     (Code::NoSeat, 36),
-    (Code::RoomInUse, 37),
+    (Code::StorageInUse, 37),
     (Code::NotOpen, 38),
-    (Code::Returned, 39),
+    (Code::Released, 39),
     (Code::Vacant, 40),
     (Code::Waiting, 41),
-    (Code::PlaceInUse, 42),
+    (Code::SlotInUse, 42),
     (Code::Taken, 43),
     (Code::NotYet, 44),
     (Code::NoNumber, 45),
@@ -67,7 +73,7 @@ fn numbers_of_the_codes(rt: HostRuntime) {
     for (code, number) in CODES_OF_CALLS {
         assert_eq!(rt; code.number(), number);
     }
-    for (code, number) in CODES_OF_DESKS {
+    for (code, number) in CODES_OF_SHARED_HULLS {
         assert_eq!(rt; code.number(), number);
     }
 }
@@ -75,14 +81,20 @@ fn numbers_of_the_codes(rt: HostRuntime) {
 #[test]
 fn replies(rt: HostRuntime) -> Result<(), Fail> {
     let (p, q) = (Point::new(1, -2)?, Point::new(3, 4)?);
-    is_told(&rt, told(Reply::Added), 3, (0, 0, 0, 0), 0);
-    is_told(&rt, told(Reply::Again(2)), 4, (0, 0, 0, 0), 2);
-    is_told(&rt, told(Reply::Left(1)), 8, (0, 0, 0, 0), 1);
-    is_told(&rt, told(Reply::Farthest(p)), 10, (1, -2, 0, 0), 0);
-    is_told(&rt, told(Reply::Lies(Place::On)), 13, (0, 0, 0, 0), 0);
-    is_told(&rt, told(Reply::TangentPoints(p, q)), 15, (1, -2, 3, 4), 0);
-    is_told(&rt, told(Reply::PointCount(9)), 17, (0, 0, 0, 0), 9);
-    let area = told(Reply::DoubledArea(1 << 83));
+    is_encoded(&rt, encoded(Reply::Added), 3, (0, 0, 0, 0), 0);
+    is_encoded(&rt, encoded(Reply::Again(2)), 4, (0, 0, 0, 0), 2);
+    is_encoded(&rt, encoded(Reply::Left(1)), 8, (0, 0, 0, 0), 1);
+    is_encoded(&rt, encoded(Reply::Farthest(p)), 10, (1, -2, 0, 0), 0);
+    is_encoded(&rt, encoded(Reply::Lies(Place::On)), 13, (0, 0, 0, 0), 0);
+    is_encoded(
+        &rt,
+        encoded(Reply::TangentPoints(p, q)),
+        15,
+        (1, -2, 3, 4),
+        0,
+    );
+    is_encoded(&rt, encoded(Reply::PointCount(9)), 17, (0, 0, 0, 0), 9);
+    let area = encoded(Reply::DoubledArea(1 << 83));
     assert_eq!(rt; (area.code, area.number, area.high), (17, 0, 1 << 19));
     Ok(())
 }

@@ -20,8 +20,8 @@ pub is_under : (r z : ℤ) → IsWithin widest_side r → r ≡ z → le_z (pos 
 is_under r z f e h = omega (arith, ints)
 
 -- the test of a crossing by its two sides, which the program cast, is the test of the crossing
-pub crossing_told : (r : Bool) (s t : ℤ) (a b c d m : Pair) → IsWithin widest_side s → IsWithin widest_side t
+pub crossing_returned : (r : Bool) (s t : ℤ) (a b c d m : Pair) → IsWithin widest_side s → IsWithin widest_side t
     → s ≡ orient a b c → t ≡ orient b a d
     → (IsTrue r ↔ IsWeightedAtOrBefore (to_z w128 (of_z w128 s)) (to_z w128 (of_z w128 t)) c d m)
     → IsTrue r ↔ IsCrossingAtOrBefore a b c d m
-crossing_told r s t a b c d m fs ft e g h = rw (cast_side s fs ∙ e, cast_side t ft ∙ g) at h
+crossing_returned r s t a b c d m fs ft e g h = rw (cast_side s fs ∙ e, cast_side t ft ∙ g) at h

@@ -44,8 +44,8 @@ passes {a} {b} h = is_true (le_z a b) h.le
     is_true false h = absurd h
 
 -- the test of a point is true if and only if the point is near
-pub near_told : (p : Pair) → IsTrue (is_near p) ↔ IsNear p
-near_told p = (
+pub near_returned : (p : Pair) → IsTrue (is_near p) ↔ IsNear p
+near_returned p = (
   λ h.
       let b = and_parts _ _ h in
       let c = and_parts _ _ b.0 in
@@ -55,10 +55,10 @@ near_told p = (
 )
 
 -- the test of a tree is true if and only if all its points are near
-pub all_told : (t : Tree) → IsTrue (are_near t) ↔ IsAllNear t
-all_told (Leaf x) = (λ h p i. subst IsNear (sym i) ((near_told x).0 h), λ h. (near_told x).1 (h x refl))
-all_told (Fork e f u w) = (
+pub all_returned : (t : Tree) → IsTrue (are_near t) ↔ IsAllNear t
+all_returned (Leaf x) = (λ h p i. subst IsNear (sym i) ((near_returned x).0 h), λ h. (near_returned x).1 (h x refl))
+all_returned (Fork e f u w) = (
   λ h p i. let b = and_parts (are_near u) (are_near w) h in
-      elim i [ inl j ↦ (all_told u).0 b.0 p j | inr j ↦ (all_told w).0 b.1 p j ],
-  λ h. and_from (are_near u) (are_near w) ((all_told u).1 (λ p i. h p (inl i))) ((all_told w).1 (λ p i. h p (inr i))),
+      elim i [ inl j ↦ (all_returned u).0 b.0 p j | inr j ↦ (all_returned w).0 b.1 p j ],
+  λ h. and_from (are_near u) (are_near w) ((all_returned u).1 (λ p i. h p (inl i))) ((all_returned w).1 (λ p i. h p (inr i))),
 )

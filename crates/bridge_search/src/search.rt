@@ -75,37 +75,37 @@ fn turn<H: Half>(u: H, w: H, m: Point) -> Option<(H, H)>
 pub(crate) struct Search<H> {
     pub(crate) left: H,
     pub(crate) right: H,
-    pub(crate) parting: Point,
+    pub(crate) split: Point,
     pub(crate) turns: u32,
 }
 
 impl<H: Half> Search<H> {
-    /// Returns the search for the upper bridge of `u` and `w`, whose first point is `parting`, before its first turn.
-    pub(crate) fn new(u: H, w: H, parting: Point) -> Search<H>
+    /// Returns the search for the upper bridge of `u` and `w`, whose first point is `split`, before its first turn.
+    pub(crate) fn new(u: H, w: H, split: Point) -> Search<H>
         requires in_order { IsAllBefore (On (H.tree u)) (On (H.tree w)) }
-        requires parting { parting ≡ first_of (H.tree w) }
+        requires split { split ≡ first_of (H.tree w) }
         ensures { IsReached (H.tree u) (H.tree w) (H.tree result.left)
-            (H.tree result.right) result.parting result.turns }
+            (H.tree result.right) result.split result.turns }
     {
         Search {
             left: u,
             right: w,
-            parting,
+            split,
             turns: 0,
         }
     }
 
     /// Makes one turn. Returns false if both halves are one point, and then changes nothing.
     pub(crate) fn advance(&mut self) -> bool
-        requires ready { IsReady (H.tree self.old.left) (H.tree self.old.right) self.old.parting }
+        requires ready { IsReady (H.tree self.old.left) (H.tree self.old.right) self.old.split }
         requires room { height_of (H.tree self.old.left) + height_of (H.tree self.old.right) + self.old.turns
             ≤ highest + highest }
         ensures advance { IsAdvance result (H.tree self.old.left)
-            (H.tree self.old.right) self.old.parting self.old.turns (H.tree self.new.left)
+            (H.tree self.old.right) self.old.split self.old.turns (H.tree self.new.left)
             (H.tree self.new.right) self.new.turns }
-        ensures parting { self.new.parting ≡ self.old.parting }
+        ensures split { self.new.split ≡ self.old.split }
     {
-        match turn(self.left, self.right, self.parting) {
+        match turn(self.left, self.right, self.split) {
             None => false,
             Some((left, right)) => {
                 self.left = left;

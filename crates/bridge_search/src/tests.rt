@@ -105,7 +105,7 @@ fn diagonal_bridge(rt: HostRuntime) -> Result<(), Fail> {
 }
 
 #[test]
-fn range_corner_bridge(rt: HostRuntime) -> Result<(), Fail> {
+fn range_vertex_bridge(rt: HostRuntime) -> Result<(), Fail> {
     let left = [(-1048576, -1048576), (-1048576, 1048576)];
     let right = [(1048576, -1048576), (1048576, 1048576)];
     let (upper, lower) = found(rt.alloc(), &left, &right)?;

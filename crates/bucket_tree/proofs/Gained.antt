@@ -15,7 +15,7 @@ use Rattle.std.proofs.lemmas.List.Elements.{All-weaker}
 use Rattle.hull_set.specs.Held.{once}
 use Rattle.hull_buckets.specs.Buckets.{BucketValue}
 use Rattle.bucket_tree.specs.Counts.{counted, times_at}
-use Rattle.bucket_tree.specs.declared.node.Node.{Node, Leaf, Fork', Gap}
+use Rattle.bucket_tree.specs.declared.node.Node.{Node, Leaf, Fork', Taken}
 use Rattle.bucket_tree.specs.Nodes.{points_below, times_below, HasBuckets}
 use Rattle.std.specs.Prelude.{IsTrue, get_or}
 use Rattle.hull_geometry.proofs.PointLists.{get_or_free}
@@ -48,14 +48,14 @@ all_before p xs (y ∷ ys) s l n = all_of (λ t. IsBefore t p) xs (λ t m.
 -- below a node there are as many counts as points
 pub counts_below : (n : Node) → HasBuckets n → length (times_below n) ≡ length (points_below n)
 counts_below (Leaf b) h = h.counted
-counts_below (Fork' height i first_right left right last_left upper lower) h = omega (
+counts_below (Fork' height i right_first left right last_left upper lower) h = omega (
   arith,
   length-append (points_below left) (points_below right),
   length-append (times_below left) (times_below right),
   counts_below left h.0,
   counts_below right h.1,
 )
-counts_below Gap h = absurd h
+counts_below Taken h = absurd h
 
 -- what a node holds, by two in whose row its points are
 pub held_row : (n l r : Node) (q : Pair) → HasBuckets l → points_below n ≡ points_below l ++ points_below r

@@ -37,7 +37,7 @@ module _ (points : List Pair) (times : List ℕ) (forks middle : ℕ) (load : Is
       held = All-take IsMultiplicity middle times load.parts.held;
     };
     enough = omega (arith, taken, is, load.enough, power, same);
-    room = omega (arith, taken, is, load.room, power, same);
+    space = omega (arith, taken, is, load.space, power, same);
     low = omega (arith, load.low);
   }
 
@@ -52,6 +52,6 @@ module _ (points : List Pair) (times : List ℕ) (forks middle : ℕ) (load : Is
       held = All-drop IsMultiplicity middle times load.parts.held;
     };
     enough = omega (arith, length-drop middle points, is, load.enough, power, same);
-    room = omega (arith, length-drop middle points, is, load.room, power, same);
+    space = omega (arith, length-drop middle points, is, load.space, power, same);
     low = omega (arith, load.low);
   }

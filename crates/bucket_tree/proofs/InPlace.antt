@@ -14,25 +14,25 @@ use Rattle.lattice.specs.declared.side.Side.TheVariants.{Lower, Upper}
 use Rattle.hull_geometry.specs.Positions.{first_of, last_of}
 use Rattle.hull_buckets.specs.Buckets.{BucketValue, IsBucket}
 use Rattle.hull_set.specs.Held.{once}
-use Rattle.bucket_tree.specs.Changes.{HasEdgesBehind, IsBridgeBetween, IsClosedOver, IsBehind}
+use Rattle.bucket_tree.specs.Changes.{HasEdgesBehind, IsBridgeBetween, IsUnaffectedOver, IsBehind}
 use Rattle.bucket_tree.specs.Changes.{IsRenewed, IsSameBut, edge_on}
 use Rattle.bucket_tree.specs.Counts.{counted, times_at, Alters, Kind, Comes, Goes}
 use Rattle.bucket_tree.specs.InPlace.{AreFewFor, HasChanged, HasChangedIn, IsBehindPart, IsInPlace, IsRenewedAfter}
 use Rattle.bucket_tree.specs.InPlace.{IsToRenew, IsUnsearched}
-use Rattle.bucket_tree.specs.Nodes.{points_below, times_below, forks_above, AreNear, AreInRow, IsWellBuilt}
+use Rattle.bucket_tree.specs.Nodes.{points_below, times_below, node_height, AreNear, AreInRow, IsWellBuilt}
 use Rattle.bucket_tree.specs.declared.renewal.Changed.{Changed}
 use Rattle.bucket_tree.specs.declared.node.Fork.{Fork as Below}
 use Rattle.bucket_tree.specs.declared.node.Node.{Node, Leaf, Fork}
-use Rattle.bucket_tree.specs.declared.renewal.Open.{Open}
+use Rattle.bucket_tree.specs.declared.renewal.Affected.{Affected}
 use Rattle.bucket_tree.proofs.BuiltLeaves.{leaf_built}
-use Rattle.bucket_tree.proofs.Kept.{DiffersAt, behind_as, closed_within, edges_as, first_kept, last_kept, same_edges}
+use Rattle.bucket_tree.proofs.Kept.{DiffersAt, behind_as, unaffected_within, edges_as, first_kept, last_kept, same_edges}
 use Rattle.bucket_tree.proofs.Kept.{stored}
-use Rattle.bucket_tree.proofs.Parts.{BelongsTo, HasRoomFor, IsAt, alters_with, at, closed_with, differs, few_with}
+use Rattle.bucket_tree.proofs.Parts.{BelongsTo, HasSpaceFor, IsAt, alters_with, at, unaffected_with, differs, few_with}
 use Rattle.bucket_tree.proofs.Parts.{row_with}
 use Rattle.bucket_tree.proofs.Parts.{same_at, stands_with}
 use Rattle.bucket_tree.proofs.MostTurns.{few_turns, one_fork}
 use Rattle.bucket_tree.proofs.Rooted.{absent_below}
-use Rattle.bucket_tree.proofs.NodeRows.{corners_in_row, halves_row}
+use Rattle.bucket_tree.proofs.NodeRows.{vertices_in_row, halves_row}
 
 -- ---- a fork
 
@@ -40,12 +40,12 @@ use Rattle.bucket_tree.proofs.NodeRows.{corners_in_row, halves_row}
 pub record IsApart (n : Node) (h : ℕ) (f : Below) : Type 0 where
   pub built : IsWellBuilt n
   pub row : AreInRow f.left f.right
-  pub near : AreNear (forks_above f.left) (forks_above f.right)
+  pub near : AreNear (node_height f.left) (node_height f.right)
   pub points : points_below n ≡ points_below f.left ++ points_below f.right
   pub times : times_below n ≡ times_below f.left ++ times_below f.right
-  pub height : forks_above n ≡ max (forks_above f.left) (forks_above f.right) + 1
-  pub label : h ≡ max (forks_above f.left) (forks_above f.right) + 1
-  pub first : f.first_right ≡ first_of (points_below f.right)
+  pub height : node_height n ≡ max (node_height f.left) (node_height f.right) + 1
+  pub label : h ≡ max (node_height f.left) (node_height f.right) + 1
+  pub first : f.right_first ≡ first_of (points_below f.right)
   pub last : f.last_left ≡ last_of (points_below f.left)
   pub edges : (side : Side) → IsBridgeBetween side f.left f.right (edge_on side f)
 
@@ -58,7 +58,7 @@ apart n h f e w =
       near = b.balanced.0;
       points = ap points_below e;
       times = ap times_below e;
-      height = ap forks_above e;
+      height = ap node_height e;
       label = b.labelled.2;
       first = b.labelled.1;
       last = b.labelled.0;
@@ -67,14 +67,14 @@ apart n h f e w =
 
 -- a fork that was renewed over parts of heights that are near is well built
 pub fork_built : (h : ℕ) (f : Box Below _) → IsRenewed f.value
-    → AreNear (forks_above f.value.left) (forks_above f.value.right)
-    → h ≡ max (forks_above f.value.left) (forks_above f.value.right) + 1 → IsWellBuilt (Fork h f)
-fork_built h f r near e = grind (arith, common_steps, corners_in_row)
+    → AreNear (node_height f.value.left) (node_height f.value.right)
+    → h ≡ max (node_height f.value.left) (node_height f.value.right) + 1 → IsWellBuilt (Fork h f)
+fork_built h f r near e = grind (arith, common_steps, vertices_in_row)
 
 -- it is as high as before, if its parts are
 pub built_again : (n : Node) (h : ℕ) (f : Below) (b : Box Below _) → IsApart n h f → IsRenewed b.value
-    → forks_above b.value.left ≡ forks_above f.left → forks_above b.value.right ≡ forks_above f.right
-    → IsWellBuilt (Fork h b) × (forks_above (Fork h b) ≡ forks_above n)
+    → node_height b.value.left ≡ node_height f.left → node_height b.value.right ≡ node_height f.right
+    → IsWellBuilt (Fork h b) × (node_height (Fork h b) ≡ node_height n)
 built_again n h f b a r u v = grind (arith, common_steps, fork_built)
 
 -- the bridge below is that of a fork of which only the upper edge differs
@@ -87,7 +87,7 @@ lower_moved f g s b = grind (arith, common_steps)
 -- the fork with another one in its place
 abbrev pub with_part : Bool → Below → Node → Below
 with_part left f k = record {
-  first_right = f.first_right;
+  right_first = f.right_first;
   left = cond left k f.left;
   right = cond left f.right k;
   last_left = f.last_left;
@@ -102,13 +102,13 @@ pub record IsForkAt (left : Bool) (p : Pair) (n : Node) (h : ℕ) (f : Below) : 
 
 -- by the fork as it is read at two indices
 pub fork_at : (left : Bool) (p : Pair) (n : Node) (h : ℕ) (b : Box Below _) (f g : Below) → n ≡ Fork h b → f ≡ b.value
-    → g ≡ b.value → IsWellBuilt n → BelongsTo left p g.first_right → IsForkAt left p n h f
+    → g ≡ b.value → IsWellBuilt n → BelongsTo left p g.right_first → IsForkAt left p n h f
 fork_at left p n h b f g e v w built here =
     let a = subst (IsApart n h) (sym v) (apart n h b e built) in
     record {
       apart = a;
-      at = at left p n f.left f.right g.first_right a.row a.points a.times
-          (ap (λ (z : Below). z.first_right) (w ∙ sym v) ∙ a.first) here;
+      at = at left p n f.left f.right g.right_first a.row a.points a.times
+          (ap (λ (z : Below). z.right_first) (w ∙ sym v) ∙ a.first) here;
     }
 
 -- the multiplicity of p in the fork is that in the subtree
@@ -118,16 +118,16 @@ same_below left p n h f i = same_at left p n f.left f.right i.at
 
 -- the part is well built, lower, and has no more points than it may have
 pub part_at : (left put : Bool) (n : Node) (h : ℕ) (f : Below) → IsApart n h f
-    → AreFewFor put (length (points_below n)) → forks_above n ≤ 28
+    → AreFewFor put (length (points_below n)) → node_height n ≤ 28
     → IsWellBuilt (cond left f.left f.right) × AreFewFor put (length (points_below (cond left f.left f.right)))
-    × (forks_above (cond left f.left f.right) ≤ 28) × (forks_above (cond left f.left f.right) + 1 ≤ forks_above n)
+    × (node_height (cond left f.left f.right) ≤ 28) × (node_height (cond left f.left f.right) + 1 ≤ node_height n)
 part_at left put n h f a few low = (built left, fewer put few, omega (arith, low, lower left), lower left)
   where
     built : (left : Bool) → IsWellBuilt (cond left f.left f.right)
     built true = a.row.left_built
     built false = a.row.right_built
 
-    lower : (left : Bool) → forks_above (cond left f.left f.right) + 1 ≤ forks_above n
+    lower : (left : Bool) → node_height (cond left f.left f.right) + 1 ≤ node_height n
     lower true = omega (arith, a.height)
     lower false = omega (arith, a.height)
 
@@ -161,45 +161,45 @@ changed_in_place true p n m change d = d.in_place
 changed_in_place false p n m change d = d.in_place
 
 -- a fork has capacity for the change, by its subtree
-room_by : (left put : Bool) (p : Pair) (n : Node) (h : ℕ) (f : Below) (k : Node) (below : Changed)
+space_by : (left put : Bool) (p : Pair) (n : Node) (h : ℕ) (f : Below) (k : Node) (below : Changed)
     → IsForkAt left p n h f → HasChanged put p (cond left f.left f.right) k below
-    → AreFewFor put (length (points_below n)) → HasRoomFor (kind_of put) p (points_below n)
-room_by left true p n h f k below i d few =
+    → AreFewFor put (length (points_below n)) → HasSpaceFor (kind_of put) p (points_below n)
+space_by left true p n h f k below i d few =
     (absent_below (Some n) n p refl i.apart.built (same_below left p n h f i ∙ d.absent), few)
-room_by left false p n h f k below i d few = few
+space_by left false p n h f k below i d few = few
 
 -- if the subtree is as high as it was both are
-heights_with : (left : Bool) (f : Below) (k : Node) → forks_above k ≡ forks_above (cond left f.left f.right)
-    → (forks_above (cond left k f.left) ≡ forks_above f.left)
-    × (forks_above (cond left f.right k) ≡ forks_above f.right)
+heights_with : (left : Bool) (f : Below) (k : Node) → node_height k ≡ node_height (cond left f.left f.right)
+    → (node_height (cond left k f.left) ≡ node_height f.left)
+    × (node_height (cond left f.right k) ≡ node_height f.right)
 heights_with true f k e = (e, refl)
 heights_with false f k e = (refl, e)
 
 -- a fork that is stale over two subtrees is stale with these in it
-pub over_parts : (p : Pair) (sides : Open) (l r : Node) (f : Below) → IsBehind p sides l r f
+pub over_parts : (p : Pair) (sides : Affected) (l r : Node) (f : Below) → IsBehind p sides l r f
     → IsBehind p sides l r (with_part false (with_part true f l) r)
 over_parts p sides l r f h =
     let g = with_part false (with_part true f l) r in
-    behind_as p sides l r f g h.closed h.clear (same_edges f g refl refl) h.last h.first
+    behind_as p sides l r f g h.unaffected h.clear (same_edges f g refl refl) h.last h.first
 
 -- the edges of a fork whose subtree changed at p are stale
-edges_with : (left put : Bool) (p : Pair) (f : Below) (k : Node) (sides : Open) → AreInRow f.left f.right
+edges_with : (left put : Bool) (p : Pair) (f : Below) (k : Node) (sides : Affected) → AreInRow f.left f.right
     → ((side : Side) → IsBridgeBetween side f.left f.right (edge_on side f))
     → Alters (kind_of put) p (cond left f.left f.right) k
-    → DiffersAt p (points_below (cond left f.left f.right)) (points_below k) → IsClosedOver p sides (points_below k)
+    → DiffersAt p (points_below (cond left f.left f.right)) (points_below k) → IsUnaffectedOver p sides (points_below k)
     → HasEdgesBehind p sides (with_part left f k)
 edges_with left put p f k sides row b h d c =
     let g = with_part left f k in
     let e = edges_as p sides g.left g.right f g
-    (closed_with left (kind_of put) p f.left f.right k sides f row b h d (λ _. c))
+    (unaffected_with left (kind_of put) p f.left f.right k sides f row b h d (λ _. c))
     (λ side. stands_with left side p f.left f.right k (edge_on side f) (b side) d) (same_edges f g refl refl) in
-    record { closed = e.0; clear = e.1 }
+    record { unaffected = e.0; clear = e.1 }
 
 -- and so is the fork
-behind_with : (left put : Bool) (p : Pair) (n : Node) (h : ℕ) (f : Below) (k : Node) (sides : Open) → IsApart n h f
+behind_with : (left put : Bool) (p : Pair) (n : Node) (h : ℕ) (f : Below) (k : Node) (sides : Affected) → IsApart n h f
     → IsWellBuilt k → AreInRow (cond left k f.left) (cond left f.right k)
     → Alters (kind_of put) p (cond left f.left f.right) k
-    → DiffersAt p (points_below (cond left f.left f.right)) (points_below k) → IsClosedOver p sides (points_below k)
+    → DiffersAt p (points_below (cond left f.left f.right)) (points_below k) → IsUnaffectedOver p sides (points_below k)
     → IsBehindPart left p sides (with_part left f k)
 behind_with true put p n h f k sides a w row h' d c = record {
   row = row;
@@ -211,13 +211,13 @@ behind_with false put p n h f k sides a w row h' d c = record {
   row = row;
   edges = edges_with false put p f k sides a.row a.edges h' d c;
   last = a.last;
-  kept = first_kept p f.right k f.first_right a.row.right_built w d a.first;
+  kept = first_kept p f.right k f.right_first a.row.right_built w d a.first;
 }
 
 -- a fork whose part changed is to be renewed
 pub to_renew : (left put : Bool) (p : Pair) (n : Node) (h : ℕ) (f g : Below) (k : Node) (below : Changed)
     → IsForkAt left p n h f → HasChanged put p (cond left f.left f.right) k below
-    → AreFewFor put (length (points_below n)) → forks_above n ≤ 28 → g ≡ with_part left f k
+    → AreFewFor put (length (points_below n)) → node_height n ≤ 28 → g ≡ with_part left f k
     → IsToRenew left p below g
 to_renew left put p n h f g k below i d few low e =
     let kind = kind_of put in
@@ -229,10 +229,10 @@ to_renew left put p n h f g k below i d few low e =
     subst (IsToRenew left p below) (sym e)
     record {
       behind = behind_with left put p n h f k below.sides i.apart s.built
-          (row_with left kind p n f.left f.right k i.at s.built b) b (differs kind p part k o.0.ordered b) s.closed;
-      few = few_with left kind p n f.left f.right k i.at b (room_by left put p n h f k below i d few);
+          (row_with left kind p n f.left f.right k i.at s.built b) b (differs kind p part k o.0.ordered b) s.unaffected;
+      few = few_with left kind p n f.left f.right k i.at b (space_by left put p n h f k below i d few);
       low = omega (arith, low, i.apart.height, high.0, high.1);
-      turns = omega (arith, few_turns (forks_above part) o.2, s.turns);
+      turns = omega (arith, few_turns (node_height part) o.2, s.turns);
     }
 
 -- the points of the part are among those of both
@@ -253,29 +253,29 @@ module _ (left : Bool) (p : Pair) (n : Node) (h : ℕ) (f : Below) (k : Node) (b
   both_times = ap (λ z. times_below z ++ times_below g.value.right) r.left
       ∙ ap (λ z. times_below (cond left k f.left) ++ times_below z) r.right
 
-  in_place_with : forks_above (cond left f.left f.right) + 1 ≤ forks_above n → IsInPlace p n (Fork h g) above
+  in_place_with : node_height (cond left f.left f.right) + 1 ≤ node_height n → IsInPlace p n (Fork h g) above
   in_place_with lower =
       let e = heights_with left f k part.height in
-      let again = built_again n h f g i.apart r.renewed (ap forks_above r.left ∙ e.0) (ap forks_above r.right ∙ e.1) in
+      let again = built_again n h f g i.apart r.renewed (ap node_height r.left ∙ e.0) (ap node_height r.right ∙ e.1) in
       record {
         built = again.0;
         height = again.1;
         turns = omega (
           arith,
           r.turns,
-          one_fork (forks_above n) (forks_above (cond left f.left f.right)) below.turns
-              (4 * max (forks_above (cond left k f.left)) (forks_above (cond left f.right k)) + 24) lower part.turns
+          one_fork (node_height n) (node_height (cond left f.left f.right)) below.turns
+              (4 * max (node_height (cond left k f.left)) (node_height (cond left f.right k)) + 24) lower part.turns
               (omega (arith, i.apart.height, e.0, e.1)),
         );
-        closed = subst (IsClosedOver p above.sides) (sym both_points)
-            (closed_within p below.sides above.sides (points_below k) _
-            (among_with left f.left f.right k) part.closed r.closes);
+        unaffected = subst (IsUnaffectedOver p above.sides) (sym both_points)
+            (unaffected_within p below.sides above.sides (points_below k) _
+            (among_with left f.left f.right k) part.unaffected r.closes);
       }
 
 -- so it has changed as the part
 pub changed_with : (left put : Bool) (p : Pair) (n : Node) (h : ℕ) (f g : Below) (k : Node) (below above : Changed)
     (b : Box Below _) → IsForkAt left p n h f → HasChanged put p (cond left f.left f.right) k below
-    → AreFewFor put (length (points_below n)) → forks_above n ≤ 28 → g ≡ with_part left f k
+    → AreFewFor put (length (points_below n)) → node_height n ≤ 28 → g ≡ with_part left f k
     → IsRenewedAfter p below g b.value above → HasChanged put p n (Fork h b) above
 changed_with left put p n h f g k below above b i d few low e r = go put d altered
   where
@@ -314,8 +314,8 @@ module _ (p : Pair) (n : Node) (b : Box BucketValue _) (w v : BucketValue) (r : 
       go (Ok change) h = tt
       go (Err times) h = ap (λ z. Leaf (with_value b z)) (h ∙ d) ∙ sym e
 
-  pub leaf_told : IfErr r (λ times. times ≡ counted w.points w.times p) → IfErr r (λ times. times ≡ times_at n p)
-  leaf_told h = subst (λ z. IfErr r (λ times. times ≡ z))
+  pub leaf_returned : IfErr r (λ times. times ≡ counted w.points w.times p) → IfErr r (λ times. times ≡ times_at n p)
+  leaf_returned h = subst (λ z. IfErr r (λ times. times ≡ z))
       (ap (λ (z : BucketValue). counted z.points z.times p) d ∙ sym (ap (λ z. times_at z p) e)) h
 
 -- a bucket with other points is in place where it was
@@ -325,7 +325,7 @@ leaf_in_place p b c v change f h u = record {
   built = leaf_built c v f h;
   height = refl;
   turns = omega (arith, u.turns);
-  closed = subst (λ (z : BucketValue). IsClosedOver p change.sides z.points) (sym f) u.closed;
+  unaffected = subst (λ (z : BucketValue). IsUnaffectedOver p change.sides z.points) (sym f) u.unaffected;
 }
 
 -- p was added to a bucket, or removed from it
@@ -354,4 +354,4 @@ pub leaf_changed : (put : Bool) (p : Pair) (n : Node) (b c : Box BucketValue _) 
     → n ≡ Leaf b → w ≡ b.value → c.value ≡ v → IsBucket v → IfOk r (HasChangedIn put p w v)
     → IfOk r (HasChanged put p n (Leaf c))
 leaf_changed put p n b c w v (Err none) e d f h change = tt
-leaf_changed put p n b c w v (Ok told) e d f h change = grind (arith, common_steps, changed_leaf)
+leaf_changed put p n b c w v (Ok returned) e d f h change = grind (arith, common_steps, changed_leaf)

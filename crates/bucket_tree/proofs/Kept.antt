@@ -7,7 +7,7 @@ use Rattle.lattice.specs.Bridges.{IsBridge}
 use Rattle.lattice.specs.Covers.{IsPointSet, with_point, without_point}
 use Rattle.lattice.specs.Plane.{Pair, IsBefore}
 use Rattle.lattice.specs.Standing.{IsInnerToEdge, WithoutPoint}
-use Rattle.hull_geometry.specs.Fringes.{IsFringe}
+use Rattle.hull_geometry.specs.CandidateLists.{IsCandidateList}
 use Rattle.hull_set.proofs.Times.{same_or_other}
 use Rattle.lattice.specs.declared.side.Side.{Side}
 use Rattle.lattice.proofs.Order.{before_trans, before_irrefl, before_not, before_apart, after_apart}
@@ -20,16 +20,16 @@ use Rattle.hull_geometry.proofs.SetLaws.{with_point_law, without_point_law}
 use Rattle.hull_buckets.specs.Buckets.{IsCovered}
 use Rattle.bucket_tree.proofs.SetEnds.{by_last, by_first, last_among, first_among}
 use Rattle.bridge_search.specs.Trees.{On}
-use Rattle.hull_geometry.proofs.Fringed.{of_fringes}
+use Rattle.hull_geometry.proofs.Fringed.{of_candidate_lists}
 use Rattle.lattice.specs.declared.side.Side.TheVariants.{Lower, Upper}
-use Rattle.bucket_tree.proofs.NodeFringes.{node_fringe}
+use Rattle.bucket_tree.proofs.NodeCandidateLists.{node_candidates}
 use Rattle.bucket_tree.proofs.NodePoints.{some_below}
-use Rattle.bucket_tree.specs.Changes.{IsClearOf, IsBridgeBetween, IsBehind, IsClosedOver, ClosesBy, is_open, edge_on}
+use Rattle.bucket_tree.specs.Changes.{IsClearOf, IsBridgeBetween, IsBehind, IsUnaffectedOver, ClosesBy, is_affected, edge_on}
 use Rattle.bucket_tree.specs.Nodes.{tree_of, points_below, AreInRow, IsWellBuilt}
 use Rattle.bucket_tree.specs.declared.node.Fork.{Fork}
 use Rattle.bucket_tree.specs.declared.node.Node.{Node}
 use Rattle.bucket_tree.specs.declared.node.Node as node
-use Rattle.bucket_tree.specs.declared.renewal.Open.{Open}
+use Rattle.bucket_tree.specs.declared.renewal.Affected.{Affected}
 
 -- T has the points of S except for p, which may have been added or removed
 pub record DiffersAt (p : Pair) (S T : List Pair) : Type 0 where
@@ -74,9 +74,9 @@ clear_covered side p e k =
     )
 
 -- a set without a point that is under two others is a candidate list of it
-fringe_without : (side : Side) (S : List Pair) (u a b : Pair) → Contains S a → Contains S b → IsInwards side a b u
-    → IsFringe side (WithoutPoint u (Contains S)) (Contains S)
-fringe_without side S u a b i j k = record {
+candidates_without : (side : Side) (S : List Pair) (u a b : Pair) → Contains S a → Contains S b → IsInwards side a b u
+    → IsCandidateList side (WithoutPoint u (Contains S)) (Contains S)
+candidates_without side S u a b i j k = record {
   among = λ t h. h.1;
   under = λ t h. elim (same_or_other t u) [
     | inl e ↦ inr (
@@ -91,22 +91,22 @@ fringe_without side S u a b i j k = record {
 }
 
 -- all of a set is a candidate list of it
-all_fringe : (side : Side) (S : List Pair) → IsFringe side (Contains S) (Contains S)
-all_fringe side S = record { among = λ t h. h; under = λ t h. inl h }
+all_candidates : (side : Side) (S : List Pair) → IsCandidateList side (Contains S) (Contains S)
+all_candidates side S = record { among = λ t h. h; under = λ t h. inl h }
 
 -- so it ends no bridge in the first of two sets
 no_start : (side : Side) (l r : List Pair) (u v a b : Pair) → IsPointSet (l ++ r)
     → IsBridge side (Contains l) (Contains r) u v → Contains l a → Contains l b → IsInwards side a b u → ⊥
 no_start side l r u v a b s h i j k =
-    ((of_fringes side (WithoutPoint u (Contains l)) (Contains l) (Contains r) (Contains r) u v
-    (fringe_without side l u a b i j k) (all_fringe side r) (λ p q x y. set_apart l r p q s x y)).1 h).from_left.0 refl
+    ((of_candidate_lists side (WithoutPoint u (Contains l)) (Contains l) (Contains r) (Contains r) u v
+    (candidates_without side l u a b i j k) (all_candidates side r) (λ p q x y. set_apart l r p q s x y)).1 h).from_left.0 refl
 
 -- nor in the second
 no_end : (side : Side) (l r : List Pair) (u v a b : Pair) → IsPointSet (l ++ r)
     → IsBridge side (Contains l) (Contains r) u v → Contains r a → Contains r b → IsInwards side a b v → ⊥
 no_end side l r u v a b s h i j k =
-    ((of_fringes side (Contains l) (Contains l) (WithoutPoint v (Contains r)) (Contains r) u v
-    (all_fringe side l) (fringe_without side r v a b i j k) (λ p q x y. set_apart l r p q s x y)).1 h).to_right.0 refl
+    ((of_candidate_lists side (Contains l) (Contains l) (WithoutPoint v (Contains r)) (Contains r) u v
+    (all_candidates side l) (candidates_without side r v a b i j k) (λ p q x y. set_apart l r p q s x y)).1 h).to_right.0 refl
 
 -- points that cover p on a side were there before
 covering : (side : Side) (p : Pair) (S T : List Pair) → DiffersAt p S T → IsCovered side p T → IsCovered side p S
@@ -148,39 +148,39 @@ same_edges f g l u Lower = l
 same_edges f g l u Upper = u
 
 -- a fork whose edges are those of another is stale like that one
-pub edges_as : (p : Pair) (sides : Open) (l r : Node) (f g : Fork)
-    → ((side : Side) → is_open side sides ≡ false → IsBridgeBetween side l r (edge_on side f))
+pub edges_as : (p : Pair) (sides : Affected) (l r : Node) (f g : Fork)
+    → ((side : Side) → is_affected side sides ≡ false → IsBridgeBetween side l r (edge_on side f))
     → ((side : Side) → IsClearOf side (edge_on side f) p → IsBridgeBetween side l r (edge_on side f))
     → ((side : Side) → edge_on side g ≡ edge_on side f)
-    → ((side : Side) → is_open side sides ≡ false → IsBridgeBetween side l r (edge_on side g))
+    → ((side : Side) → is_affected side sides ≡ false → IsBridgeBetween side l r (edge_on side g))
     × ((side : Side) → IsClearOf side (edge_on side g) p → IsBridgeBetween side l r (edge_on side g))
-edges_as p sides l r f g closed clear same = (
-  λ side o. subst (IsBridgeBetween side l r) (sym (same side)) (closed side o),
+edges_as p sides l r f g unaffected clear same = (
+  λ side o. subst (IsBridgeBetween side l r) (sym (same side)) (unaffected side o),
   λ side z. subst (IsBridgeBetween side l r) (sym (same side))
       (clear side (subst (λ e. IsClearOf side e p) (same side) z)),
 )
 
-pub behind_as : (p : Pair) (sides : Open) (l r : Node) (f g : Fork)
-    → ((side : Side) → is_open side sides ≡ false → IsBridgeBetween side l r (edge_on side f))
+pub behind_as : (p : Pair) (sides : Affected) (l r : Node) (f g : Fork)
+    → ((side : Side) → is_affected side sides ≡ false → IsBridgeBetween side l r (edge_on side f))
     → ((side : Side) → IsClearOf side (edge_on side f) p → IsBridgeBetween side l r (edge_on side f))
     → ((side : Side) → edge_on side g ≡ edge_on side f) → g.last_left ≡ last_of (points_below l)
-    → g.first_right ≡ first_of (points_below r) → IsBehind p sides l r g
-behind_as p sides l r f g closed clear same last first =
-    let e = edges_as p sides l r f g closed clear same in
-    record { last = last; first = first; closed = e.0; clear = e.1 }
+    → g.right_first ≡ first_of (points_below r) → IsBehind p sides l r g
+behind_as p sides l r f g unaffected clear same last first =
+    let e = edges_as p sides l r f g unaffected clear same in
+    record { last = last; first = first; unaffected = e.0; clear = e.1 }
 
 -- ---- sides
 
 -- both chains are unaffected by p if each is
-pub closing : (p : Pair) (S : List Pair) (sides : Open) → (sides.lower ≡ false → IsCovered Lower p S)
-    → (sides.upper ≡ false → IsCovered Upper p S) → IsClosedOver p sides S
+pub closing : (p : Pair) (S : List Pair) (sides : Affected) → (sides.lower ≡ false → IsCovered Lower p S)
+    → (sides.upper ≡ false → IsCovered Upper p S) → IsUnaffectedOver p sides S
 closing p S sides l u Lower e = l e
 closing p S sides l u Upper e = u e
 
 -- what covers p without it still covers it after it was removed
-pub closed_without : (p : Pair) (S : List Pair) (sides : Open) → IsPointSet S → IsClosedOver p sides S
-    → IsClosedOver p sides (without_point p S)
-closed_without p S sides s c side e =
+pub unaffected_without : (p : Pair) (S : List Pair) (sides : Affected) → IsPointSet S → IsUnaffectedOver p sides S
+    → IsUnaffectedOver p sides (without_point p S)
+unaffected_without p S sides s c side e =
     let k = c side e in (
       k.0,
       k.1,
@@ -190,7 +190,7 @@ closed_without p S sides s c side e =
     )
 
 -- a fork makes a chain unaffected that was already, or on which its points cover p
-pub closes_by : (p : Pair) (before after : Open) (S : List Pair)
+pub closes_by : (p : Pair) (before after : Affected) (S : List Pair)
     → (after.lower ≡ false → (before.lower ≡ false) ⊎ IsCovered Lower p S)
     → (after.upper ≡ false → (before.upper ≡ false) ⊎ IsCovered Upper p S) → ClosesBy p before after S
 closes_by p before after S l u Lower e = l e
@@ -209,16 +209,16 @@ covered_by side p l r e k b =
     )
 
 -- the same by a fork that is one change stale
-pub covered_at : (side : Side) (p : Pair) (l r : Node) (sides : Open) (f : Fork) → IsBehind p sides l r f
+pub covered_at : (side : Side) (p : Pair) (l r : Node) (sides : Affected) (f : Fork) → IsBehind p sides l r f
     → (n : Bool) → (n ≡ false) ⊎ IsInwards side (edge_on side f).0 (edge_on side f).1 p
     → (n ≡ false) ⊎ IsCovered side p (points_below l ++ points_below r)
 covered_at side p l r sides f h n (inl k) = inl k
 covered_at side p l r sides f h n (inr k) = inr (covered_by side p l r (edge_on side f) k (h.clear side))
 
 -- what covers p in a part covers it in both
-pub closed_within : (p : Pair) (before after : Open) (S T : List Pair) → ((t : Pair) → Contains S t → Contains T t)
-    → IsClosedOver p before S → ClosesBy p before after T → IsClosedOver p after T
-closed_within p before after S T within c h side e = elim (h side e) [
+pub unaffected_within : (p : Pair) (before after : Affected) (S T : List Pair) → ((t : Pair) → Contains S t → Contains T t)
+    → IsUnaffectedOver p before S → ClosesBy p before after T → IsUnaffectedOver p after T
+unaffected_within p before after S T within c h side e = elim (h side e) [
   | inl o ↦ let i = c side o in (i.0, i.1, within i.0 i.2, within i.1 i.3, i.4)
   | inr i ↦ i
 ]
@@ -235,9 +235,9 @@ stored n h f e w side = go side
 
     of_points : (side : Side) (u v : Pair) → IsBridge side (On (tree_of f.value.left)) (On (tree_of f.value.right)) u v
         → IsBridge side (Contains (points_below f.value.left)) (Contains (points_below f.value.right)) u v
-    of_points side u v = (of_fringes side (On (tree_of f.value.left)) (Contains (points_below f.value.left))
+    of_points side u v = (of_candidate_lists side (On (tree_of f.value.left)) (Contains (points_below f.value.left))
         (On (tree_of f.value.right)) (Contains (points_below f.value.right)) u v
-        (node_fringe side f.value.left b.buckets.0) (node_fringe side f.value.right b.buckets.1)
+        (node_candidates side f.value.left b.buckets.0) (node_candidates side f.value.right b.buckets.1)
         (λ p q i j. set_apart (points_below f.value.left) (points_below f.value.right) p q b.ordered i j)).0
 
     go : (side : Side) → IsBridgeBetween side f.value.left f.value.right (edge_on side f.value)
@@ -258,11 +258,11 @@ stored_apart n h f l r g e w a b c d side =
     same Upper = d
 
 -- the bridge of all points below two nodes in a row is that of their vertices
-pub of_corners : (side : Side) (l r : Node) (e : Pair × Pair) → AreInRow l r → IsBridgeBetween side l r e
+pub of_vertices : (side : Side) (l r : Node) (e : Pair × Pair) → AreInRow l r → IsBridgeBetween side l r e
     → IsBridge side (On (tree_of l)) (On (tree_of r)) e.0 e.1
-of_corners side l r e w b = (of_fringes side (On (tree_of l)) (Contains (points_below l)) (On (tree_of r))
-    (Contains (points_below r)) e.0 e.1 (node_fringe side l w.left_built.buckets)
-    (node_fringe side r w.right_built.buckets)
+of_vertices side l r e w b = (of_candidate_lists side (On (tree_of l)) (Contains (points_below l)) (On (tree_of r))
+    (Contains (points_below r)) e.0 e.1 (node_candidates side l w.left_built.buckets)
+    (node_candidates side r w.right_built.buckets)
     (λ p q i j. set_apart (points_below l) (points_below r) p q w.in_order i j)).1 b
 
 -- ---- the ends of a part

@@ -1,5 +1,5 @@
 pub mod NodePoints
-pub mod NodeFringes
+pub mod NodeCandidateLists
 pub mod NodeSizes
 pub mod NodeAnswers
 pub mod NodeRows

@@ -9,10 +9,10 @@ use Rattle.lattice.specs.Plane.{Pair, IsBefore}
 use Rattle.lattice.proofs.Order.{before_trans, before_irrefl, before_not, is_before-true, is_before-false}
 use Rattle.hull_geometry.specs.Positions.{IsPositionOf, point_at, origin, last_of}
 use Rattle.hull_geometry.proofs.PointLists.{AllPairs-head, AllPairs-tail, all_of}
-use Rattle.leaf_trees.specs.Stretches.{entries_from}
-use Rattle.leaf_trees.proofs.Stretches.{from_append, none_from, take_more, take_least}
+use Rattle.leaf_trees.specs.ChainRanges.{entries_from}
+use Rattle.leaf_trees.proofs.ChainRanges.{from_append, none_from, take_more, take_least}
 use Rattle.bucket_tree.specs.Lists.{paired, entries_below}
-use Rattle.bucket_tree.specs.Nodes.{points_below, forks_above, HasBuckets, IsWellBuilt}
+use Rattle.bucket_tree.specs.Nodes.{points_below, node_height, HasBuckets, IsWellBuilt}
 use Rattle.bucket_tree.specs.declared.node.Fork.{Fork as Below}
 use Rattle.bucket_tree.specs.declared.node.Node.{Node, Fork}
 use Rattle.bucket_tree.proofs.Gained.{counts_below}
@@ -25,7 +25,7 @@ pub record HasParts (n l r : Node) : Type 0 where
   pub entries : entries_below n ≡ entries_below l ++ entries_below r
   pub long : length (points_below n) ≡ length (points_below l) + length (points_below r)
   pub left_long : length (entries_below l) ≡ length (points_below l)
-  pub height : forks_above n ≡ max (forks_above l) (forks_above r) + 1
+  pub height : node_height n ≡ max (node_height l) (node_height r) + 1
   pub left_buckets : HasBuckets l
   pub right_buckets : HasBuckets r
 

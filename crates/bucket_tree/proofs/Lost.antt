@@ -113,15 +113,15 @@ pub lower_right : (a l r h n : ℕ) → a ≤ r → r ≤ a + 1 → AreNear l r 
 lower_right a l r h n u v w e k = grind (arith, common_steps, cases_lt)
 
 -- or that are one bucket, if the fork over both was the only one
-pub settled_left : (a l r h n m : ℕ) → a ≤ l → l ≤ a + 1 → AreNear l r → n ≡ max l r + 1 → m ≡ n
+pub prepared_left : (a l r h n m : ℕ) → a ≤ l → l ≤ a + 1 → AreNear l r → n ≡ max l r + 1 → m ≡ n
     → IsHeightOver a r h ⊎ ((m ≡ 1) × (h ≡ 0)) → (h ≤ n) × (n ≤ h + 1)
-settled_left a l r h n m u v w e f (inl k) = lower_left a l r h n u v w e k
-settled_left a l r h n m u v w e f (inr k) = (omega (arith, k.0, k.1, f), omega (arith, k.0, k.1, f))
+prepared_left a l r h n m u v w e f (inl k) = lower_left a l r h n u v w e k
+prepared_left a l r h n m u v w e f (inr k) = (omega (arith, k.0, k.1, f), omega (arith, k.0, k.1, f))
 
-pub settled_right : (a l r h n m : ℕ) → a ≤ r → r ≤ a + 1 → AreNear l r → n ≡ max l r + 1 → m ≡ n
+pub prepared_right : (a l r h n m : ℕ) → a ≤ r → r ≤ a + 1 → AreNear l r → n ≡ max l r + 1 → m ≡ n
     → IsHeightOver l a h ⊎ ((m ≡ 1) × (h ≡ 0)) → (h ≤ n) × (n ≤ h + 1)
-settled_right a l r h n m u v w e f (inl k) = lower_right a l r h n u v w e k
-settled_right a l r h n m u v w e f (inr k) = (omega (arith, k.0, k.1, f), omega (arith, k.0, k.1, f))
+prepared_right a l r h n m u v w e f (inl k) = lower_right a l r h n u v w e k
+prepared_right a l r h n m u v w e f (inr k) = (omega (arith, k.0, k.1, f), omega (arith, k.0, k.1, f))
 
 -- ---- finding
 

@@ -5,7 +5,7 @@ use Rattle.lattice.specs.Plane.{Pair}
 use Rattle.bridge_search.specs.Leaves.{points_of}
 use Rattle.bridge_search.specs.Trees.{Tree}
 use Rattle.bridge_search.proofs.Leaves.{points_not_none}
-use Rattle.hull_geometry.specs.Fringes.{AnswersFor}
+use Rattle.hull_geometry.specs.CandidateLists.{AnswersFor}
 use Rattle.hull_geometry.specs.declared.hand.Hand.TheVariants.{Left, Right}
 use Rattle.hull_set.specs.Replies.{LiesAt, AnswersTangents, reply_to_tangents}
 use Rattle.hull_set.specs.declared.set.Place.{Place}

@@ -7,7 +7,7 @@ use Rattle.std.proofs.Math.Seq.{get_or-append_right}
 use Rattle.std.proofs.lemmas.List.{length-append}
 use Rattle.lattice.specs.Plane.{Pair}
 use Rattle.hull_geometry.specs.Positions.{origin, first_of, last_of}
-use Rattle.bucket_tree.specs.declared.node.Node.{Node, Leaf, Fork', Gap, Fork}
+use Rattle.bucket_tree.specs.declared.node.Node.{Node, Leaf, Fork', Taken, Fork}
 use Rattle.bucket_tree.specs.declared.node.Fork.{Fork as Below}
 use Rattle.bucket_tree.specs.Nodes.{points_below, HasBuckets, IsWhole}
 
@@ -22,15 +22,15 @@ last_join xs ys h = grind (arith, common_steps, get_or-append_right, origin, len
 -- there is a point below each node
 pub some_below : (n : Node) → HasBuckets n → 0 < length (points_below n)
 some_below (Leaf b) h = h.some
-some_below (Fork' height i first_right left right last_left upper lower) h =
+some_below (Fork' height i right_first left right last_left upper lower) h =
     omega (arith, length-append (points_below left) (points_below right), some_below left h.0)
-some_below Gap h = absurd h
+some_below Taken h = absurd h
 
 -- if all below a node are buckets, no gap is left
 pub whole : (n : Node) → HasBuckets n → IsWhole n
 whole (Leaf b) h = tt
-whole (Fork' height i first_right left right last_left upper lower) h = (whole left h.0, whole right h.1)
-whole Gap h = absurd h
+whole (Fork' height i right_first left right last_left upper lower) h = (whole left h.0, whole right h.1)
+whole Taken h = absurd h
 
 -- the first point below a fork is that below its left half
 pub first_of_fork : (n : Node) (h : ℕ) (f : Box Below _) → n ≡ Fork h f → HasBuckets n

@@ -3,27 +3,27 @@ use Rattle.std.proofs.Common.{◌≡◌, ℕ, ◌≤◌, ◌+◌, List, ◌++◌
 use Rattle.lattice.specs.Bridges.{IsAllBefore}
 use Rattle.lattice.specs.declared.side.Side.TheVariants.{Lower}
 use Rattle.bridge_search.specs.Trees.{On, height_of}
-use Rattle.hull_buckets.proofs.RunBridges.{bucket_low}
+use Rattle.hull_buckets.proofs.SliceBridges.{bucket_low}
 use Rattle.lattice.specs.Covers.{IsPointSet}
 use Rattle.lattice.specs.Plane.{Pair}
 use Rattle.hull_geometry.proofs.PointLists.{append_twice}
 use Rattle.hull_geometry.proofs.PointSets.{set_apart, set_left, set_right}
 use Rattle.bucket_tree.specs.declared.node.Fork.{Fork as Below}
-use Rattle.bucket_tree.specs.declared.node.Node.{Node, Leaf, Fork', Fork, Gap}
-use Rattle.bucket_tree.specs.Nodes.{tree_of, points_below, forks_above, HasBuckets, IsWellBuilt, AreInRow}
-use Rattle.bucket_tree.proofs.NodeFringes.{node_fringe}
+use Rattle.bucket_tree.specs.declared.node.Node.{Node, Leaf, Fork', Fork, Taken}
+use Rattle.bucket_tree.specs.Nodes.{tree_of, points_below, node_height, HasBuckets, IsWellBuilt, AreInRow}
+use Rattle.bucket_tree.proofs.NodeCandidateLists.{node_candidates}
 
 -- all vertices of the one are before all of the other
-pub corners_in_row : (l r : Node) → AreInRow l r → IsAllBefore (On (tree_of l)) (On (tree_of r))
-corners_in_row l r w p q i j = set_apart (points_below l) (points_below r) p q w.in_order
-    ((node_fringe Lower l w.left_built.buckets).among p i) ((node_fringe Lower r w.right_built.buckets).among q j)
+pub vertices_in_row : (l r : Node) → AreInRow l r → IsAllBefore (On (tree_of l)) (On (tree_of r))
+vertices_in_row l r w p q i j = set_apart (points_below l) (points_below r) p q w.in_order
+    ((node_candidates Lower l w.left_built.buckets).among p i) ((node_candidates Lower r w.right_built.buckets).among q j)
 
 -- the vertices' half is at most 6 higher than the tree of forks
-pub corners_low : (n : Node) → HasBuckets n → height_of (tree_of n) ≤ forks_above n + 6
-corners_low (Leaf b) h = bucket_low b.value h
-corners_low (Fork' height i first_right left right last_left upper lower) h =
-    omega (arith, corners_low left h.0, corners_low right h.1)
-corners_low Gap h = absurd h
+pub vertices_low : (n : Node) → HasBuckets n → height_of (tree_of n) ≤ node_height n + 6
+vertices_low (Leaf b) h = bucket_low b.value h
+vertices_low (Fork' height i right_first left right last_left upper lower) h =
+    omega (arith, vertices_low left h.0, vertices_low right h.1)
+vertices_low Taken h = absurd h
 
 -- ---- rows of lists
 

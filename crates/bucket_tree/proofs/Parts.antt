@@ -14,12 +14,12 @@ use Rattle.hull_geometry.proofs.PointLists.{append_none}
 use Rattle.hull_geometry.proofs.SetLaws.{ordered_with, ordered_without}
 use Rattle.hull_set.specs.declared.TheConstants.{POINT_LIMIT}
 use Rattle.leaf_trees.proofs.Rows.{with_left, with_right, with_length, without_left, without_right, without_short}
-use Rattle.bucket_tree.specs.Changes.{IsBridgeBetween, IsClearOf, IsClosedOver, edge_on, is_open}
+use Rattle.bucket_tree.specs.Changes.{IsBridgeBetween, IsClearOf, IsUnaffectedOver, edge_on, is_affected}
 use Rattle.bucket_tree.specs.Counts.{times_at, Alters, HasLost, IsCounted, Kind, Comes, Goes, altered}
-use Rattle.bucket_tree.specs.Nodes.{points_below, times_below, forks_above, AreInRow, IsWellBuilt}
+use Rattle.bucket_tree.specs.Nodes.{points_below, times_below, node_height, AreInRow, IsWellBuilt}
 use Rattle.bucket_tree.specs.declared.node.Fork.{Fork as Below}
 use Rattle.bucket_tree.specs.declared.node.Node.{Node, Fork}
-use Rattle.bucket_tree.specs.declared.renewal.Open.{Open}
+use Rattle.bucket_tree.specs.declared.renewal.Affected.{Affected}
 use Rattle.bucket_tree.proofs.Gained.{all_after, all_before, held_row}
 use Rattle.bucket_tree.proofs.Kept.{DiffersAt, differs_not, differs_with, differs_without, still, clear_left}
 use Rattle.bucket_tree.proofs.Kept.{clear_right}
@@ -58,12 +58,12 @@ altered_differs (Comes true) p S s = differs_not p S
 altered_differs Goes p S s = differs_without p S s
 
 -- a set has capacity for the change
-abbrev pub HasRoomFor : Kind → Pair → List Pair → Type 0
-HasRoomFor (Comes refused) p S = ¬ Contains S p × (length S < POINT_LIMIT)
-HasRoomFor Goes p S = length S ≤ POINT_LIMIT
+abbrev pub HasSpaceFor : Kind → Pair → List Pair → Type 0
+HasSpaceFor (Comes refused) p S = ¬ Contains S p × (length S < POINT_LIMIT)
+HasSpaceFor Goes p S = length S ≤ POINT_LIMIT
 
 -- so they are no more than it may have
-altered_few : (kind : Kind) (p : Pair) (S : List Pair) → HasRoomFor kind p S → length (altered kind p S) ≤ POINT_LIMIT
+altered_few : (kind : Kind) (p : Pair) (S : List Pair) → HasSpaceFor kind p S → length (altered kind p S) ≤ POINT_LIMIT
 altered_few (Comes false) p S h = omega (arith, h.1, with_length p S h.0)
 altered_few (Comes true) p S h = omega (arith, h.1)
 altered_few Goes p S h = omega (arith, h, without_short p S)
@@ -141,11 +141,11 @@ row_with left kind p n l r m i w h =
 
 -- they are no more than a set may have
 pub few_with : (left : Bool) (kind : Kind) (p : Pair) (n l r m : Node) → IsAt left p n l r
-    → Alters kind p (cond left l r) m → HasRoomFor kind p (points_below n)
+    → Alters kind p (cond left l r) m → HasSpaceFor kind p (points_below n)
     → length (points_below (cond left m l) ++ points_below (cond left r m)) ≤ POINT_LIMIT
-few_with left kind p n l r m i h room =
+few_with left kind p n l r m i h space =
     subst (λ (z : List Pair). length z ≤ POINT_LIMIT) (sym (points_with left kind p n l r m i h))
-    (altered_few kind p (points_below n) room)
+    (altered_few kind p (points_below n) space)
 
 -- and a node over both has changed as the part
 pub alters_with : (left : Bool) (kind : Kind) (p : Pair) (n l r m whole : Node) → IsAt left p n l r → IsWellBuilt m
@@ -166,7 +166,7 @@ alters_with left kind p n l r m whole i w e f h =
 
 -- if the subtree has lost its only point, the other one is the rest
 pub lost_with_none : (left : Bool) (p : Pair) (n l r : Node) → IsAt left p n l r → HasLost p (cond left l r) None
-    → forks_above n ≡ max (forks_above l) (forks_above r) + 1 → HasLost p n (Some (cond left r l))
+    → node_height n ≡ max (node_height l) (node_height r) + 1 → HasLost p n (Some (cond left r l))
 lost_with_none true p n l r i h high = (
   i.row.right_built,
   ap (λ z. z ++ points_below r) (sym (ap (without_point p) h.0 ∙ without_only p))
@@ -188,9 +188,9 @@ lost_with_none false p n l r i h high = (
 
 -- a fork has a point in the half in which it is
 pub count_in : (left : Bool) (n : Node) (h : ℕ) (f : Box Below _) (p : Pair) → n ≡ Fork h f → IsWellBuilt n
-    → BelongsTo left p f.value.first_right → times_at n p ≡ times_at (cond left f.value.left f.value.right) p
+    → BelongsTo left p f.value.right_first → times_at n p ≡ times_at (cond left f.value.left f.value.right) p
 count_in left n h f p e w b = same_at left p n f.value.left f.value.right
-    (at left p n f.value.left f.value.right f.value.first_right (halves_row n h f e w) (ap points_below e)
+    (at left p n f.value.left f.value.right f.value.right_first (halves_row n h f e w) (ap points_below e)
     (ap times_below e) (subst IsWellBuilt e w).labelled.1 b)
 
 -- ---- bridges
@@ -228,14 +228,14 @@ is_refused (Comes refused) = refused
 is_refused Goes = false
 
 -- so on an unaffected chain the bridge stays valid
-pub closed_with : (left : Bool) (kind : Kind) (p : Pair) (l r m : Node) (sides : Open) (f : Below) → AreInRow l r
+pub unaffected_with : (left : Bool) (kind : Kind) (p : Pair) (l r m : Node) (sides : Affected) (f : Below) → AreInRow l r
     → ((side : Side) → IsBridgeBetween side l r (edge_on side f)) → Alters kind p (cond left l r) m
     → DiffersAt p (points_below (cond left l r)) (points_below m)
-    → (is_refused kind ≡ false → IsClosedOver p sides (points_below m)) → (side : Side)
-    → is_open side sides ≡ false → IsBridgeBetween side (cond left m l) (cond left r m) (edge_on side f)
-closed_with left (Comes true) p l r m sides f row b h d c side o =
+    → (is_refused kind ≡ false → IsUnaffectedOver p sides (points_below m)) → (side : Side)
+    → is_affected side sides ≡ false → IsBridgeBetween side (cond left m l) (cond left r m) (edge_on side f)
+unaffected_with left (Comes true) p l r m sides f row b h d c side o =
     same_with left side l r m (edge_on side f) h.0 (b side)
-closed_with left (Comes false) p l r m sides f row b h d c side o = stands_with left side p l r m (edge_on side f)
+unaffected_with left (Comes false) p l r m sides f row b h d c side o = stands_with left side p l r m (edge_on side f)
     (b side) d (clear_with left side p l r m (edge_on side f) row (b side) d (c refl side o))
-closed_with left Goes p l r m sides f row b h d c side o = stands_with left side p l r m (edge_on side f)
+unaffected_with left Goes p l r m sides f row b h d c side o = stands_with left side p l r m (edge_on side f)
     (b side) d (clear_with left side p l r m (edge_on side f) row (b side) d (c refl side o))

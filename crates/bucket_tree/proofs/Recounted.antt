@@ -14,14 +14,14 @@ use Rattle.lattice.specs.declared.side.Side.TheVariants.{Lower, Upper}
 use Rattle.bridge_search.specs.Trees.{IsBridged, Leaf as LeafTree, Fork as ForkTree}
 use Rattle.hull_geometry.specs.Positions.{IsPositionOf, origin, point_at, first_of, last_of}
 use Rattle.hull_buckets.specs.Buckets.{BucketValue, mask_on}
-use Rattle.hull_buckets.specs.Runs.{width_of, left_run, right_run, end_of_run, start_of_run}
-use Rattle.hull_buckets.specs.Runs.{tree_by, tree_to, tree_of_run, all_of}
+use Rattle.hull_buckets.specs.Slices.{width_of, left_slice, right_slice, end_of_slice, start_of_slice}
+use Rattle.hull_buckets.specs.Slices.{tree_by, tree_to, tree_of_slice, all_of}
 use Rattle.hull_buckets.specs.Masks.{lowest_of}
 use Rattle.bucket_tree.specs.Counts.{counted, times_at, IsSameButTimes, IsRecounted}
 use Rattle.leaf_trees.specs.Entries.{several}
 use Rattle.bucket_tree.specs.declared.node.Fork.{Fork as Below}
 use Rattle.bucket_tree.specs.declared.node.Node.{Node, Leaf, Fork}
-use Rattle.bucket_tree.specs.Nodes.{tree_of, tree_of_bucket, points_below, times_below, forks_above}
+use Rattle.bucket_tree.specs.Nodes.{tree_of, tree_of_bucket, points_below, times_below, node_height}
 use Rattle.bucket_tree.specs.Nodes.{AreInRow, IsWellBuilt}
 use Rattle.bucket_tree.proofs.BuiltLeaves.{leaf_built}
 use Rattle.bucket_tree.proofs.Gained.{held_row}
@@ -54,28 +54,28 @@ counted_over S P T U i n p q s e at f g =
     omega (arith, a, b, c, d, k)
 
 -- the half of a bucket does not depend on the multiplicities
-same_to : (a b : BucketValue) → a.points ≡ b.points → ((side : Side) → mask_on side a ≡ mask_on side b) → (n run : ℕ)
-    → tree_to n a run ≡ tree_to n b run
-same_to a b p m zero run = ap (λ z. LeafTree (point_at z (lowest_of run))) p
-same_to a b p m (suc n) run =
-    let l = same_to a b p m n (left_run run) in
-    let r = same_to a b p m n (right_run run) in
-    λ i. tree_by (width_of run) (LeafTree (point_at (p i) (lowest_of run)))
+same_to : (a b : BucketValue) → a.points ≡ b.points → ((side : Side) → mask_on side a ≡ mask_on side b) → (n slice : ℕ)
+    → tree_to n a slice ≡ tree_to n b slice
+same_to a b p m zero slice = ap (λ z. LeafTree (point_at z (lowest_of slice))) p
+same_to a b p m (suc n) slice =
+    let l = same_to a b p m n (left_slice slice) in
+    let r = same_to a b p m n (right_slice slice) in
+    λ i. tree_by (width_of slice) (LeafTree (point_at (p i) (lowest_of slice)))
     (ForkTree (
-      point_at (p i) (end_of_run (m Upper i) (left_run run)),
-      point_at (p i) (start_of_run (m Upper i) (right_run
-          run)),
+      point_at (p i) (end_of_slice (m Upper i) (left_slice slice)),
+      point_at (p i) (start_of_slice (m Upper i) (right_slice
+          slice)),
     ) (
-      point_at (p i) (end_of_run (m Lower i) (left_run run)),
-      point_at (p i) (start_of_run (m Lower i) (right_run
-          run)),
+      point_at (p i) (end_of_slice (m Lower i) (left_slice slice)),
+      point_at (p i) (start_of_slice (m Lower i) (right_slice
+          slice)),
     )
     (l i) (r i))
 
 same_half : (a b : BucketValue) → a.points ≡ b.points → ((side : Side) → mask_on side a ≡ mask_on side b)
     → tree_of_bucket a ≡ tree_of_bucket b
 same_half a b p m =
-    same_to a b p m (width_of (all_of a)) (all_of a) ∙ ap (tree_of_run b) (rw (m Upper, m Lower) refl)
+    same_to a b p m (width_of (all_of a)) (all_of a) ∙ ap (tree_of_slice b) (rw (m Upper, m Lower) refl)
 
 -- so for a leaf
 pub recounted_leaf : (times : ℕ) (p : Pair) (n : Node) (b c : Box BucketValue _) (v : BucketValue) → n ≡ Leaf b
@@ -84,7 +84,7 @@ pub recounted_leaf : (times : ℕ) (p : Pair) (n : Node) (b c : Box BucketValue 
     ≡ counted b.value.points b.value.times q + several times p q) → IsRecounted times p n (Leaf c)
 recounted_leaf times p n b c v e f h k = rw e (record {
   built = leaf_built c v f h.bucket;
-  same_tree = ap tree_of_bucket f ∙ same_half v b.value h.points h.corners;
+  same_tree = ap tree_of_bucket f ∙ same_half v b.value h.points h.vertices;
   same_points = ap (λ (z : BucketValue). z.points) f ∙ h.points;
   same_height = refl;
   held = λ q. ap (λ (z : BucketValue). counted z.points z.times q
@@ -98,7 +98,7 @@ record IsLike (n m : Node) : Type 0 where
   built : IsWellBuilt m
   tree : tree_of m ≡ tree_of n
   points : points_below m ≡ points_below n
-  height : forks_above m ≡ forks_above n
+  height : node_height m ≡ node_height n
 
 -- a part that was not changed
 like_itself : (n : Node) → IsWellBuilt n → IsLike n n
@@ -134,7 +134,7 @@ fork_like n h f l r e w u v =
       };
       tree = tree ∙ sym (ap tree_of e);
       points = points ∙ sym (ap points_below e);
-      height = omega (arith, ap forks_above e, u.height, v.height);
+      height = omega (arith, ap node_height e, u.height, v.height);
     }
   where
     points : points_below l ++ points_below r ≡ points_below f.value.left ++ points_below f.value.right
@@ -147,7 +147,7 @@ fork_like n h f l r e w u v =
 
 -- a point of one half, of a fork that is read through a reference
 pub recounted_in : (left : Bool) (times : ℕ) (p : Pair) (n : Node) (h : ℕ) (f : Box Below _) (v : Below) (k : Node)
-    → v ≡ f.value → n ≡ Fork h f → IsWellBuilt n → BelongsTo left p f.value.first_right
+    → v ≡ f.value → n ≡ Fork h f → IsWellBuilt n → BelongsTo left p f.value.right_first
     → IsRecounted times p (cond left v.left v.right) k
     → IsRecounted times p n (Fork h (with_value f (with_part left v k)))
 recounted_in left times p n h f v k u e w b r =

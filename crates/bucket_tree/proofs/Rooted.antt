@@ -11,15 +11,15 @@ use Rattle.hull_geometry.proofs.PointLists.{AllPairs-none}
 use Rattle.hull_set.proofs.Times.{same_held}
 use Rattle.leaf_trees.specs.Entries.{IsMultiplicity, IsTrueHeld, AreEntries, held_listed, points_listed, times_listed}
 use Rattle.leaf_trees.proofs.AddedSets.{entries_held, no_entries, none_listed}
-use Rattle.leaf_trees.proofs.Told.{live, dead}
+use Rattle.leaf_trees.proofs.Returned.{live, dead}
 use Rattle.bucket_tree.proofs.Lost.{without_only}
 use Rattle.leaf_trees.proofs.Rows.{with_length, without_length}
 use Rattle.bucket_tree.specs.Counts.{times_at, counted, HasLost}
 use Rattle.bucket_tree.specs.Lists.{entries_below, entries_of_root, numbers_listed}
-use Rattle.bucket_tree.specs.Nodes.{forks_above, points_below, times_below, HasBuckets, IsWellBuilt}
+use Rattle.bucket_tree.specs.Nodes.{node_height, points_below, times_below, HasBuckets, IsWellBuilt}
 use Rattle.bucket_tree.specs.Roots.{held_by, points_of_root, times_of_root, IsWellBuiltRoot}
 use Rattle.bucket_tree.specs.Sets.{IsLimited, IsSound}
-use Rattle.bucket_tree.specs.declared.node.Node.{Node, Leaf, Fork', Gap}
+use Rattle.bucket_tree.specs.declared.node.Node.{Node, Leaf, Fork', Taken}
 use Rattle.bucket_tree.proofs.Gained.{counts_below}
 use Rattle.bucket_tree.proofs.Listed.{paired_entries, paired_hold, paired_times, paired_again}
 use Rattle.bucket_tree.proofs.Listed.{numbers_held, numbers_length}
@@ -31,10 +31,10 @@ use Rattle.bucket_tree.proofs.NodeHeights.{no_higher}
 -- each point below a node has a multiplicity that a point may have
 pub multiplicities : (n : Node) → HasBuckets n → All IsMultiplicity (times_below n)
 multiplicities (Leaf b) h = h.held
-multiplicities (Fork' height i first_right left right last_left upper lower) h =
+multiplicities (Fork' height i right_first left right last_left upper lower) h =
     All-append IsMultiplicity (times_below left) (times_below right) (multiplicities left h.0)
     (multiplicities right h.1)
-multiplicities Gap h = absurd h
+multiplicities Taken h = absurd h
 
 -- what is below a node is listed by entries
 pub entries_are : (n : Node) → IsWellBuilt n → AreEntries (entries_below n)
@@ -97,7 +97,7 @@ limited_root root n count limit h e = subst (λ (z : Option Node). IsLimited z c
 
 -- and no higher than 28 forks
 pub low_root : (root : Option Node) (n : Node) (count limit : ℕ) → IsLimited root count limit → root ≡ Some n
-    → forks_above n ≤ 28
+    → node_height n ≤ 28
 low_root root n count limit h e = (sound (Some n) count limit (limited_root root n count limit h e)).low
 
 -- a point that has multiplicity one goes

@@ -12,19 +12,19 @@ use Rattle.hull_geometry.specs.Monotone.{IsInwards}
 use Rattle.hull_geometry.specs.Positions.{first_of, last_of}
 use Rattle.bucket_tree.specs.declared.node.Fork.{Fork}
 use Rattle.bucket_tree.specs.declared.node.Node.{Node}
-use Rattle.bucket_tree.specs.declared.renewal.Open.{Open}
+use Rattle.bucket_tree.specs.declared.renewal.Affected.{Affected}
 use Rattle.bucket_tree.specs.declared.renewal.Standing.{Standing}
 use Rattle.bucket_tree.specs.declared.renewal.Standing.TheVariants.{Covered, Clear, Touching}
 use Rattle.bucket_tree.specs.Nodes.{tree_of, points_below, AreInRow}
 
 -- whether a chain is affected: whether the change may matter on that side to the forks above
-abbrev pub is_open : Side → Open → Bool
-is_open Lower sides = sides.lower
-is_open Upper sides = sides.upper
+abbrev pub is_affected : Side → Affected → Bool
+is_affected Lower sides = sides.lower
+is_affected Upper sides = sides.upper
 
 -- if a chain is unaffected, the point is under an edge of the others
-abbrev pub IsClosedOver : Pair → Open → List Pair → Type 0
-IsClosedOver p sides S = (side : Side) → is_open side sides ≡ false → IsCovered side p S
+abbrev pub IsUnaffectedOver : Pair → Affected → List Pair → Type 0
+IsUnaffectedOver p sides S = (side : Side) → is_affected side sides ≡ false → IsCovered side p S
 
 -- the edge that a fork stores on a side
 abbrev pub edge_on : Side → Fork → Pair × Pair
@@ -40,42 +40,42 @@ abbrev pub IsClearOf : Side → Pair × Pair → Pair → Type 0
 IsClearOf side e p = ¬ (e.0 ≡ p) × ¬ (e.1 ≡ p) × IsInnerToEdge side e.0 e.1 p
 
 -- the meaning of each position of a point relative to an edge
-abbrev pub TellsOf : Side → Pair × Pair → Pair → Standing → Type 0
-TellsOf side e p Covered = IsInwards side e.0 e.1 p
-TellsOf side e p Clear = IsClearOf side e p
-TellsOf side e p Touching = Unit {0}
+abbrev pub ReturnsOf : Side → Pair × Pair → Pair → Standing → Type 0
+ReturnsOf side e p Covered = IsInwards side e.0 e.1 p
+ReturnsOf side e p Clear = IsClearOf side e p
+ReturnsOf side e p Touching = Unit {0}
 
 -- a stale fork: a fork over two subtrees, of which one changed at p since its edges were stored. It stores the points at the split; an edge is still
 -- the bridge if its chain is unaffected or if p is clear of it
-pub record IsBehind (p : Pair) (sides : Open) (l r : Node) (f : Fork) : Type 0 where
+pub record IsBehind (p : Pair) (sides : Affected) (l r : Node) (f : Fork) : Type 0 where
   pub last : f.last_left ≡ last_of (points_below l)
-  pub first : f.first_right ≡ first_of (points_below r)
-  pub closed : (side : Side) → is_open side sides ≡ false → IsBridgeBetween side l r (edge_on side f)
+  pub first : f.right_first ≡ first_of (points_below r)
+  pub unaffected : (side : Side) → is_affected side sides ≡ false → IsBridgeBetween side l r (edge_on side f)
   pub clear : (side : Side) → IsClearOf side (edge_on side f) p → IsBridgeBetween side l r (edge_on side f)
 
 -- the chains that are unaffected after a fork was compared are those that were, or those on which its points cover p
-abbrev pub ClosesBy : Pair → Open → Open → List Pair → Type 0
+abbrev pub ClosesBy : Pair → Affected → Affected → List Pair → Type 0
 ClosesBy p before after S =
-    (side : Side) → is_open side after ≡ false → (is_open side before ≡ false) ⊎ IsCovered side p S
+    (side : Side) → is_affected side after ≡ false → (is_affected side before ≡ false) ⊎ IsCovered side p S
 
 -- the edges that a fork stores are bridges unless a change at p may have altered them (as `IsBehind` says)
-pub record HasEdgesBehind (p : Pair) (sides : Open) (f : Fork) : Type 0 where
-  pub closed : (side : Side) → is_open side sides ≡ false → IsBridgeBetween side f.left f.right (edge_on side f)
+pub record HasEdgesBehind (p : Pair) (sides : Affected) (f : Fork) : Type 0 where
+  pub unaffected : (side : Side) → is_affected side sides ≡ false → IsBridgeBetween side f.left f.right (edge_on side f)
   pub clear : (side : Side) → IsClearOf side (edge_on side f) p → IsBridgeBetween side f.left f.right (edge_on side f)
 
 -- a fork whose left subtree changed at p since its edges and the last point there were stored
-pub record IsBehindLeft (p : Pair) (sides : Open) (f : Fork) : Type 0 where
+pub record IsBehindLeft (p : Pair) (sides : Affected) (f : Fork) : Type 0 where
   pub row : AreInRow f.left f.right
   pub edges : HasEdgesBehind p sides f
-  pub first : f.first_right ≡ first_of (points_below f.right)
+  pub first : f.right_first ≡ first_of (points_below f.right)
   pub kept : IsBefore p f.last_left → f.last_left ≡ last_of (points_below f.left)
 
 -- a fork whose right subtree changed in the same way
-pub record IsBehindRight (p : Pair) (sides : Open) (f : Fork) : Type 0 where
+pub record IsBehindRight (p : Pair) (sides : Affected) (f : Fork) : Type 0 where
   pub row : AreInRow f.left f.right
   pub edges : HasEdgesBehind p sides f
   pub last : f.last_left ≡ last_of (points_below f.left)
-  pub kept : IsBefore f.first_right p → f.first_right ≡ first_of (points_below f.right)
+  pub kept : IsBefore f.right_first p → f.right_first ≡ first_of (points_below f.right)
 
 -- a fork whose edges are the bridges of the vertices of its two subtrees, and which stores the points at the split
 pub record IsRenewed (f : Fork) : Type 0 where
@@ -83,7 +83,7 @@ pub record IsRenewed (f : Fork) : Type 0 where
   pub upper : IsBridge Upper (On (tree_of f.left)) (On (tree_of f.right)) f.upper.0 f.upper.1
   pub lower : IsBridge Lower (On (tree_of f.left)) (On (tree_of f.right)) f.lower.0 f.lower.1
   pub last : f.last_left ≡ last_of (points_below f.left)
-  pub first : f.first_right ≡ first_of (points_below f.right)
+  pub first : f.right_first ≡ first_of (points_below f.right)
 
 -- the other side
 abbrev pub opposite : Side → Side
@@ -95,5 +95,5 @@ pub record IsSameBut (side : Side) (f g : Fork) : Type 0 where
   pub left : g.left ≡ f.left
   pub right : g.right ≡ f.right
   pub last : g.last_left ≡ f.last_left
-  pub first : g.first_right ≡ f.first_right
+  pub first : g.right_first ≡ f.right_first
   pub other : edge_on (opposite side) g ≡ edge_on (opposite side) f

@@ -7,7 +7,7 @@ use Rattle.hull_buckets.specs.Buckets.{BucketValue, IsBucket, mask_on}
 use Rattle.hull_set.specs.Held.{once}
 use Rattle.leaf_trees.specs.Entries.{several}
 use Rattle.bucket_tree.specs.declared.node.Node.{Node}
-use Rattle.bucket_tree.specs.Nodes.{tree_of, points_below, times_below, forks_above, IsWellBuilt}
+use Rattle.bucket_tree.specs.Nodes.{tree_of, points_below, times_below, node_height, IsWellBuilt}
 
 -- the multiplicity of a point, from points and their multiplicities
 abbrev pub counted : List Pair → List ℕ → Pair → ℕ
@@ -47,11 +47,11 @@ HasGained refused = Alters (Comes refused)
 
 -- the node is as high as the other, or one higher
 abbrev pub IsNoMuchHigher : Node → Node → Type 0
-IsNoMuchHigher n m = (forks_above n ≤ forks_above m) × (forks_above m ≤ forks_above n + 1)
+IsNoMuchHigher n m = (node_height n ≤ node_height m) × (node_height m ≤ node_height n + 1)
 
 -- p, of multiplicity one, was removed from the points; if it was the only one, nothing is left of a bucket
 abbrev pub HasLost : Pair → Node → Option Node → Type 0
-HasLost p n None = (points_below n ≡ p ∷ []) × ((q : Pair) → times_at n q ≡ once p q) × (forks_above n ≡ 0)
+HasLost p n None = (points_below n ≡ p ∷ []) × ((q : Pair) → times_at n q ≡ once p q) × (node_height n ≡ 0)
 HasLost p n (Some m) =
     IsWellBuilt m × (points_below m ≡ without_point p (points_below n))
     × ((q : Pair) → times_at n q ≡ times_at m q + once p q) × IsNoMuchHigher m n
@@ -60,12 +60,12 @@ HasLost p n (Some m) =
 pub record IsSameButTimes (old new : BucketValue) : Type 0 where
   pub bucket : IsBucket new
   pub points : new.points ≡ old.points
-  pub corners : (side : Side) → mask_on side new ≡ mask_on side old
+  pub vertices : (side : Side) → mask_on side new ≡ mask_on side old
 
 -- p, which is there, has the multiplicity `times`, and nothing else differs
 pub record IsRecounted (times : ℕ) (p : Pair) (n m : Node) : Type 0 where
   pub built : IsWellBuilt m
   pub same_tree : tree_of m ≡ tree_of n
   pub same_points : points_below m ≡ points_below n
-  pub same_height : forks_above m ≡ forks_above n
+  pub same_height : node_height m ≡ node_height n
   pub held : (q : Pair) → times_at m q + several (times_at n p) p q ≡ times_at n q + several times p q

@@ -8,19 +8,19 @@ use Rattle.hull_set.specs.declared.TheConstants.{POINT_LIMIT}
 use Rattle.bucket_tree.specs.declared.renewal.Changed.{Changed}
 use Rattle.bucket_tree.specs.declared.node.Node.{Node}
 use Rattle.bucket_tree.specs.declared.node.Fork.{Fork}
-use Rattle.bucket_tree.specs.declared.renewal.Open.{Open}
-use Rattle.bucket_tree.specs.Changes.{ClosesBy, IsBehindLeft, IsBehindRight, IsClosedOver, IsRenewed}
+use Rattle.bucket_tree.specs.declared.renewal.Affected.{Affected}
+use Rattle.bucket_tree.specs.Changes.{ClosesBy, IsBehindLeft, IsBehindRight, IsUnaffectedOver, IsRenewed}
 use Rattle.bucket_tree.specs.Counts.{counted, times_at, HasGained, HasLost}
-use Rattle.bucket_tree.specs.Nodes.{points_below, forks_above, IsWellBuilt}
+use Rattle.bucket_tree.specs.Nodes.{points_below, node_height, IsWellBuilt}
 use Rattle.bucket_tree.specs.Turns.{most_turns}
 
 -- a well-built node became one of the same height, in no more turns than a change takes; if a chain is unaffected, p is under an edge of the points
 -- that are there now
 pub record IsInPlace (p : Pair) (n m : Node) (change : Changed) : Type 0 where
   pub built : IsWellBuilt m
-  pub height : forks_above m ≡ forks_above n
-  pub turns : change.turns ≤ most_turns (forks_above n)
-  pub closed : IsClosedOver p change.sides (points_below m)
+  pub height : node_height m ≡ node_height n
+  pub turns : change.turns ≤ most_turns (node_height n)
+  pub unaffected : IsUnaffectedOver p change.sides (points_below m)
 
 -- p, which was not there, was added to the points below a node
 pub record HasPutIn (p : Pair) (n m : Node) (change : Changed) : Type 0 where
@@ -46,7 +46,7 @@ AreFewFor false n = n ≤ POINT_LIMIT
 
 -- a bucket changed without a search; if a chain is unaffected, p is under an edge of the points that are there now
 pub record IsUnsearched (p : Pair) (new : BucketValue) (change : Changed) : Type 0 where
-  pub closed : IsClosedOver p change.sides new.points
+  pub unaffected : IsUnaffectedOver p change.sides new.points
   pub turns : change.turns ≡ 0
 
 -- p, which was not there, was added to a bucket
@@ -69,7 +69,7 @@ HasChangedIn true = HasPutInto
 HasChangedIn false = HasTakenFrom
 
 -- a fork of which one subtree, the left one or else the right one, changed at p since its edges were stored
-abbrev pub IsBehindPart : Bool → Pair → Open → Fork → Type 0
+abbrev pub IsBehindPart : Bool → Pair → Affected → Fork → Type 0
 IsBehindPart true = IsBehindLeft
 IsBehindPart false = IsBehindRight
 
@@ -77,7 +77,7 @@ IsBehindPart false = IsBehindRight
 pub record IsToRenew (left : Bool) (p : Pair) (below : Changed) (f : Fork) : Type 0 where
   pub behind : IsBehindPart left p below.sides f
   pub few : length (points_below f.left ++ points_below f.right) ≤ POINT_LIMIT
-  pub low : max (forks_above f.left) (forks_above f.right) ≤ 28
+  pub low : max (node_height f.left) (node_height f.right) ≤ 28
   pub turns : below.turns ≤ 6912
 
 -- it became g, with its subtrees in their places; its searches are added to those below
@@ -85,5 +85,5 @@ pub record IsRenewedAfter (p : Pair) (below : Changed) (f g : Fork) (above : Cha
   pub renewed : IsRenewed g
   pub left : g.left ≡ f.left
   pub right : g.right ≡ f.right
-  pub turns : above.turns ≤ below.turns + 4 * max (forks_above f.left) (forks_above f.right) + 24
+  pub turns : above.turns ≤ below.turns + 4 * max (node_height f.left) (node_height f.right) + 24
   pub closes : ClosesBy p below.sides above.sides (points_below f.left ++ points_below f.right)

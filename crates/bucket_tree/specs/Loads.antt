@@ -4,7 +4,7 @@ use Rattle.std.specs.List.{All}
 use Rattle.lattice.specs.Covers.{IsPointSet}
 use Rattle.lattice.specs.Plane.{Pair}
 use Rattle.hull_buckets.specs.Buckets.{IsMultiplicity}
-use Rattle.hull_buckets.specs.declared.TheConstants.{ROOM}
+use Rattle.hull_buckets.specs.declared.TheConstants.{BUCKET_SIZE}
 use Rattle.hull_set.specs.declared.TheConstants.{POINT_LIMIT}
 
 -- points in order, no more than a set may have, each with a multiplicity that a point may have
@@ -19,5 +19,5 @@ pub record AreParts (points : List Pair) (times : List ℕ) : Type 0 where
 pub record IsLoad (points : List Pair) (times : List ℕ) (forks : ℕ) : Type 0 where
   pub parts : AreParts points times
   pub enough : 2 ^ forks ≤ length points
-  pub room : length points ≤ ROOM * 2 ^ forks
+  pub space : length points ≤ BUCKET_SIZE * 2 ^ forks
   pub low : forks ≤ 20

@@ -5,21 +5,21 @@ use Rattle.lattice.specs.Covers.{IsPointSet}
 use Rattle.lattice.specs.Plane.{Pair}
 use Rattle.bridge_search.specs.Trees.{Tree, Leaf as LeafTree, Fork as ForkTree, IsBridged}
 use Rattle.hull_buckets.specs.Buckets.{BucketValue, IsBucket}
-use Rattle.hull_buckets.specs.Runs.{tree_of_run, all_of}
+use Rattle.hull_buckets.specs.Slices.{tree_of_slice, all_of}
 use Rattle.hull_geometry.specs.Positions.{origin, first_of, last_of}
-use Rattle.bucket_tree.specs.declared.node.Node.{Node, Leaf, Fork', Gap}
+use Rattle.bucket_tree.specs.declared.node.Node.{Node, Leaf, Fork', Taken}
 use Rattle.bucket_tree.specs.declared.node.Fork.{Fork}
 
 -- the half of a hull that a bucket's vertices are
 abbrev pub tree_of_bucket : BucketValue → Tree
-tree_of_bucket b = tree_of_run b (all_of b)
+tree_of_bucket b = tree_of_slice b (all_of b)
 
 -- the half of a hull that a node is: of its buckets only the vertices
 abbrev pub tree_of : Node → Tree
 tree_of (Leaf b) = tree_of_bucket b.value
-tree_of (Fork' height i first_right left right last_left upper lower) =
+tree_of (Fork' height i right_first left right last_left upper lower) =
     ForkTree upper lower (tree_of left) (tree_of right)
-tree_of Gap = LeafTree origin
+tree_of Taken = LeafTree origin
 
 -- the half that a fork is
 abbrev pub tree_at : Fork → Tree
@@ -28,21 +28,21 @@ tree_at f = ForkTree f.upper f.lower (tree_of f.left) (tree_of f.right)
 -- all points below a node, in order
 abbrev pub points_below : Node → List Pair
 points_below (Leaf b) = b.value.points
-points_below (Fork' height i first_right left right last_left upper lower) = points_below left ++ points_below right
-points_below Gap = []
+points_below (Fork' height i right_first left right last_left upper lower) = points_below left ++ points_below right
+points_below Taken = []
 
 -- the multiplicity of each of them
 abbrev pub times_below : Node → List ℕ
 times_below (Leaf b) = b.value.times
-times_below (Fork' height i first_right left right last_left upper lower) = times_below left ++ times_below right
-times_below Gap = []
+times_below (Fork' height i right_first left right last_left upper lower) = times_below left ++ times_below right
+times_below Taken = []
 
 -- the height of a node: the number of forks above its deepest bucket
-abbrev pub forks_above : Node → ℕ
-forks_above (Leaf b) = 0
-forks_above (Fork' height i first_right left right last_left upper lower) = max (forks_above left) (forks_above right)
+abbrev pub node_height : Node → ℕ
+node_height (Leaf b) = 0
+node_height (Fork' height i right_first left right last_left upper lower) = max (node_height left) (node_height right)
     + 1
-forks_above Gap = 0
+node_height Taken = 0
 
 -- the numbers differ by at most one
 abbrev pub AreNear : ℕ → ℕ → Type 0
@@ -51,29 +51,29 @@ AreNear m n = (m ≤ n + 1) × (n ≤ m + 1)
 -- the heights of the two halves of each fork differ by at most one
 abbrev pub IsBalanced : Node → Type 0
 IsBalanced (Leaf b) = Unit {0}
-IsBalanced (Fork' height i first_right left right last_left upper lower) =
-    AreNear (forks_above left) (forks_above right) × IsBalanced left × IsBalanced right
-IsBalanced Gap = Unit {0}
+IsBalanced (Fork' height i right_first left right last_left upper lower) =
+    AreNear (node_height left) (node_height right) × IsBalanced left × IsBalanced right
+IsBalanced Taken = Unit {0}
 
 -- each fork stores its height, the last point of its left half and the first one of its right half
 abbrev pub IsLabelled : Node → Type 0
 IsLabelled (Leaf b) = Unit {0}
-IsLabelled (Fork' height i first_right left right last_left upper lower) =
-    (last_left ≡ last_of (points_below left)) × (first_right ≡ first_of (points_below right))
-    × (height ≡ max (forks_above left) (forks_above right) + 1) × IsLabelled left × IsLabelled right
-IsLabelled Gap = Unit {0}
+IsLabelled (Fork' height i right_first left right last_left upper lower) =
+    (last_left ≡ last_of (points_below left)) × (right_first ≡ first_of (points_below right))
+    × (height ≡ max (node_height left) (node_height right) + 1) × IsLabelled left × IsLabelled right
+IsLabelled Taken = Unit {0}
 
 -- each bucket below a node is well formed, and no gap is left
 abbrev pub HasBuckets : Node → Type 0
 HasBuckets (Leaf b) = IsBucket b.value
-HasBuckets (Fork' height i first_right left right last_left upper lower) = HasBuckets left × HasBuckets right
-HasBuckets Gap = ⊥
+HasBuckets (Fork' height i right_first left right last_left upper lower) = HasBuckets left × HasBuckets right
+HasBuckets Taken = ⊥
 
 -- no gap is left below a node
 abbrev pub IsWhole : Node → Type 0
 IsWhole (Leaf b) = Unit {0}
-IsWhole (Fork' height i first_right left right last_left upper lower) = IsWhole left × IsWhole right
-IsWhole Gap = ⊥
+IsWhole (Fork' height i right_first left right last_left upper lower) = IsWhole left × IsWhole right
+IsWhole Taken = ⊥
 
 -- nor below a fork
 abbrev pub AreWhole : Fork → Type 0

@@ -1,16 +1,16 @@
 -- The proof that a node is whole is unique, as a ghost field requires.
 use Rattle.bucket_tree.specs.declared.node.Fork.{Fork}
-use Rattle.bucket_tree.specs.declared.node.Node.{Node, Leaf, Fork', Gap}
+use Rattle.bucket_tree.specs.declared.node.Node.{Node, Leaf, Fork', Taken}
 use Rattle.bucket_tree.specs.Nodes.{IsWhole, AreWhole}
 
 -- that no gap is left below a node has one proof
 pub IsWhole-prop : (n : Node) → IsProp (IsWhole n)
 IsWhole-prop (Leaf b) = hlevel
-IsWhole-prop (Fork' height i first_right left right last_left upper lower) =
+IsWhole-prop (Fork' height i right_first left right last_left upper lower) =
     let k : IsProp (IsWhole left) = IsWhole-prop left in
     let l : IsProp (IsWhole right) = IsWhole-prop right in
     hlevel (k, l)
-IsWhole-prop Gap = λ x y. absurd x
+IsWhole-prop Taken = λ x y. absurd x
 
 -- and so has the statement that none is left below a fork
 pub AreWhole-prop : (f : Fork) → IsProp (AreWhole f)

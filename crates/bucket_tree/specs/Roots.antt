@@ -4,7 +4,7 @@ use Rattle.lattice.specs.Plane.{Pair}
 use Rattle.hull_set.specs.Held.{Held}
 use Rattle.bucket_tree.specs.declared.node.Node.{Node}
 use Rattle.bucket_tree.specs.Counts.{times_at}
-use Rattle.bucket_tree.specs.Nodes.{IsWellBuilt, points_below, forks_above}
+use Rattle.bucket_tree.specs.Nodes.{IsWellBuilt, points_below, node_height}
 
 -- its points, in order
 abbrev pub points_of_root : Option Node → List Pair
@@ -28,4 +28,4 @@ IsWellBuiltRoot (Some n) = IsWellBuilt n
 -- its height: the number of forks above its deepest bucket; for nothing 0
 abbrev pub forks_of_root : Option Node → ℕ
 forks_of_root None = 0
-forks_of_root (Some n) = forks_above n
+forks_of_root (Some n) = node_height n

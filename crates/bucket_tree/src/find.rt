@@ -17,12 +17,12 @@ pub fn times_of(node: &Node, p: Point) -> u16
             Err(_) => 0,
         },
         Node::Fork(_, fork) => {
-            if before(p, fork.first_right) {
+            if before(p, fork.right_first) {
                 times_of(&fork.left, p)
             } else {
                 times_of(&fork.right, p)
             }
         }
-        Node::Gap => unreachable!(),
+        Node::Taken => unreachable!(),
     }
 }

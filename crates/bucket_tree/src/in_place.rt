@@ -6,10 +6,10 @@ ghost use Rattle.hull_set.specs.declared.TheConstants.{POINT_LIMIT};
 ghost use Rattle.bucket_tree.specs.Counts.{counted, times_at};
 ghost use Rattle.bucket_tree.specs.InPlace.{AreFewFor, HasChanged, HasChangedIn, HasPutIn, HasTakenOut, IsRenewedAfter};
 ghost use Rattle.bucket_tree.specs.InPlace.{IsToRenew};
-ghost use Rattle.bucket_tree.specs.Nodes.{points_below, forks_above, IsWellBuilt};
+ghost use Rattle.bucket_tree.specs.Nodes.{points_below, node_height, IsWellBuilt};
 
 use crate::find::times_of;
-use crate::insertion::{open_at, put_at};
+use crate::insertion::{affected_at, put_at};
 use crate::node::{Fork, Node};
 use crate::removal::are_few;
 use crate::renewal::{Changed, first_after, last_after, renew_edges};
@@ -24,7 +24,7 @@ trait InPlace {
     /// Changes a bucket if it can take the change. Otherwise leaves it unchanged, and returns the multiplicity of the point there.
     fn change(bucket: &mut Bucket, p: Point) -> Result<Changed, u16>
         ensures same { IfErr result (λ _. bucket.new ≡ bucket.old) }
-        ensures told { IfErr result (λ times. times ≡ counted bucket.old.points bucket.old.times p) }
+        ensures returned { IfErr result (λ times. times ≡ counted bucket.old.points bucket.old.times p) }
         ensures bucket { IsBucket bucket.new }
         ensures change { IfOk result (HasChangedIn puts p bucket.old bucket.new) };
 
@@ -73,7 +73,7 @@ impl InPlace for Going {
         if times != 1 || bucket.points().len() == 1 {
             return Err(times);
         }
-        let sides = open_at(bucket, place, p);
+        let sides = affected_at(bucket, place, p);
         bucket.remove(place);
         buckets_are_sound(bucket);
         Ok(Changed { turns: 0, sides })
@@ -106,7 +106,7 @@ fn after_right(fork: &mut Fork, p: Point, below: Changed) -> Changed
     requires { IsToRenew false p below fork.old }
     ensures { IsRenewedAfter p below fork.old fork.new result }
 {
-    fork.first_right = first_after(&fork.right, fork.first_right, p);
+    fork.right_first = first_after(&fork.right, fork.right_first, p);
     let above = renew_edges(fork, p, below.sides);
     Changed {
         turns: below.turns + above.turns,
@@ -119,10 +119,10 @@ fn after_right(fork: &mut Fork, p: Point, below: Changed) -> Changed
 fn change_in_place<C: InPlace>(node: &mut Node, p: Point) -> Result<Changed, u16>
     requires built { IsWellBuilt node.old }
     requires few { AreFewFor C.puts (length (points_below node.old)) }
-    requires low { forks_above node.old ≤ 28 }
+    requires low { node_height node.old ≤ 28 }
     ensures change { IfOk result (HasChanged C.puts p node.old node.new) }
     ensures same { IfErr result (λ _. node.new ≡ node.old) }
-    ensures told { IfErr result (λ times. times ≡ times_at node.old p) }
+    ensures returned { IfErr result (λ times. times ≡ times_at node.old p) }
 {
     if C::merges(node) {
         return Err(times_of(node, p));
@@ -130,7 +130,7 @@ fn change_in_place<C: InPlace>(node: &mut Node, p: Point) -> Result<Changed, u16
     match node {
         Node::Leaf(bucket) => C::change(bucket, p),
         Node::Fork(_, fork) => {
-            if before(p, fork.first_right) {
+            if before(p, fork.right_first) {
                 match change_in_place::<C>(&mut fork.left, p) {
                     Ok(below) => Ok(after_left(fork, p, below)),
                     Err(times) => Err(times),
@@ -142,7 +142,7 @@ fn change_in_place<C: InPlace>(node: &mut Node, p: Point) -> Result<Changed, u16
                 }
             }
         }
-        Node::Gap => unreachable!(),
+        Node::Taken => unreachable!(),
     }
 }
 
@@ -152,10 +152,10 @@ fn change_in_place<C: InPlace>(node: &mut Node, p: Point) -> Result<Changed, u16
 pub fn put_in_place(node: &mut Node, p: Point) -> Result<Changed, u16>
     requires built { IsWellBuilt node.old }
     requires few { length (points_below node.old) < POINT_LIMIT }
-    requires low { forks_above node.old ≤ 28 }
+    requires low { node_height node.old ≤ 28 }
     ensures put { IfOk result (HasPutIn p node.old node.new) }
     ensures same { IfErr result (λ _. node.new ≡ node.old) }
-    ensures told { IfErr result (λ times. times ≡ times_at node.old p) }
+    ensures returned { IfErr result (λ times. times ≡ times_at node.old p) }
 {
     change_in_place::<Coming>(node, p)
 }
@@ -166,10 +166,10 @@ pub fn put_in_place(node: &mut Node, p: Point) -> Result<Changed, u16>
 pub fn take_in_place(node: &mut Node, p: Point) -> Result<Changed, u16>
     requires built { IsWellBuilt node.old }
     requires few { length (points_below node.old) ≤ POINT_LIMIT }
-    requires low { forks_above node.old ≤ 28 }
+    requires low { node_height node.old ≤ 28 }
     ensures taken { IfOk result (HasTakenOut p node.old node.new) }
     ensures same { IfErr result (λ _. node.new ≡ node.old) }
-    ensures told { IfErr result (λ times. times ≡ times_at node.old p) }
+    ensures returned { IfErr result (λ times. times ≡ times_at node.old p) }
 {
     change_in_place::<Going>(node, p)
 }

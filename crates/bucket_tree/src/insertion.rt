@@ -2,20 +2,20 @@
 ghost use Rattle.std.specs.Prelude.{◌≡◌, ◌<◌, ◌≤◌, ◌+◌, ◌++◌, true, false, Err, length};
 ghost use Rattle.std.specs.List.{Contains};
 ghost use Rattle.lattice.specs.Covers.{IsPointSet, with_point};
-ghost use Rattle.hull_buckets.specs.declared.TheConstants.{ROOM};
+ghost use Rattle.hull_buckets.specs.declared.TheConstants.{BUCKET_SIZE};
 ghost use Rattle.hull_set.specs.Held.{once};
 ghost use Rattle.hull_set.specs.declared.TheConstants.{POINT_LIMIT};
 ghost use Rattle.hull_geometry.specs.Positions.{IsPositionOf, point_at};
-ghost use Rattle.bucket_tree.specs.Changes.{IsClosedOver};
+ghost use Rattle.bucket_tree.specs.Changes.{IsUnaffectedOver};
 ghost use Rattle.bucket_tree.specs.Counts.{counted, HasGained, IsNoMuchHigher};
-ghost use Rattle.bucket_tree.specs.Nodes.{points_below, forks_above, IsWellBuilt};
+ghost use Rattle.bucket_tree.specs.Nodes.{points_below, node_height, IsWellBuilt};
 ghost use Rattle.bucket_tree.specs.Turns.{most_turns};
 ghost use Rattle.bucket_tree.specs.declared.node.Node.{Leaf};
 
 use crate::join::{join, take_apart};
 use crate::load::blank;
 use crate::node::{Node, height_of};
-use crate::renewal::{Open, balance, first_after, last_after};
+use crate::renewal::{Affected, balance, first_after, last_after};
 use heap::Heap;
 use hull_buckets::{Bucket, buckets_are_sound};
 use lattice::{Point, Side, before};
@@ -30,43 +30,43 @@ pub struct Inserted {
     /// The turns of the searches for bridges.
     pub turns: u32,
     /// The chains on which the point may be a vertex of the hull of all points below the node.
-    pub sides: Open,
+    pub sides: Affected,
 }
 
 /// Returns the sides on which the point at an index of a bucket is a vertex.
-pub(crate) fn open_at(bucket: &Bucket, place: usize, p: Point) -> Open
+pub(crate) fn affected_at(bucket: &Bucket, place: usize, p: Point) -> Affected
     requires within { place < length bucket.now.points }
     requires there { point_at bucket.now.points place ≡ p }
-    ensures { IsClosedOver p result bucket.now.points }
+    ensures { IsUnaffectedOver p result bucket.now.points }
 {
-    Open {
-        lower: bucket.is_corner(Side::Lower, place),
-        upper: bucket.is_corner(Side::Upper, place),
+    Affected {
+        lower: bucket.is_vertex(Side::Lower, place),
+        upper: bucket.is_vertex(Side::Upper, place),
     }
 }
 
 /// Inserts a new point at its index into a bucket with capacity left, with multiplicity one, and returns the sides on which it is a vertex there.
-pub(crate) fn put_at(bucket: &mut Bucket, place: usize, p: Point) -> Open
+pub(crate) fn put_at(bucket: &mut Bucket, place: usize, p: Point) -> Affected
     requires position { IsPositionOf bucket.old.points p (Err place) }
-    requires room { length bucket.old.points < ROOM }
+    requires space { length bucket.old.points < BUCKET_SIZE }
     ensures points { bucket.new.points ≡ with_point p bucket.old.points }
     ensures times { (q : _) → counted bucket.new.points bucket.new.times q
         ≡ counted bucket.old.points bucket.old.times q + once p q }
-    ensures closed { IsClosedOver p result bucket.new.points }
+    ensures unaffected { IsUnaffectedOver p result bucket.new.points }
 {
     buckets_are_sound(bucket);
     bucket.insert(place, p, 1);
-    open_at(bucket, place, p)
+    affected_at(bucket, place, p)
 }
 
 /// Inserts a new point into a bucket with capacity left, with multiplicity one, and returns the sides on which it is a vertex there.
-fn put(bucket: &mut Bucket, p: Point) -> Open
+fn put(bucket: &mut Bucket, p: Point) -> Affected
     requires absent { ¬ Contains bucket.old.points p }
-    requires room { length bucket.old.points < ROOM }
+    requires space { length bucket.old.points < BUCKET_SIZE }
     ensures points { bucket.new.points ≡ with_point p bucket.old.points }
     ensures times { (q : _) → counted bucket.new.points bucket.new.times q
         ≡ counted bucket.old.points bucket.old.times q + once p q }
-    ensures closed { IsClosedOver p result bucket.new.points }
+    ensures unaffected { IsUnaffectedOver p result bucket.new.points }
 {
     let Err(place) = bucket.place_of(p) else {
         unreachable!()
@@ -78,8 +78,8 @@ fn put(bucket: &mut Bucket, p: Point) -> Open
 fn put_in_either(first: &mut Bucket, second: &mut Bucket, p: Point)
     requires ordered { IsPointSet (first.old.points ++ second.old.points) }
     requires absent { ¬ Contains (first.old.points ++ second.old.points) p }
-    requires first_room { length first.old.points < ROOM }
-    requires second_room { length second.old.points < ROOM }
+    requires first_space { length first.old.points < BUCKET_SIZE }
+    requires second_space { length second.old.points < BUCKET_SIZE }
     ensures points { first.new.points ++ second.new.points ≡ with_point p (first.old.points ++ second.old.points) }
     ensures times { (q : _) → counted (first.new.points ++ second.new.points) (first.new.times ++ second.new.times) q
         ≡ counted (first.old.points ++ second.old.points) (first.old.times ++ second.old.times) q + once p q }
@@ -95,13 +95,13 @@ fn put_in_either(first: &mut Bucket, second: &mut Bucket, p: Point)
 }
 
 /// Returns a bucket that had capacity left with a new point, and the sides on which that is a vertex.
-fn grown(mut bucket: Box<Bucket, Heap>, p: Point) -> (Node, Open)
+fn grown(mut bucket: Box<Bucket, Heap>, p: Point) -> (Node, Affected)
     requires absent { ¬ Contains bucket.value.points p }
-    requires room { length bucket.value.points < ROOM }
+    requires space { length bucket.value.points < BUCKET_SIZE }
     ensures built { IsWellBuilt result.0 }
     ensures gained { HasGained false p (Leaf bucket) result.0 }
-    ensures height { forks_above result.0 ≡ 0 }
-    ensures closed { IsClosedOver p result.1 (points_below result.0) }
+    ensures height { node_height result.0 ≡ 0 }
+    ensures unaffected { IsUnaffectedOver p result.1 (points_below result.0) }
 {
     let sides = put(&mut bucket, p);
     buckets_are_sound(&bucket);
@@ -118,7 +118,7 @@ fn unchanged(bucket: Box<Bucket, Heap>) -> Inserted
         node: Node::Leaf(bucket),
         refused: true,
         turns: 0,
-        sides: Open {
+        sides: Affected {
             lower: false,
             upper: false,
         },
@@ -133,7 +133,7 @@ fn insert_leaf(alloc: Heap, mut bucket: Box<Bucket, Heap>, p: Point) -> Inserted
     ensures gained { HasGained result.refused p (Leaf bucket) result.node }
     ensures height { IsNoMuchHigher (Leaf bucket) result.node }
     ensures turns { result.turns ≤ 24 }
-    ensures closed { result.refused ≡ false → IsClosedOver p result.sides (points_below result.node) }
+    ensures unaffected { result.refused ≡ false → IsUnaffectedOver p result.sides (points_below result.node) }
 {
     if !bucket.is_full() {
         let (node, sides) = grown(bucket, p);
@@ -159,7 +159,7 @@ fn insert_leaf(alloc: Heap, mut bucket: Box<Bucket, Heap>, p: Point) -> Inserted
         node,
         refused: false,
         turns,
-        sides: Open {
+        sides: Affected {
             lower: true,
             upper: true,
         },
@@ -169,7 +169,7 @@ fn insert_leaf(alloc: Heap, mut bucket: Box<Bucket, Heap>, p: Point) -> Inserted
 /// Returns the bucket that a node is.
 pub(crate) fn bucket_of(node: Node) -> Box<Bucket, Heap>
     requires built { IsWellBuilt node }
-    requires leaf { forks_above node ≡ 0 }
+    requires leaf { node_height node ≡ 0 }
     ensures { node ≡ Leaf result }
 {
     let Node::Leaf(bucket) = node else {
@@ -183,18 +183,18 @@ pub fn insert(alloc: Heap, node: Node, p: Point) -> Inserted
     requires built { IsWellBuilt node }
     requires absent { ¬ Contains (points_below node) p }
     requires few { length (points_below node) < POINT_LIMIT }
-    requires low { forks_above node ≤ 28 }
+    requires low { node_height node ≤ 28 }
     ensures built { IsWellBuilt result.node }
     ensures gained { HasGained result.refused p node result.node }
     ensures height { IsNoMuchHigher node result.node }
-    ensures turns { result.turns ≤ most_turns (forks_above node) }
-    ensures closed { result.refused ≡ false → IsClosedOver p result.sides (points_below result.node) }
+    ensures turns { result.turns ≤ most_turns (node_height node) }
+    ensures unaffected { result.refused ≡ false → IsUnaffectedOver p result.sides (points_below result.node) }
 {
     if height_of(&node) == 0 {
         return insert_leaf(alloc, bucket_of(node), p);
     }
     let (left, right, mut place) = take_apart(node);
-    if before(p, place.first_right) {
+    if before(p, place.right_first) {
         let change = insert(alloc, left, p);
         place.last_left = last_after(&change.node, place.last_left, p);
         let above = balance(change.node, right, place, p, change.sides);
@@ -206,7 +206,7 @@ pub fn insert(alloc: Heap, node: Node, p: Point) -> Inserted
         }
     } else {
         let change = insert(alloc, right, p);
-        place.first_right = first_after(&change.node, place.first_right, p);
+        place.right_first = first_after(&change.node, place.right_first, p);
         let above = balance(left, change.node, place, p, change.sides);
         Inserted {
             node: above.node,

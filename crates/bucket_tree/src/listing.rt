@@ -1,6 +1,6 @@
 //! Listing the points and bridges below a node.
 ghost use Rattle.std.specs.Prelude.{◌≡◌, ◌≤◌, ◌+◌, ◌++◌, length, take, drop, vec_len, vec_capacity, OnOk};
-ghost use Rattle.leaf_trees.specs.Stretches.{entries_from};
+ghost use Rattle.leaf_trees.specs.ChainRanges.{entries_from};
 ghost use Rattle.bucket_tree.specs.Nodes.{points_below, HasBuckets, IsWellBuilt};
 ghost use Rattle.bucket_tree.specs.Levels.{level_of};
 ghost use Rattle.bucket_tree.specs.Lists.{paired, entries_below};
@@ -15,7 +15,7 @@ use std::alloc::AllocError;
 /// Appends points, each with its number, to entries with capacity for them.
 fn push_all(points: &[Point], times: &[u16], entries: &mut Vec<(Point, u32), Heap>)
     requires counted { length times.now ≡ length points.now }
-    requires room { vec_len entries.old + length points.now ≤ vec_capacity entries.old }
+    requires space { vec_len entries.old + length points.now ≤ vec_capacity entries.old }
     ensures entries { entries.new.items ≡ entries.old.items ++ paired points.now times.now }
     ensures capacity { vec_capacity entries.new ≡ vec_capacity entries.old }
 {
@@ -27,7 +27,7 @@ fn push_all(points: &[Point], times: &[u16], entries: &mut Vec<(Point, u32), Hea
 /// Appends the points below a node in order, each with its multiplicity, to entries with capacity for them.
 pub(crate) fn push_entries(node: &Node, entries: &mut Vec<(Point, u32), Heap>)
     requires buckets { HasBuckets node.now }
-    requires room { vec_len entries.old + length (points_below node.now) ≤ vec_capacity entries.old }
+    requires space { vec_len entries.old + length (points_below node.now) ≤ vec_capacity entries.old }
     ensures entries { entries.new.items ≡ entries.old.items ++ entries_below node.now }
     ensures capacity { vec_capacity entries.new ≡ vec_capacity entries.old }
 {
@@ -37,7 +37,7 @@ pub(crate) fn push_entries(node: &Node, entries: &mut Vec<(Point, u32), Heap>)
             push_entries(&fork.left, entries);
             push_entries(&fork.right, entries);
         }
-        Node::Gap => unreachable!(),
+        Node::Taken => unreachable!(),
     }
 }
 
@@ -62,7 +62,7 @@ fn push_bucket_from(
     entries: &mut Vec<(Point, u32), Heap>,
 )
     requires few { vec_len entries.old ≤ most }
-    requires room { most ≤ vec_capacity entries.old }
+    requires space { most ≤ vec_capacity entries.old }
     ensures entries { entries.new.items
         ≡ take most (entries.old.items ++ entries_from start (paired bucket.now.points bucket.now.times)) }
     ensures capacity { vec_capacity entries.new ≡ vec_capacity entries.old }
@@ -88,7 +88,7 @@ pub(crate) fn push_from(
 )
     requires built { IsWellBuilt node.now }
     requires few { vec_len entries.old ≤ most }
-    requires room { most ≤ vec_capacity entries.old }
+    requires space { most ≤ vec_capacity entries.old }
     ensures entries { entries.new.items ≡ take most (entries.old.items ++ entries_from start (entries_below node.now)) }
     ensures capacity { vec_capacity entries.new ≡ vec_capacity entries.old }
 {
@@ -103,7 +103,7 @@ pub(crate) fn push_from(
             }
             push_from(&fork.right, start, most, entries);
         }
-        Node::Gap => unreachable!(),
+        Node::Taken => unreachable!(),
     }
 }
 

@@ -4,21 +4,21 @@ ghost use Rattle.hull_set.specs.declared.TheConstants.{POINT_LIMIT};
 ghost use Rattle.leaf_trees.specs.Entries.{AreEntries, points_listed};
 ghost use Rattle.bucket_tree.specs.Loads.{AreParts, IsLoad};
 ghost use Rattle.bucket_tree.specs.Lists.{numbers_listed};
-ghost use Rattle.bucket_tree.specs.Nodes.{IsWellBuilt, points_below, times_below, forks_above};
+ghost use Rattle.bucket_tree.specs.Nodes.{IsWellBuilt, points_below, times_below, node_height};
 
 use crate::join::join;
 use crate::node::{Fork, Node};
 use heap::Heap;
-use hull_buckets::{Bucket, ROOM, buckets_are_sound};
+use hull_buckets::{BUCKET_SIZE, Bucket, buckets_are_sound};
 use lattice::Point;
 use std::alloc::AllocError;
 
 /// Allocates the box of a fork that is made later.
 pub(crate) fn blank(alloc: Heap, point: Point) -> Result<Box<Fork, Heap>, AllocError> {
     let fork = Fork {
-        first_right: point,
-        left: Node::Gap,
-        right: Node::Gap,
+        right_first: point,
+        left: Node::Taken,
+        right: Node::Taken,
         last_left: point,
         upper: (point, point),
         lower: (point, point),
@@ -32,7 +32,7 @@ fn leaf(alloc: Heap, points: &[Point], times: &[u16]) -> Result<Node, AllocError
     ensures built { IfOk result IsWellBuilt }
     ensures points { IfOk result (λ n. points_below n ≡ points.now) }
     ensures times { IfOk result (λ n. times_below n ≡ times.now) }
-    ensures height { IfOk result (λ n. forks_above n ≡ 0) }
+    ensures height { IfOk result (λ n. node_height n ≡ 0) }
 {
     let bucket = Bucket::from_parts(points, times);
     buckets_are_sound(&bucket);
@@ -45,7 +45,7 @@ fn build(alloc: Heap, points: &[Point], times: &[u16], forks: u16) -> Result<Nod
     ensures built { IfOk result IsWellBuilt }
     ensures points { IfOk result (λ n. points_below n ≡ points.now) }
     ensures times { IfOk result (λ n. times_below n ≡ times.now) }
-    ensures height { IfOk result (λ n. forks_above n ≡ forks) }
+    ensures height { IfOk result (λ n. node_height n ≡ forks) }
 {
     if forks == 0 {
         return leaf(alloc, points, times);
@@ -67,16 +67,16 @@ pub fn from_parts(alloc: Heap, points: &[Point], times: &[u16]) -> Result<Node, 
     ensures times { IfOk result (λ n. times_below n ≡ times.now) }
 {
     let mut forks = 0;
-    let mut room = ROOM;
-    while room < points.len() {
+    let mut space = BUCKET_SIZE;
+    while space < points.len() {
         forks += 1;
-        room *= 2;
+        space *= 2;
     }
     build(alloc, points, times, forks)
 }
 
 /// Returns the points of entries, and their multiplicities.
-fn parted(
+fn separated(
     alloc: Heap,
     entries: &[(Point, u32)],
 ) -> Result<(Vec<Point, Heap>, Vec<u16, Heap>), AllocError>
@@ -102,7 +102,7 @@ pub(crate) fn from_entries(alloc: Heap, entries: &[(Point, u32)]) -> Result<Node
     ensures points { IfOk result (λ n. points_below n ≡ points_listed entries.now) }
     ensures times { IfOk result (λ n. times_below n ≡ numbers_listed entries.now) }
 {
-    let (points, times) = parted(alloc, entries)?;
+    let (points, times) = separated(alloc, entries)?;
     from_parts(alloc, &points, &times)
 }
 

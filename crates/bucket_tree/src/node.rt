@@ -2,7 +2,7 @@
 ghost use Rattle.std.specs.Prelude.{◌≡◌};
 ghost use Rattle.hull_geometry.specs.Positions.{first_of as first_in, last_of as last_in};
 ghost use Rattle.bucket_tree.specs.Changes.{IsSameBut, edge_on};
-ghost use Rattle.bucket_tree.specs.Nodes.{points_below, forks_above, HasBuckets, IsLabelled};
+ghost use Rattle.bucket_tree.specs.Nodes.{points_below, node_height, HasBuckets, IsLabelled};
 
 use heap::Heap;
 use hull_buckets::Bucket;
@@ -19,14 +19,14 @@ pub enum Node {
     /// A fork and its height: the number of forks on the longest path to a bucket, this one included.
     Fork(u16, Box<Fork, Heap>),
     /// Nothing: it is in the place from which a node was taken out, while the fork there is rebuilt.
-    Gap,
+    Taken,
 }
 
 /// The two halves of a fork, all points of the left one before all of the right one, the two points at their split, and their bridges.
 #[cycle(node)]
 #[derive(Drop)]
 pub struct Fork {
-    pub(crate) first_right: Point,
+    pub(crate) right_first: Point,
     pub(crate) left: Node,
     pub(crate) right: Node,
     pub(crate) last_left: Point,
@@ -65,7 +65,7 @@ pub(crate) fn first_of(node: &Node) -> Point
     match node {
         Node::Leaf(bucket) => bucket.points()[0],
         Node::Fork(_, fork) => first_of(&fork.left),
-        Node::Gap => unreachable!(),
+        Node::Taken => unreachable!(),
     }
 }
 
@@ -80,18 +80,18 @@ pub(crate) fn last_of(node: &Node) -> Point
             points[points.len() - 1]
         }
         Node::Fork(_, fork) => last_of(&fork.right),
-        Node::Gap => unreachable!(),
+        Node::Taken => unreachable!(),
     }
 }
 
 /// Returns the height of a node: the number of forks above its deepest bucket.
 pub(crate) fn height_of(node: &Node) -> u16
     requires { IsLabelled node.now }
-    ensures { result ≡ forks_above node.now }
+    ensures { result ≡ node_height node.now }
 {
     match node {
         Node::Leaf(_) => 0,
         Node::Fork(height, _) => *height,
-        Node::Gap => 0,
+        Node::Taken => 0,
     }
 }

@@ -10,7 +10,7 @@ ghost use Rattle.bucket_tree.specs.Parts.{part_tree, part_bridged, part_low};
 use crate::fork_ref::ForkRef;
 use crate::node::Node;
 use bridge_search::Half;
-use hull_buckets::Run;
+use hull_buckets::Slice;
 use lattice::{Point, orient};
 
 /// A borrowed subtree: a fork, or neighbouring vertices of a bucket. It is the half of a hull that searches and questions go down, over vertices
@@ -20,7 +20,7 @@ pub enum Part<'a> {
     /// A fork.
     Fork(ForkRef<'a>),
     /// Neighbouring vertices of a bucket.
-    Run(Run<'a>),
+    Slice(Slice<'a>),
 }
 
 impl<'a> Part<'a> {
@@ -32,47 +32,47 @@ impl<'a> Part<'a> {
         ensures { ⟦<Part<'a> as Half>⟧.tree result ≡ tree_of node.now }
     {
         match node {
-            Node::Leaf(bucket) => Part::Run(Run::new(bucket)),
+            Node::Leaf(bucket) => Part::Slice(Slice::new(bucket)),
             Node::Fork(_, fork) => Part::Fork(ForkRef { fork }),
-            Node::Gap => unreachable!(),
+            Node::Taken => unreachable!(),
         }
     }
 }
 
 /// Returns the first vertex below a node: one step a level.
-fn first_corner(node: &Node) -> Point
+fn first_vertex(node: &Node) -> Point
     requires { IsWhole node.now }
     ensures { result ≡ first_in (tree_of node.now) }
 {
     match node {
-        Node::Leaf(bucket) => Run::new(bucket).first(),
-        Node::Fork(_, fork) => first_corner(&fork.left),
-        Node::Gap => unreachable!(),
+        Node::Leaf(bucket) => Slice::new(bucket).first(),
+        Node::Fork(_, fork) => first_vertex(&fork.left),
+        Node::Taken => unreachable!(),
     }
 }
 
 /// Returns the last vertex below a node: one step a level.
-fn last_corner(node: &Node) -> Point
+fn last_vertex(node: &Node) -> Point
     requires { IsWhole node.now }
     ensures { result ≡ last_in (tree_of node.now) }
 {
     match node {
-        Node::Leaf(bucket) => Run::new(bucket).last(),
-        Node::Fork(_, fork) => last_corner(&fork.right),
-        Node::Gap => unreachable!(),
+        Node::Leaf(bucket) => Slice::new(bucket).last(),
+        Node::Fork(_, fork) => last_vertex(&fork.right),
+        Node::Taken => unreachable!(),
     }
 }
 
 /// Returns the number of forks above the deepest vertex below a node, those of its buckets' slices included.
-fn corner_height(node: &Node) -> u32
+fn vertex_height(node: &Node) -> u32
     requires whole { IsWhole node.now }
     requires low { height_in (tree_of node.now) ≤ highest }
     ensures { result ≡ height_in (tree_of node.now) }
 {
     match node {
-        Node::Leaf(bucket) => Run::new(bucket).height(),
-        Node::Fork(_, fork) => corner_height(&fork.left).max(corner_height(&fork.right)) + 1,
-        Node::Gap => unreachable!(),
+        Node::Leaf(bucket) => Slice::new(bucket).height(),
+        Node::Fork(_, fork) => vertex_height(&fork.left).max(vertex_height(&fork.right)) + 1,
+        Node::Taken => unreachable!(),
     }
 }
 
@@ -91,50 +91,50 @@ impl<'a> Half for Part<'a> {
     fn edge(self) -> Option<(Point, Point)> {
         match self {
             Part::Fork(part) => Some(part.fork.upper),
-            Part::Run(run) => run.edge(),
+            Part::Slice(slice) => slice.edge(),
         }
     }
 
     fn lower(self) -> Option<(Point, Point)> {
         match self {
             Part::Fork(part) => Some(part.fork.lower),
-            Part::Run(run) => run.lower(),
+            Part::Slice(slice) => slice.lower(),
         }
     }
 
     fn left(self) -> Self {
         match self {
             Part::Fork(part) => Part::new(&part.fork.left),
-            Part::Run(run) => Part::Run(run.left()),
+            Part::Slice(slice) => Part::Slice(slice.left()),
         }
     }
 
     fn right(self) -> Self {
         match self {
             Part::Fork(part) => Part::new(&part.fork.right),
-            Part::Run(run) => Part::Run(run.right()),
+            Part::Slice(slice) => Part::Slice(slice.right()),
         }
     }
 
     fn first(self) -> Point {
         match self {
-            Part::Fork(part) => first_corner(&part.fork.left),
-            Part::Run(run) => run.first(),
+            Part::Fork(part) => first_vertex(&part.fork.left),
+            Part::Slice(slice) => slice.first(),
         }
     }
 
     fn last(self) -> Point {
         match self {
-            Part::Fork(part) => last_corner(&part.fork.right),
-            Part::Run(run) => run.last(),
+            Part::Fork(part) => last_vertex(&part.fork.right),
+            Part::Slice(slice) => slice.last(),
         }
     }
 
     fn height(self) -> u32 {
         match self {
-            Part::Fork(part) => corner_height(&part.fork.left).max(corner_height(&part.fork.right))
+            Part::Fork(part) => vertex_height(&part.fork.left).max(vertex_height(&part.fork.right))
                 + 1,
-            Part::Run(run) => run.height(),
+            Part::Slice(slice) => slice.height(),
         }
     }
 

@@ -3,7 +3,7 @@ ghost use Rattle.std.specs.Prelude.{◌<◌, ◌≤◌, length, vec_len, IfOk, p
 ghost use Rattle.bridge_search.specs.Leaves.{points_of};
 ghost use Rattle.bridge_search.specs.Trees.{height_of, size_of};
 ghost use Rattle.lattice.specs.Vertices.{IsVertexList, IsDoubledArea};
-ghost use Rattle.hull_geometry.specs.Fringes.{AnswersFor};
+ghost use Rattle.hull_geometry.specs.CandidateLists.{AnswersFor};
 ghost use Rattle.hull_geometry.specs.Tangents.{IsFirstFarthest};
 ghost use Rattle.hull_set.specs.Replies.{LiesAt, AnswersTangents, reply_to_tangents};
 ghost use Rattle.hull_set.specs.declared.TheConstants.{POINT_LIMIT};
@@ -17,13 +17,13 @@ use lattice::{Direction, Point};
 use std::alloc::AllocError;
 
 /// The vertices below a node answer each question about the hull of all points below it.
-pub fn corners_answer(node: &Node)
+pub fn vertices_answer(node: &Node)
     requires { IsWellBuilt node.now }
     ensures { AnswersFor (points_of (tree_of node.now)) (points_below node.now) }
 {}
 
 /// The vertices below a node are no more than its points, and the half of them is not too high.
-pub fn corners_are_few(node: &Node)
+pub fn vertices_are_few(node: &Node)
     requires { IsWellBuilt node.now }
     ensures whole { IsWhole node.now }
     ensures few { size_of (tree_of node.now) ≤ length (points_below node.now) }
@@ -36,8 +36,8 @@ pub fn extreme(node: &Node, d: Direction) -> Point
     requires few { length (points_below node.now) ≤ POINT_LIMIT }
     ensures { IsFirstFarthest (points_below node.now) d result }
 {
-    corners_answer(node);
-    corners_are_few(node);
+    vertices_answer(node);
+    vertices_are_few(node);
     hull_questions::extreme(Part::new(node), d)
 }
 
@@ -47,8 +47,8 @@ pub fn place(node: &Node, q: Point) -> Place
     requires few { length (points_below node.now) ≤ POINT_LIMIT }
     ensures { LiesAt (points_below node.now) q result }
 {
-    corners_answer(node);
-    corners_are_few(node);
+    vertices_answer(node);
+    vertices_are_few(node);
     hull_questions::place(Part::new(node), q)
 }
 
@@ -58,8 +58,8 @@ pub fn tangents(node: &Node, q: Point) -> Option<(Point, Point)>
     requires few { length (points_below node.now) ≤ POINT_LIMIT }
     ensures { AnswersTangents (points_below node.now) q (reply_to_tangents result) }
 {
-    corners_answer(node);
-    corners_are_few(node);
+    vertices_answer(node);
+    vertices_are_few(node);
     hull_questions::tangents(Part::new(node), q)
 }
 
@@ -71,8 +71,8 @@ pub fn vertices(alloc: Heap, node: &Node) -> Result<Vec<Point, Heap>, AllocError
     ensures vertices { IfOk result (λ v. IsVertexList (points_below node.now) v.items) }
     ensures few { IfOk result (λ v. vec_len v ≤ length (points_below node.now)) }
 {
-    corners_answer(node);
-    corners_are_few(node);
+    vertices_answer(node);
+    vertices_are_few(node);
     hull_questions::vertices(alloc, Part::new(node))
 }
 
@@ -82,7 +82,7 @@ pub fn area2(node: &Node) -> u128
     requires few { length (points_below node.now) ≤ POINT_LIMIT }
     ensures { IsDoubledArea (points_below node.now) (pos result) }
 {
-    corners_answer(node);
-    corners_are_few(node);
+    vertices_answer(node);
+    vertices_are_few(node);
     hull_questions::area2(Part::new(node))
 }

@@ -36,12 +36,12 @@ pub fn recount(node: &mut Node, p: Point, times: u16)
     match node {
         Node::Leaf(bucket) => recount_leaf(bucket, p, times),
         Node::Fork(_, fork) => {
-            if before(p, fork.first_right) {
+            if before(p, fork.right_first) {
                 recount(&mut fork.left, p, times);
             } else {
                 recount(&mut fork.right, p, times);
             }
         }
-        Node::Gap => unreachable!(),
+        Node::Taken => unreachable!(),
     }
 }

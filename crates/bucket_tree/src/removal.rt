@@ -3,16 +3,16 @@ ghost use Rattle.std.specs.Prelude.{◌≡◌, ◌≤◌, ◌+◌, ◌*◌, ◌+
 ghost use Rattle.hull_geometry.specs.Monotone.{IsInwards};
 ghost use Rattle.hull_set.specs.declared.TheConstants.{POINT_LIMIT};
 ghost use Rattle.lattice.specs.declared.side.Side.{Side};
-ghost use Rattle.bucket_tree.specs.Changes.{IsBehind, IsClosedOver, ClosesBy, is_open};
+ghost use Rattle.bucket_tree.specs.Changes.{IsBehind, IsUnaffectedOver, ClosesBy, is_affected};
 ghost use Rattle.bucket_tree.specs.Counts.{times_at, HasLost};
-ghost use Rattle.bucket_tree.specs.Nodes.{points_below, times_below, forks_above, AreInRow, IsHeightOver, IsWellBuilt};
+ghost use Rattle.bucket_tree.specs.Nodes.{points_below, times_below, node_height, AreInRow, IsHeightOver, IsWellBuilt};
 ghost use Rattle.bucket_tree.specs.Turns.{most_turns};
 ghost use Rattle.bucket_tree.specs.declared.node.Node.{Leaf};
 
-use crate::insertion::{bucket_of, open_at};
+use crate::insertion::{affected_at, bucket_of};
 use crate::join::take_apart;
 use crate::node::{Fork, Node, height_of};
-use crate::renewal::{Open, Renewed, Standing, balance, first_after, how_stands, last_after};
+use crate::renewal::{Affected, Renewed, Standing, balance, first_after, how_stands, last_after};
 use heap::Heap;
 use hull_buckets::{Bucket, buckets_are_sound};
 use lattice::{Point, Side, before};
@@ -29,7 +29,7 @@ pub struct Removed {
     /// The turns of the searches for bridges.
     pub turns: u32,
     /// The chains on which the point may have been a vertex.
-    pub sides: Open,
+    pub sides: Affected,
 }
 
 /// Removes a point of multiplicity one from a bucket: nothing is left if it was the only one.
@@ -37,13 +37,13 @@ fn remove_leaf(mut bucket: Box<Bucket, Heap>, p: Point) -> Removed
     requires built { IsWellBuilt (Leaf bucket) }
     requires held { times_at (Leaf bucket) p ≡ 1 }
     ensures lost { HasLost p (Leaf bucket) result.rest }
-    ensures closed { IfSome result.rest (λ n. IsClosedOver p result.sides (points_below n)) }
+    ensures unaffected { IfSome result.rest (λ n. IsUnaffectedOver p result.sides (points_below n)) }
     ensures turns { result.turns ≡ 0 }
 {
     let Ok(place) = bucket.place_of(p) else {
         unreachable!()
     };
-    let sides = open_at(&bucket, place, p);
+    let sides = affected_at(&bucket, place, p);
     if bucket.points().len() == 1 {
         return Removed {
             rest: None,
@@ -62,7 +62,7 @@ fn remove_leaf(mut bucket: Box<Bucket, Heap>, p: Point) -> Removed
 
 /// Whether two subtrees are buckets with few points together.
 pub(crate) fn are_few(left: &Node, right: &Node) -> bool
-    ensures { result ≡ true → (forks_above left.now ≡ 0) × (forks_above right.now ≡ 0)
+    ensures { result ≡ true → (node_height left.now ≡ 0) × (node_height right.now ≡ 0)
         × (length (points_below left.now) + length (points_below right.now) ≤ 48) }
 {
     match (left, right) {
@@ -74,7 +74,7 @@ pub(crate) fn are_few(left: &Node, right: &Node) -> bool
 }
 
 /// Whether a chain stays affected above a fork of which a point was removed, by the edge that is stored there.
-fn stays_open(side: Side, edge: &(Point, Point), p: Point, at_issue: bool) -> bool
+fn stays_affected(side: Side, edge: &(Point, Point), p: Point, at_issue: bool) -> bool
     ensures { result ≡ false → (at_issue ≡ false) ⊎ IsInwards side edge.now.0 edge.now.1 p }
 {
     if !at_issue {
@@ -88,22 +88,22 @@ fn stays_open(side: Side, edge: &(Point, Point), p: Point, at_issue: bool) -> bo
 }
 
 /// Merges two buckets, from one of which a point was removed, into one. The edges of the fork over them are compared first.
-fn merge(left: Node, right: Node, place: Box<Fork, Heap>, p: Point, sides: Open) -> Renewed
+fn merge(left: Node, right: Node, place: Box<Fork, Heap>, p: Point, sides: Affected) -> Renewed
     requires row { AreInRow left right }
-    requires left { forks_above left ≡ 0 }
-    requires right { forks_above right ≡ 0 }
+    requires left { node_height left ≡ 0 }
+    requires right { node_height right ≡ 0 }
     requires few { length (points_below left) + length (points_below right) ≤ 48 }
     requires behind { IsBehind p sides left right place.value }
     ensures built { IsWellBuilt result.node }
     ensures points { points_below result.node ≡ points_below left ++ points_below right }
     ensures times { times_below result.node ≡ times_below left ++ times_below right }
-    ensures height { forks_above result.node ≡ 0 }
+    ensures height { node_height result.node ≡ 0 }
     ensures turns { result.turns ≡ 0 }
     ensures closes { ClosesBy p sides result.sides (points_below left ++ points_below right) }
 {
-    let sides = Open {
-        lower: stays_open(Side::Lower, &place.lower, p, sides.lower),
-        upper: stays_open(Side::Upper, &place.upper, p, sides.upper),
+    let sides = Affected {
+        lower: stays_affected(Side::Lower, &place.lower, p, sides.lower),
+        upper: stays_affected(Side::Upper, &place.upper, p, sides.upper),
     };
     let (mut first, second) = (bucket_of(left), bucket_of(right));
     first.merge(&second);
@@ -117,26 +117,26 @@ fn merge(left: Node, right: Node, place: Box<Fork, Heap>, p: Point, sides: Open)
 
 /// Repairs a fork of a given height whose one subtree lost a point: if it was the only fork above two buckets with few points, merges them; otherwise
 /// balances the tree over both subtrees.
-fn settle(
+fn prepare(
     left: Node,
     right: Node,
     place: Box<Fork, Heap>,
     p: Point,
-    sides: Open,
+    sides: Affected,
     height: u16,
 ) -> Renewed
     requires row { AreInRow left right }
     requires few { length (points_below left ++ points_below right) ≤ POINT_LIMIT }
     requires behind { IsBehind p sides left right place.value }
-    requires near_left { forks_above left ≤ forks_above right + 2 }
-    requires near_right { forks_above right ≤ forks_above left + 2 }
-    requires low { max (forks_above left) (forks_above right) ≤ 28 }
+    requires near_left { node_height left ≤ node_height right + 2 }
+    requires near_right { node_height right ≤ node_height left + 2 }
+    requires low { max (node_height left) (node_height right) ≤ 28 }
     ensures built { IsWellBuilt result.node }
     ensures points { points_below result.node ≡ points_below left ++ points_below right }
     ensures times { times_below result.node ≡ times_below left ++ times_below right }
-    ensures height { IsHeightOver (forks_above left) (forks_above right) (forks_above result.node)
-        ⊎ ((height ≡ 1) × (forks_above result.node ≡ 0)) }
-    ensures turns { result.turns ≤ 12 * max (forks_above left) (forks_above right) + 72 }
+    ensures height { IsHeightOver (node_height left) (node_height right) (node_height result.node)
+        ⊎ ((height ≡ 1) × (node_height result.node ≡ 0)) }
+    ensures turns { result.turns ≤ 12 * max (node_height left) (node_height right) + 72 }
     ensures closes { ClosesBy p sides result.sides (points_below left ++ points_below right) }
 {
     if height == 1 && are_few(&left, &right) {
@@ -149,12 +149,12 @@ fn settle(
 fn other_part(part: Node, turns: u32) -> Removed
     ensures rest { result.rest ≡ Some part }
     ensures turns { result.turns ≡ turns }
-    ensures sides { (side : Side) → is_open side result.sides ≡ true }
+    ensures sides { (side : Side) → is_affected side result.sides ≡ true }
 {
     Removed {
         rest: Some(part),
         turns,
-        sides: Open {
+        sides: Affected {
             lower: true,
             upper: true,
         },
@@ -166,23 +166,23 @@ pub fn remove(node: Node, p: Point) -> Removed
     requires built { IsWellBuilt node }
     requires held { times_at node p ≡ 1 }
     requires few { length (points_below node) ≤ POINT_LIMIT }
-    requires low { forks_above node ≤ 28 }
+    requires low { node_height node ≤ 28 }
     ensures lost { HasLost p node result.rest }
-    ensures closed { IfSome result.rest (λ n. IsClosedOver p result.sides (points_below n)) }
-    ensures turns { result.turns ≤ most_turns (forks_above node) }
+    ensures unaffected { IfSome result.rest (λ n. IsUnaffectedOver p result.sides (points_below n)) }
+    ensures turns { result.turns ≤ most_turns (node_height node) }
 {
     let height = height_of(&node);
     if height == 0 {
         return remove_leaf(bucket_of(node), p);
     }
     let (left, right, mut place) = take_apart(node);
-    if before(p, place.first_right) {
+    if before(p, place.right_first) {
         let Removed { rest, turns, sides } = remove(left, p);
         let Some(rest) = rest else {
             return other_part(right, turns);
         };
         place.last_left = last_after(&rest, place.last_left, p);
-        let above = settle(rest, right, place, p, sides, height);
+        let above = prepare(rest, right, place, p, sides, height);
         Removed {
             rest: Some(above.node),
             turns: above.turns + turns,
@@ -193,8 +193,8 @@ pub fn remove(node: Node, p: Point) -> Removed
         let Some(rest) = rest else {
             return other_part(left, turns);
         };
-        place.first_right = first_after(&rest, place.first_right, p);
-        let above = settle(left, rest, place, p, sides, height);
+        place.right_first = first_after(&rest, place.right_first, p);
+        let above = prepare(left, rest, place, p, sides, height);
         Removed {
             rest: Some(above.node),
             turns: above.turns + turns,

@@ -8,8 +8,8 @@ ghost use Rattle.hull_buckets.specs.Buckets.{IsCovered};
 ghost use Rattle.hull_geometry.specs.Positions.{first_of as first_in, last_of as last_in};
 ghost use Rattle.hull_set.specs.declared.TheConstants.{POINT_LIMIT};
 ghost use Rattle.lattice.specs.Plane.{IsBefore};
-ghost use Rattle.bucket_tree.specs.Changes.{IsBehind, IsBridgeBetween, IsClearOf, IsRenewed, IsSameBut, TellsOf, ClosesBy, edge_on};
-ghost use Rattle.bucket_tree.specs.Nodes.{tree_of, points_below, times_below, forks_above, AreInRow, IsWellBuilt};
+ghost use Rattle.bucket_tree.specs.Changes.{IsBehind, IsBridgeBetween, IsClearOf, IsRenewed, IsSameBut, ReturnsOf, ClosesBy, edge_on};
+ghost use Rattle.bucket_tree.specs.Nodes.{tree_of, points_below, times_below, node_height, AreInRow, IsWellBuilt};
 ghost use Rattle.bucket_tree.specs.Nodes.{AreNear, HasBuckets};
 ghost use Rattle.bucket_tree.specs.Nodes.{IsHeightOver};
 
@@ -21,7 +21,7 @@ use lattice::{Point, Side, before, orient_on};
 /// The chains that are affected by a point that was added or removed, that is, on which it may matter to the bridges above: it does not if it is
 /// under an edge of two points that stay.
 #[derive(Clone, Copy)]
-pub struct Open {
+pub struct Affected {
     /// Whether the lower chain is affected.
     pub lower: bool,
     /// Whether the upper chain is affected.
@@ -33,7 +33,7 @@ pub struct Open {
 pub(crate) struct Renewed {
     pub(crate) node: Node,
     pub(crate) turns: u32,
-    pub(crate) sides: Open,
+    pub(crate) sides: Affected,
 }
 
 /// The position of a point relative to an edge.
@@ -63,7 +63,7 @@ fn is_inwards(side: Side, edge: &(Point, Point), p: Point) -> bool
 
 /// Returns the position of a point relative to an edge on a side.
 pub(crate) fn how_stands(side: Side, edge: &(Point, Point), p: Point) -> Standing
-    ensures { TellsOf side edge.now p result }
+    ensures { ReturnsOf side edge.now p result }
 {
     if before(edge.0, p) && before(p, edge.1) {
         if is_inner(side, edge, p) {
@@ -83,13 +83,13 @@ pub struct Changed {
     /// The turns of the searches for bridges.
     pub turns: u32,
     /// The chains on which the point may be, or may have been, a vertex of the hull of all points below the node.
-    pub sides: Open,
+    pub sides: Affected,
 }
 
 /// Renews the edge of a fork on an affected chain after one subtree changed at a point: searches it if it may not be a bridge any more. Returns how
 /// many turns the search took, and whether the chain is still affected.
 #[inline(never)]
-fn renew_open_edge(side: Side, fork: &mut Fork, p: Point) -> (u32, bool)
+fn renew_affected_edge(side: Side, fork: &mut Fork, p: Point) -> (u32, bool)
     requires row { AreInRow fork.old.left fork.old.right }
     requires few { length (points_below fork.old.left ++ points_below fork.old.right) ≤ POINT_LIMIT }
     requires clear { IsClearOf side (edge_on side fork.old) p
@@ -97,7 +97,7 @@ fn renew_open_edge(side: Side, fork: &mut Fork, p: Point) -> (u32, bool)
     ensures same { IsSameBut side fork.old fork.new }
     ensures bridge { IsBridge side (On (tree_of fork.old.left)) (On (tree_of fork.old.right))
         (edge_on side fork.new).0 (edge_on side fork.new).1 }
-    ensures turns { result.0 ≤ 2 * max (forks_above fork.old.left) (forks_above fork.old.right) + 12 }
+    ensures turns { result.0 ≤ 2 * max (node_height fork.old.left) (node_height fork.old.right) + 12 }
     ensures closes { result.1 ≡ false
         → IsCovered side p (points_below fork.old.left ++ points_below fork.old.right) }
 {
@@ -112,60 +112,60 @@ fn renew_open_edge(side: Side, fork: &mut Fork, p: Point) -> (u32, bool)
     }
 }
 
-/// Renews the edge of a fork on a side, as [`renew_open_edge`]; an unaffected chain is skipped.
+/// Renews the edge of a fork on a side, as [`renew_affected_edge`]; an unaffected chain is skipped.
 #[inline(always)]
 fn renew_edge(side: Side, fork: &mut Fork, p: Point, at_issue: bool) -> (u32, bool)
     requires row { AreInRow fork.old.left fork.old.right }
     requires few { length (points_below fork.old.left ++ points_below fork.old.right) ≤ POINT_LIMIT }
-    requires closed { at_issue ≡ false → IsBridgeBetween side fork.old.left fork.old.right (edge_on side fork.old) }
+    requires unaffected { at_issue ≡ false → IsBridgeBetween side fork.old.left fork.old.right (edge_on side fork.old) }
     requires clear { IsClearOf side (edge_on side fork.old) p
         → IsBridgeBetween side fork.old.left fork.old.right (edge_on side fork.old) }
     ensures same { IsSameBut side fork.old fork.new }
     ensures bridge { IsBridge side (On (tree_of fork.old.left)) (On (tree_of fork.old.right))
         (edge_on side fork.new).0 (edge_on side fork.new).1 }
-    ensures turns { result.0 ≤ 2 * max (forks_above fork.old.left) (forks_above fork.old.right) + 12 }
+    ensures turns { result.0 ≤ 2 * max (node_height fork.old.left) (node_height fork.old.right) + 12 }
     ensures closes { result.1 ≡ false
         → (at_issue ≡ false) ⊎ IsCovered side p (points_below fork.old.left ++ points_below fork.old.right) }
 {
     if !at_issue {
         return (0, false);
     }
-    renew_open_edge(side, fork, p)
+    renew_affected_edge(side, fork, p)
 }
 
 /// Renews the edges of a fork on the affected chains, after one subtree changed at a point.
 #[inline(always)]
-pub(crate) fn renew_edges(fork: &mut Fork, p: Point, sides: Open) -> Changed
+pub(crate) fn renew_edges(fork: &mut Fork, p: Point, sides: Affected) -> Changed
     requires row { AreInRow fork.old.left fork.old.right }
     requires few { length (points_below fork.old.left ++ points_below fork.old.right) ≤ POINT_LIMIT }
     requires behind { IsBehind p sides fork.old.left fork.old.right fork.old }
-    requires low { max (forks_above fork.old.left) (forks_above fork.old.right) ≤ 28 }
+    requires low { max (node_height fork.old.left) (node_height fork.old.right) ≤ 28 }
     ensures renewed { IsRenewed fork.new }
     ensures left { fork.new.left ≡ fork.old.left }
     ensures right { fork.new.right ≡ fork.old.right }
-    ensures turns { result.turns ≤ 4 * max (forks_above fork.old.left) (forks_above fork.old.right) + 24 }
+    ensures turns { result.turns ≤ 4 * max (node_height fork.old.left) (node_height fork.old.right) + 24 }
     ensures closes { ClosesBy p sides result.sides (points_below fork.old.left ++ points_below fork.old.right) }
 {
     let (upper_turns, upper) = renew_edge(Side::Upper, fork, p, sides.upper);
     let (lower_turns, lower) = renew_edge(Side::Lower, fork, p, sides.lower);
     Changed {
         turns: upper_turns + lower_turns,
-        sides: Open { lower, upper },
+        sides: Affected { lower, upper },
     }
 }
 
 /// Makes a fork over two subtrees whose heights differ by at most one, of which one changed at a point after its edges were stored.
-fn renew(left: Node, right: Node, mut place: Box<Fork, Heap>, p: Point, sides: Open) -> Renewed
+fn renew(left: Node, right: Node, mut place: Box<Fork, Heap>, p: Point, sides: Affected) -> Renewed
     requires row { AreInRow left right }
     requires few { length (points_below left ++ points_below right) ≤ POINT_LIMIT }
     requires behind { IsBehind p sides left right place.value }
-    requires near { AreNear (forks_above left) (forks_above right) }
-    requires low { max (forks_above left) (forks_above right) ≤ 28 }
+    requires near { AreNear (node_height left) (node_height right) }
+    requires low { max (node_height left) (node_height right) ≤ 28 }
     ensures built { IsWellBuilt result.node }
     ensures points { points_below result.node ≡ points_below left ++ points_below right }
     ensures times { times_below result.node ≡ times_below left ++ times_below right }
-    ensures height { forks_above result.node ≡ max (forks_above left) (forks_above right) + 1 }
-    ensures turns { result.turns ≤ 4 * max (forks_above left) (forks_above right) + 24 }
+    ensures height { node_height result.node ≡ max (node_height left) (node_height right) + 1 }
+    ensures turns { result.turns ≤ 4 * max (node_height left) (node_height right) + 24 }
     ensures closes { ClosesBy p sides result.sides (points_below left ++ points_below right) }
 {
     let height = height_of(&left).max(height_of(&right)) + 1;
@@ -186,19 +186,19 @@ pub(crate) fn balance(
     right: Node,
     place: Box<Fork, Heap>,
     p: Point,
-    sides: Open,
+    sides: Affected,
 ) -> Renewed
     requires row { AreInRow left right }
     requires few { length (points_below left ++ points_below right) ≤ POINT_LIMIT }
     requires behind { IsBehind p sides left right place.value }
-    requires near_left { forks_above left ≤ forks_above right + 2 }
-    requires near_right { forks_above right ≤ forks_above left + 2 }
-    requires low { max (forks_above left) (forks_above right) ≤ 28 }
+    requires near_left { node_height left ≤ node_height right + 2 }
+    requires near_right { node_height right ≤ node_height left + 2 }
+    requires low { max (node_height left) (node_height right) ≤ 28 }
     ensures built { IsWellBuilt result.node }
     ensures points { points_below result.node ≡ points_below left ++ points_below right }
     ensures times { times_below result.node ≡ times_below left ++ times_below right }
-    ensures height { IsHeightOver (forks_above left) (forks_above right) (forks_above result.node) }
-    ensures turns { result.turns ≤ 12 * max (forks_above left) (forks_above right) + 72 }
+    ensures height { IsHeightOver (node_height left) (node_height right) (node_height result.node) }
+    ensures turns { result.turns ≤ 12 * max (node_height left) (node_height right) + 72 }
     ensures closes { ClosesBy p sides result.sides (points_below left ++ points_below right) }
 {
     let (on_left, on_right) = (height_of(&left), height_of(&right));

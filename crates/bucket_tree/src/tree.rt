@@ -98,7 +98,7 @@ impl BucketTree {
     /// Whether there are as many points as the limit.
     fn is_full(&self) -> bool
         ensures full { IsTrue result ↔ (self.now.limit ≤ length (points_of_root self.now.root)) }
-        ensures room { length (points_of_root self.now.root) ≤ self.now.limit }
+        ensures space { length (points_of_root self.now.root) ≤ self.now.limit }
     {
         self.count >= self.limit
     }
@@ -120,13 +120,13 @@ impl BucketTree {
 
     /// Adds a new point if its bucket has capacity left, and returns how many turns the searches took. Otherwise leaves all unchanged, and returns
     /// the multiplicity of the point.
-    fn put_where_room(&mut self, p: Point) -> Result<u32, u32>
-        requires room { length (points_of_root self.old.root) < self.old.limit }
+    fn put_where_space(&mut self, p: Point) -> Result<u32, u32>
+        requires space { length (points_of_root self.old.root) < self.old.limit }
         ensures absent { IfOk result (λ _. times_of_root self.old.root p ≡ 0) }
         ensures new { IfOk result (λ _. held_by self.new.root ≡ with_new p (held_by self.old.root)) }
         ensures few { IfOk result (λ turns. turns ≤ 10000) }
         ensures same { IfErr result (λ _. self.new ≡ self.old) }
-        ensures told { IfErr result (λ times. times ≡ times_of_root self.old.root p) }
+        ensures returned { IfErr result (λ times. times ≡ times_of_root self.old.root p) }
         ensures least { IfErr result (λ times. times ≤ MULTIPLICITY_LIMIT) }
         ensures same_limit { self.new.limit ≡ self.old.limit }
     {
@@ -146,7 +146,7 @@ impl BucketTree {
     /// which leaves all unchanged, and how many turns the searches took.
     fn put_in(&mut self, p: Point) -> (bool, u32)
         requires absent { times_of_root self.old.root p ≡ 0 }
-        requires room { length (points_of_root self.old.root) < self.old.limit }
+        requires space { length (points_of_root self.old.root) < self.old.limit }
         ensures new { result.0 ≡ false → held_by self.new.root ≡ with_new p (held_by self.old.root) }
         ensures refused { result.0 ≡ true → held_by self.new.root ≡ held_by self.old.root }
         ensures same_limit { self.new.limit ≡ self.old.limit }
@@ -176,7 +176,7 @@ impl BucketTree {
         ensures without { IfOk result (λ _. held_by self.new.root ≡ with_none p (held_by self.old.root)) }
         ensures few { IfOk result (λ turns. turns ≤ 10000) }
         ensures same { IfErr result (λ _. self.new ≡ self.old) }
-        ensures told { IfErr result (λ times. times ≡ times_of_root self.old.root p) }
+        ensures returned { IfErr result (λ times. times ≡ times_of_root self.old.root p) }
         ensures least { IfErr result (λ times. times ≤ MULTIPLICITY_LIMIT) }
         ensures same_limit { self.new.limit ≡ self.old.limit }
     {
@@ -193,7 +193,7 @@ impl BucketTree {
     }
 
     /// Removes a point of multiplicity one, and returns how many turns the searches took.
-    fn take_out(&mut self, p: Point) -> u32
+    fn drain(&mut self, p: Point) -> u32
         requires { times_of_root self.old.root p ≡ 1 }
         ensures without { held_by self.new.root ≡ with_none p (held_by self.old.root) }
         ensures same_limit { self.new.limit ≡ self.old.limit }
@@ -210,9 +210,9 @@ impl BucketTree {
 
     /// Raises the multiplicity `times` of a point by one; a point that is not in the set finds it full.
     fn count_up(&mut self, p: Point, times: u32) -> AddReply
-        requires told { times ≡ times_of_root self.old.root p }
+        requires returned { times ≡ times_of_root self.old.root p }
         requires few { times ≤ MULTIPLICITY_LIMIT }
-        requires room { times ≡ 0 → length (points_of_root self.old.root) ≡ self.old.limit }
+        requires space { times ≡ 0 → length (points_of_root self.old.root) ≡ self.old.limit }
         ensures reply { Answers Rules.Counted (held_by self.old.root) self.old.limit (Call.Add p) (reply_to_add result) }
         ensures effect { held_by self.new.root ≡ after (held_by self.old.root) (Call.Add p) (reply_to_add result) }
         ensures same_limit { self.new.limit ≡ self.old.limit }
@@ -240,7 +240,7 @@ impl BucketTree {
             let times = self.times(p);
             return (self.count_up(p, times), 0);
         }
-        let times = match self.put_where_room(p) {
+        let times = match self.put_where_space(p) {
             Ok(turns) => return (AddReply::Added, turns),
             Err(times) => times,
         };
@@ -277,7 +277,7 @@ impl BucketTree {
             self.set_times(p, times - 1);
             return (RemoveReply::Left(times - 1), 0);
         }
-        (RemoveReply::Removed, self.take_out(p))
+        (RemoveReply::Removed, self.drain(p))
     }
 
     /// Adds `p` once, as [`add`](HullSet::add), and also returns how many turns the searches of bridges took: at most 10,000, since no tree is higher

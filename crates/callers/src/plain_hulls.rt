@@ -6,8 +6,8 @@ use hull_plain::{HullSet, NoMemory, PlainSet};
 use lattice::Point;
 
 /// Returns the vertices of the hull of three points, counterclockwise from the first by x and then y.
-pub fn corners_of_three(alloc: Heap, points: [Point; 3]) -> Result<Vec<Point, Heap>, NoMemory>
-    ensures { IfOk result (λ corners. vec_len corners ≤ 3) }
+pub fn vertices_of_three(alloc: Heap, points: [Point; 3]) -> Result<Vec<Point, Heap>, NoMemory>
+    ensures { IfOk result (λ vertices. vec_len vertices ≤ 3) }
 {
     let mut set = PlainSet::new(alloc, 3);
     // `Added`, or `Again` if two of them are one, or `NoMemory`

@@ -7,8 +7,8 @@ pub mod Compacts
 pub mod SeatCounts
 pub mod Idle
 pub mod LineByLine
-pub mod NextPart
-pub mod Parts
+pub mod NextSegment
+pub mod Segments
 pub mod Marks
 pub mod Served
 pub mod LongLaws

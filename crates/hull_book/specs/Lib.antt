@@ -8,7 +8,7 @@ pub mod Kinds
 pub mod Ledgers
 pub mod Copies
 pub mod Verdicts
-pub mod Parts
+pub mod Segments
 pub mod Compacts
 pub mod Answers
 pub mod Served

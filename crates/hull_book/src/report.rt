@@ -1,6 +1,6 @@
+use super::after_call::AfterCall;
 use super::journal::Journal;
 use super::script::Script;
-use super::then::Then;
 use hull_set::Reply;
 
 /// The journal has as many lines as its capacity: the call was not served.
@@ -10,9 +10,9 @@ pub struct JournalFull;
 /// The result of a call of a worker.
 pub type Answer = Result<Reply, JournalFull>;
 
-/// The result of a call on a book that may be drained: the reply and the segment, if lines were taken out; or, if it was not served, the `Then` that
+/// The result of a call on a book that may be drained: the reply and the segment, if lines were taken out; or, if it was not served, the `AfterCall` that
 /// was passed, with its storage.
-pub type LongAnswer = Result<(Reply, Option<Journal>), Then>;
+pub type LongAnswer = Result<(Reply, Option<Journal>), AfterCall>;
 
 /// The result of running a script, borrowed for its text.
 #[derive(Clone, Copy, Debug)]

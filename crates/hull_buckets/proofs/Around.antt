@@ -163,9 +163,9 @@ point_before : (front : List Pair) (a b : Pair) (rest : List Pair)
 point_before front a b rest = grind (arith, common_steps, length-append, append_twice, point_behind)
 
 -- a point is over the edge between the last of the first ones and the first of the others if it is not outwards of it
-pub over_told : (side : Side) (left right front rest : List Pair) (a b p : Pair) → left ≡ front ++ a ∷ []
+pub over_returned : (side : Side) (left right front rest : List Pair) (a b p : Pair) → left ≡ front ++ a ∷ []
     → right ≡ b ∷ rest → (orient_on side a p b ≤ℤ pos 0) ↔ IsOverEdge side (left ++ right) (length left) p
-over_told side left right front rest a b p e f =
+over_returned side left right front rest a b p e f =
     subst (λ (z : List Pair). (orient_on side a p b ≤ℤ pos 0) ↔ IsOverEdge side (z ++ right) (length z) p) (sym e)
     (subst (λ (z : List Pair). (orient_on side a p b ≤ℤ pos 0)
     ↔ IsOverEdge side ((front ++ a ∷ []) ++ z) (length (front ++ a ∷ [])) p) (sym f) (there, back))

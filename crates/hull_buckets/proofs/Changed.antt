@@ -21,7 +21,7 @@ use Rattle.hull_geometry.proofs.PointSets.{same_set, set_append, set_left}
 use Rattle.hull_geometry.proofs.SetLaws.{members_with, ordered_with}
 use Rattle.hull_buckets.specs.Buckets.{BucketValue, IsBucket, IsMaskOf, WasMaskOf, IsMultiplicity, mask_on}
 use Rattle.hull_buckets.specs.Masks.{without_place}
-use Rattle.hull_buckets.specs.declared.TheConstants.{ROOM}
+use Rattle.hull_buckets.specs.declared.TheConstants.{BUCKET_SIZE}
 use Rattle.hull_buckets.proofs.Around.{take_front, drop_behind, others_set, taken_away}
 
 -- ---- lists
@@ -78,7 +78,7 @@ on_both b m n Lower = m
 on_both b m n Upper = n
 
 -- what makes a bucket
-pub made : (P : List Pair) (T : List ℕ) (lower upper : ℕ) → 0 < length P → length P ≤ ROOM → IsPointSet P
+pub made : (P : List Pair) (T : List ℕ) (lower upper : ℕ) → 0 < length P → length P ≤ BUCKET_SIZE → IsPointSet P
     → length T ≡ length P → All IsMultiplicity T → IsMaskOf Lower P lower → IsMaskOf Upper P upper
     → IsBucket (record { points = P; times = T; lower = lower; upper = upper })
 made P T lower upper some few s counted held m n = grind (arith, common_steps, some, on_both)
@@ -93,7 +93,7 @@ held_anew b T i times k held e = record {
   ordered = k.ordered;
   counted = ap (λ (z : List ℕ). length z) e ∙ length-set b.times i times ∙ k.counted;
   held = subst (All IsMultiplicity) (sym e) (All-set IsMultiplicity b.times i times held k.held);
-  corners = on_both _ (k.corners Lower) (k.corners Upper);
+  vertices = on_both _ (k.vertices Lower) (k.vertices Upper);
 }
 
 -- ---- a point came
@@ -116,19 +116,19 @@ grown_mask side S P p i mask at e m =
 
 -- the bucket is one
 pub grown : (b : BucketValue) (P : List Pair) (T : List ℕ) (p : Pair) (i times lower upper : ℕ) → IsBucket b
-    → IsPositionOf b.points p (Err i) → length b.points < ROOM → IsMultiplicity times → P ≡ insert b.points i p
+    → IsPositionOf b.points p (Err i) → length b.points < BUCKET_SIZE → IsMultiplicity times → P ≡ insert b.points i p
     → T ≡ insert b.times i times → IsMaskOf Lower P lower → IsMaskOf Upper P upper
     → IsBucket (record { points = P; times = T; lower = lower; upper = upper })
-grown b P T p i times lower upper k at room held e f m n = record {
+grown b P T p i times lower upper k at space held e f m n = record {
   some = omega (arith, count);
-  few = omega (arith, count, room);
+  few = omega (arith, count, space);
   ordered = grown_set b.points P p i k.ordered at e;
   counted = ap (λ (z : List ℕ). length z) f
       ∙ (let a = length-insert b.times i times (omega (arith, k.counted, at.0)) in omega (arith, a, count, k.counted));
   held = subst (All IsMultiplicity) (sym f)
       (All-append IsMultiplicity (take i b.times) (times ∷ drop i b.times) (All-take IsMultiplicity i b.times k.held)
       (All-cons IsMultiplicity times (drop i b.times) held (All-drop IsMultiplicity i b.times k.held)));
-  corners = on_both _ m n;
+  vertices = on_both _ m n;
 }
   where
     count : length P ≡ length b.points + 1
@@ -160,7 +160,7 @@ shrunk b P T i lower upper k l others e f m n = record {
   held = subst (All IsMultiplicity) (sym f)
       (All-append IsMultiplicity (take i b.times) (drop (suc i) b.times) (All-take IsMultiplicity i b.times k.held)
       (All-drop IsMultiplicity (suc i) b.times k.held));
-  corners = on_both _ m n;
+  vertices = on_both _ m n;
 }
   where
     count : length P + 1 ≡ length b.points
@@ -194,11 +194,11 @@ merged_set a more P k s order e =
 -- a bucket and points after it
 pub merged : (a : BucketValue) (more P : List Pair) (more_times T : List ℕ) (lower upper : ℕ) → IsBucket a
     → IsPointSet more → length more_times ≡ length more → All IsMultiplicity more_times
-    → IsAllBefore (Contains a.points) (Contains more) → length a.points + length more ≤ ROOM
+    → IsAllBefore (Contains a.points) (Contains more) → length a.points + length more ≤ BUCKET_SIZE
     → P ≡ a.points ++ more → T ≡ a.times ++ more_times → IsMaskOf Lower P lower → IsMaskOf Upper P upper
     → IsBucket (record { points = P; times = T; lower = lower; upper = upper })
-merged a more P more_times T lower upper k s counted held order room e f m n =
-    made P T lower upper (omega (arith, count, k.some)) (omega (arith, count, room)) (merged_set a more P k s order e)
+merged a more P more_times T lower upper k s counted held order space e f m n =
+    made P T lower upper (omega (arith, count, k.some)) (omega (arith, count, space)) (merged_set a more P k s order e)
     (ap (λ (z : List ℕ). length z) f
     ∙ (let t = length-append a.times more_times in omega (arith, t, count, k.counted, counted)))
     (subst (All IsMultiplicity) (sym f) (All-append IsMultiplicity a.times more_times k.held held)) m n

@@ -9,7 +9,7 @@ use Rattle.std.proofs.lemmas.Nat.{mul-le}
 use Rattle.std.proofs.lemmas.Nat.Bits.{bit_at-trailing_zeros, bit_at-lt, bit_at_cat_low, bit_at_cat_high, bit_at_above}
 use Rattle.std.proofs.lemmas.Nat.Bits.{bit_at-zero}
 use Rattle.hull_buckets.specs.Masks.{lowest_of, highest_of}
-use Rattle.hull_buckets.specs.Runs.{width_of, parting_of, left_run, right_run}
+use Rattle.hull_buckets.specs.Slices.{width_of, split_of, left_slice, right_slice}
 use Rattle.hull_buckets.proofs.Words.{one_more, none_below, top_before, lowest_from, power_le}
 
 -- ---- the lowest and the highest index
@@ -112,52 +112,52 @@ mod_twice n j k l =
     ∙ ap (λ (z : ℕ). z % 2 ^ j) (mod-pow-add n (k - j) j)
     ∙ mod_low (n / 2 ^ j % 2 ^ (k - j)) j (n % 2 ^ j) (mod_below n (2 ^ j) (pow_pos j))
 
-module _ (run : ℕ) (some : 0 < run) (fits : run < 2 ^ 64) (wide : lowest_of run < highest_of run) where
+module _ (slice : ℕ) (some : 0 < slice) (fits : slice < 2 ^ 64) (wide : lowest_of slice < highest_of slice) where
   -- the split is after the lowest index and not after the highest
-  pub parting_low : lowest_of run + 1 ≤ parting_of run
-  parting_low = omega (arith, wide)
+  pub split_low : lowest_of slice + 1 ≤ split_of slice
+  split_low = omega (arith, wide)
 
-  pub parting_high : parting_of run ≤ highest_of run
-  parting_high = omega (arith, wide)
+  pub split_high : split_of slice ≤ highest_of slice
+  split_high = omega (arith, wide)
 
   -- the left half
-  pub left_below : left_run run < 2 ^ parting_of run
-  left_below = mod_below run (2 ^ parting_of run) (pow_pos (parting_of run))
+  pub left_below : left_slice slice < 2 ^ split_of slice
+  left_below = mod_below slice (2 ^ split_of slice) (pow_pos (split_of slice))
 
-  pub left_fits : left_run run < 2 ^ 64
-  left_fits = let s = shr_split run (parting_of run) in omega (arith, s, fits)
+  pub left_fits : left_slice slice < 2 ^ 64
+  left_fits = let s = shr_split slice (split_of slice) in omega (arith, s, fits)
 
-  left_there : left_run run % 2 ^ (lowest_of run + 1) ≡ 2 ^ lowest_of run
-  left_there = mod_twice run (lowest_of run + 1) (parting_of run) parting_low ∙ up_to_lowest run some fits
+  left_there : left_slice slice % 2 ^ (lowest_of slice + 1) ≡ 2 ^ lowest_of slice
+  left_there = mod_twice slice (lowest_of slice + 1) (split_of slice) split_low ∙ up_to_lowest slice some fits
 
-  left_none : left_run run % 2 ^ lowest_of run ≡ 0
-  left_none = mod_twice run (lowest_of run) (parting_of run) (omega (arith, parting_low)) ∙ none_before run some fits
+  left_none : left_slice slice % 2 ^ lowest_of slice ≡ 0
+  left_none = mod_twice slice (lowest_of slice) (split_of slice) (omega (arith, split_low)) ∙ none_before slice some fits
 
-  pub left_some : 0 < left_run run
-  left_some = let p = pow_pos (lowest_of run) in
-      let s = shr_split (left_run run) (lowest_of run + 1) in omega (arith, left_there, p, s)
+  pub left_some : 0 < left_slice slice
+  left_some = let p = pow_pos (lowest_of slice) in
+      let s = shr_split (left_slice slice) (lowest_of slice + 1) in omega (arith, left_there, p, s)
 
-  pub left_lowest : lowest_of (left_run run) ≡ lowest_of run
-  left_lowest = lowest_is (left_run run) (lowest_of run) left_some left_fits left_there left_none
+  pub left_lowest : lowest_of (left_slice slice) ≡ lowest_of slice
+  left_lowest = lowest_is (left_slice slice) (lowest_of slice) left_some left_fits left_there left_none
 
-  pub left_highest : highest_of (left_run run) < parting_of run
-  left_highest = top_before (left_run run) (highest_of (left_run run)) (parting_of run)
-      (highest_there (left_run run) left_some left_fits) left_below
+  pub left_highest : highest_of (left_slice slice) < split_of slice
+  left_highest = top_before (left_slice slice) (highest_of (left_slice slice)) (split_of slice)
+      (highest_there (left_slice slice) left_some left_fits) left_below
 
   -- the right half
-  right_is : run ≡ right_run run + left_run run
-  right_is = sym (shr_split run (parting_of run))
+  right_is : slice ≡ right_slice slice + left_slice slice
+  right_is = sym (shr_split slice (split_of slice))
 
-  pub right_fits : right_run run < 2 ^ 64
+  pub right_fits : right_slice slice < 2 ^ 64
   right_fits = omega (arith, right_is, fits)
 
-  right_there : 2 ^ highest_of run ≤ right_run run
-  right_there = elim (cases_lt (right_run run) (2 ^ highest_of run)) [
+  right_there : 2 ^ highest_of slice ≤ right_slice slice
+  right_there = elim (cases_lt (right_slice slice) (2 ^ highest_of slice)) [
     | inr l ↦ omega (arith, l)
-    | inl l ↦ absurd (let q = lowered (run / 2 ^ parting_of run) l in
-        let h = highest_there run some fits in
+    | inl l ↦ absurd (let q = lowered (slice / 2 ^ split_of slice) l in
+        let h = highest_there slice some fits in
         let b = left_below in
-        let p = power_le (parting_of run) (highest_of run) parting_high in
+        let p = power_le (split_of slice) (highest_of slice) split_high in
         short q h b p)
   ]
     where
@@ -168,80 +168,80 @@ module _ (run : ℕ) (some : 0 < run) (fits : run < 2 ^ 64) (wide : lowest_of ru
       ]
 
       -- a multiple of the split's power below the power of the highest index has capacity for the left half
-      lowered : (q : ℕ) → q * 2 ^ parting_of run < 2 ^ highest_of run
-          → q * 2 ^ parting_of run + 2 ^ parting_of run ≤ 2 ^ highest_of run
+      lowered : (q : ℕ) → q * 2 ^ split_of slice < 2 ^ highest_of slice
+          → q * 2 ^ split_of slice + 2 ^ split_of slice ≤ 2 ^ highest_of slice
       lowered q l =
-          let d : highest_of run - parting_of run + parting_of run ≡ highest_of run = omega (arith, parting_high) in
-          let e : 2 ^ highest_of run ≡ 2 ^ (highest_of run - parting_of run) * 2 ^ parting_of run =
-          sym (ap (λ (z : ℕ). 2 ^ z) d) ∙ pow-add 2 (highest_of run - parting_of run) (parting_of run) in
-          let k : q < 2 ^ (highest_of run - parting_of run) =
-          below_by q (2 ^ (highest_of run - parting_of run)) (2 ^ parting_of run) (omega (arith, l, e)) in
-          let r = row_fits q (2 ^ parting_of run) (2 ^ (highest_of run - parting_of run)) (2 ^ parting_of run) k (omega
+          let d : highest_of slice - split_of slice + split_of slice ≡ highest_of slice = omega (arith, split_high) in
+          let e : 2 ^ highest_of slice ≡ 2 ^ (highest_of slice - split_of slice) * 2 ^ split_of slice =
+          sym (ap (λ (z : ℕ). 2 ^ z) d) ∙ pow-add 2 (highest_of slice - split_of slice) (split_of slice) in
+          let k : q < 2 ^ (highest_of slice - split_of slice) =
+          below_by q (2 ^ (highest_of slice - split_of slice)) (2 ^ split_of slice) (omega (arith, l, e)) in
+          let r = row_fits q (2 ^ split_of slice) (2 ^ (highest_of slice - split_of slice)) (2 ^ split_of slice) k (omega
           arith) in
           omega (arith, r, e)
 
-      short : right_run run + 2 ^ parting_of run ≤ 2 ^ highest_of run → 2 ^ highest_of run ≤ run
-          → left_run run < 2 ^ parting_of run → 2 ^ parting_of run ≤ 2 ^ highest_of run → ⊥
+      short : right_slice slice + 2 ^ split_of slice ≤ 2 ^ highest_of slice → 2 ^ highest_of slice ≤ slice
+          → left_slice slice < 2 ^ split_of slice → 2 ^ split_of slice ≤ 2 ^ highest_of slice → ⊥
       short q h b p = omega (arith, right_is, q, h, b)
 
-  pub right_some : 0 < right_run run
-  right_some = let p = pow_pos (highest_of run) in omega (arith, right_there, p)
+  pub right_some : 0 < right_slice slice
+  right_some = let p = pow_pos (highest_of slice) in omega (arith, right_there, p)
 
-  pub right_highest : highest_of (right_run run) ≡ highest_of run
-  right_highest = highest_is (right_run run) (highest_of run) right_some right_fits right_there
-      (let a = highest_above run some fits in omega (arith, a, right_is))
+  pub right_highest : highest_of (right_slice slice) ≡ highest_of slice
+  right_highest = highest_is (right_slice slice) (highest_of slice) right_some right_fits right_there
+      (let a = highest_above slice some fits in omega (arith, a, right_is))
 
-  pub right_none : right_run run % 2 ^ parting_of run ≡ 0
-  right_none = grind (arith, common_steps, right_run, parting_of, mod_low, pow_pos)
+  pub right_none : right_slice slice % 2 ^ split_of slice ≡ 0
+  right_none = grind (arith, common_steps, right_slice, split_of, mod_low, pow_pos)
 
-  pub right_lowest : parting_of run ≤ lowest_of (right_run run)
-  right_lowest = lowest_from (right_run run) (parting_of run) (lowest_of (right_run run)) right_none
-      (up_to_lowest (right_run run) right_some right_fits)
+  pub right_lowest : split_of slice ≤ lowest_of (right_slice slice)
+  right_lowest = lowest_from (right_slice slice) (split_of slice) (lowest_of (right_slice slice)) right_none
+      (up_to_lowest (right_slice slice) right_some right_fits)
 
   -- both are narrower
-  pub left_narrow : width_of (left_run run) < width_of run
-  left_narrow = omega (arith, left_lowest, left_highest, parting_high, wide)
+  pub left_narrow : width_of (left_slice slice) < width_of slice
+  left_narrow = omega (arith, left_lowest, left_highest, split_high, wide)
 
-  pub right_narrow : width_of (right_run run) < width_of run
-  right_narrow = let h = lowest_to_highest (right_run run) right_some right_fits in
-      omega (arith, right_lowest, right_highest, parting_low, wide, h)
+  pub right_narrow : width_of (right_slice slice) < width_of slice
+  right_narrow = let h = lowest_to_highest (right_slice slice) right_some right_fits in
+      omega (arith, right_lowest, right_highest, split_low, wide, h)
 
   -- ---- bits
 
   -- an index of the left half is one of the slice, before the split
-  pub left_bit : (i : ℕ) → bit_at (left_run run) i ≡ 1 → (i < parting_of run) × (bit_at run i ≡ 1)
-  left_bit i e = elim (cases_lt i (parting_of run)) [
+  pub left_bit : (i : ℕ) → bit_at (left_slice slice) i ≡ 1 → (i < split_of slice) × (bit_at slice i ≡ 1)
+  left_bit i e = elim (cases_lt i (split_of slice)) [
     | inl l ↦ (l, sym (low i l) ∙ e)
-    | inr l ↦ absurd (let z = bit_at_above (left_run run) (parting_of run) i left_below l in omega (arith, e, z))
+    | inr l ↦ absurd (let z = bit_at_above (left_slice slice) (split_of slice) i left_below l in omega (arith, e, z))
   ]
     where
-      low : (i : ℕ) → i < parting_of run → bit_at (left_run run) i ≡ bit_at run i
-      low i l = sym (bit_at_cat_low (run / 2 ^ parting_of run) (parting_of run) (left_run run) i l)
-          ∙ ap (λ (n : ℕ). bit_at n i) (shr_split run (parting_of run))
+      low : (i : ℕ) → i < split_of slice → bit_at (left_slice slice) i ≡ bit_at slice i
+      low i l = sym (bit_at_cat_low (slice / 2 ^ split_of slice) (split_of slice) (left_slice slice) i l)
+          ∙ ap (λ (n : ℕ). bit_at n i) (shr_split slice (split_of slice))
 
-  pub left_bit_of : (i : ℕ) → i < parting_of run → bit_at run i ≡ 1 → bit_at (left_run run) i ≡ 1
-  left_bit_of i l e = sym (bit_at_cat_low (run / 2 ^ parting_of run) (parting_of run) (left_run run) i l)
-      ∙ ap (λ (n : ℕ). bit_at n i) (shr_split run (parting_of run)) ∙ e
+  pub left_bit_of : (i : ℕ) → i < split_of slice → bit_at slice i ≡ 1 → bit_at (left_slice slice) i ≡ 1
+  left_bit_of i l e = sym (bit_at_cat_low (slice / 2 ^ split_of slice) (split_of slice) (left_slice slice) i l)
+      ∙ ap (λ (n : ℕ). bit_at n i) (shr_split slice (split_of slice)) ∙ e
 
   -- an index of the right half is one of the slice, from the split on
-  pub right_bit : (i : ℕ) → bit_at (right_run run) i ≡ 1 → (parting_of run ≤ i) × (bit_at run i ≡ 1)
-  right_bit i e = grind (arith, common_steps, cases_lt, parting_of, high, none)
+  pub right_bit : (i : ℕ) → bit_at (right_slice slice) i ≡ 1 → (split_of slice ≤ i) × (bit_at slice i ≡ 1)
+  right_bit i e = grind (arith, common_steps, cases_lt, split_of, high, none)
     where
-      same : right_run run ≡ right_run run + 0
+      same : right_slice slice ≡ right_slice slice + 0
       same = omega arith
 
-      none : (i : ℕ) → i < parting_of run → bit_at (right_run run) i ≡ 0
+      none : (i : ℕ) → i < split_of slice → bit_at (right_slice slice) i ≡ 0
       none i l = ap (λ (n : ℕ). bit_at n i) same
-          ∙ bit_at_cat_low (run / 2 ^ parting_of run) (parting_of run) 0 i l ∙ bit_at-zero i
+          ∙ bit_at_cat_low (slice / 2 ^ split_of slice) (split_of slice) 0 i l ∙ bit_at-zero i
 
-      high : (i : ℕ) → parting_of run ≤ i → bit_at (right_run run) i ≡ bit_at run i
-      high i l = grind (arith, common_steps, bit_at, same, bit_at_cat_high, parting_of, pow_pos, left_run, left_below, shr_split)
+      high : (i : ℕ) → split_of slice ≤ i → bit_at (right_slice slice) i ≡ bit_at slice i
+      high i l = grind (arith, common_steps, bit_at, same, bit_at_cat_high, split_of, pow_pos, left_slice, left_below, shr_split)
 
-  pub right_bit_of : (i : ℕ) → parting_of run ≤ i → bit_at run i ≡ 1 → bit_at (right_run run) i ≡ 1
+  pub right_bit_of : (i : ℕ) → split_of slice ≤ i → bit_at slice i ≡ 1 → bit_at (right_slice slice) i ≡ 1
   right_bit_of i l e = ap (λ (n : ℕ). bit_at n i) same
-      ∙ bit_at_cat_high (run / 2 ^ parting_of run) (parting_of run) 0 i (pow_pos (parting_of run)) l
-      ∙ sym (bit_at_cat_high (run / 2 ^ parting_of run) (parting_of run) (left_run run) i left_below l)
-      ∙ ap (λ (n : ℕ). bit_at n i) (shr_split run (parting_of run)) ∙ e
+      ∙ bit_at_cat_high (slice / 2 ^ split_of slice) (split_of slice) 0 i (pow_pos (split_of slice)) l
+      ∙ sym (bit_at_cat_high (slice / 2 ^ split_of slice) (split_of slice) (left_slice slice) i left_below l)
+      ∙ ap (λ (n : ℕ). bit_at n i) (shr_split slice (split_of slice)) ∙ e
     where
-      same : right_run run ≡ right_run run + 0
+      same : right_slice slice ≡ right_slice slice + 0
       same = omega arith

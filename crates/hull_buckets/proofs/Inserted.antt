@@ -16,7 +16,7 @@ use Rattle.hull_buckets.specs.Buckets.{IsMaskOf}
 use Rattle.hull_buckets.specs.Masks.{at_places, without_place, AreApart}
 use Rattle.hull_buckets.proofs.Around.{take_front, drop_front, others_count, put_back, between_lists}
 use Rattle.hull_buckets.proofs.Around.{before_place, behind_place}
-use Rattle.hull_buckets.proofs.Places.{parted, low_at, high_at, at_among, together}
+use Rattle.hull_buckets.proofs.Places.{separated, low_at, high_at, at_among, together}
 use Rattle.hull_buckets.proofs.Words.{divided, next_power, sum_within, power_le}
 
 -- ---- masks around an index
@@ -30,7 +30,7 @@ with_gap S mask k l =
     let low : mask % 2 ^ k < 2 ^ k = mod_below mask (2 ^ k) (pow_pos k) in
     ap (λ (m : ℕ). at_places m (without_place k S)) (sym (shr_split mask k))
     ∙ ap (λ (j : ℕ). at_places (mask / 2 ^ k * 2 ^ j + mask % 2 ^ k) (without_place k S)) (sym n)
-    ∙ parted (take k S) (drop (k + 1) S) (mask / 2 ^ k) (mask % 2 ^ k)
+    ∙ separated (take k S) (drop (k + 1) S) (mask / 2 ^ k) (mask % 2 ^ k)
     (subst (λ (j : ℕ). mask % 2 ^ k < 2 ^ j) (sym n) low)
     ∙ ap (λ (z : List Pair). z ++ at_places (mask / 2 ^ k) (drop (k + 1) S))
     (sym (low_at S k (mask % 2 ^ k) (omega (arith, l)) low))

@@ -22,7 +22,7 @@ use Rattle.hull_geometry.proofs.PointSets.{set_apart, set_left, set_right}
 use Rattle.hull_buckets.specs.Buckets.{AreEnds, IsAmid, IsMaskOf}
 use Rattle.hull_buckets.specs.Masks.{at_places, IsGap}
 use Rattle.hull_buckets.proofs.Ends.{last_at}
-use Rattle.hull_buckets.proofs.Places.{at_among, first_at, none_at, parted, there_at}
+use Rattle.hull_buckets.proofs.Places.{at_among, first_at, none_at, separated, there_at}
 
 -- ---- inner to lists in a row
 
@@ -238,7 +238,7 @@ module _ (side : Side) (S : List Pair) (old k : ℕ) (s : IsPointSet S) (l : k <
   chain_is = ap (at_places old) parts
       ∙ ap (λ (m : ℕ). at_places m (take k S ++ drop k S)) (sym (shr_split old k))
       ∙ ap (λ (j : ℕ). at_places (old / 2 ^ k * 2 ^ j + old % 2 ^ k) (take k S ++ drop k S)) (sym count)
-      ∙ parted (take k S) (drop k S) (old / 2 ^ k) (old % 2 ^ k) low_within
+      ∙ separated (take k S) (drop k S) (old / 2 ^ k) (old % 2 ^ k) low_within
 
   whole : IsChainOf side S (left ++ right)
   whole = subst (IsChainOf side S) chain_is mask.chain

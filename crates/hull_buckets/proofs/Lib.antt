@@ -1,8 +1,8 @@
 pub mod Words
 pub mod Halvings
-pub mod RunTrees
-pub mod RunBridges
-pub mod RunHalves
+pub mod SliceTrees
+pub mod SliceBridges
+pub mod SliceHalves
 pub mod Places
 pub mod Ends
 pub mod Steps

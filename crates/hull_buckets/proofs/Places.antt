@@ -41,17 +41,17 @@ shifted high k low =
     mul_assoc a b = omega arith
 
 -- a mask of two parts takes from the first indices what its low part has, and what its high part has from the others
-pub parted : (xs ys : List Pair) (high low : ℕ) → low < 2 ^ length xs
+pub separated : (xs ys : List Pair) (high low : ℕ) → low < 2 ^ length xs
     → at_places (high * 2 ^ length xs + low) (xs ++ ys) ≡ at_places low xs ++ at_places high ys
-parted [] ys high low l = ap (λ (m : ℕ). at_places m ys) (omega (arith, l))
-parted (x ∷ xs) ys high low l =
+separated [] ys high low l = ap (λ (m : ℕ). at_places m ys) (omega (arith, l))
+separated (x ∷ xs) ys high low l =
     let e = shifted high (length xs) low in
     let half : low / 2 < 2 ^ length xs = omega (arith, l, twice (length xs)) in
     let m : ℕ = high * 2 ^ length xs in
     ap (λ (z : ℕ). kept_before (z % 2) x (at_places (z / 2) (xs ++ ys))) e
     ∙ ap (λ (z : ℕ). kept_before z x (at_places ((m * 2 + low) / 2) (xs ++ ys))) (lowest_of m low)
     ∙ ap (λ (z : ℕ). kept_before (low % 2) x (at_places z (xs ++ ys))) (rest_of m low)
-    ∙ ap (kept_before (low % 2) x) (parted xs ys high (low / 2) half)
+    ∙ ap (kept_before (low % 2) x) (separated xs ys high (low / 2) half)
     ∙ kept_append (low % 2) (at_places (low / 2) xs) (at_places high ys)
   where
     kept_append : (n : ℕ) (us vs : List Pair) → kept_before n x (us ++ vs) ≡ kept_before n x us ++ vs
@@ -65,7 +65,7 @@ cut_at_place S k high low l b =
     let n : length (take k S) ≡ k = length-take-le k S l in
     ap (at_places (high * 2 ^ k + low)) (cut S k l)
     ∙ ap (λ (j : ℕ). at_places (high * 2 ^ j + low) (take k S ++ drop k S)) (sym n)
-    ∙ parted (take k S) (drop k S) high low (subst (λ (j : ℕ). low < 2 ^ j) (sym n) b)
+    ∙ separated (take k S) (drop k S) high low (subst (λ (j : ℕ). low < 2 ^ j) (sym n) b)
 
 -- a mask that has only indices before one
 pub low_at : (S : List Pair) (k low : ℕ) → k ≤ length S → low < 2 ^ k → at_places low S ≡ at_places low (take k S)

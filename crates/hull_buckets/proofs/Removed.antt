@@ -11,7 +11,7 @@ use Rattle.lattice.specs.declared.side.Side.{Side}
 use Rattle.lattice.proofs.Order.{before_trans}
 use Rattle.hull_geometry.specs.Monotone.{IsChainOf, IsInner, IsConvex}
 use Rattle.hull_geometry.specs.Positions.{point_at}
-use Rattle.hull_geometry.proofs.Mended.{take_out_same}
+use Rattle.hull_geometry.proofs.Mended.{drain_same}
 use Rattle.hull_geometry.proofs.Passes.{convex_left, convex_right}
 use Rattle.hull_geometry.proofs.PointLists.{all_of, append_none}
 use Rattle.hull_geometry.proofs.PointSets.{set_right}
@@ -21,7 +21,7 @@ use Rattle.hull_buckets.specs.Masks.{at_places, kept_before, without_place, AreA
 use Rattle.hull_buckets.proofs.Joined.{inner_of_two}
 use Rattle.hull_buckets.proofs.Around.{around, others_set, others_count, taken_away}
 use Rattle.hull_buckets.proofs.Around.{between_lists, before_place, behind_place}
-use Rattle.hull_buckets.proofs.Places.{parted, none_at, at_among, together}
+use Rattle.hull_buckets.proofs.Places.{separated, none_at, at_among, together}
 use Rattle.hull_buckets.proofs.Words.{next_power, sum_within, power_le}
 
 -- ---- masks around an index
@@ -33,7 +33,7 @@ low_left S mask k l =
     let n : length (take k S) ≡ k = length-take-le k S (omega (arith, l)) in
     let e : mask % 2 ^ k ≡ 0 * 2 ^ length (take k S) + mask % 2 ^ k = omega arith in
     ap (λ (m : ℕ). at_places m (without_place k S)) e
-    ∙ parted (take k S) (drop (k + 1) S) 0 (mask % 2 ^ k)
+    ∙ separated (take k S) (drop (k + 1) S) 0 (mask % 2 ^ k)
     (subst (λ (j : ℕ). mask % 2 ^ k < 2 ^ j) (sym n) (mod_below mask (2 ^ k) (pow_pos k)))
     ∙ ap (λ (z : List Pair). at_places (mask % 2 ^ k) (take k S) ++ z) (none_at (drop (k + 1) S))
     ∙ sym (append_none (at_places (mask % 2 ^ k) (take k S)))
@@ -46,7 +46,7 @@ high_left S high k l =
     let e : high * 2 ^ k ≡ high * 2 ^ k + 0 = omega arith in
     ap (λ (m : ℕ). at_places m (without_place k S)) e
     ∙ ap (λ (j : ℕ). at_places (high * 2 ^ j + 0) (without_place k S)) (sym n)
-    ∙ parted (take k S) (drop (k + 1) S) high 0 (pow_pos (length (take k S)))
+    ∙ separated (take k S) (drop (k + 1) S) high 0 (pow_pos (length (take k S)))
     ∙ ap (λ (z : List Pair). z ++ at_places high (drop (k + 1) S)) (none_at (take k S))
 
 -- the points at the indices of a mask are those of the others before the index, the one there if its bit is set, and those of the others after it,
@@ -60,7 +60,7 @@ with_place S mask k l =
     ∙ ap (λ (m : ℕ). at_places m (take k S ++ point_at S k ∷ drop (k + 1) S)) (sym (shr_split mask k))
     ∙ ap (λ (j : ℕ). at_places (mask / 2 ^ k * 2 ^ j + mask % 2 ^ k) (take k S ++ point_at S k ∷ drop (k + 1) S)) (sym
     n)
-    ∙ parted (take k S) (point_at S k ∷ drop (k + 1) S) (mask / 2 ^ k) (mask % 2 ^ k)
+    ∙ separated (take k S) (point_at S k ∷ drop (k + 1) S) (mask / 2 ^ k) (mask % 2 ^ k)
     (subst (λ (j : ℕ). mask % 2 ^ k < 2 ^ j) (sym n) (mod_below mask (2 ^ k) (pow_pos k)))
     ∙ ap (λ (z : List Pair). z ++ kept_before (mask / 2 ^ k % 2) (point_at S k) (at_places (mask / 2 ^ k / 2) (drop (k
     + 1) S)))
@@ -148,7 +148,7 @@ module _ (side : Side) (S : List Pair) (old k : ℕ) (ordered : IsPointSet S) (l
     within = sum_within (old % 2 ^ k) (old / 2 ^ (k + 1) * 2 ^ k) (length rest) are_apart low_within high_within;
     chain = subst (IsChainOf side rest)
         (sym (together rest (old % 2 ^ k) (old / 2 ^ (k + 1) * 2 ^ k) are_apart high_within low_within))
-        (take_out_same side rest S (left ++ right) (point_at S k) (length left) ordered
+        (drain_same side rest S (left ++ right) (point_at S k) (length left) ordered
         (between_lists left right (point_at S k) before_it behind_it) (taken_away S k ordered l)
         (subst (λ (n : ℕ). IsChainOf side S (left ++ kept_before n (point_at S k) right)) none old_chain));
   }
@@ -204,7 +204,7 @@ left_of side T old k low high w e f =
     (subst (AreLeft side T old k (old % 2 ^ k)) (sym f)
     (subst (λ (z : List Pair). AreLeft side z old k (old % 2 ^ k) (old / 2 ^ (k + 1) * 2 ^ k)) (sym w.left) (record {
       ordered = others_set w.old k w.ordered w.within;
-      apart = are_apart side w.old old k w.ordered w.within w.corners;
-      stays = stays side w.old old k w.ordered w.within w.corners;
-      ends = ends side w.old old k w.ordered w.within w.corners;
+      apart = are_apart side w.old old k w.ordered w.within w.vertices;
+      stays = stays side w.old old k w.ordered w.within w.vertices;
+      ends = ends side w.old old k w.ordered w.within w.vertices;
     })))

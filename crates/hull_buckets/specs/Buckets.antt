@@ -8,7 +8,7 @@ use Rattle.lattice.specs.declared.side.Side.TheVariants.{Lower, Upper}
 use Rattle.hull_geometry.specs.Monotone.{IsChainOf, IsInner, IsInwards, IsConvex}
 use Rattle.hull_set.specs.declared.TheConstants.{MULTIPLICITY_LIMIT}
 use Rattle.hull_buckets.specs.Masks.{at_places, without_place, AreApart}
-use Rattle.hull_buckets.specs.declared.TheConstants.{ROOM}
+use Rattle.hull_buckets.specs.declared.TheConstants.{BUCKET_SIZE}
 
 -- a bucket as contracts see it: its points, the multiplicity of each, and the indices of the vertices of its two chains
 pub record BucketValue : Type 0 where
@@ -40,20 +40,20 @@ pub record IsMaskOf (side : Side) (points : List Pair) (mask : ℕ) : Type 0 whe
 -- two chains of all of them
 pub record IsBucket (b : BucketValue) : Type 0 where
   pub some : 0 < length b.points
-  pub few : length b.points ≤ ROOM
+  pub few : length b.points ≤ BUCKET_SIZE
   pub ordered : IsPointSet b.points
   pub counted : length b.times ≡ length b.points
   pub held : All IsMultiplicity b.times
-  pub corners : (side : Side) → IsMaskOf side b.points (mask_on side b)
+  pub vertices : (side : Side) → IsMaskOf side b.points (mask_on side b)
 
 -- a mask had the vertices of the chain of these points and of one more, which was at an index
 pub record WasMaskOf (side : Side) (points : List Pair) (place mask : ℕ) : Type 0 where
   pub old : List Pair
-  pub few : length old ≤ ROOM
+  pub few : length old ≤ BUCKET_SIZE
   pub ordered : IsPointSet old
   pub within : place < length old
   pub left : points ≡ without_place place old
-  pub corners : IsMaskOf side old mask
+  pub vertices : IsMaskOf side old mask
 
 -- t is after all of the one list and before all of the other
 abbrev pub IsAmid : List Pair → List Pair → Pair → Type 0

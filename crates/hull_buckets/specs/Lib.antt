@@ -1,3 +1,3 @@
 pub mod Masks
 pub mod Buckets
-pub mod Runs
+pub mod Slices

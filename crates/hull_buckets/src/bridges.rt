@@ -2,18 +2,18 @@
 ghost use Rattle.std.specs.Prelude.{◌≡◌, ◌≤◌};
 ghost use Rattle.std.specs.List.{Contains};
 ghost use Rattle.lattice.specs.Bridges.{IsAllBefore, IsUpperBridge, IsLowerBridge};
-ghost use Rattle.hull_geometry.specs.Fringes.{IsFringe};
+ghost use Rattle.hull_geometry.specs.CandidateLists.{IsCandidateList};
 ghost use Rattle.bridge_search.specs.Trees.{On};
-ghost use Rattle.hull_buckets.specs.Runs.{tree_of_run, all_of};
+ghost use Rattle.hull_buckets.specs.Slices.{tree_of_slice, all_of};
 
 use super::bucket::{Bucket, buckets_are_sound};
-use super::run::Run;
+use super::slice::Slice;
 use bridge_search::both_bridges;
 use lattice::{Point, Side};
 
 /// The vertices of a bucket are a candidate list of its points: a bridge search on them finds the bridges of all points.
-pub fn corners_are_a_fringe(bucket: &Bucket, side: Side)
-    ensures { IsFringe side (On (tree_of_run bucket.now (all_of bucket.now))) (Contains bucket.now.points) }
+pub fn vertices_are_a_candidates(bucket: &Bucket, side: Side)
+    ensures { IsCandidateList side (On (tree_of_slice bucket.now (all_of bucket.now))) (Contains bucket.now.points) }
 {
     buckets_are_sound(bucket);
 }
@@ -27,6 +27,6 @@ pub fn bridges_of(first: &Bucket, second: &Bucket) -> ((Point, Point), (Point, P
 {
     buckets_are_sound(first);
     buckets_are_sound(second);
-    let ((upper, _), (lower, _)) = both_bridges(Run::new(first), Run::new(second));
+    let ((upper, _), (lower, _)) = both_bridges(Slice::new(first), Slice::new(second));
     (upper, lower)
 }

@@ -7,21 +7,21 @@ ghost use Rattle.lattice.specs.declared.side.Side.{Side};
 ghost use Rattle.lattice.specs.declared.side.Side.TheVariants.{Lower, Upper};
 ghost use Rattle.hull_geometry.specs.Positions.{IsPositionOf, point_at};
 ghost use Rattle.hull_buckets.specs.Buckets.{IsBucket};
-ghost use Rattle.hull_buckets.specs.declared.TheConstants.{ROOM};
+ghost use Rattle.hull_buckets.specs.declared.TheConstants.{BUCKET_SIZE};
 
-use super::ROOM;
+use super::BUCKET_SIZE;
 use super::mask::has;
-use super::mending::{all_corners, corners_before, corners_from, with_corner, without_corner};
 use super::positions::position_of;
-use super::row::{put_behind, put_in, put_over, take_out};
+use super::repairing::{all_vertices, vertices_before, vertices_from, with_vertex, without_vertex};
+use super::row::{drain, put_behind, put_in, put_over};
 use lattice::{Point, Side};
 use std::marker::Model;
 
 /// One to 64 points in order, each with its multiplicity, and the indices of the vertices of their lower and of their upper chain.
 #[derive(Drop)]
 pub struct Bucket {
-    points: [Point; ROOM],
-    times: [u16; ROOM],
+    points: [Point; BUCKET_SIZE],
+    times: [u16; BUCKET_SIZE],
     len: usize,
     lower: u64,
     upper: u64,
@@ -30,13 +30,13 @@ pub struct Bucket {
 impl Model for Bucket {
     ghost use Rattle.std.specs.Prelude.{◌≤◌, take};
     ghost use Rattle.hull_buckets.specs.Buckets.{BucketValue, IsBucket, seen};
-    ghost use Rattle.hull_buckets.specs.declared.TheConstants.{ROOM};
+    ghost use Rattle.hull_buckets.specs.declared.TheConstants.{BUCKET_SIZE};
 
     ghost Value = { BucketValue };
 
     ghost view = { λ b. seen b.len b.points b.times b.lower b.upper };
 
-    ghost invariant = { λ b. (b.len ≤ ROOM) × IsBucket (seen b.len b.points b.times b.lower b.upper) };
+    ghost invariant = { λ b. (b.len ≤ BUCKET_SIZE) × IsBucket (seen b.len b.points b.times b.lower b.upper) };
 }
 
 impl Bucket {
@@ -49,8 +49,8 @@ impl Bucket {
         ensures times { result.times ≡ times ∷ [] }
     {
         Bucket {
-            points: [point; ROOM],
-            times: [times; ROOM],
+            points: [point; BUCKET_SIZE],
+            times: [times; BUCKET_SIZE],
             len: 1,
             lower: 1,
             upper: 1,
@@ -61,7 +61,7 @@ impl Bucket {
     pub fn points(&self) -> &[Point]
         ensures points { result.now ≡ self.now.points }
         ensures some { 0 < length result.now }
-        ensures few { length result.now ≤ ROOM }
+        ensures few { length result.now ≤ BUCKET_SIZE }
         ensures ordered { IsPointSet result.now }
     {
         &self.points[..self.len]
@@ -78,9 +78,9 @@ impl Bucket {
 
     /// Whether the bucket has no capacity left.
     pub fn is_full(&self) -> bool
-        ensures { IsTrue result ↔ (length self.now.points ≡ ROOM) }
+        ensures { IsTrue result ↔ (length self.now.points ≡ BUCKET_SIZE) }
     {
-        self.points().len() == ROOM
+        self.points().len() == BUCKET_SIZE
     }
 
     /// Returns the index of a point, or else the index at which it would be inserted.
@@ -91,9 +91,9 @@ impl Bucket {
     }
 
     /// Returns the indices of the vertices of the chain on a side, as the bits of a word.
-    pub fn corners(&self, side: Side) -> u64
+    pub fn vertices(&self, side: Side) -> u64
         ensures mask { result ≡ mask_on side self.now }
-        ensures corners { IsMaskOf side self.now.points result }
+        ensures vertices { IsMaskOf side self.now.points result }
     {
         match side {
             Side::Lower => self.lower,
@@ -102,12 +102,12 @@ impl Bucket {
     }
 
     /// Whether the point at an index is a vertex on a side: if not, it is inwards of a segment between two others.
-    pub fn is_corner(&self, side: Side, place: usize) -> bool
+    pub fn is_vertex(&self, side: Side, place: usize) -> bool
         requires { place < length self.now.points }
         ensures { result ≡ false → IsCovered side (point_at self.now.points place) self.now.points }
     {
         buckets_are_sound(self);
-        has(self.corners(side), place)
+        has(self.vertices(side), place)
     }
 
     /// Sets the multiplicity of the point at an index.
@@ -116,7 +116,7 @@ impl Bucket {
         requires held { IsMultiplicity times }
         ensures times { self.new.times ≡ slice_set self.old.times place times }
         ensures points { self.new.points ≡ self.old.points }
-        ensures corners { (side : Side) → mask_on side self.new ≡ mask_on side self.old }
+        ensures vertices { (side : Side) → mask_on side self.new ≡ mask_on side self.old }
     {
         put_over(&mut self.times, self.len, place, times);
     }
@@ -124,7 +124,7 @@ impl Bucket {
     /// Inserts a point at its index.
     pub fn insert(&mut self, place: usize, point: Point, times: u16)
         requires position { IsPositionOf self.old.points point (Err place) }
-        requires room { length self.old.points < ROOM }
+        requires space { length self.old.points < BUCKET_SIZE }
         requires held { IsMultiplicity times }
         ensures points { self.new.points ≡ with_point point self.old.points }
         ensures times { self.new.times ≡ insert self.old.times place times }
@@ -133,8 +133,8 @@ impl Bucket {
         put_in(&mut self.times, self.len, place, times);
         self.len += 1;
         let points = &self.points[..self.len];
-        self.lower = with_corner(Side::Lower, points, self.lower, place);
-        self.upper = with_corner(Side::Upper, points, self.upper, place);
+        self.lower = with_vertex(Side::Lower, points, self.lower, place);
+        self.upper = with_vertex(Side::Upper, points, self.upper, place);
     }
 
     /// Removes the point at an index; it must not be the only one.
@@ -144,36 +144,36 @@ impl Bucket {
         ensures points { self.new.points ≡ without_point (point_at self.old.points place) self.old.points }
         ensures times { self.new.times ≡ remove self.old.times place }
     {
-        take_out(&mut self.points, self.len, place);
-        take_out(&mut self.times, self.len, place);
+        drain(&mut self.points, self.len, place);
+        drain(&mut self.times, self.len, place);
         self.len -= 1;
         let points = &self.points[..self.len];
-        self.lower = without_corner(Side::Lower, points, self.lower, place);
-        self.upper = without_corner(Side::Upper, points, self.upper, place);
+        self.lower = without_vertex(Side::Lower, points, self.lower, place);
+        self.upper = without_vertex(Side::Upper, points, self.upper, place);
     }
 
     /// Makes a bucket of points in order, each with its multiplicity.
     pub fn from_parts(points: &[Point], times: &[u16]) -> Bucket
         requires some { 0 < length points.now }
-        requires few { length points.now ≤ ROOM }
+        requires few { length points.now ≤ BUCKET_SIZE }
         requires ordered { IsPointSet points.now }
         requires counted { length times.now ≡ length points.now }
         requires held { All IsMultiplicity times.now }
         ensures points { result.points ≡ points.now }
         ensures times { result.times ≡ times.now }
     {
-        Bucket::with_corners(
+        Bucket::with_vertices(
             points,
             times,
-            all_corners(Side::Lower, points),
-            all_corners(Side::Upper, points),
+            all_vertices(Side::Lower, points),
+            all_vertices(Side::Upper, points),
         )
     }
 
     /// Makes a bucket of points in order, each with its multiplicity, whose vertices are known.
-    fn with_corners(points: &[Point], times: &[u16], lower: u64, upper: u64) -> Bucket
+    fn with_vertices(points: &[Point], times: &[u16], lower: u64, upper: u64) -> Bucket
         requires some { 0 < length points.now }
-        requires few { length points.now ≤ ROOM }
+        requires few { length points.now ≤ BUCKET_SIZE }
         requires ordered { IsPointSet points.now }
         requires counted { length times.now ≡ length points.now }
         requires held { All IsMultiplicity times.now }
@@ -182,8 +182,8 @@ impl Bucket {
         ensures points { result.points ≡ points.now }
         ensures times { result.times ≡ times.now }
     {
-        let mut own_points = [points[0]; ROOM];
-        let mut own_times = [times[0]; ROOM];
+        let mut own_points = [points[0]; BUCKET_SIZE];
+        let mut own_times = [times[0]; BUCKET_SIZE];
         put_behind(&mut own_points, 0, points);
         put_behind(&mut own_times, 0, times);
         Bucket {
@@ -203,8 +203,8 @@ impl Bucket {
         ensures times { self.new.times ≡ take len self.old.times }
     {
         let points = &self.points[..self.len];
-        self.lower = corners_before(Side::Lower, points, self.lower, len);
-        self.upper = corners_before(Side::Upper, points, self.upper, len);
+        self.lower = vertices_before(Side::Lower, points, self.lower, len);
+        self.upper = vertices_before(Side::Upper, points, self.upper, len);
         self.len = len;
     }
 
@@ -217,11 +217,11 @@ impl Bucket {
     {
         let (points, times) = (self.points(), self.times());
         let middle = points.len() / 2;
-        let second = Bucket::with_corners(
+        let second = Bucket::with_vertices(
             &points[middle..],
             &times[middle..],
-            corners_from(Side::Lower, points, self.lower, middle),
-            corners_from(Side::Upper, points, self.upper, middle),
+            vertices_from(Side::Lower, points, self.lower, middle),
+            vertices_from(Side::Upper, points, self.upper, middle),
         );
         self.truncate(middle);
         second
@@ -230,7 +230,7 @@ impl Bucket {
     /// Appends the points of a bucket that is after this one.
     pub fn merge(&mut self, other: &Bucket)
         requires order { IsAllBefore (Contains self.old.points) (Contains other.now.points) }
-        requires room { length self.old.points + length other.now.points ≤ ROOM }
+        requires space { length self.old.points + length other.now.points ≤ BUCKET_SIZE }
         ensures points { self.new.points ≡ self.old.points ++ other.now.points }
         ensures times { self.new.times ≡ self.old.times ++ other.now.times }
     {
@@ -239,8 +239,8 @@ impl Bucket {
         put_behind(&mut self.times, self.len, more_times);
         self.len += more.len();
         let points = &self.points[..self.len];
-        self.lower = all_corners(Side::Lower, points);
-        self.upper = all_corners(Side::Upper, points);
+        self.lower = all_vertices(Side::Lower, points);
+        self.upper = all_vertices(Side::Upper, points);
     }
 }
 

@@ -6,7 +6,7 @@ ghost use Rattle.lattice.specs.Orientations as orientations;
 ghost use Rattle.hull_geometry.specs.Monotone.{EndsInwards, IsConvex, IsPassed};
 ghost use Rattle.hull_geometry.specs.Positions.{point_at};
 ghost use Rattle.hull_buckets.specs.Masks.{at_places, AreApart};
-ghost use Rattle.hull_buckets.specs.declared.TheConstants.{ROOM};
+ghost use Rattle.hull_buckets.specs.declared.TheConstants.{BUCKET_SIZE};
 
 use super::mask::{bit, highest, lowest};
 use lattice::{Point, Side, orient_on};
@@ -20,7 +20,7 @@ pub(crate) fn is_convex_at(side: Side, a: Point, b: Point, c: Point) -> bool
 
 /// Removes the last vertex of a chain, if it is not outwards of the segment from the one before it to the point at an index.
 fn without_last(side: Side, points: &[Point], chain: u64, place: usize) -> Option<u64>
-    requires few { length points.now ≤ ROOM }
+    requires few { length points.now ≤ BUCKET_SIZE }
     requires within { place < length points.now }
     requires before { chain < 2 ^ place }
     ensures fewer { IfSome result (λ front. front < chain) }
@@ -47,7 +47,7 @@ fn without_last(side: Side, points: &[Point], chain: u64, place: usize) -> Optio
 
 /// Appends the point at an index to the chain, and removes those of the chain's last vertices at which it does not bend then.
 pub(crate) fn pushed(side: Side, points: &[Point], chain: u64, place: usize) -> u64
-    requires few { length points.now ≤ ROOM }
+    requires few { length points.now ≤ BUCKET_SIZE }
     requires within { place < length points.now }
     requires ordered { IsPointSet points.now }
     requires before { chain < 2 ^ place }
@@ -65,7 +65,7 @@ pub(crate) fn pushed(side: Side, points: &[Point], chain: u64, place: usize) -> 
 
 /// Continues a chain over the points at the indices of `rest`, all after its own: one pass in order.
 pub(crate) fn passed_over(side: Side, points: &[Point], chain: u64, rest: u64) -> u64
-    requires few { length points.now ≤ ROOM }
+    requires few { length points.now ≤ BUCKET_SIZE }
     requires ordered { IsPointSet points.now }
     requires apart { AreApart chain rest }
     requires chain_within { chain < 2 ^ length points.now }
@@ -88,7 +88,7 @@ pub(crate) fn passed_over(side: Side, points: &[Point], chain: u64, rest: u64) -
 /// Continues a chain over vertices that bend, all after its own, at the indices of `rest`. It ends as soon as two of them in a row are on it: from
 /// there on all bends are as they were.
 pub(crate) fn taken_up(side: Side, points: &[Point], chain: u64, rest: u64) -> u64
-    requires few { length points.now ≤ ROOM }
+    requires few { length points.now ≤ BUCKET_SIZE }
     requires ordered { IsPointSet points.now }
     requires apart { AreApart chain rest }
     requires chain_within { chain < 2 ^ length points.now }

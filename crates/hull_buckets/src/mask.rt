@@ -44,7 +44,7 @@ pub(crate) fn below(mask: u64, place: usize) -> u64
 /// Returns the indices of a mask from one on, each moved up by one.
 pub(crate) fn moved_up(mask: u64, place: usize) -> u64
     requires within { place < 64 }
-    requires room { mask < 2 ^ 63 }
+    requires space { mask < 2 ^ 63 }
     ensures { result ≡ mask / 2 ^ place * 2 ^ (place + 1) }
 {
     (mask - below(mask, place)) * 2

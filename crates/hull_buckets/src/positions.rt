@@ -4,13 +4,13 @@ ghost use Rattle.std.specs.List.{All};
 ghost use Rattle.lattice.specs.Covers.{IsPointSet};
 ghost use Rattle.lattice.specs.Plane.{IsBefore};
 ghost use Rattle.hull_geometry.specs.Positions.{IsPositionOf};
-ghost use Rattle.hull_buckets.specs.declared.TheConstants.{ROOM};
+ghost use Rattle.hull_buckets.specs.declared.TheConstants.{BUCKET_SIZE};
 
 use lattice::{Point, before};
 
 /// Returns the first index whose point is not before `p`: a binary search, with one comparison a step.
 fn first_not_before(points: &[Point], p: Point) -> usize
-    requires few { length points.now ≤ ROOM }
+    requires few { length points.now ≤ BUCKET_SIZE }
     requires ordered { IsPointSet points.now }
     ensures within { result ≤ length points.now }
     ensures below { All (λ t. IsBefore t p) (take result points.now) }
@@ -31,7 +31,7 @@ fn first_not_before(points: &[Point], p: Point) -> usize
 
 /// Returns the index of `p`, or else the index at which it would be inserted.
 pub(crate) fn position_of(points: &[Point], p: Point) -> Result<usize, usize>
-    requires few { length points.now ≤ ROOM }
+    requires few { length points.now ≤ BUCKET_SIZE }
     requires ordered { IsPointSet points.now }
     ensures { IsPositionOf points.now p result }
 {

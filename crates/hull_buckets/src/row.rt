@@ -2,12 +2,12 @@
 ghost use Rattle.std.specs.Prelude.{◌≡◌, ◌<◌, ◌≤◌, ◌+◌, ◌-◌, ◌++◌, length, take, slice_set};
 ghost use Rattle.std.specs.List.{insert, remove};
 
-use super::ROOM;
+use super::BUCKET_SIZE;
 
 /// Inserts a value at an index of the first `count`; those from there on move up by one.
 pub(crate) fn put_in<T: Copy>(items: &mut [T], count: usize, place: usize, item: T)
     requires order { place ≤ count }
-    requires room { count < length items.old }
+    requires space { count < length items.old }
     ensures items { take (count + 1) items.new ≡ insert (take count items.old) place item }
     ensures len { length items.new ≡ length items.old }
 {
@@ -16,7 +16,7 @@ pub(crate) fn put_in<T: Copy>(items: &mut [T], count: usize, place: usize, item:
 }
 
 /// Removes the value at an index of the first `count`; those after it move down by one.
-pub(crate) fn take_out<T: Copy>(items: &mut [T], count: usize, place: usize)
+pub(crate) fn drain<T: Copy>(items: &mut [T], count: usize, place: usize)
     requires order { place < count }
     requires within { count ≤ length items.old }
     ensures items { take (count - 1) items.new ≡ remove (take count items.old) place }
@@ -27,7 +27,7 @@ pub(crate) fn take_out<T: Copy>(items: &mut [T], count: usize, place: usize)
 
 /// Appends values after the first `count`.
 pub(crate) fn put_behind<T: Copy>(items: &mut [T], count: usize, more: &[T])
-    requires room { count + length more.now ≤ length items.old }
+    requires space { count + length more.now ≤ length items.old }
     ensures items { take (count + length more.now) items.new ≡ take count items.old ++ more.now }
     ensures len { length items.new ≡ length items.old }
 {

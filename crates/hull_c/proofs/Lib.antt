@@ -1,5 +1,5 @@
 pub mod Served
 pub mod InOrder
-pub mod CornersOf
+pub mod VerticesOf
 pub mod Rings
 pub mod Asked

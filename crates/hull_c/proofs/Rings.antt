@@ -7,36 +7,36 @@ use Rattle.std.proofs.lemmas.List.{same_lists}
 use Rattle.lattice.specs.Plane.{Pair, IsBefore}
 use Rattle.hull_geometry.specs.Positions.{origin, point_at}
 use Rattle.hull_geometry.proofs.PointLists.{get_or_free}
-use Rattle.hull_outline.specs.Outlines.{IsShortOutline}
-use Rattle.hull_outline.specs.Rounds.{corner}
-use Rattle.hull_outline.proofs.Corners.{first_before}
-use Rattle.hull_c.specs.CornersOf.{GoesBackFrom, GoesRoundFrom}
+use Rattle.hull_polygon.specs.Polygons.{IsShortPolygon}
+use Rattle.hull_polygon.specs.Rounds.{vertex}
+use Rattle.hull_polygon.proofs.Vertices.{first_before}
+use Rattle.hull_c.specs.VerticesOf.{GoesBackFrom, GoesRoundFrom}
 
 -- no point is before the point at f
 abbrev pub IsLeastAt : List Pair → ℕ → Type 0
 IsLeastAt P f = (i : ℕ) → i < length P → ¬ IsBefore (point_at P i) (point_at P f)
 
 -- the first vertex is before each other one
-first_corner : (V : List Pair) (m : ℕ) → IsShortOutline V → 0 < m → m < length V → IsBefore (point_at V 0) (point_at V m)
-first_corner V m o p l =
+first_vertex : (V : List Pair) (m : ℕ) → IsShortPolygon V → 0 < m → m < length V → IsBefore (point_at V 0) (point_at V m)
+first_vertex V m o p l =
     subst (λ (z : Pair). IsBefore z (point_at V m)) (get_or_free V 0 (point_at V 0) origin (omega (arith, p, l)))
-    (subst (λ (z : Pair). IsBefore (corner V 0) z) (get_or_free V m (point_at V 0) origin l)
+    (subst (λ (z : Pair). IsBefore (vertex V 0) z) (get_or_free V m (point_at V 0) origin l)
     (first_before o.0.0 V m o.0.1.1 p l))
 
 -- if no point is before the point at f, and that point is a vertex, it is the first vertex
-is_first : (V P : List Pair) (f m j : ℕ) → IsShortOutline V → IsLeastAt P f → m < length V → j < length P
+is_first : (V P : List Pair) (f m j : ℕ) → IsShortPolygon V → IsLeastAt P f → m < length V → j < length P
     → point_at P f ≡ point_at V m → point_at P j ≡ point_at V 0 → m ≡ 0
 is_first V P f m j o least l k at_f at_j = elim (cases_lt 0 m) [
   | inl p ↦ absurd (least j k
       (subst (λ (z : Pair). IsBefore z (point_at P f)) (sym at_j)
-      (subst (λ (z : Pair). IsBefore (point_at V 0) z) (sym at_f) (first_corner V m o p l))))
+      (subst (λ (z : Pair). IsBefore (point_at V 0) z) (sym at_f) (first_vertex V m o p l))))
   | inr p ↦ omega (arith, p)
 ]
 
 -- ---- round
 
 -- the index of the first vertex, and that it is the least point
-round_first : (V P : List Pair) (k f : ℕ) → IsShortOutline V → length P ≡ length V → k < length V → f < length P
+round_first : (V P : List Pair) (k f : ℕ) → IsShortPolygon V → length P ≡ length V → k < length V → f < length P
     → GoesRoundFrom V P k → IsLeastAt P f → (f + k ≡ length V) ⊎ ((f ≡ 0) × (k ≡ 0))
 round_first V P k f o n kn fn r least = elim (cases_lt (f + k) (length V)) [
   | inl l ↦ let e : f + k ≡ 0 = by (f + k) l (r.0 f origin l) in inr (omega (arith, e), omega (arith, e))
@@ -53,7 +53,7 @@ round_first V P k f o n kn fn r least = elim (cases_lt (f + k) (length V)) [
     ]
 
 -- a ring in the order of the vertices, rotated to its least point, is the vertices
-pub turned_round : (V P R : List Pair) (k f : ℕ) → IsShortOutline V → length P ≡ length V → k < length V → f < length P
+pub turned_round : (V P R : List Pair) (k f : ℕ) → IsShortPolygon V → length P ≡ length V → k < length V → f < length P
     → GoesRoundFrom V P k → IsLeastAt P f → length R ≡ length P → RotatedLeft P R (length P) f → R ≡ V
 turned_round V P R k f o n kn fn r least m t = same_lists R V (m ∙ n) (λ i d l. at i d (omega (arith, l, m, n)))
   where
@@ -72,7 +72,7 @@ turned_round V P R k f o n kn fn r least m t = same_lists R V (m ∙ n) (λ i d 
 -- ---- back
 
 -- the index of the first vertex, and that it is the least point
-back_first : (V P : List Pair) (k f : ℕ) → IsShortOutline V → length P ≡ length V → k < length V → f < length P
+back_first : (V P : List Pair) (k f : ℕ) → IsShortPolygon V → length P ≡ length V → k < length V → f < length P
     → GoesBackFrom V P k → IsLeastAt P f → f ≡ k
 back_first V P k f o n kn fn r least = elim (cases_lt k f) [
   | inl l ↦ let e : k + length V - f ≡ 0 = by (k + length V - f) (omega (arith, l, n, fn)) ((r f origin (omega (arith, n, fn))).1 l) in
@@ -86,7 +86,7 @@ back_first V P k f o n kn fn r least = elim (cases_lt k f) [
         ((r k origin kn).0 (omega arith) ∙ ap (point_at V) (omega arith))
 
 -- a ring in the reverse order, rotated to its least point, then by one more, and reversed, is the vertices
-pub turned_back : (V P R Q W : List Pair) (k f : ℕ) → IsShortOutline V → length P ≡ length V → k < length V → f < length P
+pub turned_back : (V P R Q W : List Pair) (k f : ℕ) → IsShortPolygon V → length P ≡ length V → k < length V → f < length P
     → GoesBackFrom V P k → IsLeastAt P f → length R ≡ length P → RotatedLeft P R (length P) f
     → length Q ≡ length R → RotatedLeft R Q (length R) 1 → length W ≡ length Q → ReversedBelow Q W (length Q) → W ≡ V
 turned_back V P R Q W k f o n kn fn r least m t h u g v =

@@ -15,9 +15,9 @@ GoesOn qs before old now out i =
     → AreServed qs before old new (take i out ++ after) (i + m)
 
 -- without space for a reply nothing is served
-pub no_room : (qs : List HullRequest) (now : LimitedTree) → AreServed qs [] now now [] 0
-no_room [] now = (refl, refl, refl)
-no_room (q ∷ qs) now = (refl, refl, refl)
+pub no_storage : (qs : List HullRequest) (now : LimitedTree) → AreServed qs [] now now [] 0
+no_storage [] now = (refl, refl, refl)
+no_storage (q ∷ qs) now = (refl, refl, refl)
 
 -- at the end of the shorter array nothing more is served
 pub none_left : (qs : List HullRequest) (before : List HullReply) (now : LimitedTree) (i : ℕ)
@@ -27,7 +27,7 @@ none_left qs before now i (inl short) =
     (refl, refl, refl)
 none_left qs before now i (inr short) =
     subst (λ (l : List HullReply). AreServed (drop i qs) l now now l 0) (sym (drop_all i before short))
-    (no_room (drop i qs) now)
+    (no_storage (drop i qs) now)
 
 module _ (qs : List HullRequest) (before : List HullReply) (old now : LimitedTree) (out : List HullReply) (i : ℕ)
     (on : GoesOn qs before old now out i) (rest : drop i out ≡ drop i before) where
@@ -41,11 +41,11 @@ module _ (qs : List HullRequest) (before : List HullReply) (old now : LimitedTre
       (subst (λ (n : ℕ). AreServed qs before old now (take i out ++ drop i before) n) all
       (on now (drop i before) 0 (none_left qs before now i short)))
 
-  module _ (mid : LimitedTree) (r : HullReply) (q : HullRequest) (within : i < length qs) (room : i < length before)
+  module _ (mid : LimitedTree) (r : HullReply) (q : HullRequest) (within : i < length qs) (storage : i < length before)
       (long : length out ≡ length before)
       (next : drop i qs ≡ q ∷ drop (i + 1) qs) (answered : AnswersRequest q now mid r) where
     here : drop i before ≡ get_or before i r ∷ drop (i + 1) before
-    here = drop_more before i r room
+    here = drop_more before i r storage
 
     -- what serves the requests from this one on
     from_here : (new : LimitedTree) (after : List HullReply) (m : ℕ)

@@ -4,21 +4,21 @@ use Rattle.bucket_tree.specs.Levels.{bridges_at}
 use Rattle.bucket_tree.specs.Roots.{held_by}
 use Rattle.bucket_tree.specs.Sets.{LimitedTree}
 use Rattle.leaf_trees.specs.declared.bridge.Bridge.{Bridge}
-use Rattle.hull_reply.specs.Told.{IsBare, IsNumber}
+use Rattle.hull_reply.specs.Encoded.{IsBare, IsNumber}
 use Rattle.hull_reply.specs.declared.code.Code.TheVariants as code
 use Rattle.hull_reply.specs.declared.reply.HullReply.{HullReply}
 
 -- they are at the front of the array, whose rest is unchanged; or the array is too short for them and unchanged; the
 -- reply has their number in either case
-abbrev pub TellsBridges : List Bridge → List Bridge → List Bridge → HullReply → Type 0
-TellsBridges bridges before after told =
+abbrev pub EncodesBridges : List Bridge → List Bridge → List Bridge → HullReply → Type 0
+EncodesBridges bridges before after encoded =
     ((length bridges ≤ length before) × (after ≡ bridges ++ drop (length bridges) before)
-    × IsNumber code.Number (length bridges) told)
-    ⊎ ((length before < length bridges) × (after ≡ before) × IsNumber code.TooSmall (length bridges) told)
+    × IsNumber code.Number (length bridges) encoded)
+    ⊎ ((length before < length bridges) × (after ≡ before) × IsNumber code.TooSmall (length bridges) encoded)
 
 -- the set is unchanged; the reply has the bridges of the level, or memory was refused (an empty set needs none)
 abbrev pub AreBridges : LimitedTree → LimitedTree → ℕ → List Bridge → List Bridge → HullReply → Type 0
-AreBridges old new level before after told =
+AreBridges old new level before after encoded =
     (new ≡ old)
-    × (TellsBridges (bridges_at level old.root) before after told
-    ⊎ (((held_by old.root).points ≢ []) × (after ≡ before) × IsBare code.NoMemory told))
+    × (EncodesBridges (bridges_at level old.root) before after encoded
+    ⊎ (((held_by old.root).points ≢ []) × (after ≡ before) × IsBare code.NoMemory encoded))

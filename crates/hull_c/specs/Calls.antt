@@ -6,20 +6,20 @@ use Rattle.hull_set.specs.Held.{nothing_held}
 use Rattle.hull_set.specs.declared.TheConstants.{POINT_LIMIT}
 use Rattle.bucket_tree.specs.Roots.{held_by}
 use Rattle.bucket_tree.specs.Sets.{LimitedTree}
-use Rattle.hull_reply.specs.Corners.{TellsCorners}
-use Rattle.hull_reply.specs.Told.{IsBare, IsNumber}
+use Rattle.hull_reply.specs.Vertices.{EncodesVertices}
+use Rattle.hull_reply.specs.Encoded.{IsBare, IsNumber}
 use Rattle.hull_reply.specs.declared.code.Code.TheVariants as code
 use Rattle.hull_reply.specs.declared.reply.HullReply.{HullReply}
 
 -- the set is empty, and the limit is unchanged
-pub record IsCleared (old new : LimitedTree) (told : HullReply) : Type 0 where
-  pub tells : IsBare code.Cleared told
+pub record IsCleared (old new : LimitedTree) (encoded : HullReply) : Type 0 where
+  pub reports : IsBare code.Cleared encoded
   pub nothing : held_by new.root ≡ nothing_held
   pub same_limit : new.limit ≡ old.limit
 
 -- the reply has the limit; nothing changed
 abbrev pub IsLimitOf : LimitedTree → LimitedTree → HullReply → Type 0
-IsLimitOf old new told = (new ≡ old) × IsNumber code.Number old.limit told
+IsLimitOf old new encoded = (new ≡ old) × IsNumber code.Number old.limit encoded
 
 -- an empty set with this limit, or with the greatest limit if no set can have this one
 pub record IsFresh (limit : ℕ) (hull : LimitedTree) : Type 0 where
@@ -29,16 +29,16 @@ pub record IsFresh (limit : ℕ) (hull : LimitedTree) : Type 0 where
 
 -- the set is unchanged; its vertices were written to the array, or it is too short for them, or memory was refused
 -- (an empty set needs none)
-abbrev pub AreCorners : LimitedTree → LimitedTree → List Pair → List Pair → HullReply → Type 0
-AreCorners old new before after told =
+abbrev pub AreVertices : LimitedTree → LimitedTree → List Pair → List Pair → HullReply → Type 0
+AreVertices old new before after encoded =
     (new ≡ old)
-    × (((corners : List Pair) × IsVertexList (held_by old.root).points corners
-    × TellsCorners corners before after told)
-    ⊎ (((held_by old.root).points ≢ []) × (after ≡ before) × IsBare code.NoMemory told))
+    × (((vertices : List Pair) × IsVertexList (held_by old.root).points vertices
+    × EncodesVertices vertices before after encoded)
+    ⊎ (((held_by old.root).points ≢ []) × (after ≡ before) × IsBare code.NoMemory encoded))
 
 -- nothing changed; the reply has the number of vertices, or 0
-abbrev pub IsSettled : LimitedTree → LimitedTree → HullReply → Type 0
-IsSettled old new told =
+abbrev pub IsPrepared : LimitedTree → LimitedTree → HullReply → Type 0
+IsPrepared old new encoded =
     (new ≡ old)
-    × ((number : ℕ) × IsNumber code.Number number told
-    × ((number ≡ 0) ⊎ ((corners : List Pair) × IsVertexList (held_by old.root).points corners × (number ≡ length corners))))
+    × ((number : ℕ) × IsNumber code.Number number encoded
+    × ((number ≡ 0) ⊎ ((vertices : List Pair) × IsVertexList (held_by old.root).points vertices × (number ≡ length vertices))))

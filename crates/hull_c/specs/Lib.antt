@@ -4,9 +4,9 @@ pub mod Held
 pub mod Requests
 pub mod Left
 pub mod Loads
-pub mod Outlines
+pub mod Polygons
 pub mod Findings
 pub mod Pairs
-pub mod CornersOf
-pub mod Clearances
-pub mod Casts
+pub mod VerticesOf
+pub mod DistanceBounds
+pub mod Raycasts

@@ -2,14 +2,14 @@
 use Rattle.std.specs.Prelude.{◌≡◌, ◌⊎◌, ℕ, ◌+◌, List, ◌∷◌}
 use Rattle.bucket_tree.specs.Sets.{LimitedTree, bucket_set}
 use Rattle.hull_reply.specs.Served.{IsAnswered}
-use Rattle.hull_reply.specs.Told.{code_number}
+use Rattle.hull_reply.specs.Encoded.{code_number}
 use Rattle.hull_reply.specs.declared.code.Code.TheVariants as code
 use Rattle.hull_reply.specs.declared.reply.HullReply.{HullReply}
 use Rattle.hull_c.specs.declared.requests.HullRequest.{HullRequest}
 
 -- the request was served
 abbrev pub AnswersRequest : HullRequest → LimitedTree → LimitedTree → HullReply → Type 0
-AnswersRequest q old new told = IsAnswered bucket_set q.kind q.x q.y old new told
+AnswersRequest q old new encoded = IsAnswered bucket_set q.kind q.x q.y old new encoded
 
 -- the code is that of a request that can't be served
 abbrev pub IsBad : ℕ → Type 0
@@ -21,8 +21,8 @@ IsBad n = (n ≡ code_number code.OutOfRange)
 -- rest is unchanged.
 abbrev pub AreServed : List HullRequest → List HullReply → LimitedTree → LimitedTree → List HullReply → ℕ → Type 0
 AreServed (q ∷ qs) (_ ∷ rest) old new after made =
-    (told : HullReply) × (behind : List HullReply) × (mid : LimitedTree) × (after ≡ told ∷ behind)
-    × AnswersRequest q old mid told
-    × ((IsBad told.code × (made ≡ 1) × (behind ≡ rest) × (new ≡ mid))
-    ⊎ (¬ IsBad told.code × ((m : ℕ) × (made ≡ m + 1) × AreServed qs rest mid new behind m)))
+    (encoded : HullReply) × (behind : List HullReply) × (mid : LimitedTree) × (after ≡ encoded ∷ behind)
+    × AnswersRequest q old mid encoded
+    × ((IsBad encoded.code × (made ≡ 1) × (behind ≡ rest) × (new ≡ mid))
+    ⊎ (¬ IsBad encoded.code × ((m : ℕ) × (made ≡ m + 1) × AreServed qs rest mid new behind m)))
 AreServed _ before old new after made = (made ≡ 0) × (after ≡ before) × (new ≡ old)

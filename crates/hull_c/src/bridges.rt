@@ -1,6 +1,6 @@
 //! The bridges that a set's tree stores, a level at a time, in an array of the caller's.
 ghost use Rattle.std.specs.Prelude.{◌≡◌, ◌≤◌, ◌++◌, length, drop};
-ghost use Rattle.hull_c.specs.Bridges.{AreBridges, TellsBridges};
+ghost use Rattle.hull_c.specs.Bridges.{AreBridges, EncodesBridges};
 
 use super::hull::Hull;
 use bucket_tree::bucket_trees_are_sound;
@@ -71,7 +71,7 @@ fn write_bridges(bridges: &[Bridge], out: &mut [HullBridge])
 
 /// Writes the bridges to the front of the array, if all of them fit, and returns their number.
 fn put_bridges(bridges: &[Bridge], out: &mut [HullBridge]) -> HullReply
-    ensures { TellsBridges bridges.now out.old out.new result }
+    ensures { EncodesBridges bridges.now out.old out.new result }
 {
     let number = bridges.len();
     if number > out.len() {

@@ -4,7 +4,7 @@ ghost use Rattle.std.specs.List.{All};
 ghost use Rattle.lattice.specs.Covers.{IsPointSet};
 ghost use Rattle.lattice.specs.Plane.{IsBefore};
 ghost use Rattle.leaf_trees.specs.Entries.{AreEntries, points_listed};
-ghost use Rattle.hull_reply.specs.Told.{IsBare};
+ghost use Rattle.hull_reply.specs.Encoded.{IsBare};
 ghost use Rattle.hull_c.specs.Held.{AreLoaded, HoldsListed, IsEntry, IsListed, IsWritten};
 
 use super::hull::Hull;

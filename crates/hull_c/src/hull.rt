@@ -4,13 +4,13 @@ ghost use Rattle.hull_set.specs.declared.TheConstants.{POINT_LIMIT};
 
 use bucket_tree::BucketTree;
 use hull_set::HullSet;
-use settled_set::Settled;
+use prepared_set::Prepared;
 use std::marker::Model;
 
 /// A tree, and its vertices in an array while they are known. Contracts see only the tree.
 #[derive(Drop)]
 pub(crate) struct Hull {
-    pub(crate) set: Settled<BucketTree>,
+    pub(crate) set: Prepared<BucketTree>,
 }
 
 impl Model for Hull {
@@ -30,7 +30,7 @@ impl Hull {
         ensures { result ≡ tree }
     {
         Hull {
-            set: Settled::new(tree),
+            set: Prepared::new(tree),
         }
     }
 

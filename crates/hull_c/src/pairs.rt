@@ -1,13 +1,13 @@
 //! Two arrays of vertices, and strips round one.
 ghost use Rattle.std.specs.Prelude.{◌≡◌, Some};
 ghost use Rattle.hull_geometry.specs.Positions.{origin};
-ghost use Rattle.hull_outline.specs.Outlines.{IsShortOutline};
-ghost use Rattle.hull_outline.specs.declared.witnesses.Witness.TheVariants as witness;
-ghost use Rattle.hull_c.specs.Pairs.{IsDistanceTold, IsShown, IsStripTold, IsWitnessTold};
-ghost use Rattle.hull_c.specs.Pairs.{TellsContains, TellsContainsInside, TellsDistance, TellsLeastWidth, TellsMeets};
-ghost use Rattle.hull_c.specs.Pairs.{TellsRelation, TellsWhetherWithin, TellsWitness, relation_number};
+ghost use Rattle.hull_polygon.specs.Polygons.{IsShortPolygon};
+ghost use Rattle.hull_polygon.specs.declared.witnesses.Witness.TheVariants as witness;
+ghost use Rattle.hull_c.specs.Pairs.{IsDistanceEncoded, IsShown, IsStripEncoded, IsWitnessEncoded};
+ghost use Rattle.hull_c.specs.Pairs.{EncodesContains, EncodesContainsInside, EncodesDistance, EncodesLeastWidth, EncodesIntersects};
+ghost use Rattle.hull_c.specs.Pairs.{EncodesRelation, EncodesWhetherWithin, EncodesWitness, relation_number};
 
-use hull_outline::{Distance, Length, Meeting, Outline, Relation, Separation, Strip, Witness};
+use hull_polygon::{Distance, Length, Meeting, Polygon, Relation, Separation, Strip, Witness};
 use hull_reply::{Code, HullPoint, HullReply};
 use lattice::Point;
 
@@ -66,7 +66,7 @@ fn crossing(a: Point, b: Point, c: Point, d: Point) -> HullWitness
 
 /// Makes the reply for an intersection of two convex polygons.
 fn met(meeting: Meeting) -> HullWitness
-    ensures { IsWitnessTold (Some (witness.Meets meeting)) result }
+    ensures { IsWitnessEncoded (Some (witness.Intersects meeting)) result }
 {
     match meeting {
         Meeting::OfOther(t) => at(Code::Covered, t),
@@ -76,8 +76,8 @@ fn met(meeting: Meeting) -> HullWitness
 }
 
 /// Makes the reply for a separating direction.
-fn parted(found: Separation) -> HullWitness
-    ensures { IsWitnessTold (Some (witness.Apart found)) result }
+fn separated(found: Separation) -> HullWitness
+    ensures { IsWitnessEncoded (Some (witness.Disjoint found)) result }
 {
     let direction = HullPoint {
         x: found.direction.x(),
@@ -85,23 +85,23 @@ fn parted(found: Separation) -> HullWitness
     };
     HullWitness {
         b: direction,
-        ..at(Code::Apart, found.farthest)
+        ..at(Code::Disjoint, found.farthest)
     }
 }
 
 /// Makes the reply for a witness.
 fn shown(found: Witness) -> HullWitness
-    ensures { IsWitnessTold (Some found) result }
+    ensures { IsWitnessEncoded (Some found) result }
 {
     match found {
-        Witness::Meets(meeting) => met(meeting),
-        Witness::Apart(separation) => parted(separation),
+        Witness::Intersects(meeting) => met(meeting),
+        Witness::Disjoint(separation) => separated(separation),
     }
 }
 
 /// Makes the reply for a witness, if there is one.
 fn shown_of(found: Option<Witness>) -> HullWitness
-    ensures { IsWitnessTold found result }
+    ensures { IsWitnessEncoded found result }
 {
     match found {
         None => bare(Code::Empty),
@@ -110,31 +110,31 @@ fn shown_of(found: Option<Witness>) -> HullWitness
 }
 
 /// Finds a witness of the relation of two convex polygons.
-pub(crate) fn witness(corners: &[Point], others: &[Point]) -> HullWitness
-    requires this { IsShortOutline corners.now }
-    requires that { IsShortOutline others.now }
-    ensures { TellsWitness corners.now others.now result }
+pub(crate) fn witness(vertices: &[Point], others: &[Point]) -> HullWitness
+    requires this { IsShortPolygon vertices.now }
+    requires that { IsShortPolygon others.now }
+    ensures { EncodesWitness vertices.now others.now result }
 {
-    shown_of(Outline::of_vertices(corners).witness(&Outline::of_vertices(others)))
+    shown_of(Polygon::of_vertices(vertices).witness(&Polygon::of_vertices(others)))
 }
 
 /// Whether two convex polygons intersect.
-pub(crate) fn meets(corners: &[Point], others: &[Point]) -> HullReply
-    requires this { IsShortOutline corners.now }
-    requires that { IsShortOutline others.now }
-    ensures { TellsMeets corners.now others.now result }
+pub(crate) fn intersects(vertices: &[Point], others: &[Point]) -> HullReply
+    requires this { IsShortPolygon vertices.now }
+    requires that { IsShortPolygon others.now }
+    ensures { EncodesIntersects vertices.now others.now result }
 {
-    let meets = Outline::of_vertices(corners).meets(&Outline::of_vertices(others));
-    HullReply::numbered(Code::Number, u64::from(meets))
+    let intersects = Polygon::of_vertices(vertices).intersects(&Polygon::of_vertices(others));
+    HullReply::numbered(Code::Number, u64::from(intersects))
 }
 
 /// Whether the first convex polygon contains the second.
-pub(crate) fn contains(corners: &[Point], others: &[Point]) -> HullReply
-    requires this { IsShortOutline corners.now }
-    requires that { IsShortOutline others.now }
-    ensures { TellsContains corners.now others.now result }
+pub(crate) fn contains(vertices: &[Point], others: &[Point]) -> HullReply
+    requires this { IsShortPolygon vertices.now }
+    requires that { IsShortPolygon others.now }
+    ensures { EncodesContains vertices.now others.now result }
 {
-    let holds = Outline::of_vertices(corners).contains(&Outline::of_vertices(others));
+    let holds = Polygon::of_vertices(vertices).contains(&Polygon::of_vertices(others));
     HullReply::numbered(Code::Number, u64::from(holds))
 }
 
@@ -144,7 +144,7 @@ pub(crate) fn number_of(relation: Relation) -> u64
 {
     match relation {
         // written by tools/table.py: relations
-        Relation::Apart => 0,
+        Relation::Disjoint => 0,
         Relation::Touching => 1,
         Relation::Overlapping => 2,
         Relation::Within => 3,
@@ -155,33 +155,36 @@ pub(crate) fn number_of(relation: Relation) -> u64
 }
 
 /// Returns the relation of the first convex polygon to the second.
-pub(crate) fn relation(corners: &[Point], others: &[Point]) -> HullReply
-    requires this { IsShortOutline corners.now }
-    requires that { IsShortOutline others.now }
-    ensures { TellsRelation corners.now others.now result }
+pub(crate) fn relation(vertices: &[Point], others: &[Point]) -> HullReply
+    requires this { IsShortPolygon vertices.now }
+    requires that { IsShortPolygon others.now }
+    ensures { EncodesRelation vertices.now others.now result }
 {
-    let found = Outline::of_vertices(corners).relation(&Outline::of_vertices(others));
+    let found = Polygon::of_vertices(vertices).relation(&Polygon::of_vertices(others));
     HullReply::numbered(Code::Number, number_of(found))
 }
 
 /// Whether all of the second convex polygon is inside the first.
-pub(crate) fn contains_inside(corners: &[Point], others: &[Point]) -> HullReply
-    requires this { IsShortOutline corners.now }
-    requires that { IsShortOutline others.now }
-    ensures { TellsContainsInside corners.now others.now result }
+pub(crate) fn contains_inside(vertices: &[Point], others: &[Point]) -> HullReply
+    requires this { IsShortPolygon vertices.now }
+    requires that { IsShortPolygon others.now }
+    ensures { EncodesContainsInside vertices.now others.now result }
 {
-    let holds = Outline::of_vertices(corners).contains_inside(&Outline::of_vertices(others));
+    let holds = Polygon::of_vertices(vertices).contains_inside(&Polygon::of_vertices(others));
     HullReply::numbered(Code::Number, u64::from(holds))
 }
 
 /// Whether the distance of two convex polygons is at most a length.
-pub(crate) fn is_within(corners: &[Point], others: &[Point], length: Length) -> HullReply
-    requires this { IsShortOutline corners.now }
-    requires that { IsShortOutline others.now }
-    ensures { TellsWhetherWithin corners.now others.now length result }
+pub(crate) fn is_within_distance(vertices: &[Point], others: &[Point], length: Length) -> HullReply
+    requires this { IsShortPolygon vertices.now }
+    requires that { IsShortPolygon others.now }
+    ensures { EncodesWhetherWithin vertices.now others.now length result }
 {
-    let is_within = Outline::of_vertices(corners).is_within(&Outline::of_vertices(others), length);
-    HullReply::numbered(Code::Number, u64::from(is_within))
+    let is_within_distance = Polygon::of_vertices(vertices).is_within_distance(
+        &Polygon::of_vertices(others),
+        length,
+    );
+    HullReply::numbered(Code::Number, u64::from(is_within_distance))
 }
 
 /// Makes a reply with a code and two points.
@@ -206,14 +209,14 @@ fn with_three(code: Code, a: Point, b: Point, c: Point) -> HullWitness
 
 /// Makes the reply for the strip of an edge.
 fn strip(found: Strip) -> HullWitness
-    ensures { IsStripTold (Some found) result }
+    ensures { IsStripEncoded (Some found) result }
 {
     with_three(Code::Edge, found.from, found.to, found.farthest)
 }
 
 /// Makes the reply for a strip, if there is one.
 fn strip_of(found: Option<Strip>) -> HullWitness
-    ensures { IsStripTold found result }
+    ensures { IsStripEncoded found result }
 {
     match found {
         None => bare(Code::Empty),
@@ -222,28 +225,28 @@ fn strip_of(found: Option<Strip>) -> HullWitness
 }
 
 /// Finds the least width of the vertices.
-pub(crate) fn least_width(corners: &[Point]) -> HullWitness
-    requires { IsShortOutline corners.now }
-    ensures { TellsLeastWidth corners.now result }
+pub(crate) fn least_width(vertices: &[Point]) -> HullWitness
+    requires { IsShortPolygon vertices.now }
+    ensures { EncodesLeastWidth vertices.now result }
 {
-    strip_of(Outline::of_vertices(corners).least_width())
+    strip_of(Polygon::of_vertices(vertices).least_width())
 }
 
 /// Makes the reply for where two convex polygons are nearest to one another.
 fn closest(found: Distance) -> HullWitness
-    ensures { IsDistanceTold (Some found) result }
+    ensures { IsDistanceEncoded (Some found) result }
 {
     match found {
-        Distance::Zero => bare(Code::Meeting),
-        Distance::Corners(c, d) => with_two(Code::Points, c, d),
-        Distance::CornerAndEdge(c, a, b) => with_three(Code::Corner, c, a, b),
-        Distance::EdgeAndCorner(a, b, d) => with_three(Code::Edge, a, b, d),
+        Distance::Zero => bare(Code::Intersecting),
+        Distance::Vertices(c, d) => with_two(Code::Points, c, d),
+        Distance::VertexAndEdge(c, a, b) => with_three(Code::Vertex, c, a, b),
+        Distance::EdgeAndVertex(a, b, d) => with_three(Code::Edge, a, b, d),
     }
 }
 
 /// Makes the reply for where two convex polygons are nearest to one another, if both have vertices.
 fn closest_of(found: Option<Distance>) -> HullWitness
-    ensures { IsDistanceTold found result }
+    ensures { IsDistanceEncoded found result }
 {
     match found {
         None => bare(Code::Empty),
@@ -252,10 +255,10 @@ fn closest_of(found: Option<Distance>) -> HullWitness
 }
 
 /// Returns the distance of two convex polygons.
-pub(crate) fn distance(corners: &[Point], others: &[Point]) -> HullWitness
-    requires this { IsShortOutline corners.now }
-    requires that { IsShortOutline others.now }
-    ensures { TellsDistance corners.now others.now result }
+pub(crate) fn distance(vertices: &[Point], others: &[Point]) -> HullWitness
+    requires this { IsShortPolygon vertices.now }
+    requires that { IsShortPolygon others.now }
+    ensures { EncodesDistance vertices.now others.now result }
 {
-    closest_of(Outline::of_vertices(corners).distance(&Outline::of_vertices(others)))
+    closest_of(Polygon::of_vertices(vertices).distance(&Polygon::of_vertices(others)))
 }

@@ -23,7 +23,7 @@ fn count_question(hull: &mut Hull, kind: u32)
     ensures { hull.new ≡ hull.old }
 {
     if let Some(Kind::Place | Kind::Tangents | Kind::Extreme | Kind::Area) = Kind::of(kind) {
-        hull.set.settle();
+        hull.set.prepare();
     }
 }
 

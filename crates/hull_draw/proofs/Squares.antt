@@ -235,9 +235,9 @@ found_called : (journal : JournalValue) (size : ℕ) (before : List Line) (line 
     → take (suc (length before)) journal.lines ≡ before ++ line ∷ []
     → All (λ p. IsMarked (called_marks (before ++ line ∷ [])) p) (found_points line.reply)
 found_called journal size before line scene shot right upto =
-    let told = subst (Ends journal.head (take (suc (length before)) journal.lines) scene.lines) right
+    let returned = subst (Ends journal.head (take (suc (length before)) journal.lines) scene.lines) right
     shot.replayed.ends in
-    let all = take_all scene.lines (take (suc (length before)) journal.lines) (omega (arith, told)) in
+    let all = take_all scene.lines (take (suc (length before)) journal.lines) (omega (arith, returned)) in
     let legal = subst (IsLegal journal.head) upto (subst (IsLegal journal.head) all shot.replayed.legal) in
     let last = last_right journal.head 0 nothing_held before line legal in
     found_live _ journal.head.rules (held_after before) journal.head.limit line.call line.reply last.reply
@@ -269,7 +269,7 @@ shot_in_square journal size n frame before line scene upto fits square shot =
       marks = all_marked (IsInSquare frame) scene.marks
           (subst (All (IsInSquare frame)) (sym shot.shows.marks.points)
           (all_of (IsInSquare frame) (held_by shot.root).points live));
-      corners = all_of (IsInSquare frame) scene.corners (λ p m. live p ((shot.shows.corners.members p).0 m).0);
+      vertices = all_of (IsInSquare frame) scene.vertices (λ p m. live p ((shot.shows.vertices.members p).0 m).0);
       asked = λ p e. named p (last_called before line p e);
       found = λ right k d l. named _ (found_called journal size before line scene shot right upto k d l);
     }
@@ -284,7 +284,7 @@ shots_in_square journal size n frame before rest [] whole fits square shots = tt
 shots_in_square journal size n frame before [] (s ∷ ss) whole fits square shots = tt
 shots_in_square journal size n frame before (line ∷ rest) (s ∷ ss) whole fits square shots = (
   shot_in_square journal size n frame before line s upto (omega (arith, fits)) square shots.0,
-  shots_in_square journal size n frame (before ++ line ∷ []) rest ss parted
+  shots_in_square journal size n frame (before ++ line ∷ []) rest ss separated
       (rw longer (omega (arith, fits))) square
       (subst (λ (k : ℕ). AreShots journal size k ss) (sym longer) shots.1),
 )
@@ -292,11 +292,11 @@ shots_in_square journal size n frame before (line ∷ rest) (s ∷ ss) whole fit
     longer : length (before ++ line ∷ []) ≡ suc (length before)
     longer = length-append before (line ∷ []) ∙ omega arith
 
-    parted : journal.lines ≡ (before ++ line ∷ []) ++ rest
-    parted = whole ∙ sym (append_assoc before (line ∷ []) rest)
+    separated : journal.lines ≡ (before ++ line ∷ []) ++ rest
+    separated = whole ∙ sym (append_assoc before (line ∷ []) rest)
 
     upto : take (suc (length before)) journal.lines ≡ before ++ line ∷ []
-    upto = ap (λ (ls : List Line). take (suc (length before)) ls) parted
+    upto = ap (λ (ls : List Line). take (suc (length before)) ls) separated
         ∙ ap (λ (k : ℕ). take k ((before ++ line ∷ []) ++ rest)) (sym longer)
         ∙ take-append_seam (before ++ line ∷ []) rest
 

@@ -8,7 +8,7 @@ use Rattle.hull_book.specs.declared.line.Line.{Line}
 use Rattle.hull_text.specs.Spaced.{spaced}
 use Rattle.hull_text.specs.Spelling.{call_fields, points_fields, reply_fields}
 use Rattle.hull_draw.specs.Legends.{line_start}
-use Rattle.hull_draw.specs.Texts.{told}
+use Rattle.hull_draw.specs.Texts.{returned}
 
 -- the greatest size of a coordinate of these points, and n
 unfoldable pub widest_from : ℕ → List Pair → ℕ
@@ -16,22 +16,22 @@ widest_from n [] = n
 widest_from n (p ∷ ps) = widest_from (max (max n (unsigned_abs p.x)) (unsigned_abs p.y)) ps
 
 -- how many points fit into a line, if no coordinate is of a greater size than n
-abbrev pub room_for : ℕ → ℕ
-room_for n = if leb n 9999 then 5 else (if leb n 9999999 then 3 else 1)
+abbrev pub space_for : ℕ → ℕ
+space_for n = if leb n 9999 then 5 else (if leb n 9999999 then 3 else 1)
 
 -- how many vertices of a list are written: all, or as many as fit
-abbrev pub corners_told : List Pair → ℕ
-corners_told ps = min (room_for (widest_from 0 ps)) (length ps)
+abbrev pub vertices_returned : List Pair → ℕ
+vertices_returned ps = min (space_for (widest_from 0 ps)) (length ps)
 
 -- how many are left out, if any are
 abbrev pub left_out_text : ℕ → List ℕ
-left_out_text n = if n == 0 then [] else told (codes " &#8230; and ") n ++ codes " more"
+left_out_text n = if n == 0 then [] else returned (codes " &#8230; and ") n ++ codes " more"
 
 -- a list of vertices, as far as it fits
 abbrev pub list_text : List Pair → List ℕ
 list_text ps =
-    told (codes " list ") (length ps) ++ spaced (points_fields (take (corners_told ps) ps))
-    ++ left_out_text (length ps - corners_told ps)
+    returned (codes " list ") (length ps) ++ spaced (points_fields (take (vertices_returned ps) ps))
+    ++ left_out_text (length ps - vertices_returned ps)
 
 -- a reply as in a journal, except for a list that is too long
 abbrev pub reply_text : Reply → List ℕ

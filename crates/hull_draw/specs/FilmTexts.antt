@@ -13,14 +13,14 @@ use Rattle.hull_draw.specs.Legends.{legend_text}
 use Rattle.hull_draw.specs.Pictures.{head_text, shown_text}
 use Rattle.hull_draw.specs.Scenes.{SceneValue}
 use Rattle.hull_draw.specs.Shapes.{dot_text, square_text}
-use Rattle.hull_draw.specs.Texts.{told}
+use Rattle.hull_draw.specs.Texts.{returned}
 
 -- a line from the point of the call to a point in its reply; a dot if the call names no point
 abbrev pub ray_text : Frame → Option Pair → Pair → List ℕ
 ray_text frame None p = dot_text frame p
 ray_text frame (Some q) p =
-    told (codes "M") (across frame q) ++ told (codes " ") (down frame q) ++ told (codes "L") (across frame p)
-    ++ told (codes " ") (down frame p)
+    returned (codes "M") (across frame q) ++ returned (codes " ") (down frame q) ++ returned (codes "L") (across frame p)
+    ++ returned (codes " ") (down frame p)
 
 -- both tangents, from the point of the call
 abbrev pub tangents_text : Frame → Option Pair → Pair → Pair → List ℕ
@@ -67,13 +67,13 @@ call_shown_text size (Some frame) wrong line = call_text size frame wrong line
 -- a frame is hidden again after its second, but the last is not
 abbrev pub hidden_again_text : ℕ → ℕ → List ℕ
 hidden_again_text count k =
-    if k + 1 == count then codes "\n" else told (codes "<set attributeName='display' to='none' begin='") (k + 1)
+    if k + 1 == count then codes "\n" else returned (codes "<set attributeName='display' to='none' begin='") (k + 1)
     ++ codes "s'/>\n"
 
 -- frame k begins: it is hidden until second k
 abbrev pub frame_start_text : ℕ → ℕ → List ℕ
 frame_start_text count k =
-    told (codes "<g><set attributeName='display' to='none' begin='-1s' end='") k ++ codes "s'/>"
+    returned (codes "<g><set attributeName='display' to='none' begin='-1s' end='") k ++ codes "s'/>"
     ++ hidden_again_text count k
 
 -- a frame ends with its caption
@@ -96,7 +96,7 @@ frames_text size frame count k (scene ∷ scenes) (line ∷ lines) =
 -- the range of calls that are played
 abbrev pub title_text : ℕ → ℕ → List ℕ
 title_text count total =
-    told (codes "<text x='32' y='14'>the first ") count ++ told (codes " of ") total ++ codes " calls</text>\n"
+    returned (codes "<text x='32' y='14'>the first ") count ++ returned (codes " of ") total ++ codes " calls</text>\n"
 
 -- the text of a film of these scenes and lines
 unfoldable pub film_text : ℕ → Option Frame → List SceneValue → List Line → List ℕ

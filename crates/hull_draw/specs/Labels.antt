@@ -9,7 +9,7 @@ use Rattle.hull_draw.specs.declared.labels.TheConstants.{LABEL_WIDTH, LABEL_HEIG
 use Rattle.hull_draw.specs.declared.marks.TheConstants.{LABEL_LIMIT}
 use Rattle.hull_draw.specs.declared.frame.Frame.{Frame}
 use Rattle.hull_draw.specs.Frames.{across, down, side_of}
-use Rattle.hull_draw.specs.Texts.{told, texts}
+use Rattle.hull_draw.specs.Texts.{returned, texts}
 
 -- the distance from an edge of the screen's square, whose side is `size`, of a point n from that of the plane's
 abbrev pub place_on_screen : ℕ → Frame → ℕ → ℕ
@@ -43,7 +43,7 @@ labelled size frame last (m ∷ ms) = if has_label last (label_place size frame 
 -- a label
 abbrev pub label_text : Spot → ℕ → List ℕ
 label_text place times =
-    told (codes "<text class='t' x='") place.x ++ told (codes "' y='") place.y ++ told (codes "'>") times
+    returned (codes "<text class='t' x='") place.x ++ returned (codes "' y='") place.y ++ returned (codes "'>") times
     ++ codes "</text>\n"
 
 -- the label of a mark

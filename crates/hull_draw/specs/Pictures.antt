@@ -7,12 +7,12 @@ use Rattle.hull_draw.specs.Labels.{labels_text}
 use Rattle.hull_draw.specs.Legends.{legend_text}
 use Rattle.hull_draw.specs.Scenes.{SceneValue}
 use Rattle.hull_draw.specs.Shapes.{square_text, shapes_text}
-use Rattle.hull_draw.specs.Texts.{told}
+use Rattle.hull_draw.specs.Texts.{returned}
 
 -- the width of a picture, its height, so much more than its square's, and its colours
 abbrev pub head_text : ℕ → ℕ → List ℕ
-head_text size below = told (codes "<svg xmlns='http://www.w3.org/2000/svg' width='") (size + 64)
-    ++ told (codes "' height='") (size + below) ++ codes "'>\n" ++ STYLE.now
+head_text size below = returned (codes "<svg xmlns='http://www.w3.org/2000/svg' width='") (size + 64)
+    ++ returned (codes "' height='") (size + below) ++ codes "'>\n" ++ STYLE.now
 
 -- the shapes in their square, and the labels
 abbrev pub set_text : ℕ → Frame → SceneValue → List ℕ

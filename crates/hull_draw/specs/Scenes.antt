@@ -21,7 +21,7 @@ pub record SceneValue : Type 0 where
   pub lines : ℕ
   pub wrong : Option ℕ
   pub marks : List Mark
-  pub corners : List Pair
+  pub vertices : List Pair
   pub area : ℕ
   pub bridges : List Bridge
 
@@ -33,7 +33,7 @@ pub record AreMarks (held : Held) (marks : List Mark) : Type 0 where
 -- The scene shows the set: its marks, the vertices and the area of its hull.
 pub record Shows (held : Held) (scene : SceneValue) : Type 0 where
   pub marks : AreMarks held scene.marks
-  pub corners : IsVertexList held.points scene.corners
+  pub vertices : IsVertexList held.points scene.vertices
   pub area : IsDoubledArea held.points (pos scene.area)
 
 -- the bridges that a tree stores, if they are requested

@@ -8,23 +8,23 @@ use Rattle.hull_draw.specs.declared.marks.TheConstants.{DRAWN_LIMIT}
 use Rattle.hull_draw.specs.declared.frame.Frame.{Frame}
 use Rattle.hull_draw.specs.Frames.{across, down}
 use Rattle.hull_draw.specs.Scenes.{SceneValue}
-use Rattle.hull_draw.specs.Texts.{told, texts}
+use Rattle.hull_draw.specs.Texts.{returned, texts}
 
 -- a vertex of the polygon
-abbrev pub corner_text : Frame → Pair → List ℕ
-corner_text frame p = decimal (across frame p) ++ codes "," ++ decimal (down frame p) ++ codes " "
+abbrev pub vertex_text : Frame → Pair → List ℕ
+vertex_text frame p = decimal (across frame p) ++ codes "," ++ decimal (down frame p) ++ codes " "
 
 -- the polygon with these vertices, in order
 abbrev pub polygon_text : Frame → List Pair → List ℕ
-polygon_text frame ps = codes "<polygon class='h' points='" ++ texts (corner_text frame) ps ++ codes "'/>\n"
+polygon_text frame ps = codes "<polygon class='h' points='" ++ texts (vertex_text frame) ps ++ codes "'/>\n"
 
 -- a dot: a line of no length with round ends
 abbrev pub dot_text : Frame → Pair → List ℕ
 dot_text frame p = codes "M" ++ decimal (across frame p) ++ codes " " ++ decimal (down frame p) ++ codes "h0"
 
 -- the dots at the vertices
-abbrev pub corner_dots_text : Frame → List Pair → List ℕ
-corner_dots_text frame ps = codes "<path class='c' d='" ++ texts (dot_text frame) ps ++ codes "'/>\n"
+abbrev pub vertex_dots_text : Frame → List Pair → List ℕ
+vertex_dots_text frame ps = codes "<path class='c' d='" ++ texts (dot_text frame) ps ++ codes "'/>\n"
 
 -- after `skip` marks, one of each `step` marks
 unfoldable pub every : ℕ → ℕ → List Mark → List Mark
@@ -51,8 +51,8 @@ all_dots_text frame marks = codes "<path class='p' d='" ++ texts (mark_dot_text 
 -- a line from one end of a bridge to the other; the words before the level distinguish upper from lower
 abbrev pub bridge_line_text : Frame → List ℕ → ℕ → Pair × Pair → List ℕ
 bridge_line_text frame words level e =
-    told words level ++ told (codes "' d='M") (across frame e.0) ++ told (codes " ") (down frame e.0)
-    ++ told (codes "L") (across frame e.1) ++ told (codes " ") (down frame e.1) ++ codes "'/>\n"
+    returned words level ++ returned (codes "' d='M") (across frame e.0) ++ returned (codes " ") (down frame e.0)
+    ++ returned (codes "L") (across frame e.1) ++ returned (codes " ") (down frame e.1) ++ codes "'/>\n"
 
 -- both bridges of a fork
 abbrev pub bridge_text : Frame → Bridge → List ℕ
@@ -63,11 +63,11 @@ bridge_text frame b =
 -- the square that the browser scales to `size` points of the screen
 abbrev pub square_text : ℕ → ℕ → List ℕ
 square_text size side =
-    told (codes "<svg x='32' y='32' overflow='visible' width='") size ++ told (codes "' height='") size
-    ++ told (codes "' viewBox='0 0 ") side ++ told (codes " ") side ++ codes "'>\n"
+    returned (codes "<svg x='32' y='32' overflow='visible' width='") size ++ returned (codes "' height='") size
+    ++ returned (codes "' viewBox='0 0 ") side ++ returned (codes " ") side ++ codes "'>\n"
 
 -- the hull, the points, above them the bridges, and above these the vertices
 abbrev pub shapes_text : Frame → SceneValue → List ℕ
 shapes_text frame scene =
-    polygon_text frame scene.corners ++ all_dots_text frame scene.marks ++ texts (bridge_text frame) scene.bridges
-    ++ corner_dots_text frame scene.corners
+    polygon_text frame scene.vertices ++ all_dots_text frame scene.marks ++ texts (bridge_text frame) scene.bridges
+    ++ vertex_dots_text frame scene.vertices

@@ -20,7 +20,7 @@ found_points _ = []
 -- call names, and, if the line is right, the points that it found.
 pub record IsShownInSquare (frame : Frame) (scene : SceneValue) (line : Line) : Type 0 where
   pub marks : All (λ m. IsInSquare frame m.point) scene.marks
-  pub corners : All (IsInSquare frame) scene.corners
+  pub vertices : All (IsInSquare frame) scene.vertices
   pub asked : (p : Pair) → call_point line.call ≡ Some p → IsInSquare frame p
   pub found : scene.wrong ≡ None → All (IsInSquare frame) (found_points line.reply)
 

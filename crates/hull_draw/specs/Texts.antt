@@ -2,8 +2,8 @@
 use Rattle.std.specs.Prelude.{ℕ, List, [], ◌∷◌, ◌++◌, decimal}
 
 -- a number after some words
-abbrev pub told : List ℕ → ℕ → List ℕ
-told words n = words ++ decimal n
+abbrev pub returned : List ℕ → ℕ → List ℕ
+returned words n = words ++ decimal n
 
 -- the texts of the items of a list, one after the other
 unfoldable pub texts : {A : Type 0} → (A → List ℕ) → List A → List ℕ

@@ -1,10 +1,10 @@
 ghost use Rattle.std.specs.Prelude.{◌≡◌, ◌≤◌, ◌<◌, ◌-◌, ◌^◌, OnOk, length};
 ghost use Rattle.text_io.specs.Write.{WritesAfter};
-ghost use Rattle.hull_draw.specs.Captions.{widest_from, room_for, corners_told, left_out_text, list_text};
+ghost use Rattle.hull_draw.specs.Captions.{widest_from, space_for, vertices_returned, left_out_text, list_text};
 ghost use Rattle.hull_draw.specs.Captions.{reply_text, call_line_text, reply_line_text, caption_text};
 
 use super::legend::line_start_after;
-use super::shapes::told_after;
+use super::shapes::returned_after;
 use hull_book::Line;
 use hull_set::Reply;
 use hull_text::{call_after, points_after, reply_after};
@@ -28,8 +28,8 @@ fn widest(points: &[Point]) -> u64
 }
 
 /// Returns how many points fit into a line of a picture, if no coordinate is of a greater size.
-fn room_for(widest: u64) -> usize
-    ensures { result ≡ room_for widest }
+fn space_for(widest: u64) -> usize
+    ensures { result ≡ space_for widest }
 {
     if widest <= 9999 {
         5
@@ -41,11 +41,11 @@ fn room_for(widest: u64) -> usize
 }
 
 /// Returns how many vertices of a list are written.
-fn corners_told(corners: &[Point]) -> usize
-    ensures value { result ≡ corners_told corners.now }
-    ensures few { result ≤ length corners.now }
+fn vertices_returned(vertices: &[Point]) -> usize
+    ensures value { result ≡ vertices_returned vertices.now }
+    ensures few { result ≤ length vertices.now }
 {
-    room_for(widest(corners)).min(corners.len())
+    space_for(widest(vertices)).min(vertices.len())
 }
 
 /// Writes how many vertices are left out, if any are.
@@ -56,19 +56,19 @@ fn left_out_after<W: Sink>(done: Done, out: &mut W, count: usize) -> Done
     if count == 0 {
         return done;
     }
-    let done = told_after(done, out, b" &#8230; and ", count);
+    let done = returned_after(done, out, b" &#8230; and ", count);
     put_after(done, out, b" more")
 }
 
 /// Writes a list of vertices, as far as it fits.
-fn list_after<W: Sink>(done: Done, out: &mut W, corners: &[Point]) -> Done
+fn list_after<W: Sink>(done: Done, out: &mut W, vertices: &[Point]) -> Done
     requires { OnOk done (W.failed out.old < 2 ^ 64 - 1) }
-    ensures { WritesAfter W.contents W.failed done result out.old out.new (list_text corners.now) }
+    ensures { WritesAfter W.contents W.failed done result out.old out.new (list_text vertices.now) }
 {
-    let count = corners_told(corners);
-    let done = told_after(done, out, b" list ", corners.len());
-    let done = points_after(done, out, &corners[..count]);
-    left_out_after(done, out, corners.len() - count)
+    let count = vertices_returned(vertices);
+    let done = returned_after(done, out, b" list ", vertices.len());
+    let done = points_after(done, out, &vertices[..count]);
+    left_out_after(done, out, vertices.len() - count)
 }
 
 /// Writes a reply as in a journal, except for a list that is too long.
@@ -77,14 +77,14 @@ fn short_reply_after<W: Sink>(done: Done, out: &mut W, reply: &Reply) -> Done
     ensures { WritesAfter W.contents W.failed done result out.old out.new (reply_text reply.now) }
 {
     match reply {
-        Reply::VertexList(corners) => list_after(done, out, corners.as_slice()),
+        Reply::VertexList(vertices) => list_after(done, out, vertices.as_slice()),
         _ => reply_after(done, out, reply),
     }
 }
 
 /// Writes the line of a call.
 fn call_line_after<W: Sink>(done: Done, out: &mut W, size: u64, line: &Line) -> Done
-    requires room { OnOk done (W.failed out.old < 2 ^ 64 - 1) }
+    requires space { OnOk done (W.failed out.old < 2 ^ 64 - 1) }
     requires small { size < 2 ^ 20 }
     ensures { WritesAfter W.contents W.failed done result out.old out.new (call_line_text size line.now) }
 {
@@ -96,7 +96,7 @@ fn call_line_after<W: Sink>(done: Done, out: &mut W, size: u64, line: &Line) -> 
 
 /// Writes the line of a reply.
 fn reply_line_after<W: Sink>(done: Done, out: &mut W, size: u64, line: &Line) -> Done
-    requires room { OnOk done (W.failed out.old < 2 ^ 64 - 1) }
+    requires space { OnOk done (W.failed out.old < 2 ^ 64 - 1) }
     requires small { size < 2 ^ 20 }
     ensures { WritesAfter W.contents W.failed done result out.old out.new (reply_line_text size line.now) }
 {
@@ -108,7 +108,7 @@ fn reply_line_after<W: Sink>(done: Done, out: &mut W, size: u64, line: &Line) ->
 
 /// Writes the caption of a frame: its call, and below that its reply.
 pub(crate) fn caption_after<W: Sink>(done: Done, out: &mut W, size: u64, line: &Line) -> Done
-    requires room { OnOk done (W.failed out.old < 2 ^ 64 - 1) }
+    requires space { OnOk done (W.failed out.old < 2 ^ 64 - 1) }
     requires small { size < 2 ^ 20 }
     ensures { WritesAfter W.contents W.failed done result out.old out.new (caption_text size line.now) }
 {

@@ -12,7 +12,7 @@ use super::frame::Frame;
 use super::legend::legend_after;
 use super::picture::{head_after, shown_after};
 use super::scene::Scene;
-use super::shapes::{dot_after, square_after, told_after};
+use super::shapes::{dot_after, returned_after, square_after};
 use super::shots::call_point;
 use hull_book::Line;
 use hull_set::Reply;
@@ -38,10 +38,10 @@ fn ray_after<W: Sink>(
     match asked {
         None => dot_after(done, out, frame, point),
         Some(start) => {
-            let done = told_after(done, out, b"M", frame.across(*start));
-            let done = told_after(done, out, b" ", frame.down(*start));
-            let done = told_after(done, out, b"L", frame.across(point));
-            told_after(done, out, b" ", frame.down(point))
+            let done = returned_after(done, out, b"M", frame.across(*start));
+            let done = returned_after(done, out, b" ", frame.down(*start));
+            let done = returned_after(done, out, b"L", frame.across(point));
+            returned_after(done, out, b" ", frame.down(point))
         }
     }
 }
@@ -182,7 +182,7 @@ fn call_shown_after<W: Sink>(
 
 /// Hides a frame again after its second, except for the last.
 fn hidden_again_after<W: Sink>(done: Done, out: &mut W, count: usize, place: usize) -> Done
-    requires room { OnOk done (W.failed out.old < 2 ^ 64 - 1) }
+    requires space { OnOk done (W.failed out.old < 2 ^ 64 - 1) }
     requires inside { place < count }
     ensures { WritesAfter W.contents W.failed done result out.old out.new (hidden_again_text count place) }
 {
@@ -191,25 +191,25 @@ fn hidden_again_after<W: Sink>(done: Done, out: &mut W, count: usize, place: usi
         return put_after(done, out, b"\n");
     }
     let start = b"<set attributeName='display' to='none' begin='";
-    let done = told_after(done, out, start, next);
+    let done = returned_after(done, out, start, next);
     put_after(done, out, b"s'/>\n")
 }
 
 /// Begins a frame, which is hidden until its second.
 fn frame_start_after<W: Sink>(done: Done, out: &mut W, count: usize, place: usize) -> Done
-    requires room { OnOk done (W.failed out.old < 2 ^ 64 - 1) }
+    requires space { OnOk done (W.failed out.old < 2 ^ 64 - 1) }
     requires inside { place < count }
     ensures { WritesAfter W.contents W.failed done result out.old out.new (frame_start_text count place) }
 {
     let start = b"<g><set attributeName='display' to='none' begin='-1s' end='";
-    let done = told_after(done, out, start, place);
+    let done = returned_after(done, out, start, place);
     let done = put_after(done, out, b"s'/>");
     hidden_again_after(done, out, count, place)
 }
 
 /// Ends a frame with its caption.
 fn frame_end_after<W: Sink>(done: Done, out: &mut W, size: u64, line: &Line) -> Done
-    requires room { OnOk done (W.failed out.old < 2 ^ 64 - 1) }
+    requires space { OnOk done (W.failed out.old < 2 ^ 64 - 1) }
     requires small { size < 2 ^ 20 }
     ensures { WritesAfter W.contents W.failed done result out.old out.new (frame_end_text size line.now) }
 {
@@ -226,7 +226,7 @@ fn frame_after<W: Sink>(
     scene: &Scene,
     line: &Line,
 ) -> Done
-    requires room { OnOk done (W.failed out.old < 2 ^ 64 - 1) }
+    requires space { OnOk done (W.failed out.old < 2 ^ 64 - 1) }
     requires small { size < 2 ^ 20 }
     ensures { WritesAfter W.contents W.failed done result out.old out.new (shot_text size frame.now scene.now line.now) }
 {
@@ -245,7 +245,7 @@ fn frames_after<W: Sink>(
     scenes: &[Scene],
     lines: &[Line],
 ) -> Done
-    requires room { OnOk done (W.failed out.old < 2 ^ 64 - 1) }
+    requires space { OnOk done (W.failed out.old < 2 ^ 64 - 1) }
     requires small { size < 2 ^ 20 }
     requires few { length scenes.now ≤ FRAME_LIMIT }
     ensures { WritesAfter W.contents W.failed done result out.old out.new
@@ -273,8 +273,8 @@ fn title_after<W: Sink>(done: Done, out: &mut W, count: usize, total: usize) -> 
     requires { OnOk done (W.failed out.old < 2 ^ 64 - 1) }
     ensures { WritesAfter W.contents W.failed done result out.old out.new (title_text count total) }
 {
-    let done = told_after(done, out, b"<text x='32' y='14'>the first ", count);
-    let done = told_after(done, out, b" of ", total);
+    let done = returned_after(done, out, b"<text x='32' y='14'>the first ", count);
+    let done = returned_after(done, out, b" of ", total);
     put_after(done, out, b" calls</text>\n")
 }
 
@@ -292,7 +292,7 @@ pub(crate) fn write_film<W: Sink>(
     scenes: &[Scene],
     lines: &[Line],
 ) -> Done
-    requires room { W.failed out.old < 2 ^ 64 - 1 }
+    requires space { W.failed out.old < 2 ^ 64 - 1 }
     requires small { size < 2 ^ 20 }
     requires few { length scenes.now ≤ FRAME_LIMIT }
     ensures { WritesText (W.contents out.old) (W.contents out.new) (W.failed out.old) (W.failed out.new) result

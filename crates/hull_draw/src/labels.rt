@@ -6,7 +6,7 @@ ghost use Rattle.hull_draw.specs.Labels.{label_text, mark_label_text, labels_tex
 
 use super::frame::Frame;
 use super::marks::{LABEL_LIMIT, Mark};
-use super::shapes::told_after;
+use super::shapes::returned_after;
 use lattice::Point;
 use text_io::{Done, Sink, put_after};
 
@@ -70,9 +70,9 @@ fn label_after<W: Sink>(done: Done, out: &mut W, place: Spot, times: u32) -> Don
     requires { OnOk done (W.failed out.old < 2 ^ 64 - 1) }
     ensures { WritesAfter W.contents W.failed done result out.old out.new (label_text place times) }
 {
-    let done = told_after(done, out, b"<text class='t' x='", place.x);
-    let done = told_after(done, out, b"' y='", place.y);
-    let done = told_after(done, out, b"'>", times);
+    let done = returned_after(done, out, b"<text class='t' x='", place.x);
+    let done = returned_after(done, out, b"' y='", place.y);
+    let done = returned_after(done, out, b"'>", times);
     put_after(done, out, b"</text>\n")
 }
 
@@ -85,7 +85,7 @@ fn all_labels_after<W: Sink>(
     frame: &Frame,
     marks: &[Mark],
 ) -> Done
-    requires room { OnOk done (W.failed out.old < 2 ^ 64 - 1) }
+    requires space { OnOk done (W.failed out.old < 2 ^ 64 - 1) }
     requires small { size < 2 ^ 20 }
     ensures { WritesAfter W.contents W.failed done result out.old out.new
         (texts (mark_label_text size frame.now) (labelled size frame.now None marks.now)) }
@@ -112,7 +112,7 @@ pub(crate) fn labels_after<W: Sink>(
     frame: &Frame,
     marks: &[Mark],
 ) -> Done
-    requires room { OnOk done (W.failed out.old < 2 ^ 64 - 1) }
+    requires space { OnOk done (W.failed out.old < 2 ^ 64 - 1) }
     requires small { size < 2 ^ 20 }
     ensures { WritesAfter W.contents W.failed done result out.old out.new (labels_text size frame.now marks.now) }
 {

@@ -1,30 +1,30 @@
 ghost use Rattle.std.specs.Prelude.{◌≡◌, ◌<◌, ◌≤◌, ◌+◌, ◌-◌, ◌^◌, OnOk};
 ghost use Rattle.text_io.specs.Write.{WritesAfter};
-ghost use Rattle.hull_draw.specs.Legends.{line_start, thinned_text, count_text, area_text, told_signed, range_text};
-ghost use Rattle.hull_draw.specs.Legends.{wrong_text, lines_text, bridges_told_text, numbers_text, drawn_text};
+ghost use Rattle.hull_draw.specs.Legends.{line_start, thinned_text, count_text, area_text, returned_signed, range_text};
+ghost use Rattle.hull_draw.specs.Legends.{wrong_text, lines_text, bridges_returned_text, numbers_text, drawn_text};
 ghost use Rattle.hull_draw.specs.Legends.{legend_text};
 ghost use Rattle.hull_draw.specs.Shapes.{step_of};
 
 use super::frame::Frame;
 use super::marks::DRAWN_LIMIT;
 use super::scene::Scene;
-use super::shapes::told_after;
+use super::shapes::returned_after;
 use lattice::Point;
 use leaf_trees::Bridge;
 use text_io::{Done, Sink, number_after, put_after};
 
 /// The words of the legend's line on bridges, in their colours, after its position.
-pub const BRIDGES_TOLD: &[u8] =
+pub const BRIDGES_RETURNED: &[u8] =
     b"'>bridges of 8 levels: <tspan fill='#c0392b'>upper</tspan>, <tspan fill='#1e8449'>lower</tspan></text>\n";
 
 /// Begins a line of the legend, so far below the square.
 pub(crate) fn line_start_after<W: Sink>(done: Done, out: &mut W, size: u64, below: u64) -> Done
-    requires room { OnOk done (W.failed out.old < 2 ^ 64 - 1) }
+    requires space { OnOk done (W.failed out.old < 2 ^ 64 - 1) }
     requires small { size < 2 ^ 20 }
     requires near { below < 2 ^ 20 }
     ensures { WritesAfter W.contents W.failed done result out.old out.new (line_start size below) }
 {
-    told_after(done, out, b"<text x='32' y='", size + below)
+    returned_after(done, out, b"<text x='32' y='", size + below)
 }
 
 /// Writes one of how many points is drawn, if not all are.
@@ -35,19 +35,19 @@ fn thinned_after<W: Sink>(done: Done, out: &mut W, step: usize) -> Done
     if step == 1 {
         return done;
     }
-    let done = told_after(done, out, b"; one of ", step);
+    let done = returned_after(done, out, b"; one of ", step);
     put_after(done, out, b" is drawn")
 }
 
 /// Writes how many points there are, and how many there may be.
 fn count_after<W: Sink>(done: Done, out: &mut W, size: u64, count: usize, limit: u32) -> Done
-    requires room { OnOk done (W.failed out.old < 2 ^ 64 - 1) }
+    requires space { OnOk done (W.failed out.old < 2 ^ 64 - 1) }
     requires small { size < 2 ^ 20 }
     ensures { WritesAfter W.contents W.failed done result out.old out.new (count_text size count limit) }
 {
     let done = line_start_after(done, out, size, 76);
-    let done = told_after(done, out, b"'>points ", count);
-    let done = told_after(done, out, b" (limit ", limit);
+    let done = returned_after(done, out, b"'>points ", count);
+    let done = returned_after(done, out, b" (limit ", limit);
     let done = put_after(done, out, b")");
     let done = thinned_after(done, out, count / DRAWN_LIMIT + 1);
     put_after(done, out, b"</text>\n")
@@ -55,19 +55,19 @@ fn count_after<W: Sink>(done: Done, out: &mut W, size: u64, count: usize, limit:
 
 /// Writes the doubled area.
 fn area_after<W: Sink>(done: Done, out: &mut W, size: u64, area: u128) -> Done
-    requires room { OnOk done (W.failed out.old < 2 ^ 64 - 1) }
+    requires space { OnOk done (W.failed out.old < 2 ^ 64 - 1) }
     requires small { size < 2 ^ 20 }
     ensures { WritesAfter W.contents W.failed done result out.old out.new (area_text size area) }
 {
     let done = line_start_after(done, out, size, 98);
-    let done = told_after(done, out, b"'>doubled area ", area);
+    let done = returned_after(done, out, b"'>doubled area ", area);
     put_after(done, out, b"</text>\n")
 }
 
 /// Writes words, and the first coordinate of a point after them.
 fn x_after<W: Sink>(done: Done, out: &mut W, words: &[u8], point: Point) -> Done
     requires { OnOk done (W.failed out.old < 2 ^ 64 - 1) }
-    ensures { WritesAfter W.contents W.failed done result out.old out.new (told_signed words.now point.x) }
+    ensures { WritesAfter W.contents W.failed done result out.old out.new (returned_signed words.now point.x) }
 {
     let done = put_after(done, out, words);
     number_after(done, out, point.x())
@@ -76,7 +76,7 @@ fn x_after<W: Sink>(done: Done, out: &mut W, words: &[u8], point: Point) -> Done
 /// Writes words, and the second coordinate of a point after them.
 fn y_after<W: Sink>(done: Done, out: &mut W, words: &[u8], point: Point) -> Done
     requires { OnOk done (W.failed out.old < 2 ^ 64 - 1) }
-    ensures { WritesAfter W.contents W.failed done result out.old out.new (told_signed words.now point.y) }
+    ensures { WritesAfter W.contents W.failed done result out.old out.new (returned_signed words.now point.y) }
 {
     let done = put_after(done, out, words);
     number_after(done, out, point.y())
@@ -84,7 +84,7 @@ fn y_after<W: Sink>(done: Done, out: &mut W, words: &[u8], point: Point) -> Done
 
 /// Writes the ranges of the points' coordinates.
 fn range_after<W: Sink>(done: Done, out: &mut W, size: u64, frame: &Option<Frame>) -> Done
-    requires room { OnOk done (W.failed out.old < 2 ^ 64 - 1) }
+    requires space { OnOk done (W.failed out.old < 2 ^ 64 - 1) }
     requires small { size < 2 ^ 20 }
     ensures { WritesAfter W.contents W.failed done result out.old out.new (range_text size frame.now) }
 {
@@ -110,7 +110,7 @@ fn wrong_after<W: Sink>(done: Done, out: &mut W, wrong: Option<u32>) -> Done
         None => done,
         Some(place) => {
             let words = b"<tspan class='w'>; line ";
-            let done = told_after(done, out, words, place as u64 + 2);
+            let done = returned_after(done, out, words, place as u64 + 2);
             put_after(done, out, b" is wrong</tspan>")
         }
     }
@@ -118,34 +118,34 @@ fn wrong_after<W: Sink>(done: Done, out: &mut W, wrong: Option<u32>) -> Done
 
 /// Writes how far the journal was replayed.
 fn lines_after<W: Sink>(done: Done, out: &mut W, size: u64, lines: u32, wrong: Option<u32>) -> Done
-    requires room { OnOk done (W.failed out.old < 2 ^ 64 - 1) }
+    requires space { OnOk done (W.failed out.old < 2 ^ 64 - 1) }
     requires small { size < 2 ^ 20 }
     ensures { WritesAfter W.contents W.failed done result out.old out.new (lines_text size lines wrong) }
 {
     let done = line_start_after(done, out, size, 142);
-    let done = told_after(done, out, b"'>calls ", lines);
+    let done = returned_after(done, out, b"'>calls ", lines);
     let done = wrong_after(done, out, wrong);
     put_after(done, out, b"</text>\n")
 }
 
 /// Writes which bridges are drawn, if any are.
-fn bridges_told_after<W: Sink>(done: Done, out: &mut W, size: u64, bridges: &[Bridge]) -> Done
-    requires room { OnOk done (W.failed out.old < 2 ^ 64 - 1) }
+fn bridges_returned_after<W: Sink>(done: Done, out: &mut W, size: u64, bridges: &[Bridge]) -> Done
+    requires space { OnOk done (W.failed out.old < 2 ^ 64 - 1) }
     requires small { size < 2 ^ 20 }
-    ensures { WritesAfter W.contents W.failed done result out.old out.new (bridges_told_text size bridges.now) }
+    ensures { WritesAfter W.contents W.failed done result out.old out.new (bridges_returned_text size bridges.now) }
 {
     match bridges {
         [] => done,
         [_, ..] => {
             let done = line_start_after(done, out, size, 164);
-            put_after(done, out, BRIDGES_TOLD)
+            put_after(done, out, BRIDGES_RETURNED)
         }
     }
 }
 
 /// Writes the numbers of the set.
 fn numbers_after<W: Sink>(done: Done, out: &mut W, size: u64, scene: &Scene) -> Done
-    requires room { OnOk done (W.failed out.old < 2 ^ 64 - 1) }
+    requires space { OnOk done (W.failed out.old < 2 ^ 64 - 1) }
     requires small { size < 2 ^ 20 }
     ensures { WritesAfter W.contents W.failed done result out.old out.new (numbers_text size scene.now) }
 {
@@ -155,12 +155,12 @@ fn numbers_after<W: Sink>(done: Done, out: &mut W, size: u64, scene: &Scene) -> 
 
 /// Writes how far the journal was replayed, and which bridges are drawn.
 fn drawn_after<W: Sink>(done: Done, out: &mut W, size: u64, scene: &Scene) -> Done
-    requires room { OnOk done (W.failed out.old < 2 ^ 64 - 1) }
+    requires space { OnOk done (W.failed out.old < 2 ^ 64 - 1) }
     requires small { size < 2 ^ 20 }
     ensures { WritesAfter W.contents W.failed done result out.old out.new (drawn_text size scene.now) }
 {
     let done = lines_after(done, out, size, scene.lines, scene.wrong);
-    bridges_told_after(done, out, size, &scene.bridges)
+    bridges_returned_after(done, out, size, &scene.bridges)
 }
 
 /// Writes the legend.
@@ -171,7 +171,7 @@ pub(crate) fn legend_after<W: Sink>(
     frame: &Option<Frame>,
     scene: &Scene,
 ) -> Done
-    requires room { OnOk done (W.failed out.old < 2 ^ 64 - 1) }
+    requires space { OnOk done (W.failed out.old < 2 ^ 64 - 1) }
     requires small { size < 2 ^ 20 }
     ensures { WritesAfter W.contents W.failed done result out.old out.new (legend_text size frame.now scene.now) }
 {

@@ -6,7 +6,7 @@ use super::frame::Frame;
 use super::labels::labels_after;
 use super::legend::legend_after;
 use super::scene::Scene;
-use super::shapes::{shapes_after, square_after, told_after};
+use super::shapes::{returned_after, shapes_after, square_after};
 use text_io::{Done, Sink, flush_after, put_after};
 
 /// The background, and the colours of the parts of a picture: dots and lines keep their width at any scale. Of the
@@ -19,7 +19,7 @@ pub const EMPTY: &[u8] = b"<text x='32' y='46'>the set is empty</text>\n";
 
 /// Writes the shapes in their square, and the labels.
 fn set_after<W: Sink>(done: Done, out: &mut W, size: u64, frame: &Frame, scene: &Scene) -> Done
-    requires room { OnOk done (W.failed out.old < 2 ^ 64 - 1) }
+    requires space { OnOk done (W.failed out.old < 2 ^ 64 - 1) }
     requires small { size < 2 ^ 20 }
     ensures { WritesAfter W.contents W.failed done result out.old out.new (set_text size frame.now scene.now) }
 {
@@ -37,7 +37,7 @@ pub(crate) fn shown_after<W: Sink>(
     frame: &Option<Frame>,
     scene: &Scene,
 ) -> Done
-    requires room { OnOk done (W.failed out.old < 2 ^ 64 - 1) }
+    requires space { OnOk done (W.failed out.old < 2 ^ 64 - 1) }
     requires small { size < 2 ^ 20 }
     ensures { WritesAfter W.contents W.failed done result out.old out.new (shown_text size frame.now scene.now) }
 {
@@ -49,14 +49,14 @@ pub(crate) fn shown_after<W: Sink>(
 
 /// Begins a picture, so much higher than its square.
 pub(crate) fn head_after<W: Sink>(done: Done, out: &mut W, size: u64, below: u64) -> Done
-    requires room { OnOk done (W.failed out.old < 2 ^ 64 - 1) }
+    requires space { OnOk done (W.failed out.old < 2 ^ 64 - 1) }
     requires small { size < 2 ^ 20 }
     requires near { below < 2 ^ 20 }
     ensures { WritesAfter W.contents W.failed done result out.old out.new (head_text size below) }
 {
     let start = b"<svg xmlns='http://www.w3.org/2000/svg' width='";
-    let done = told_after(done, out, start, size + 64);
-    let done = told_after(done, out, b"' height='", size + below);
+    let done = returned_after(done, out, start, size + 64);
+    let done = returned_after(done, out, b"' height='", size + below);
     let done = put_after(done, out, b"'>\n");
     put_after(done, out, STYLE)
 }
@@ -74,7 +74,7 @@ pub(crate) fn write_picture<W: Sink>(
     frame: &Option<Frame>,
     scene: &Scene,
 ) -> Done
-    requires room { W.failed out.old < 2 ^ 64 - 1 }
+    requires space { W.failed out.old < 2 ^ 64 - 1 }
     requires small { size < 2 ^ 20 }
     ensures { WritesText (W.contents out.old) (W.contents out.new) (W.failed out.old) (W.failed out.new) result
         (picture_text size frame.now scene.now) }

@@ -21,7 +21,7 @@ pub struct Scene {
     pub(crate) lines: u32,
     pub(crate) wrong: Option<u32>,
     pub(crate) marks: Vec<Mark>,
-    pub(crate) corners: Vec<Point>,
+    pub(crate) vertices: Vec<Point>,
     pub(crate) area: u128,
     pub(crate) bridges: Vec<Bridge>,
 }
@@ -36,7 +36,7 @@ impl Model for Scene {
       lines = s.lines;
       wrong = s.wrong;
       marks = s.marks.items;
-      corners = s.corners.items;
+      vertices = s.vertices.items;
       area =
           s.area;
       bridges = s.bridges.items;
@@ -66,7 +66,7 @@ pub fn scene_of(alloc: Global, journal: &Journal, options: &DrawOptions) -> Resu
     let done = replay_right_lines(alloc, journal.head(), lines)?;
     trees_are_sound(&done.set);
     let marks = marks(alloc, &done.set)?;
-    let corners = done.set.vertices()?;
+    let vertices = done.set.vertices()?;
     let area = done.set.area2();
     let bridges = if options.bridges {
         bridges(alloc, &done.set)?
@@ -78,7 +78,7 @@ pub fn scene_of(alloc: Global, journal: &Journal, options: &DrawOptions) -> Resu
         lines: done.lines,
         wrong: done.wrong,
         marks,
-        corners,
+        vertices,
         area,
         bridges,
     })

@@ -1,7 +1,7 @@
 ghost use Rattle.std.specs.Prelude.{◌≡◌, ◌<◌, ◌≤◌, ◌-◌, ◌^◌, ◌++◌, OnOk, codes, decimal, length};
 ghost use Rattle.text_io.specs.Write.{WritesAfter};
 ghost use Rattle.hull_draw.specs.Texts.{texts};
-ghost use Rattle.hull_draw.specs.Shapes.{corner_text, polygon_text, dot_text, corner_dots_text, every, mark_dot_text};
+ghost use Rattle.hull_draw.specs.Shapes.{vertex_text, polygon_text, dot_text, vertex_dots_text, every, mark_dot_text};
 ghost use Rattle.hull_draw.specs.Shapes.{all_dots_text, bridge_line_text, bridge_text, square_text, shapes_text};
 
 use super::frame::Frame;
@@ -13,7 +13,7 @@ use leaf_trees::Bridge;
 use text_io::{Done, Sink, number_after, put_after};
 
 /// Writes words, and a number after them.
-pub(crate) fn told_after<W: Sink, N: Integer>(
+pub(crate) fn returned_after<W: Sink, N: Integer>(
     done: Done,
     out: &mut W,
     words: &[u8],
@@ -27,25 +27,25 @@ pub(crate) fn told_after<W: Sink, N: Integer>(
 }
 
 /// Writes a vertex of the polygon.
-fn corner_after<W: Sink>(done: Done, out: &mut W, frame: &Frame, point: Point) -> Done
+fn vertex_after<W: Sink>(done: Done, out: &mut W, frame: &Frame, point: Point) -> Done
     requires { OnOk done (W.failed out.old < 2 ^ 64 - 1) }
-    ensures { WritesAfter W.contents W.failed done result out.old out.new (corner_text frame.now point) }
+    ensures { WritesAfter W.contents W.failed done result out.old out.new (vertex_text frame.now point) }
 {
     let done = number_after(done, out, frame.across(point));
-    let done = told_after(done, out, b",", frame.down(point));
+    let done = returned_after(done, out, b",", frame.down(point));
     put_after(done, out, b" ")
 }
 
 /// Writes the vertices of the polygon.
 #[tactic(auto, using(text_io::proofs::Chains::chained_start, text_io::proofs::Chains::chained_end))]
-fn corners_after<W: Sink>(done: Done, out: &mut W, frame: &Frame, points: &[Point]) -> Done
+fn vertices_after<W: Sink>(done: Done, out: &mut W, frame: &Frame, points: &[Point]) -> Done
     requires { OnOk done (W.failed out.old < 2 ^ 64 - 1) }
-    ensures { WritesAfter W.contents W.failed done result out.old out.new (texts (corner_text frame.now) points.now) }
+    ensures { WritesAfter W.contents W.failed done result out.old out.new (texts (vertex_text frame.now) points.now) }
 {
     let mut done = done;
     let mut rest = points;
     while let Some((point, after)) = rest.split_first() {
-        done = corner_after(done, out, frame, *point);
+        done = vertex_after(done, out, frame, *point);
         rest = after;
     }
     done
@@ -57,7 +57,7 @@ fn polygon_after<W: Sink>(done: Done, out: &mut W, frame: &Frame, points: &[Poin
     ensures { WritesAfter W.contents W.failed done result out.old out.new (polygon_text frame.now points.now) }
 {
     let done = put_after(done, out, b"<polygon class='h' points='");
-    let done = corners_after(done, out, frame, points);
+    let done = vertices_after(done, out, frame, points);
     put_after(done, out, b"'/>\n")
 }
 
@@ -66,8 +66,8 @@ pub(crate) fn dot_after<W: Sink>(done: Done, out: &mut W, frame: &Frame, point: 
     requires { OnOk done (W.failed out.old < 2 ^ 64 - 1) }
     ensures { WritesAfter W.contents W.failed done result out.old out.new (dot_text frame.now point) }
 {
-    let done = told_after(done, out, b"M", frame.across(point));
-    let done = told_after(done, out, b" ", frame.down(point));
+    let done = returned_after(done, out, b"M", frame.across(point));
+    let done = returned_after(done, out, b" ", frame.down(point));
     put_after(done, out, b"h0")
 }
 
@@ -87,9 +87,9 @@ fn dots_after<W: Sink>(done: Done, out: &mut W, frame: &Frame, points: &[Point])
 }
 
 /// Writes the dots at the vertices.
-fn corner_dots_after<W: Sink>(done: Done, out: &mut W, frame: &Frame, points: &[Point]) -> Done
+fn vertex_dots_after<W: Sink>(done: Done, out: &mut W, frame: &Frame, points: &[Point]) -> Done
     requires { OnOk done (W.failed out.old < 2 ^ 64 - 1) }
-    ensures { WritesAfter W.contents W.failed done result out.old out.new (corner_dots_text frame.now points.now) }
+    ensures { WritesAfter W.contents W.failed done result out.old out.new (vertex_dots_text frame.now points.now) }
 {
     let done = put_after(done, out, b"<path class='c' d='");
     let done = dots_after(done, out, frame, points);
@@ -105,7 +105,7 @@ fn mark_dots_after<W: Sink>(
     step: usize,
     marks: &[Mark],
 ) -> Done
-    requires room { OnOk done (W.failed out.old < 2 ^ 64 - 1) }
+    requires space { OnOk done (W.failed out.old < 2 ^ 64 - 1) }
     requires step { 1 ≤ step }
     ensures { WritesAfter W.contents W.failed done result out.old out.new (texts (mark_dot_text frame.now) (every step 0 marks.now)) }
 {
@@ -146,11 +146,11 @@ fn bridge_line_after<W: Sink>(
     requires { OnOk done (W.failed out.old < 2 ^ 64 - 1) }
     ensures { WritesAfter W.contents W.failed done result out.old out.new (bridge_line_text frame.now words.now level ends) }
 {
-    let done = told_after(done, out, words, level);
-    let done = told_after(done, out, b"' d='M", frame.across(ends.0));
-    let done = told_after(done, out, b" ", frame.down(ends.0));
-    let done = told_after(done, out, b"L", frame.across(ends.1));
-    let done = told_after(done, out, b" ", frame.down(ends.1));
+    let done = returned_after(done, out, words, level);
+    let done = returned_after(done, out, b"' d='M", frame.across(ends.0));
+    let done = returned_after(done, out, b" ", frame.down(ends.0));
+    let done = returned_after(done, out, b"L", frame.across(ends.1));
+    let done = returned_after(done, out, b" ", frame.down(ends.1));
     put_after(done, out, b"'/>\n")
 }
 
@@ -198,10 +198,10 @@ pub(crate) fn square_after<W: Sink>(done: Done, out: &mut W, size: u64, side: u6
     ensures { WritesAfter W.contents W.failed done result out.old out.new (square_text size side) }
 {
     let start = b"<svg x='32' y='32' overflow='visible' width='";
-    let done = told_after(done, out, start, size);
-    let done = told_after(done, out, b"' height='", size);
-    let done = told_after(done, out, b"' viewBox='0 0 ", side);
-    let done = told_after(done, out, b" ", side);
+    let done = returned_after(done, out, start, size);
+    let done = returned_after(done, out, b"' height='", size);
+    let done = returned_after(done, out, b"' viewBox='0 0 ", side);
+    let done = returned_after(done, out, b" ", side);
     put_after(done, out, b"'>\n")
 }
 
@@ -210,8 +210,8 @@ pub(crate) fn shapes_after<W: Sink>(done: Done, out: &mut W, frame: &Frame, scen
     requires { OnOk done (W.failed out.old < 2 ^ 64 - 1) }
     ensures { WritesAfter W.contents W.failed done result out.old out.new (shapes_text frame.now scene.now) }
 {
-    let done = polygon_after(done, out, frame, &scene.corners);
+    let done = polygon_after(done, out, frame, &scene.vertices);
     let done = all_dots_after(done, out, frame, &scene.marks);
     let done = bridges_after(done, out, frame, &scene.bridges);
-    corner_dots_after(done, out, frame, &scene.corners)
+    vertex_dots_after(done, out, frame, &scene.vertices)
 }

@@ -14,7 +14,7 @@ use Rattle.hull_geometry.specs.Positions.{IsPositionOf, point_at, origin}
 use Rattle.lattice.specs.declared.side.Side.{Side}
 use Rattle.hull_geometry.proofs.Between.{end_in, first_in}
 use Rattle.hull_geometry.proofs.ChainEdges.{chain_edges, chain_first, chain_last}
-use Rattle.hull_geometry.specs.Sights.{AreEnds}
+use Rattle.hull_geometry.specs.Locations.{AreEnds}
 use Rattle.hull_geometry.proofs.EdgesAt.{up_to, on_from}
 use Rattle.hull_geometry.proofs.Passes.{ends_take}
 use Rattle.hull_geometry.proofs.PointLists.{get_or_free}

@@ -19,7 +19,7 @@ use Rattle.lattice.specs.declared.side.Side.TheVariants.{Lower, Upper}
 use Rattle.hull_geometry.proofs.Along.{along_total, along_not, along_equal}
 use Rattle.hull_geometry.proofs.Orientation.{orient_swap, at_least, orient-cycle}
 use Rattle.hull_geometry.proofs.PointLists.{later}
-use Rattle.hull_geometry.proofs.Separators.{across, corner_apart}
+use Rattle.hull_geometry.proofs.Separators.{across, vertex_apart}
 
 -- the last point of S along the chain on a side is extreme
 end_extreme : (side : Side) (S : List Pair) (v : Pair) → IsPointSet S → Contains S v
@@ -50,24 +50,24 @@ edges_convex side S u v w e f =
     ]
 
 -- a vertex that bends left, with S on the left of both its edges, is extreme
-corner_extreme : (S : List Pair) (u v w : Pair) → IsPointSet S → Contains S v → pos 0 <ℤ orient u v w → IsLeftOf S u v
+vertex_extreme : (S : List Pair) (u v w : Pair) → IsPointSet S → Contains S v → pos 0 <ℤ orient u v w → IsLeftOf S u v
     → IsLeftOf S v w → IsExtreme S v
-corner_extreme S u v w s m h a b =
+vertex_extreme S u v w s m h a b =
     let d : Pair = (across u w) in (
       m,
       not_covered (without_point v S) v (
         d,
         all_without (λ t. product d t <ℤ product d v) v S s
-            (λ t i n. corner_apart u v w t h (All-contains (λ t. pos 0 ≤ℤ orient u v t) S t a i)
+            (λ t i n. vertex_apart u v w t h (All-contains (λ t. pos 0 ≤ℤ orient u v t) S t a i)
             (All-contains (λ t. pos 0 ≤ℤ orient v w t) S t b i) n),
       ),
     )
 
 -- the point between two edges on one side is extreme
-pub edge_corner : (side : Side) (S : List Pair) (u v w : Pair) → IsPointSet S → IsEdgeOn side S u v → IsEdgeOn side S v w
+pub edge_vertex : (side : Side) (S : List Pair) (u v w : Pair) → IsPointSet S → IsEdgeOn side S u v → IsEdgeOn side S v w
     → IsExtreme S v
-edge_corner side S u v w s e f =
-    corner_extreme S u v w s e.to (edges_convex side S u v w e f) e.left f.left
+edge_vertex side S u v w s e f =
+    vertex_extreme S u v w s e.to (edges_convex side S u v w e f) e.left f.left
 
 -- t is strictly between the ends of an edge on this side
 abbrev BesideEdge : Side → List Pair → Pair → Type 0
@@ -120,7 +120,7 @@ chain_rest : (side : Side) (S : List Pair) (p u : Pair) (vs : List Pair) → IsP
 chain_rest side S p u [] s e c h =
     All-cons (IsExtreme S) u [] (end_extreme side S u s e.to h) (λ k d l. absurd (omega arith))
 chain_rest side S p u (v ∷ vs) s e c h =
-    All-cons (IsExtreme S) u (v ∷ vs) (edge_corner side S p u v s e c.0) (chain_rest side S u v vs s c.0 c.1 h)
+    All-cons (IsExtreme S) u (v ∷ vs) (edge_vertex side S p u v s e c.0) (chain_rest side S u v vs s c.0 c.1 h)
 
 -- the points of a lower chain from the first point to the last are extreme
 pub lower_extreme : (S : List Pair) (first v : Pair) (vs : List Pair) → IsPointSet S
@@ -135,8 +135,8 @@ pub upper_rest_extreme : (S : List Pair) (last v : Pair) (vs : List Pair) → Is
 upper_rest_extreme S last v vs s c h = chain_rest Upper S last v vs s c.0 c.1 h
 
 -- no lower edge and upper edge end at the same point
-pub no_common_corner : (S : List Pair) (u t c : Pair) → IsLowerEdge S u t → IsUpperEdge S c t → ⊥
-no_common_corner S u t c e f =
+pub no_common_vertex : (S : List Pair) (u t c : Pair) → IsLowerEdge S u t → IsUpperEdge S c t → ⊥
+no_common_vertex S u t c e f =
     let a : pos 0 ≤ℤ orient u t c = All-contains (λ z. pos 0 ≤ℤ orient u t z) S c e.left f.from in
     let b : pos 0 ≤ℤ orient c t u = All-contains (λ z. pos 0 ≤ℤ orient c t z) S u f.left e.from in
     let k : orient u t c ≡ neg_ℤ (orient c t u) = orient-cycle u t c ∙ swap in

@@ -28,7 +28,7 @@ use Rattle.hull_geometry.proofs.Sightings.{more_irrefl, tangent_of}
 
 -- a relation that can be decided for each two points
 module _ (B : Pair → Pair → Type 0) (irreflexive : (x : Pair) → ¬ (B x x))
-    (told : (x y : Pair) → B x y ⊎ ¬ (B x y)) where
+    (returned : (x y : Pair) → B x y ⊎ ¬ (B x y)) where
   -- if the relation is transitive on the points of a list, no point is better than some one of them
   best_there : (P : Pair → Type 0) → ((u v w : Pair) → P u → P v → P w → B u v → B v w → B u w)
       → (t : Pair) (ts : List Pair) → All P (t ∷ ts) → (b : Pair) × Contains (t ∷ ts) b × All (λ u. ¬ (B u b)) (t ∷ ts)
@@ -38,7 +38,7 @@ module _ (B : Pair → Pair → Type 0) (irreflexive : (x : Pair) → ¬ (B x x)
       let r = best_there P transitive x xs (All-tail P t (x ∷ xs) h) in
       let pt : P t = All-head P t (x ∷ xs) h in
       let pr : P r.0 = All-contains P (x ∷ xs) r.0 (All-tail P t (x ∷ xs) h) r.1 in
-      elim (told t r.0) [
+      elim (returned t r.0) [
         | inl k ↦ (
           t,
           (0, omega arith, refl),
@@ -49,9 +49,9 @@ module _ (B : Pair → Pair → Type 0) (irreflexive : (x : Pair) → ¬ (B x x)
       ]
 
 -- whether a bend is above 0, or is 0 and a number below another, can be decided
-nearer_told : (orient_on near far : ℤ)
+nearer_returned : (orient_on near far : ℤ)
     → ((pos 0 <ℤ orient_on) ⊎ ((orient_on ≡ pos 0) × (near <ℤ far))) ⊎ ¬ ((pos 0 <ℤ orient_on) ⊎ ((orient_on ≡ pos 0) × (near <ℤ far)))
-nearer_told orient_on near far =
+nearer_returned orient_on near far =
     elim (le_or_lt orient_on (pos 0)) [
       | inr h ↦ inl (inl h)
       | inl h ↦ elim (le_or_lt far near) [
@@ -75,12 +75,12 @@ nearer_told orient_on near far =
 farthest_on : (hand : Hand) (q : Pair) (P : Pair → Type 0) → ((u v w : Pair) → P u → P v → P w → OneSide q u v w)
     → (t : Pair) (ts : List Pair) → All P (t ∷ ts) → (b : Pair) × IsTangent hand (t ∷ ts) q b
 farthest_on hand q P beside t ts h =
-    let r = best_there (IsMore hand q) (more_irrefl hand q) (λ u v. nearer_told _ _ _) P
+    let r = best_there (IsMore hand q) (more_irrefl hand q) (λ u v. nearer_returned _ _ _) P
     (λ u v w pu pv pw. more_beside hand q u v w (beside u v w pu pv pw)) t ts h in
     (r.0, tangent_of hand (t ∷ ts) q r.0 r.1 r.2)
 
 -- a set split by q: the points before q, q if it is there, and the points after it
-pub record Parted (S : List Pair) (q : Pair) : Type 0 where
+pub record SplitSet (S : List Pair) (q : Pair) : Type 0 where
   pub behind : List Pair
   pub ahead : List Pair
   pub all_behind : All (λ t. IsBefore t q) behind
@@ -88,8 +88,8 @@ pub record Parted (S : List Pair) (q : Pair) : Type 0 where
   pub whole : Contains S q ⊎ (S ≡ behind ++ ahead)
 
 -- any point splits a list in order
-pub parted_at : (S : List Pair) (q : Pair) → IsPointSet S → Parted S q
-parted_at [] q s = record {
+pub separated_at : (S : List Pair) (q : Pair) → IsPointSet S → SplitSet S q
+separated_at [] q s = record {
   behind = [];
   ahead = [];
   all_behind = λ k d l. absurd (omega arith);
@@ -97,10 +97,10 @@ parted_at [] q s = record {
       λ k d l. absurd (omega arith);
   whole = inr refl;
 }
-parted_at (t ∷ ts) q s =
+separated_at (t ∷ ts) q s =
     elim (before_total t q) [
       | inl b ↦
-          let r : Parted ts q = parted_at ts q (AllPairs-tail t ts s) in
+          let r : SplitSet ts q = separated_at ts q (AllPairs-tail t ts s) in
           record {
             behind = t ∷ r.behind;
             ahead = r.ahead;
@@ -158,9 +158,9 @@ within_wedge side q l r F G f g left right h = (
     rl = above_opposite _ _ (orient_swap q r l) h
 
 -- the outermost points before q and after it, by their sides of q, cover q or separate it
-round_told : (q b a : Pair) (bs cs : List Pair) → All (λ t. IsBefore t q) (b ∷ bs) → All (IsBefore q) (a ∷ cs)
+round_returned : (q b a : Pair) (bs cs : List Pair) → All (λ t. IsBefore t q) (b ∷ bs) → All (IsBefore q) (a ∷ cs)
     → Covers ((b ∷ bs) ++ (a ∷ cs)) q ⊎ Separated ((b ∷ bs) ++ (a ∷ cs)) q
-round_told q b a bs cs hb ha =
+round_returned q b a bs cs hb ha =
     let L : List Pair = b ∷ bs in
     let R : List Pair = a ∷ cs in
     let before = λ (hand : Hand). farthest_on hand q (λ t. IsBefore t q) (λ u v w pu pv pw. inr (pu, pv, pw)) b bs hb in
@@ -185,19 +185,19 @@ round_told q b a bs cs hb ha =
     ]
 
 -- points before q and points after it cover q or are separated from it
-sides_told : (q : Pair) (L R : List Pair) → All (λ t. IsBefore t q) L → All (IsBefore q) R
+sides_returned : (q : Pair) (L R : List Pair) → All (λ t. IsBefore t q) L → All (IsBefore q) R
     → Covers (L ++ R) q ⊎ Separated (L ++ R) q
-sides_told q [] R hb ha = inr (past_separated Upper R q ha)
-sides_told q (b ∷ bs) [] hb ha =
+sides_returned q [] R hb ha = inr (past_separated Upper R q ha)
+sides_returned q (b ∷ bs) [] hb ha =
     inr (subst (λ (z : List Pair). Separated z q) (append_none (b ∷ bs)) (past_separated Lower (b ∷ bs) q hb))
-sides_told q (b ∷ bs) (a ∷ cs) hb ha = round_told q b a bs cs hb ha
+sides_returned q (b ∷ bs) (a ∷ cs) hb ha = round_returned q b a bs cs hb ha
 
 -- a set of points covers a point or is separated from it
 pub covers_or_separated : (S : List Pair) (q : Pair) → IsPointSet S → Covers S q ⊎ Separated S q
 covers_or_separated S q s =
-    let r : Parted S q = parted_at S q s in
+    let r : SplitSet S q = separated_at S q s in
     elim r.whole [
       | inl m ↦ inl (Member m)
       | inr e ↦ subst (λ (z : List Pair). Covers z q ⊎ Separated z q) (sym e)
-          (sides_told q r.behind r.ahead r.all_behind r.all_ahead)
+          (sides_returned q r.behind r.ahead r.all_behind r.all_ahead)
     ]

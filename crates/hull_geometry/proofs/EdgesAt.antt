@@ -11,10 +11,10 @@ use Rattle.lattice.proofs.Order.{before_total, before_trans, equal_by}
 use Rattle.lattice.specs.declared.side.Side.{Side}
 use Rattle.lattice.specs.declared.side.Side.TheVariants.{Lower, Upper}
 use Rattle.hull_geometry.specs.Edges.{IsFirst, IsLast}
-use Rattle.hull_geometry.specs.Sights.{IsLowerEdgeAt, IsUpperEdgeAt, IsRightOfEdge, IsBetweenEnds, IsSightOf}
-use Rattle.hull_geometry.specs.Sights.{IsSightBy}
-use Rattle.hull_geometry.specs.declared.sight.Sight.{Sight}
-use Rattle.hull_geometry.specs.declared.sight.Sight.TheVariants.{Before, After, Below, Above, Touching, Within}
+use Rattle.hull_geometry.specs.Locations.{IsLowerEdgeAt, IsUpperEdgeAt, IsRightOfEdge, IsBetweenEnds, IsLocationOf}
+use Rattle.hull_geometry.specs.Locations.{IsLocationBy}
+use Rattle.hull_geometry.specs.declared.location.Location.{Location}
+use Rattle.hull_geometry.specs.declared.location.Location.TheVariants.{Before, After, Below, Above, Touching, Within}
 use Rattle.hull_geometry.proofs.EdgePlaces.{right_outside, on_line_outer, between_covered, between_inside}
 use Rattle.hull_geometry.proofs.NotCovered.{not_covered}
 use Rattle.hull_geometry.proofs.OneSided.{past_separated}
@@ -148,9 +148,9 @@ outer_at S q e f k l low high (inl h) = on_line_outer S e.0 e.1 q (inl k.edge.al
 outer_at S q e f k l low high (inr h) = on_line_outer S f.0 f.1 q (inr l.edge.along) l.edge.left (omega (arith, ints))
 
 -- the sides of the two edges at q determine its location
-pub seen_by : (first last : Pair) (S : List Pair) (q : Pair) (e f : Pair × Pair) (s : Sight) → IsBetweenEnds first last q
-    → IsLowerEdgeAt S q e → IsUpperEdgeAt S q f → IsSightBy (orient e.0 e.1 q) (orient f.0 f.1 q) s
-    → IsSightOf first last S q s
+pub seen_by : (first last : Pair) (S : List Pair) (q : Pair) (e f : Pair × Pair) (s : Location) → IsBetweenEnds first last q
+    → IsLowerEdgeAt S q e → IsUpperEdgeAt S q f → IsLocationBy (orient e.0 e.1 q) (orient f.0 f.1 q) s
+    → IsLocationOf first last S q s
 seen_by first last S q e f Before i k l h = absurd h
 seen_by first last S q e f After i k l h = absurd h
 seen_by first last S q e f Below i k l h = absurd h

@@ -13,8 +13,8 @@ use Rattle.lattice.proofs.Numbers.{nn_above, nn_opposite, np_opposite, zero_oppo
 use Rattle.lattice.proofs.Numbers.{np_by, above_not_np}
 use Rattle.lattice.proofs.Order.{before_trans, before_irrefl, before_not}
 use Rattle.lattice.proofs.UniqueBridge.{one_bridge, one_lower_bridge}
-use Rattle.hull_geometry.specs.Fringes.{UnderAnEdgeIsInner, IsFringe, BridgeIsOfFringes, ChainIsAFringe}
-use Rattle.hull_geometry.specs.Fringes.{BridgeEndsAtWhatCame}
+use Rattle.hull_geometry.specs.CandidateLists.{UnderAnEdgeIsInner, IsCandidateList, BridgeIsOfCandidateLists, ChainIsACandidateList}
+use Rattle.hull_geometry.specs.CandidateLists.{BridgeEndsAtWhatCame}
 use Rattle.hull_geometry.specs.Monotone.{IsInwards, IsInnerFrom}
 use Rattle.hull_geometry.specs.Monotone as monotone
 use Rattle.hull_geometry.proofs.Orientations.{stays_outwards, stays_first, stays_second, orient_on_start, orient_on_end}
@@ -108,7 +108,7 @@ end_is_no_under side u v a b uv k ha hb = nn_not_below _ k.2
 -- ---- candidate lists
 
 -- if all points of a candidate list are inner to an edge, all points of its set are
-pub all_inner : (side : Side) (l m : Pair → Type 0) (u v : Pair) → IsFringe side l m → IsBefore u v
+pub all_inner : (side : Side) (l m : Pair → Type 0) (u v : Pair) → IsCandidateList side l m → IsBefore u v
     → ((t : Pair) → l t → IsInnerToEdge side u v t) → (t : Pair) → m t → IsInnerToEdge side u v t
 all_inner side l m u v f uv h t i = elim (f.under t i) [
   | inl k ↦ h t k
@@ -116,8 +116,8 @@ all_inner side l m u v f uv h t i = elim (f.under t i) [
 ]
 
 -- two sets have the bridges of their candidate lists
-pub of_fringes : (side : Side) (l m r s : Pair → Type 0) → BridgeIsOfFringes side l m r s
-of_fringes side l m r s u v f g o = (there, back)
+pub of_candidate_lists : (side : Side) (l m r s : Pair → Type 0) → BridgeIsOfCandidateLists side l m r s
+of_candidate_lists side l m r s u v f g o = (there, back)
   where
     there : IsBridge side l r u v → IsBridge side m s u v
     there b = record {
@@ -164,18 +164,18 @@ of_fringes side l m r s u v f g o = (there, back)
         right t i = (b.inner_right t (g.among t i), b.tie_right t (g.among t i))
 
 -- a candidate list with more points of the set is a candidate list
-pub wider_fringe : (side : Side) (l k m : Pair → Type 0) → IsFringe side l m → ((t : Pair) → l t → k t)
-    → ((t : Pair) → k t → m t) → IsFringe side k m
-wider_fringe side l k m f in_k in_m = record {
+pub wider_candidates : (side : Side) (l k m : Pair → Type 0) → IsCandidateList side l m → ((t : Pair) → l t → k t)
+    → ((t : Pair) → k t → m t) → IsCandidateList side k m
+wider_candidates side l k m f in_k in_m = record {
   among = in_m;
   under = λ t i. elim (f.under t i)
       [ inl h ↦ inl (in_k t h) | inr h ↦ inr (h.0, h.1, in_k h.0 h.2, in_k h.1 h.3, h.4) ];
 }
 
 -- two candidate lists together are one of both sets together
-pub both_fringes : (side : Side) (l m r s : Pair → Type 0) → IsFringe side l m → IsFringe side r s
-    → IsFringe side (λ t. l t ⊎ r t) (λ t. m t ⊎ s t)
-both_fringes side l m r s f g = record {
+pub both_candidate_lists : (side : Side) (l m r s : Pair → Type 0) → IsCandidateList side l m → IsCandidateList side r s
+    → IsCandidateList side (λ t. l t ⊎ r t) (λ t. m t ⊎ s t)
+both_candidate_lists side l m r s f g = record {
   among = λ t i. elim i [ inl k ↦ inl (f.among t k) | inr k ↦ inr (g.among t k) ];
   under = λ t i. elim i [
     | inl k ↦ elim (f.under t k) [ inl h ↦ inl (inl h) | inr h ↦ inr (h.0, h.1, inl h.2, inl h.3, h.4) ]
@@ -199,12 +199,12 @@ whence_from side x (y ∷ ys) t (inr (inr k)) = elim (whence_from side y ys t k)
     further zs z t (i, l, e) = (suc i, omega (arith, l), e)
 
 -- the chain of a set is a candidate list of it
-pub chain_fringe : (side : Side) → ChainIsAFringe side
-chain_fringe side S [] c = record {
+pub chain_candidates : (side : Side) → ChainIsACandidateList side
+chain_candidates side S [] c = record {
   among = c.among;
   under = λ t m. elim (c.inner t m) [ ];
 }
-chain_fringe side S (x ∷ rest) c = record {
+chain_candidates side S (x ∷ rest) c = record {
   among = c.among;
   under = λ t m. whence t (c.inner t m);
 }

@@ -34,10 +34,10 @@ pub mod ChainPasses
 pub mod Passes
 pub mod Between
 pub mod Mended
-pub mod FringeChains
+pub mod CandidateListChains
 pub mod Middles
 pub mod ChainPlaces
 pub mod TwoChains
 pub mod Fringed
-pub mod FringeHulls
+pub mod CandidateListHulls
 pub mod Runs

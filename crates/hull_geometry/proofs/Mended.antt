@@ -20,7 +20,7 @@ use Rattle.lattice.proofs.Order.{before_total, before_trans, before_irrefl}
 use Rattle.hull_geometry.specs.Mending.{IsOverEdge, IsBetween}
 use Rattle.hull_geometry.specs.Monotone.{IsInwards, IsInnerFrom, IsInner, EndsWith, IsPassed, IsThinned}
 use Rattle.lattice.specs.Orientations.{orient_on}
-use Rattle.hull_geometry.specs.Monotone.{IsConvex, IsFringeOf, IsChainOf}
+use Rattle.hull_geometry.specs.Monotone.{IsConvex, IsCandidateListOf, IsChainOf}
 use Rattle.hull_geometry.specs.Positions.{IsPositionOf, point_at, origin}
 use Rattle.lattice.specs.declared.side.Side.{Side}
 use Rattle.hull_geometry.proofs.Between.{after_ends, end_in, first_in, set_few}
@@ -72,11 +72,11 @@ first_from xs i y rest e =
 -- ---- a new point
 
 -- the chain of a set is a candidate list of it
-pub fringe_of : (side : Side) (S chain : List Pair) → IsChainOf side S chain → IsFringeOf side S chain
-fringe_of side S chain c = record { ordered = c.strict.ordered; among = c.among; inner = c.inner }
+pub candidates_of : (side : Side) (S chain : List Pair) → IsChainOf side S chain → IsCandidateListOf side S chain
+candidates_of side S chain c = record { ordered = c.strict.ordered; among = c.among; inner = c.inner }
 
 -- a candidate list that bends is the chain
-pub chain_of : (side : Side) (S chain : List Pair) → IsFringeOf side S chain → IsConvex side chain
+pub chain_of : (side : Side) (S chain : List Pair) → IsCandidateListOf side S chain → IsConvex side chain
     → IsChainOf side S chain
 chain_of side S chain c h =
     record {
@@ -90,7 +90,7 @@ chain_of side S chain c h =
 
 -- if p lies inwards of a segment of a candidate list, the list is one of the set with p
 pub put_on_same : (side : Side) (S chain : List Pair) (p : Pair) (i : ℕ) → IsPositionOf chain p (Err i)
-    → IsOverEdge side chain i p → IsFringeOf side S chain → IsFringeOf side (with_point p S) chain
+    → IsOverEdge side chain i p → IsCandidateListOf side S chain → IsCandidateListOf side (with_point p S) chain
 put_on_same side S chain p i at (some, l, h) c = record {
   ordered = c.ordered;
   among = λ t m. (members_with p t S).1 (inr (c.among t m));
@@ -128,7 +128,7 @@ put_on_same side S chain p i at (some, l, h) c = record {
 pub put_in_same : (side : Side) (S chain : List Pair) (p : Pair) (i : ℕ) → IsPositionOf chain p (Err i)
     → IsOverEdge side chain i p → IsChainOf side S chain → IsChainOf side (with_point p S) chain
 put_in_same side S chain p i at over c =
-    chain_of side (with_point p S) chain (put_on_same side S chain p i at over (fringe_of side S chain c)) c.strict.convex
+    chain_of side (with_point p S) chain (put_on_same side S chain p i at over (candidates_of side S chain c)) c.strict.convex
 
 -- the points before p, and p, are in order
 pub before_and : (side : Side) (chain : List Pair) (p : Pair) (i : ℕ) → IsPointSet chain → IsPositionOf chain p (Err i)
@@ -188,8 +188,8 @@ inner_put side chain p i (y ∷ rest) is at n u k =
 
 -- the points before p, p and the points after it, without some inner ones, are a candidate list of the set with p
 pub put_on_new : (side : Side) (S chain new : List Pair) (p : Pair) (i : ℕ) → IsPositionOf chain p (Err i)
-    → ¬ (IsOverEdge side chain i p) → IsThinned side (take i chain ++ p ∷ [] ++ drop i chain) new → IsFringeOf side S chain
-    → IsFringeOf side (with_point p S) new
+    → ¬ (IsOverEdge side chain i p) → IsThinned side (take i chain ++ p ∷ [] ++ drop i chain) new → IsCandidateListOf side S chain
+    → IsCandidateListOf side (with_point p S) new
 put_on_new side S chain new p i at n h c =
     record {
       ordered = h.ordered;
@@ -231,7 +231,7 @@ pub put_in_new : (side : Side) (S chain new : List Pair) (p : Pair) (i : ℕ) �
 put_in_new side S chain new p i at n h c =
     chain_of side (with_point p S) new
     (put_on_new side S chain new p i at n (thinned_of side (take i chain ++ p ∷ [] ++ drop i chain) new h)
-    (fringe_of side S chain c)) h.strict.convex
+    (candidates_of side S chain c)) h.strict.convex
 
 -- inserting p at an index puts it between the points before the index and those from it on
 inserted : (xs : List Pair) (i : ℕ) (p : Pair) → i ≤ length xs → insert xs i p ≡ take i xs ++ p ∷ drop i xs
@@ -241,21 +241,21 @@ inserted xs i p l =
     ∙ (let e : i - i ≡ 0 = omega arith in ap (λ (n : ℕ). take i xs ++ insert (drop i xs) n p) e)
 
 -- the points before p, p and the points after it, as they are, are a candidate list of the set with p
-pub put_on_all : (side : Side) (S fringe : List Pair) (p : Pair) (i : ℕ) → IsPositionOf fringe p (Err i)
-    → ¬ (IsOverEdge side fringe i p) → IsFringeOf side S fringe → IsFringeOf side (with_point p S) (insert fringe i p)
-put_on_all side S fringe p i at n c =
-    subst (IsFringeOf side (with_point p S))
-    (append_twice (take i fringe) (p ∷ []) (drop i fringe) ∙ sym (inserted fringe i p at.0))
-    (put_on_new side S fringe (take i fringe ++ p ∷ [] ++ drop i fringe) p i at n
-    (thinned_itself side (take i fringe ++ p ∷ [] ++ drop i fringe) (before_and_after fringe p i c.ordered at)) c)
+pub put_on_all : (side : Side) (S candidates : List Pair) (p : Pair) (i : ℕ) → IsPositionOf candidates p (Err i)
+    → ¬ (IsOverEdge side candidates i p) → IsCandidateListOf side S candidates → IsCandidateListOf side (with_point p S) (insert candidates i p)
+put_on_all side S candidates p i at n c =
+    subst (IsCandidateListOf side (with_point p S))
+    (append_twice (take i candidates) (p ∷ []) (drop i candidates) ∙ sym (inserted candidates i p at.0))
+    (put_on_new side S candidates (take i candidates ++ p ∷ [] ++ drop i candidates) p i at n
+    (thinned_itself side (take i candidates ++ p ∷ [] ++ drop i candidates) (before_and_after candidates p i c.ordered at)) c)
 
 -- ---- a point that was removed
 
 -- a candidate list that does not have p is a candidate list of the set without p
 pub take_off_same : (side : Side) (keys S chain : List Pair) (p : Pair) (i : ℕ) → IsPointSet S
-    → IsPositionOf chain p (Err i) → keys ≡ without_point p S → IsFringeOf side S chain → IsFringeOf side keys chain
+    → IsPositionOf chain p (Err i) → keys ≡ without_point p S → IsCandidateListOf side S chain → IsCandidateListOf side keys chain
 take_off_same side keys S chain p i s at e c =
-    subst (λ (z : List Pair). IsFringeOf side z chain) (sym e) (record {
+    subst (λ (z : List Pair). IsCandidateListOf side z chain) (sym e) (record {
       ordered = c.ordered;
       among = λ t m. in_without p t S
           (λ z. found_absent chain p i at (subst (λ (x : Pair). Contains chain x) z m)) (c.among t m);
@@ -263,10 +263,10 @@ take_off_same side keys S chain p i s at e c =
     })
 
 -- a chain that does not have p is the chain of the set without p
-pub take_out_same : (side : Side) (keys S chain : List Pair) (p : Pair) (i : ℕ) → IsPointSet S
+pub drain_same : (side : Side) (keys S chain : List Pair) (p : Pair) (i : ℕ) → IsPointSet S
     → IsPositionOf chain p (Err i) → keys ≡ without_point p S → IsChainOf side S chain → IsChainOf side keys chain
-take_out_same side keys S chain p i s at e c =
-    chain_of side keys chain (take_off_same side keys S chain p i s at e (fringe_of side S chain c)) c.strict.convex
+drain_same side keys S chain p i s at e c =
+    chain_of side keys chain (take_off_same side keys S chain p i s at e (candidates_of side S chain c)) c.strict.convex
 
 -- a point of the set is in the rest, or is the one that was removed
 pub left_or_gone : (p : Pair) (keys S : List Pair) (t : Pair) → keys ≡ without_point p S → Contains S t
@@ -340,7 +340,7 @@ pub take_off_new : (side : Side) (keys chain middle new : List Pair) (p : Pair) 
     → IsPositionOf chain p (Ok i) → ((t : Pair) → Contains chain t → (t ≡ p) ⊎ Contains keys t)
     → ((u : Pair) → Contains keys u → IsInner side chain u × ¬ (u ≡ p))
     → IsBetween keys (take i chain) (drop (i + 1) chain) middle
-    → IsThinned side (take i chain ++ middle ++ drop (i + 1) chain) new → IsFringeOf side keys new
+    → IsThinned side (take i chain ++ middle ++ drop (i + 1) chain) new → IsCandidateListOf side keys new
 take_off_new side keys chain middle new p i cs at left_or inner k h =
     record { ordered = h.ordered; among = λ t m. whence t (h.among t m); inner = λ u m. h.inner u (go u m) }
   where
@@ -386,24 +386,24 @@ take_off_new side keys chain middle new p i cs at left_or inner k h =
 
     go : (u : Pair) → Contains keys u → IsInner side (take i chain ++ middle ++ drop (i + 1) chain) u
     go u m =
-        let told = inner u m in
+        let returned = inner u m in
         elim (inner_cut side (take i chain) p (drop (i + 1) chain) u
-        (subst (λ (z : List Pair). IsInner side z u) (sym parts) told.0)) [
+        (subst (λ (z : List Pair). IsInner side z u) (sym parts) returned.0)) [
           | inl n ↦ inner_left side (take i chain ++ middle) (drop (i + 1) chain) u
               (inner_left side (take i chain) middle u n)
           | inr (inl (d, ends, (du, up, n))) ↦ in_middle u (k.all u m
               (all_of (λ t. IsBefore t u) (take i chain) (λ t j. after_ends d (take i chain) t u
               (set_left (take i chain) (drop (i + 1) chain) (around_set chain p i cs at)) ends j du))
               (All-weaker (IsBefore p) (IsBefore u) (λ t b. before_trans u p t up b) (drop (i + 1) chain) ahead))
-          | inr (inr (inl z)) ↦ absurd (told.1 z)
+          | inr (inr (inl z)) ↦ absurd (returned.1 z)
           | inr (inr (inr n)) ↦ in_right u (drop (i + 1) chain) refl m n
         ]
 
 -- each point of a set without p is inner to a candidate list of the set, and none is p
-pub inner_still : (side : Side) (keys S fringe : List Pair) (p : Pair) → IsPointSet S → keys ≡ without_point p S
-    → ((u : Pair) → Contains S u → IsInner side fringe u) → (u : Pair) → Contains keys u
-    → IsInner side fringe u × ¬ (u ≡ p)
-inner_still side keys S fringe p s e inner u m =
+pub inner_still : (side : Side) (keys S candidates : List Pair) (p : Pair) → IsPointSet S → keys ≡ without_point p S
+    → ((u : Pair) → Contains S u → IsInner side candidates u) → (u : Pair) → Contains keys u
+    → IsInner side candidates u × ¬ (u ≡ p)
+inner_still side keys S candidates p s e inner u m =
     let in_S = (members_without p u S s).0 (subst (λ (z : List Pair). Contains z u) e m) in (inner u in_S.0, in_S.1)
 
 -- the test of the bend at an index decides whether p is over the edge there

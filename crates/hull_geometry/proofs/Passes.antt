@@ -302,9 +302,9 @@ before_place : (i : ℕ) → 0 < i → i - 1 + 1 ≡ i
 before_place i h = omega (arith, h)
 
 -- a list is its first points, the one at an index, and the rest
-parted_at : (xs : List Pair) (i : ℕ) (p : Pair) → i < length xs → p ≡ get_or xs i p
+separated_at : (xs : List Pair) (i : ℕ) (p : Pair) → i < length xs → p ≡ get_or xs i p
     → xs ≡ take (i + 1) xs ++ drop (i + 1) xs
-parted_at xs i p l e = cut xs (i + 1) (omega (arith, l))
+separated_at xs i p l e = cut xs (i + 1) (omega (arith, l))
 
 -- the points after a chain and the one at an index are one more
 one_on : (old rest : List Pair) (i : ℕ) (p : Pair) → i < length rest → p ≡ get_or rest i p
@@ -320,7 +320,7 @@ take_up_set side old rest chain i p l e s h =
     (subst IsPointSet (sym (one_on old rest i p l e))
     (set_left (old ++ take (i + 1) rest) (drop (i + 1) rest)
     (subst IsPointSet
-    (ap (λ (z : List Pair). old ++ z) (parted_at rest i p l e)
+    (ap (λ (z : List Pair). old ++ z) (separated_at rest i p l e)
     ∙ sym (append_twice old (take (i + 1) rest) (drop (i + 1) rest))) s)))
 
 -- one more point is passed
@@ -362,7 +362,7 @@ take_up_stop side old rest chain new i p some l e s t h k same =
   where
     whole : old ++ take (i + 1) rest ++ drop (i + 1) rest ≡ old ++ rest
     whole = append_twice old (take (i + 1) rest) (drop (i + 1) rest)
-        ∙ ap (λ (z : List Pair). old ++ z) (sym (parted_at rest i p l e))
+        ∙ ap (λ (z : List Pair). old ++ z) (sym (separated_at rest i p l e))
 
     turns : IsConvex side (new ++ drop (i + 1) rest)
     turns =

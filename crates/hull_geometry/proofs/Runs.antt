@@ -12,7 +12,7 @@ use Rattle.lattice.proofs.Numbers.{nn_opposite}
 use Rattle.lattice.proofs.Order.{before_total}
 use Rattle.hull_geometry.specs.Monotone.{IsChainOf}
 use Rattle.hull_geometry.specs.Runs.{opposite, RunsHaveTheirBridge}
-use Rattle.hull_geometry.proofs.FringeChains.{corner_outwards}
+use Rattle.hull_geometry.proofs.CandidateListChains.{vertex_outwards}
 use Rattle.hull_geometry.proofs.Fringed.{strictly_inner, start_inner, end_inner}
 use Rattle.hull_geometry.proofs.Orientations.{orient_on_cycle, orient_on_swap}
 use Rattle.lattice.proofs.LineCrossings.{orient_other}
@@ -26,7 +26,7 @@ orient_on_opposite Upper a b t = orient_other b a t
 between : (side : Side) (S other : List Pair) (a b t : Pair) → IsChainOf (opposite side) S other → Contains other t
     → Contains S a → Contains S b → IsBefore a t → IsBefore t b → pos 0 <ℤ orient_on side a b t
 between side S other a b t c m ma mb at tb = elim (le_or_lt (orient_on side a b t) (pos 0)) [
-  | inl h ↦ absurd (corner_outwards (opposite side) S other t a b c m ma mb
+  | inl h ↦ absurd (vertex_outwards (opposite side) S other t a b c m ma mb
       (at, tb, nn_opposite _ _ (orient_on_opposite side a b t) h))
   | inr h ↦ h
 ]
@@ -35,7 +35,7 @@ between side S other a b t c m ma mb at tb = elim (le_or_lt (orient_on side a b 
 after : (side : Side) (S chain : List Pair) (a b t : Pair) → IsChainOf side S chain → Contains chain b → Contains S a
     → Contains S t → IsBefore a b → IsBefore b t → pos 0 <ℤ orient_on side a b t
 after side S chain a b t c m ma mt ab bt = elim (le_or_lt (orient_on side a b t) (pos 0)) [
-  | inl h ↦ absurd (corner_outwards side S chain b a t c m ma mt (ab, bt, nn_opposite _ _ (orient_on_swap side a b t) h))
+  | inl h ↦ absurd (vertex_outwards side S chain b a t c m ma mt (ab, bt, nn_opposite _ _ (orient_on_swap side a b t) h))
   | inr h ↦ h
 ]
 
@@ -43,7 +43,7 @@ after side S chain a b t c m ma mt ab bt = elim (le_or_lt (orient_on side a b t)
 ahead : (side : Side) (S chain : List Pair) (a b t : Pair) → IsChainOf side S chain → Contains chain a → Contains S b
     → Contains S t → IsBefore a b → IsBefore t a → pos 0 <ℤ orient_on side a b t
 ahead side S chain a b t c m mb mt ab ta = elim (le_or_lt (orient_on side a b t) (pos 0)) [
-  | inl h ↦ absurd (corner_outwards side S chain a t b c m mt mb (ta, ab, nn_opposite _ _ swapped h))
+  | inl h ↦ absurd (vertex_outwards side S chain a t b c m mt mb (ta, ab, nn_opposite _ _ swapped h))
   | inr h ↦ h
 ]
   where
@@ -62,17 +62,17 @@ runs_bridge side l r S chain other a b c o p = record {
 }
   where
     ab : IsBefore a b
-    ab = p.parted a b p.from_left p.to_right
+    ab = p.separated a b p.from_left p.to_right
 
     member : (t : Pair) → Contains chain t ⊎ Contains other t → Contains S t
     member t (inl m) = c.among t m
     member t (inr m) = o.among t m
 
     in_left : (t : Pair) → l t → Contains S t
-    in_left t i = member t (p.left_corners t i)
+    in_left t i = member t (p.left_vertices t i)
 
     in_right : (t : Pair) → r t → Contains S t
-    in_right t i = member t (p.right_corners t i)
+    in_right t i = member t (p.right_vertices t i)
 
     on_other : (t : Pair) → Contains chain t ⊎ Contains other t → ¬ Contains chain t → Contains other t
     on_other t (inl m) n = absurd (n m)
@@ -81,8 +81,8 @@ runs_bridge side l r S chain other a b c o p = record {
     on_left : (t : Pair) → l t → IsInnerToEdge side a b t
     on_left t i = elim (before_total a t) [
       | inl at ↦ strictly_inner side a b t
-          (between side S other a b t o (on_other t (p.left_corners t i) (p.none_after t i at)) (in_left a p.from_left)
-          (in_right b p.to_right) at (p.parted t b i p.to_right))
+          (between side S other a b t o (on_other t (p.left_vertices t i) (p.none_after t i at)) (in_left a p.from_left)
+          (in_right b p.to_right) at (p.separated t b i p.to_right))
       | inr (inl e) ↦ subst (IsInnerToEdge side a b) e (start_inner side a b ab)
       | inr (inr ta) ↦ elim p.left_end [
         | inl m ↦ strictly_inner side a b t
@@ -94,8 +94,8 @@ runs_bridge side l r S chain other a b c o p = record {
     on_right : (t : Pair) → r t → IsInnerToEdge side a b t
     on_right t i = elim (before_total t b) [
       | inl tb ↦ strictly_inner side a b t
-          (between side S other a b t o (on_other t (p.right_corners t i) (p.none_ahead t i tb))
-          (in_left a p.from_left) (in_right b p.to_right) (p.parted a t p.from_left i) tb)
+          (between side S other a b t o (on_other t (p.right_vertices t i) (p.none_ahead t i tb))
+          (in_left a p.from_left) (in_right b p.to_right) (p.separated a t p.from_left i) tb)
       | inr (inl e) ↦ subst (IsInnerToEdge side a b) (sym e) (end_inner side a b ab)
       | inr (inr bt) ↦ elim p.right_end [
         | inl m ↦ strictly_inner side a b t

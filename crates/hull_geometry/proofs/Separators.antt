@@ -84,20 +84,20 @@ across_nonzero q r (inr (inl b)) z = omega (arith, ints, z.1)
 across_nonzero q r (inr (inr b)) z = omega (arith, ints, z.0, b.1)
 
 -- how far t lies behind v in the direction outwards at the vertex v
-product-corner : (u v w t : Pair) → product (opp (across u w)) (minus t v) ≡ orient u v t +ℤ orient v w t
+product-vertex : (u v w t : Pair) → product (opp (across u w)) (minus t v) ≡ orient u v t +ℤ orient v w t
 unfolding orient product
-product-corner u v w t =
+product-vertex u v w t =
     rw (as_pair u, as_pair v, as_pair w, as_pair t) (simp difference_rules (difference-eq _ _ _ _ (omega arith)))
 
 -- the step from v to t by its sides of the lines uv and vw, in x
-meets_x : (u v w t : Pair) → (t.x -ℤ v.x) *ℤ orient u v w ≡ (w.x -ℤ v.x) *ℤ orient u v t -ℤ (v.x -ℤ u.x) *ℤ orient v w t
+intersects_x : (u v w t : Pair) → (t.x -ℤ v.x) *ℤ orient u v w ≡ (w.x -ℤ v.x) *ℤ orient u v t -ℤ (v.x -ℤ u.x) *ℤ orient v w t
 unfolding orient
-meets_x u v w t = rw (as_pair u, as_pair v, as_pair w, as_pair t) (simp difference_rules (difference-eq _ _ _ _ (omega arith)))
+intersects_x u v w t = rw (as_pair u, as_pair v, as_pair w, as_pair t) (simp difference_rules (difference-eq _ _ _ _ (omega arith)))
 
 -- the same in y
-meets_y : (u v w t : Pair) → (t.y -ℤ v.y) *ℤ orient u v w ≡ (w.y -ℤ v.y) *ℤ orient u v t -ℤ (v.y -ℤ u.y) *ℤ orient v w t
+intersects_y : (u v w t : Pair) → (t.y -ℤ v.y) *ℤ orient u v w ≡ (w.y -ℤ v.y) *ℤ orient u v t -ℤ (v.y -ℤ u.y) *ℤ orient v w t
 unfolding orient
-meets_y u v w t = rw (as_pair u, as_pair v, as_pair w, as_pair t) (simp difference_rules (difference-eq _ _ _ _ (omega arith)))
+intersects_y u v w t = rw (as_pair u, as_pair v, as_pair w, as_pair t) (simp difference_rules (difference-eq _ _ _ _ (omega arith)))
 
 -- a weighted sum of zeros is zero
 zero_of : (a c x y m n : ℤ) → pos 0 <ℤ c → x ≡ pos 0 → y ≡ pos 0 → a *ℤ c ≡ m *ℤ x -ℤ n *ℤ y → a ≡ pos 0
@@ -111,15 +111,15 @@ same_pair t v hx hy = let ex : t.x ≡ v.x = omega (arith, ints) in let ey : t.y
     ap (λ (z : ℤ). couple z t.y) ex ∙ ap (λ (z : ℤ). couple v.x z) ey
 
 -- all points but the vertex v of the edges uv and vw lie strictly on one side of a line through it
-pub corner_apart : (u v w t : Pair) → pos 0 <ℤ orient u v w → pos 0 ≤ℤ orient u v t → pos 0 ≤ℤ orient v w t → ¬ (t ≡ v)
+pub vertex_apart : (u v w t : Pair) → pos 0 <ℤ orient u v w → pos 0 ≤ℤ orient u v t → pos 0 ≤ℤ orient v w t → ¬ (t ≡ v)
     → product (across u w) t <ℤ product (across u w) v
-corner_apart u v w t h a b n =
-    nearer (across u w) t v (above _ _ (sym (product-corner u v w t))
+vertex_apart u v w t h a b n =
+    nearer (across u w) t v (above _ _ (sym (product-vertex u v w t))
     (elim (le_or_lt (orient u v t +ℤ orient v w t) (pos 0)) [
       | inl k ↦ let za : orient u v t ≡ pos 0 = squeeze _ _ a b k in let zb : orient v w t ≡ pos 0 =
           squeeze_right _ _ a b k in
-          absurd (n (same_pair t v (zero_of _ _ _ _ _ _ h za zb (meets_x u v w t))
-          (zero_of _ _ _ _ _ _ h za zb (meets_y u v w t))))
+          absurd (n (same_pair t v (zero_of _ _ _ _ _ _ h za zb (intersects_x u v w t))
+          (zero_of _ _ _ _ _ _ h za zb (intersects_y u v w t))))
       | inr k ↦ k
     ]))
   where

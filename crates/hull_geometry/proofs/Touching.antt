@@ -11,7 +11,7 @@ use Rattle.lattice.proofs.Numbers.{nn_above, nn_zero, np_opposite, zero_opposite
 use Rattle.lattice.proofs.Order.{before_total}
 use Rattle.hull_geometry.specs.Edges.{IsAlong, IsEdgeOn, IsFirst, IsLast}
 use Rattle.hull_geometry.specs.Hands.{hand_behind, other_hand}
-use Rattle.hull_geometry.specs.Sights.{IsClear}
+use Rattle.hull_geometry.specs.Locations.{IsClear}
 use Rattle.hull_geometry.specs.Tangents.{IsNoMore, IsTangent, IsLeftTangent, IsRightTangent}
 use Rattle.hull_geometry.specs.declared.hand.Hand.TheVariants.{Left}
 use Rattle.hull_geometry.proofs.EdgeSteps.{past_farther, past_farther_back}
@@ -119,10 +119,10 @@ pub behind_touched : (side : Side) (S : List Pair) (q p : Pair) → IsClear side
     → IsLast S p ⊎ ((n : Pair) × IsSupport side S p n × ¬ (IsBefore n q × (pos 0 <ℤ orient_on side p n q)))
     → IsTangent (hand_behind side) S q p
 behind_touched side S q p clear m pq low high =
-    (m, all_of (IsNoMore (hand_behind side) q p) S (λ t i. no_more_behind side q p t (told t i)))
+    (m, all_of (IsNoMore (hand_behind side) q p) S (λ t i. no_more_behind side q p t (returned t i)))
   where
-    told : (t : Pair) → Contains S t → IsNoFarther side p q t q p
-    told t i = elim (before_total t p) [
+    returned : (t : Pair) → Contains S t → IsNoFarther side p q t q p
+    returned t i = elim (before_total t p) [
       | inr (inl e) ↦ subst (λ (z : Pair). IsNoFarther side p q z q p) (sym e)
           (nn_zero _ (orient_on_start side p q), λ z. le_itself _)
       | inl b ↦ elim low [
@@ -142,10 +142,10 @@ pub ahead_touched : (side : Side) (S : List Pair) (q p : Pair) → IsClear side 
     → IsLast S p ⊎ ((n : Pair) × IsSupport side S p n × (pos 0 <ℤ orient_on side p n q))
     → IsTangent (other_hand (hand_behind side)) S q p
 ahead_touched side S q p clear m qp low high =
-    (m, all_of (IsNoMore (other_hand (hand_behind side)) q p) S (λ t i. no_more_ahead side q p t (told t i)))
+    (m, all_of (IsNoMore (other_hand (hand_behind side)) q p) S (λ t i. no_more_ahead side q p t (returned t i)))
   where
-    told : (t : Pair) → Contains S t → IsNoFarther side q p t q p
-    told t i = elim (before_total t p) [
+    returned : (t : Pair) → Contains S t → IsNoFarther side q p t q p
+    returned t i = elim (before_total t p) [
       | inr (inl e) ↦ subst (λ (z : Pair). IsNoFarther side q p z q p) (sym e)
           (nn_zero _ (orient_on_end side q p), λ z. le_itself _)
       | inl b ↦ elim low [

@@ -10,7 +10,7 @@ use Rattle.hull_geometry.specs.Edges.{IsAlong, IsEdgeOn, IsLowerEdge, IsUpperEdg
 use Rattle.lattice.specs.declared.side.Side.{Side}
 use Rattle.lattice.specs.declared.side.Side.TheVariants.{Lower, Upper}
 use Rattle.hull_geometry.proofs.Along.{along_trans}
-use Rattle.hull_geometry.proofs.Chains.{extreme_on_chain, lower_extreme, upper_rest_extreme, no_common_corner}
+use Rattle.hull_geometry.proofs.Chains.{extreme_on_chain, lower_extreme, upper_rest_extreme, no_common_vertex}
 use Rattle.lattice.proofs.Order.{before_trans, before_apart, after_apart}
 use Rattle.hull_geometry.proofs.PointLists.{all_append_right, left_part, only_member}
 
@@ -100,7 +100,7 @@ apart_both S u last (v ∷ ls) ms lc uc =
     apart_cons v (ls ++ ms) (all_append_right (λ t. v ≢ t) ls ms
     (All-weaker (IsBefore v) (λ t. v ≢ t) (λ t b. before_apart v t b) ls (chain_above Lower S v ls lc.1))
     (All-weaker (λ t. (p : Pair) × IsUpperEdge S p t) (λ t. v ≢ t)
-    (λ t q e. no_common_corner S u v q.0 lc.0 (subst (IsUpperEdge S q.0) (sym e) q.1)) ms
+    (λ t q e. no_common_vertex S u v q.0 lc.0 (subst (IsUpperEdge S q.0) (sym e) q.1)) ms
     (upper_ends S last ms uc)))
     (apart_both S v last ls ms lc.1 uc)
 

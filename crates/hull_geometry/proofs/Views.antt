@@ -9,7 +9,7 @@ use Rattle.lattice.specs.declared.side.Side.{Side}
 use Rattle.lattice.specs.declared.side.Side.TheVariants.{Lower, Upper}
 use Rattle.lattice.proofs.Numbers.{less_not_le}
 use Rattle.lattice.proofs.Order.{before_irrefl, before_not}
-use Rattle.hull_geometry.specs.Sights.{IsClear, IsRightOfEdge}
+use Rattle.hull_geometry.specs.Locations.{IsClear, IsRightOfEdge}
 use Rattle.hull_geometry.proofs.Orientations.{stays_outwards}
 
 -- a point before all points is clear

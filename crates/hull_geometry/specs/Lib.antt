@@ -3,9 +3,9 @@ pub mod Hands
 pub mod Edges
 pub mod Positions
 pub mod Laws
-pub mod Sights
+pub mod Locations
 pub mod Monotone
 pub mod ChainEdges
 pub mod Mending
-pub mod Fringes
+pub mod CandidateLists
 pub mod Runs

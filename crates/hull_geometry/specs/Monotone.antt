@@ -23,14 +23,14 @@ IsInner side [] u = ⊥
 IsInner side (a ∷ rest) u = (u ≡ a) ⊎ IsInnerFrom side a rest u
 
 -- b lies outwards of the segment from a to the next point, if there is one
-abbrev pub IsCorner : Side → Pair → Pair → List Pair → Type 0
-IsCorner side a b [] = Unit {0}
-IsCorner side a b (c ∷ rest) = pos 0 <ℤ orient_on side a b c
+abbrev pub IsVertex : Side → Pair → Pair → List Pair → Type 0
+IsVertex side a b [] = Unit {0}
+IsVertex side a b (c ∷ rest) = pos 0 <ℤ orient_on side a b c
 
 -- each point after a but the last lies outwards of the segment between its neighbours
 abbrev pub IsConvexFrom : Side → Pair → List Pair → Type 0
 IsConvexFrom side a [] = Unit {0}
-IsConvexFrom side a (b ∷ rest) = IsCorner side a b rest × IsConvexFrom side b rest
+IsConvexFrom side a (b ∷ rest) = IsVertex side a b rest × IsConvexFrom side b rest
 
 -- each point but the first and the last lies outwards of the segment between its neighbours
 abbrev pub IsConvex : Side → List Pair → Type 0
@@ -65,10 +65,10 @@ pub record IsThinned (side : Side) (points left : List Pair) : Type 0 where
   pub short : length left ≤ length points
 
 -- a candidate list of a set S: some of its points in order, to which each point of S is inner
-pub record IsFringeOf (side : Side) (S fringe : List Pair) : Type 0 where
-  pub ordered : IsPointSet fringe
-  pub among : (t : Pair) → Contains fringe t → Contains S t
-  pub inner : (u : Pair) → Contains S u → IsInner side fringe u
+pub record IsCandidateListOf (side : Side) (S candidates : List Pair) : Type 0 where
+  pub ordered : IsPointSet candidates
+  pub among : (t : Pair) → Contains candidates t → Contains S t
+  pub inner : (u : Pair) → Contains S u → IsInner side candidates u
 
 -- the chain of the hull of a set S: a strict chain of some of its points, to which each point of S is inner
 pub record IsChainOf (side : Side) (S chain : List Pair) : Type 0 where
@@ -86,9 +86,9 @@ pub record EndsInwards (side : Side) (chain : List Pair) (c : Pair) : Type 0 whe
   pub inwards : orient_on side a b c ≤ℤ pos 0
 
 -- a candidate list of a set S on each side
-pub record AreFringesOf (S lower upper : List Pair) : Type 0 where
-  pub below : IsFringeOf Lower S lower
-  pub above : IsFringeOf Upper S upper
+pub record AreCandidateListsOf (S lower upper : List Pair) : Type 0 where
+  pub below : IsCandidateListOf Lower S lower
+  pub above : IsCandidateListOf Upper S upper
 
 -- the chain of some set on a side
 abbrev pub IsSomeChain : Side → List Pair → Type 0

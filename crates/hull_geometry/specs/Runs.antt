@@ -15,10 +15,10 @@ opposite Upper = Lower
 
 -- l and r are vertices of one chain or of the other, all of l before all of r. a is the last point of l on the one
 -- chain, or the first of l if it has none there; b is the first point of r on that chain, or the last of r
-pub record ArePartedAt (chain other : List Pair) (l r : Pair → Type 0) (a b : Pair) : Type 0 where
-  pub parted : IsAllBefore l r
-  pub left_corners : (t : Pair) → l t → Contains chain t ⊎ Contains other t
-  pub right_corners : (t : Pair) → r t → Contains chain t ⊎ Contains other t
+pub record AreSeparatedAt (chain other : List Pair) (l r : Pair → Type 0) (a b : Pair) : Type 0 where
+  pub separated : IsAllBefore l r
+  pub left_vertices : (t : Pair) → l t → Contains chain t ⊎ Contains other t
+  pub right_vertices : (t : Pair) → r t → Contains chain t ⊎ Contains other t
   pub from_left : l a
   pub to_right : r b
   pub none_after : (t : Pair) → l t → IsBefore a t → ¬ Contains chain t
@@ -30,4 +30,4 @@ pub record ArePartedAt (chain other : List Pair) (l r : Pair → Type 0) (a b : 
 abbrev pub RunsHaveTheirBridge : Side → (Pair → Type 0) → (Pair → Type 0) → Type 0
 RunsHaveTheirBridge side l r =
     (S chain other : List Pair) (a b : Pair) → IsChainOf side S chain → IsChainOf (opposite side) S other
-    → ArePartedAt chain other l r a b → IsBridge side l r a b
+    → AreSeparatedAt chain other l r a b → IsBridge side l r a b

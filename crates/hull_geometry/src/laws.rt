@@ -1,8 +1,8 @@
 //! Laws of the definitions: each function has an empty body, and its contract is the law.
 ghost use Rattle.hull_geometry.specs.Laws.{VertexListIsUnique, DoubledAreaIsUnique, WithPointAddsThePoint};
 ghost use Rattle.hull_geometry.specs.Laws.{WithoutPointTakesThePoint};
-ghost use Rattle.hull_geometry.specs.Fringes.{UnderAnEdgeIsInner, BridgeIsOfFringes, ChainIsAFringe};
-ghost use Rattle.hull_geometry.specs.Fringes.{BridgeEndsAtWhatCame, FringesAnswer};
+ghost use Rattle.hull_geometry.specs.CandidateLists.{UnderAnEdgeIsInner, BridgeIsOfCandidateLists, ChainIsACandidateList};
+ghost use Rattle.hull_geometry.specs.CandidateLists.{BridgeEndsAtWhatCame, CandidateListsAnswer};
 ghost use Rattle.hull_geometry.specs.Runs.{RunsHaveTheirBridge};
 
 use lattice::{PointSet, Side};
@@ -37,19 +37,19 @@ pub fn under_an_edge_is_inner(side: Side)
 
 /// Two sets of points, all of the one before all of the other, have the bridge of their candidate lists, and only that:
 /// a search needs to look only at the vertices.
-pub fn bridge_is_of_fringes<L: PointSet, M: PointSet, R: PointSet, S: PointSet>(side: Side)
-    ensures { BridgeIsOfFringes side L.has M.has R.has S.has }
+pub fn bridge_is_of_candidate_lists<L: PointSet, M: PointSet, R: PointSet, S: PointSet>(side: Side)
+    ensures { BridgeIsOfCandidateLists side L.has M.has R.has S.has }
 {}
 
 /// The chain of a set is a candidate list of it.
-pub fn chain_is_a_fringe(side: Side)
-    ensures { ChainIsAFringe side }
+pub fn chain_is_a_candidate_list(side: Side)
+    ensures { ChainIsACandidateList side }
 {}
 
 /// A list of points that is a candidate list of a set on both sides has the hull of the set: an answer about its hull
 /// is an answer about the hull of the set.
-pub fn fringes_answer()
-    ensures { FringesAnswer }
+pub fn candidate_lists_answer()
+    ensures { CandidateListsAnswer }
 {}
 
 /// If a point that lies beyond the bridge of two sets is added to one of them, their new bridge ends at that point:

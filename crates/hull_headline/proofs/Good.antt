@@ -40,7 +40,7 @@ module _ {S B H L : Type 0} (set : Ghosts S) (kind : Kind S B H L) where
       (sound (kind.whole now.current).set (safe seats book opening now steps led free))
 
 module _ {S B H L : Type 0} (set : Ghosts S) (kind : Kind S B H L)
-    (tells : (b : B) → kind.says.lawful b → IsLawful set (kind.whole b)) where
+    (reports : (b : B) → kind.says.lawful b → IsLawful set (kind.whole b)) where
   -- the law of the lock, at such a book over a set
   abbrev pub Law : Type 0
   Law = SchedulesHold kind.says partitioned_form
@@ -53,32 +53,32 @@ module _ {S B H L : Type 0} (set : Ghosts S) (kind : Kind S B H L)
   pub bridges : (stores : S → List Pair → Type 0) → ((t : S) → set.sound t → stores t (set.held t).points) → Law
       → WheneverFree kind (StoresThatOfLivePoints stores)
   bridges stores sound law seats book opening now steps led free = let lawful =
-      tells now.current (law seats book opening now steps led.0 led.1).0.lawful in
+      reports now.current (law seats book opening now steps led.0 led.1).0.lawful in
       subst (λ (points : List Pair). stores (kind.whole now.current).set points)
       (ap (λ (h : Held). h.points) lawful.set) (sound (kind.whole now.current).set lawful.sound)
 
   -- the multiplicity of each point is the one that the journal's calls left
   pub multiplicities : Law → WheneverFree kind (HoldsEachPointAsOften set)
   multiplicities law seats book opening now steps led free =
-      (tells now.current (law seats book opening now steps led.0 led.1).0.lawful).set
+      (reports now.current (law seats book opening now steps led.0 led.1).0.lawful).set
 
   -- the journal is legal
   pub legal : Law → WheneverFree kind HasLegalJournal
   legal law seats book opening now steps led free =
-      (tells now.current (law seats book opening now steps led.0 led.1).0.lawful).legal
+      (reports now.current (law seats book opening now steps led.0 led.1).0.lawful).legal
 
   -- and in the order of its numbers
   pub in_order : Law → WheneverFree kind IsInOrderOfNumbers
   in_order law seats book opening now steps led free k line at =
       subst (λ (n : ℕ). line.number ≡ ((kind.whole now.current).head.journal.first + n) % (2 ^ 64)) (omega arith)
       (numbered (kind.whole now.current).head.journal 0 nothing_held (kind.whole now.current).lines
-      (tells now.current (law seats book opening now steps led.0 led.1).0.lawful).legal k line at)
+      (reports now.current (law seats book opening now steps led.0 led.1).0.lawful).legal k line at)
 
   -- the ledgers sum to its length
   pub ledgers : Law → WheneverFree kind LedgersSumToLength
   ledgers law seats book opening now steps led free all are =
       all_counts (kind.whole now.current) all
-      (tells now.current (law seats book opening now steps led.0 led.1).0.lawful) are
+      (reports now.current (law seats book opening now steps led.0 led.1).0.lawful) are
 
   -- entries are in the order of takes
   pub first_come : Law → FirstComeFirstServed kind

@@ -10,7 +10,7 @@ use Rattle.hull_book.specs.Books.{BookValue}
 use Rattle.hull_book.specs.Kinds.{Kind}
 use Rattle.hull_book.specs.Kinds as kinds
 use Rattle.hull_book.specs.LongBooks.{LongValue}
-use Rattle.hull_book.specs.Marks.{held_of, joined, parts_of}
+use Rattle.hull_book.specs.Marks.{held_of, joined, segments_of}
 use Rattle.hull_book.specs.History.{IsLegal, held_after, live}
 use Rattle.hull_book.specs.Ledgers.{LedgerValue, AreAllLedgers, sum_of_counts}
 use Rattle.bucket_tree.specs.Roots as roots
@@ -30,9 +30,9 @@ use Rattle.ticket_lock.specs.Schedule.{Opened, Runs, takers, enterers}
 abbrev pub kept : Kind LimitedTree (Box (BookValue LimitedTree) Global) BookHead Line
 kept = kinds.kept hull_tree
 
--- the same over a tree over buckets, as `hullbook run --sparing` opens it
-abbrev pub sparing : Kind buckets.LimitedTree (Box (BookValue buckets.LimitedTree) Global) BookHead Line
-sparing = kinds.kept bucket_set
+-- the same over a tree over buckets, as `hullbook run --bucketed` opens it
+abbrev pub bucketed : Kind buckets.LimitedTree (Box (BookValue buckets.LimitedTree) Global) BookHead Line
+bucketed = kinds.kept bucket_set
 
 -- one that may be drained: every statement about it is about its whole journal
 abbrev pub drained : Kind LimitedTree (Box (LongValue LimitedTree) Global) BookHead MarkedLine
@@ -129,5 +129,5 @@ LedgersSumToLength book = (ledgers : List LedgerValue) → AreAllLedgers book le
 -- the lock is free: for a kind of books whose lines are marked.
 abbrev pub PartsAndHeldAreTheJournal : {S B H : Type 0} → Kind S B H MarkedLine → Type 0
 PartsAndHeldAreTheJournal kind = Always kind (λ now. now.home ≡ true
-    → joined (parts_of (kind.says.lines now.current)) ++ held_of (kind.says.lines now.current)
+    → joined (segments_of (kind.says.lines now.current)) ++ held_of (kind.says.lines now.current)
     ≡ (kind.whole now.current).lines)

@@ -17,13 +17,13 @@ ghost use Rattle.hull_headline.specs.Headline.{Always, WheneverFree, AtMostOneHo
 ghost use Rattle.hull_headline.specs.Headline.{HoldsEachPointAsOften, HasLegalJournal, IsInOrderOfNumbers};
 ghost use Rattle.hull_headline.specs.Headline.{FirstComeFirstServed, LedgersSumToLength, PartsAndHeldAreTheJournal};
 ghost use Rattle.hull_headline.specs.Headline.{IsOfSoundSet, StoresBridgesInBuckets, StoresThatOfLivePoints};
-ghost use Rattle.hull_headline.specs.Headline.{TicketsCountTheCalls, drained, kept, sparing};
+ghost use Rattle.hull_headline.specs.Headline.{TicketsCountTheCalls, drained, kept, bucketed};
 ghost use Rattle.hull_book.specs.Kinds.{kept as kept_over};
 ghost use Rattle.bucket_tree.specs.Sets.{bucket_set};
 ghost use Rattle.hull_tree.specs.Sets.{hull_tree};
 
 use bucket_tree::BucketTree;
-use hull_book::{Book, LongBook, parts_are_the_journal};
+use hull_book::{Book, LongBook, segments_are_the_journal};
 use hull_set::HullSet;
 use hull_tree::HullTree;
 use ticket_lock::partitioned_schedules_hold;
@@ -42,16 +42,16 @@ pub fn headline_holds_of_books_over<S: HullSet + Drop>()
     partitioned_schedules_hold::<Box<Book<S>>>();
 }
 
-/// The headline of the book that `hullbook run --sparing` opens, over a tree over buckets: each stored bridge is that of the points below it, each
+/// The headline of the book that `hullbook run --bucketed` opens, over a tree over buckets: each stored bridge is that of the points below it, each
 /// bucket has the vertices of its own points, and all these are the live points.
-pub fn headline_holds_of_sparing_books()
-    ensures first_come { FirstComeFirstServed sparing }
-    ensures one_holder { Always sparing AtMostOneHolds }
-    ensures bridges { WheneverFree sparing (StoresThatOfLivePoints StoresBridgesInBuckets) }
-    ensures multiplicities { WheneverFree sparing (HoldsEachPointAsOften bucket_set) }
-    ensures legal { WheneverFree sparing HasLegalJournal }
-    ensures in_order { WheneverFree sparing IsInOrderOfNumbers }
-    ensures ledgers { WheneverFree sparing LedgersSumToLength }
+pub fn headline_holds_of_bucketed_books()
+    ensures first_come { FirstComeFirstServed bucketed }
+    ensures one_holder { Always bucketed AtMostOneHolds }
+    ensures bridges { WheneverFree bucketed (StoresThatOfLivePoints StoresBridgesInBuckets) }
+    ensures multiplicities { WheneverFree bucketed (HoldsEachPointAsOften bucket_set) }
+    ensures legal { WheneverFree bucketed HasLegalJournal }
+    ensures in_order { WheneverFree bucketed IsInOrderOfNumbers }
+    ensures ledgers { WheneverFree bucketed LedgersSumToLength }
 {
     headline_holds_of_books_over::<BucketTree>();
 }
@@ -84,5 +84,5 @@ pub fn headline_holds_of_drained_books()
     ensures parts { PartsAndHeldAreTheJournal drained }
 {
     partitioned_schedules_hold::<Box<LongBook<HullTree>>>();
-    parts_are_the_journal();
+    segments_are_the_journal();
 }

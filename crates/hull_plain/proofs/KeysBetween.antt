@@ -64,18 +64,18 @@ true_false : {A : Type 0} → false ≡ true → A
 true_false e = absurd (false≢true e)
 
 -- a point that compares as less is before
-less_told : (a q : Pair) → is_lt (point_cmp a q) ≡ true → IsBefore a q
-less_told a q h = grind (arith, common_steps, before_total, true_false, is_lt, point_cmp, equal, greater)
+less_returned : (a q : Pair) → is_lt (point_cmp a q) ≡ true → IsBefore a q
+less_returned a q h = grind (arith, common_steps, before_total, true_false, is_lt, point_cmp, equal, greater)
 
 -- a point that does not compare as at most another is after it
-not_le_told : (b q : Pair) → is_le (point_cmp b q) ≡ false → IsBefore q b
-not_le_told b q h = grind (arith, common_steps, before_total, true_false, is_le, less, point_cmp, equal)
+not_le_returned : (b q : Pair) → is_le (point_cmp b q) ≡ false → IsBefore q b
+not_le_returned b q h = grind (arith, common_steps, before_total, true_false, is_le, less, point_cmp, equal)
 
 -- a point within a bound after a chain is after the chain
 after_start : (left : List Pair) (start : Bound Pair) (t q : Pair) → IsPointSet left → IsBehind left start
     → is_from_start point_cmp start q ≡ true → Contains left t → IsBefore t q
 after_start left (Included a) t q s b h m = absurd b
-after_start left (Excluded a) t q s b h m = after_ends a left t q s b m (less_told a q h)
+after_start left (Excluded a) t q s b h m = after_ends a left t q s b m (less_returned a q h)
 after_start left Unbounded t q s b h m = absurd (no_member t (subst (λ (z : List Pair). Contains z t) b m))
   where
     no_member : (t : Pair) → Contains [] t → ⊥
@@ -96,9 +96,9 @@ before_end right (Included a) t q s b h m = absurd b
 before_end right (Excluded a) t q s b h m = go (subst (λ (z : List Pair). Contains z t) b.1 m)
   where
     go : Contains (a ∷ b.0) t → IsBefore q t
-    go (zero, l, e) = subst (IsBefore q) e (not_le_told a q h)
+    go (zero, l, e) = subst (IsBefore q) e (not_le_returned a q h)
     go (suc k, l, e) =
-        before_trans q a t (not_le_told a q h)
+        before_trans q a t (not_le_returned a q h)
         (All-contains (IsBefore a) b.0 t (AllPairs-head a b.0 (subst IsPointSet b.1 s)) (k, omega (arith, l), e))
 before_end right Unbounded t q s b h m = absurd (no_member t (subst (λ (z : List Pair). Contains z t) b m))
   where

@@ -8,17 +8,17 @@ use Rattle.lattice.specs.Places.{IsOuter, IsOnBoundary, IsInside}
 use Rattle.lattice.specs.Plane.{Pair, orient}
 use Rattle.lattice.proofs.Order.{before_not}
 use Rattle.hull_geometry.specs.ChainEdges.{IsEdge, IsEdgeAt}
-use Rattle.hull_plain.specs.ChainSights.{IsSeen}
+use Rattle.hull_plain.specs.ChainLocations.{IsSeen}
 use Rattle.hull_geometry.specs.Monotone.{IsChainOf}
 use Rattle.lattice.specs.Orientations.{orient_on}
 use Rattle.hull_geometry.specs.Positions.{IsPositionOf, point_at, origin}
 use Rattle.lattice.specs.declared.side.Side.{Side}
 use Rattle.lattice.specs.declared.side.Side.TheVariants.{Lower, Upper}
-use Rattle.hull_plain.specs.declared.sights.ChainSight.{ChainSight}
-use Rattle.hull_plain.specs.declared.sights.ChainSight.TheVariants.{Before, After, Outwards, Touching, Inwards}
+use Rattle.hull_plain.specs.declared.locations.ChainLocation.{ChainLocation}
+use Rattle.hull_plain.specs.declared.locations.ChainLocation.TheVariants.{Before, After, Outwards, Touching, Inwards}
 use Rattle.hull_geometry.proofs.ChainEdges.{lower_edge, upper_edge}
 use Rattle.hull_geometry.proofs.ChainPlaces.{edge_to, chain_in, first_of, last_of}
-use Rattle.hull_geometry.specs.Sights.{IsBetweenEnds, IsRightOfEdge}
+use Rattle.hull_geometry.specs.Locations.{IsBetweenEnds, IsRightOfEdge}
 use Rattle.hull_geometry.proofs.EdgesAt.{up_to, on_from, touching_first}
 use Rattle.hull_geometry.proofs.CoveredByEdges.{on_segment}
 use Rattle.hull_geometry.proofs.EdgePlaces.{on_line_outer, between_inside}
@@ -66,18 +66,18 @@ on_chain side S chain q i at c = subst (IsOnBoundary S) (at.1 origin) (elim (edg
 -- ---- the place that follows
 
 -- a point on the inner side of both chains lies inside
-pub sights_inside : (S : List Pair) (q : Pair) → IsSeen Lower S q Inwards → IsSeen Upper S q Inwards → IsInside S q
-sights_inside S q (a, b, e, h) (c, d, f, k) =
+pub locations_inside : (S : List Pair) (q : Pair) → IsSeen Lower S q Inwards → IsSeen Upper S q Inwards → IsInside S q
+locations_inside S q (a, b, e, h) (c, d, f, k) =
     between_inside S q a b d c (lower_edge e.edge) (upper_edge f.edge) e.after e.before f.before f.after h k
 
 -- a point on the inner side of a lower edge that is on neither side of an upper one touches it
-pub sight_touching : (S : List Pair) (q : Pair) (s : ChainSight) → IsSeen Lower S q Inwards → IsSeen Upper S q s
+pub location_touching : (S : List Pair) (q : Pair) (s : ChainLocation) → IsSeen Lower S q Inwards → IsSeen Upper S q s
     → ¬ (s ≡ Outwards) → ¬ (s ≡ Inwards) → IsOnBoundary S q
-sight_touching S q Before (a, b, e, h) k n m = absurd (before_not a q e.after (k a e.edge.from))
-sight_touching S q After (a, b, e, h) k n m = absurd (before_not q b e.before (k b e.edge.to))
-sight_touching S q Outwards h k n m = absurd (n refl)
-sight_touching S q Touching h k n m = k
-sight_touching S q Inwards h k n m = absurd (m refl)
+location_touching S q Before (a, b, e, h) k n m = absurd (before_not a q e.after (k a e.edge.from))
+location_touching S q After (a, b, e, h) k n m = absurd (before_not q b e.before (k b e.edge.to))
+location_touching S q Outwards h k n m = absurd (n refl)
+location_touching S q Touching h k n m = k
+location_touching S q Inwards h k n m = absurd (m refl)
 
 -- q between the ends of an edge is between the ends of each chain
 pub edge_within : (side other : Side) (S chain : List Pair) (q a b : Pair) → IsEdgeAt side S q a b

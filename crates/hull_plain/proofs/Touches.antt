@@ -5,7 +5,7 @@ use Rattle.lattice.specs.Plane.{Pair, IsBefore}
 use Rattle.lattice.specs.declared.side.Side.{Side}
 use Rattle.hull_geometry.specs.Hands.{hand_behind, other_hand}
 use Rattle.hull_geometry.specs.Positions.{point_at, first_of, last_of}
-use Rattle.hull_geometry.specs.Sights.{IsClear}
+use Rattle.hull_geometry.specs.Locations.{IsClear}
 use Rattle.hull_geometry.specs.Tangents.{IsTangent}
 use Rattle.hull_geometry.proofs.Touching.{behind_touched, ahead_touched}
 use Rattle.hull_geometry.specs.ChainEdges.{IsPassedBy, IsToCome}

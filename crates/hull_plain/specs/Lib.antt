@@ -1,5 +1,5 @@
 pub mod Sets
-pub mod Rims
+pub mod ChainPairs
 pub mod Drafts
-pub mod ChainSights
+pub mod ChainLocations
 pub mod Bounds

@@ -22,18 +22,18 @@
 #![tactic(auto)]
 
 mod bisection;
-mod corners;
-mod draft;
+mod candidate_lists;
+mod candidates;
 mod extremes;
-mod fringe;
-mod fringes;
-mod mending;
+mod hull_chains;
+mod locations;
 mod monotone;
 mod plain_set;
 mod positions;
-mod rim;
-mod sights;
+mod repairing;
+mod scratch_chain;
 mod tangents;
+mod vertices;
 
 pub use hull_geometry::{
     doubled_area_is_unique, vertex_list_is_unique, with_point_adds_the_point,

@@ -1,7 +1,7 @@
 ghost use Rattle.std.specs.Prelude.{◌≡◌, ◌≤◌, []};
 ghost use Rattle.hull_plain.specs.Sets.{LimitedSet};
 
-use super::rim::Rim;
+use super::hull_chains::HullChains;
 use heap::Heap;
 use hull_set::{AddReply, HullSet, MULTIPLICITY_LIMIT, NoMemory, POINT_LIMIT, Place, RemoveReply};
 use lattice::{Direction, Point};
@@ -25,18 +25,18 @@ use std::marker::Model;
 pub struct PlainSet {
     limit: u32,
     points: BTreeMap<Point, u16, Heap>,
-    rim: Rim,
+    hull_chains: HullChains,
 }
 
 impl Model for PlainSet {
-    ghost use Rattle.hull_plain.specs.Rims.{IsPlainSet};
+    ghost use Rattle.hull_plain.specs.ChainPairs.{IsPlainSet};
     ghost use Rattle.hull_plain.specs.Sets.{LimitedSet};
 
     ghost Value = { LimitedSet };
 
     ghost view = { λ s. record { limit = s.limit; entries = s.points.entries } };
 
-    ghost invariant = { λ s. IsPlainSet s.limit s.points.entries s.rim };
+    ghost invariant = { λ s. IsPlainSet s.limit s.points.entries s.hull_chains };
 }
 
 impl PlainSet {
@@ -50,7 +50,7 @@ impl PlainSet {
         PlainSet {
             limit,
             points: BTreeMap::new(alloc),
-            rim: Rim::new(alloc),
+            hull_chains: HullChains::new(alloc),
         }
     }
 }
@@ -94,13 +94,13 @@ impl HullSet for PlainSet {
         if count >= self.limit as usize {
             return AddReply::TooMany;
         }
-        if self.rim.reserve(count + 1).is_err() {
+        if self.hull_chains.reserve(count + 1).is_err() {
             return AddReply::NoMemory;
         }
         if self.points.insert(p, 1).is_err() {
             return AddReply::NoMemory;
         }
-        self.rim.add(p, &self.points);
+        self.hull_chains.add(p, &self.points);
         AddReply::Added
     }
 
@@ -113,27 +113,27 @@ impl HullSet for PlainSet {
             return RemoveReply::Left(u32::from(*times));
         }
         self.points.remove(&p);
-        self.rim.remove(p, &self.points);
+        self.hull_chains.remove(p, &self.points);
         RemoveReply::Removed
     }
 
     fn extreme(&self, d: Direction) -> Option<Point> {
-        self.rim.extreme(d)
+        self.hull_chains.extreme(d)
     }
 
     fn place(&self, q: Point) -> Place {
-        self.rim.place(q)
+        self.hull_chains.place(q)
     }
 
     fn tangents(&self, q: Point) -> Option<(Point, Point)> {
-        self.rim.tangents(q)
+        self.hull_chains.tangents(q)
     }
 
     fn vertices(&self) -> Result<Vec<Point, Heap>, NoMemory> {
-        Ok(self.rim.vertices()?)
+        Ok(self.hull_chains.vertices()?)
     }
 
     fn area2(&self) -> u128 {
-        self.rim.area2()
+        self.hull_chains.area2()
     }
 }

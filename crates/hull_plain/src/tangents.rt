@@ -5,13 +5,13 @@ ghost use Rattle.hull_geometry.specs.ChainEdges.{IsPassedBy, IsToCome};
 ghost use Rattle.hull_geometry.specs.Monotone.{IsChainOf, AreChainsOf, AreChains};
 ghost use Rattle.hull_geometry.specs.Hands.{hand_behind, other_hand};
 ghost use Rattle.hull_geometry.specs.Positions.{first_of, last_of};
-ghost use Rattle.hull_geometry.specs.Sights.{IsClear, IsInwards};
+ghost use Rattle.hull_geometry.specs.Locations.{IsClear, IsInwards};
 ghost use Rattle.hull_geometry.specs.Tangents.{IsTangent};
 ghost use Rattle.hull_set.specs.Replies.{AnswersTangents, reply_to_tangents};
 
 use super::bisection::first_failing;
+use super::locations::look;
 use super::monotone::is_inner;
-use super::sights::look;
 use hull_geometry::Hand;
 use lattice::{Point, Side, before};
 use tiered_list::TieredList;

@@ -54,11 +54,11 @@ fulls_both : (m n k : ℕ) → k ≡ m + n → fulls m ++ fulls n ≡ fulls k
 fulls_both m n k e = replicate-append-replicate m n (Err (record {})) ∙ ap (λ (j : ℕ). fulls j) (sym e)
 
 -- the work of two phases in a row, if the journal was not full before the second
-more_work : (k room : ℕ) (one two : List Call) (before between lines : List Line) (old mid new : List Answer)
-    → (h : HasWorked k room (length one) one before between old mid)
-    → (g : HasWorked k room (length two) two between lines mid new) → length h.served ≡ length one
-    → HasWorked k room (length (one ++ two)) (one ++ two) before lines old new
-more_work k room one two before between lines old mid new h g all =
+more_work : (k space : ℕ) (one two : List Call) (before between lines : List Line) (old mid new : List Answer)
+    → (h : HasWorked k space (length one) one before between old mid)
+    → (g : HasWorked k space (length two) two between lines mid new) → length h.served ≡ length one
+    → HasWorked k space (length (one ++ two)) (one ++ two) before lines old new
+more_work k space one two before between lines old mid new h g all =
     let long : length (h.served ++ g.served) ≡ length one + length g.served =
     length-append h.served g.served ∙ ap (λ (n : ℕ). n + length g.served) all in
     let calls : length (one ++ two) ≡ length one + length two = length-append one two in
@@ -91,11 +91,11 @@ more_work k room one two before between lines old mid new h g all =
         ∙ ap (λ (m : ℕ). old ++ replies_of (h.served ++ g.served) ++ fulls m) same
 
 -- and if it was
-no_more_work : (k room : ℕ) (one two : List Call) (before between lines : List Line) (old mid new : List Answer)
-    → (h : HasWorked k room (length one) one before between old mid)
-    → (g : HasWorked k room (length two) two between lines mid new) → lines ≡ between → length h.served < length one
-    → HasWorked k room (length (one ++ two)) (one ++ two) before lines old new
-no_more_work k room one two before between lines old mid new h g same short =
+no_more_work : (k space : ℕ) (one two : List Call) (before between lines : List Line) (old mid new : List Answer)
+    → (h : HasWorked k space (length one) one before between old mid)
+    → (g : HasWorked k space (length two) two between lines mid new) → lines ≡ between → length h.served < length one
+    → HasWorked k space (length (one ++ two)) (one ++ two) before lines old new
+no_more_work k space one two before between lines old mid new h g same short =
     let none : g.served ≡ [] = none_served k between lines g.served same g.own_lines in
     let calls : length (one ++ two) ≡ length one + length two = length-append one two in record {
       served = h.served;
@@ -110,22 +110,22 @@ no_more_work k room one two before between lines old mid new h g same short =
           ∙ ap (λ (xs : List Answer). old ++ replies_of h.served ++ xs)
           (fulls_both (length one - length h.served) (length two) (length (one ++ two) - length h.served)
           (omega (arith, calls, h.few)));
-      full = λ lt. let full : room ≤ length between = h.full short in omega (arith, ap length same);
+      full = λ lt. let full : space ≤ length between = h.full short in omega (arith, ap length same);
     }
   where
     front : (xs ys : List Call) (n : ℕ) → n ≤ length xs → take n (xs ++ ys) ≡ take n xs
     front xs ys n le = take-append-le n xs ys le
 
 -- the work of two phases in a row
-pub works_on : (k room : ℕ) (one two : List Call) (before between lines : List Line) (old mid new : List Answer)
-    → IsPrefix between lines → length lines ≤ room → HasWorked k room (length one) one before between old mid
-    → HasWorked k room (length two) two between lines mid new
-    → HasWorked k room (length (one ++ two)) (one ++ two) before lines old new
-works_on k room one two before between lines old mid new begins within h g =
+pub works_on : (k space : ℕ) (one two : List Call) (before between lines : List Line) (old mid new : List Answer)
+    → IsPrefix between lines → length lines ≤ space → HasWorked k space (length one) one before between old mid
+    → HasWorked k space (length two) two between lines mid new
+    → HasWorked k space (length (one ++ two)) (one ++ two) before lines old new
+works_on k space one two before between lines old mid new begins within h g =
     elim (cases_lt (length h.served) (length one)) [
-      | inl lt ↦ no_more_work k room one two before between lines old mid new h g
-          (same_lines between lines begins (let full : room ≤ length between = h.full lt in omega arith)) lt
-      | inr ge ↦ more_work k room one two before between lines old mid new h g (omega (arith, h.few))
+      | inl lt ↦ no_more_work k space one two before between lines old mid new h g
+          (same_lines between lines begins (let full : space ≤ length between = h.full lt in omega arith)) lt
+      | inr ge ↦ more_work k space one two before between lines old mid new h g (omega (arith, h.few))
     ]
 
 -- ---- some phases, and the phases after them
@@ -171,7 +171,7 @@ module _ {S : Type 0} {K : Ghosts S} where
       → HasRunAll K b w front m x → HasRunAll K m x back c v → HasRunAll K b w (front ++ back) c v
   run_on b m c w x v front back one rest =
       let heads : capacity_of m ≡ capacity_of b = ap (λ (h : BookHead). h.journal.capacity) one.head in
-      let crew : workers_of m ≡ workers_of b = ap (λ (h : BookHead). h.workers) one.head in
+      let worker_set : workers_of m ≡ workers_of b = ap (λ (h : BookHead). h.workers) one.head in
       let within : length c.lines ≤ capacity_of b =
       rw (ap (λ (h : BookHead). h.journal.capacity) (rest.head ∙ one.head)) at (rest.lawful).within in record {
         lawful = rest.lawful;
@@ -184,10 +184,10 @@ module _ {S : Type 0} {K : Ghosts S} where
             (answers_of w k).answers (answers_of x k).answers (answers_of v k).answers rest.begins within
             (one.each k below)
             (subst (λ (n : ℕ). HasWorked k n (length (calls_of k back)) (calls_of k back) m.lines c.lines
-            (answers_of x k).answers (answers_of v k).answers) heads (rest.each k (omega (arith, crew)))));
+            (answers_of x k).answers (answers_of v k).answers) heads (rest.each k (omega (arith, worker_set)))));
         ledgers = rest.ledgers;
-        answers = rest.answers ∙ crew;
-        room = λ k below. let a = one.room k below in let d = rest.room k (omega (arith, crew)) in
+        answers = rest.answers ∙ worker_set;
+        space = λ k below. let a = one.space k below in let d = rest.space k (omega (arith, worker_set)) in
             omega (arith, a, d, count_both k front back);
       }
 
@@ -200,21 +200,21 @@ module _ {S : Type 0} {K : Ghosts S} where
     answers = may.answers;
     jobs = all_front (λ p. length p ≡ workers_of b) front back may.jobs;
     few = λ k below. let f = may.few k below in omega (arith, f, count_both k front back);
-    room = λ k below. let r = may.room k below in omega (arith, r, count_both k front back);
+    space = λ k below. let r = may.space k below in omega (arith, r, count_both k front back);
   }
 
   -- the phases after some may be run after them
   may_back : (b m : BookValue S) (w x : WorkersValue) (front back : List PhaseValue)
       → MayRunAll K b w (front ++ back) → HasRunAll K b w front m x → MayRunAll K m x back
   may_back b m w x front back may one =
-      let crew : workers_of m ≡ workers_of b = ap (λ (h : BookHead). h.workers) one.head in record {
+      let worker_set : workers_of m ≡ workers_of b = ap (λ (h : BookHead). h.workers) one.head in record {
         lawful = one.lawful;
         ledgers = one.ledgers;
-        answers = one.answers ∙ sym crew;
-        jobs = subst (λ (n : ℕ). All (λ p. length p ≡ n) back) (sym crew)
+        answers = one.answers ∙ sym worker_set;
+        jobs = subst (λ (n : ℕ). All (λ p. length p ≡ n) back) (sym worker_set)
             (all_back (λ p. length p ≡ workers_of b) front back may.jobs);
-        few = λ k below. let f = may.few k (omega (arith, crew)) in omega (arith, f, count_both k front back);
-        room = λ k below. let a = one.room k (omega (arith, crew)) in let d = may.room k (omega (arith, crew)) in
+        few = λ k below. let f = may.few k (omega (arith, worker_set)) in omega (arith, f, count_both k front back);
+        space = λ k below. let a = one.space k (omega (arith, worker_set)) in let d = may.space k (omega (arith, worker_set)) in
             omega (arith, a, d, count_both k front back);
       }
 

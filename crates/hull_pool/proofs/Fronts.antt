@@ -45,9 +45,9 @@ module _ {S : Type 0} {K : Ghosts S} where
   may_first b w (phase ∷ phases) d may some = may_front b w (phase ∷ []) phases may
 
 -- the phases before one, that one, and the phases after it
-pub parted : (phases : List PhaseValue) (i : ℕ) (d : PhaseValue) → i < length phases
+pub separated : (phases : List PhaseValue) (i : ℕ) (d : PhaseValue) → i < length phases
     → phases ≡ take i phases ++ slice_index_or phases i d ∷ drop (suc i) phases
-parted phases i d lt =
+separated phases i d lt =
     sym (take-append-drop i phases) ∙ ap (λ (xs : List PhaseValue). take i phases ++ xs) (drop-cons phases i d lt)
 
 -- one phase more was counted

@@ -57,8 +57,8 @@ zero_plus : (j : ℕ) → 0 + j ≡ j
 zero_plus j = omega arith
 
 -- space that is left is space after what is there
-vec_room : (v : AnswerVec) (n : ℕ) → n ≤ vec_capacity v - length v.items → vec_len v + n ≤ vec_capacity v
-vec_room v n h = omega (arith, v.ok.0, v.ok.1)
+vec_space : (v : AnswerVec) (n : ℕ) → n ≤ vec_capacity v - length v.items → vec_len v + n ≤ vec_capacity v
+vec_space v n h = omega (arith, v.ok.0, v.ok.1)
 
 module _ {S : Type 0} where
   -- what is true of the ledgers, the jobs and the capacities of the workers from j on
@@ -67,7 +67,7 @@ module _ {S : Type 0} where
     pub ledgers : (i : ℕ) (d : LedgerValue) → i < length ls → IsLedger b (i + j) (slice_index_or ls i d)
     pub few : (i : ℕ) → i < length ls → length (job phase (i + j)) ≤ TEXT_LINE_LIMIT
     pub jobs : length ls + j ≤ length phase
-    pub room : (i : ℕ) (d : AnswerVec) → i < length vs
+    pub space : (i : ℕ) (d : AnswerVec) → i < length vs
         → length (job phase (i + j)) ≤ vec_capacity (slice_index_or vs i d) - length (slice_index_or vs i d).items
 
   -- what fits the workers from j on fits those from j + 1 on
@@ -78,9 +78,9 @@ module _ {S : Type 0} where
         (f.ledgers (suc i) d (omega arith));
     few = λ i lt. subst (λ (n : ℕ). length (job phase n) ≤ TEXT_LINE_LIMIT) (omega arith) (f.few (suc i) (omega arith));
     jobs = omega (arith, f.jobs);
-    room = λ i d lt. subst
+    space = λ i d lt. subst
         (λ (n : ℕ). length (job phase n) ≤ vec_capacity (slice_index_or vs i d) - length (slice_index_or vs i d).items)
-        (omega arith) (f.room (suc i) d (omega arith));
+        (omega arith) (f.space (suc i) d (omega arith));
   }
 
   -- every worker of a set is ready
@@ -105,9 +105,9 @@ module _ {S : Type 0} where
         job = subst (λ (n : ℕ). n < length phase) (sym num.0) (omega (arith, f.jobs));
         few = subst (λ (n : ℕ). length (job phase n) ≤ TEXT_LINE_LIMIT) (zero_plus j ∙ sym num.0)
             (f.few 0 (omega arith));
-        room = vec_room v (length (job phase (seat_number s)))
+        space = vec_space v (length (job phase (seat_number s)))
             (subst (λ (n : ℕ). length (job phase n) ≤ vec_capacity v - length v.items) (zero_plus j ∙ sym num.0)
-            (f.room 0 v (omega arith)));
+            (f.space 0 v (omega arith)));
       }) (ready_from lock b phase (suc j) ss vs ls (omega arith) (omega arith) num.1
       (All-tail (IsSeatOf book_head lock) s ss own) (All-tail (λ t. seat_seen t ≡ b.lines) s ss seen)
       (fits_rest b phase j v vs l ls f))
@@ -116,7 +116,7 @@ module _ {S : Type 0} where
   pub record Outcome (b c : BookValue S) (phase : PhaseValue) (n : ℕ) (v w : AnswerVec) (l : LedgerValue) : Type 0 where
     pub worked : HasWorked n (capacity_of b) (length (job phase n)) (job phase n) b.lines c.lines v.items w.items
     pub ledger : IsLedgerOf n c.lines l
-    pub room : vec_capacity w ≡ vec_capacity v
+    pub space : vec_capacity w ≡ vec_capacity v
     pub begins : IsPrefix b.lines c.lines
 
   -- the journal of the closed book has what the seat saw
@@ -143,7 +143,7 @@ module _ {S : Type 0} where
       subst (λ (k : ℕ). Outcome b c phase k v w m) e (record {
         worked = worked_on (seat_number t) _ _ _ _ (seat_seen t) c.lines _ _ seen.0 seen.1 run.own.4;
         ledger = (run.own.3.0, run.own.3.1 ∙ sym (same_count (seat_number t) c.lines (seat_seen t) seen.1));
-        room = run.room;
+        space = run.space;
         begins = prefix_trans b.lines (seat_seen t) c.lines run.own.2 seen.0;
       })
 
@@ -239,12 +239,12 @@ module _ {S : Type 0} {K : Ghosts S} where
     few = λ i lt. subst (λ (n : ℕ). length (job phase n) ≤ TEXT_LINE_LIMIT) (sym (plus_zero i))
         (rw (calls_of-one phase i) at (may.few i (omega (arith, may.ledgers.number))));
     jobs = omega (arith, All-head (λ p. length p ≡ workers_of b) phase [] may.jobs, may.ledgers.number);
-    room = λ i d lt.
+    space = λ i d lt.
         let at = shown_at vs i lt in
-        let room : length (job phase i) ≤ (answers_of (shown_workers vs ls) i).room =
-        rw (calls_of-one phase i) at (may.room i (omega (arith, may.ledgers.number))) in
+        let space : length (job phase i) ≤ (answers_of (shown_workers vs ls) i).space =
+        rw (calls_of-one phase i) at (may.space i (omega (arith, may.ledgers.number))) in
         let enough : length (job phase i) ≤ vec_capacity at.0 - length (at.0).items =
-        subst (λ (a : AnswersValue). length (job phase i) ≤ a.room) at.1 room in
+        subst (λ (a : AnswersValue). length (job phase i) ≤ a.space) at.1 space in
         subst (λ (n : ℕ). length (job phase n)
         ≤ vec_capacity (slice_index_or vs i d) - length (slice_index_or vs i d).items) (sym (plus_zero i))
         (subst (λ (v : AnswerVec). length (job phase i) ≤ vec_capacity v - length v.items) (sym (at.2 d)) enough);
@@ -295,7 +295,7 @@ module _ {S : Type 0} where
 -- as many answers more as there were calls
 answers_grown : (k cap : ℕ) (calls : List Call) (before lines : List Line) (old new : List Answer)
     → HasWorked k cap (length calls) calls before lines old new → length new ≡ length old + length calls
-answers_grown k room calls before lines old new h =
+answers_grown k space calls before lines old new h =
     omega (
       arith,
       ap length h.answers,
@@ -308,22 +308,22 @@ answers_grown k room calls before lines old new h =
 
 module _ {S : Type 0} where
   -- the space that is left is less by the worker's calls
-  came_room : (b c : BookValue S) (phase : PhaseValue) (vs ws : List AnswerVec) (ls ms : List LedgerValue) (k : ℕ)
+  came_space : (b c : BookValue S) (phase : PhaseValue) (vs ws : List AnswerVec) (ls ms : List LedgerValue) (k : ℕ)
       (f : LedgerValue) → CameOut b c phase vs ws ms k
-      → length (job phase k) ≤ (answers_of (shown_workers vs ls) k).room
-      → (answers_of (shown_workers ws ms) k).room + length (job phase k)
-      ≡ (answers_of (shown_workers vs ls) k).room
-  came_room b c phase vs ws ls ms k f out room =
+      → length (job phase k) ≤ (answers_of (shown_workers vs ls) k).space
+      → (answers_of (shown_workers ws ms) k).space + length (job phase k)
+      ≡ (answers_of (shown_workers vs ls) k).space
+  came_space b c phase vs ws ls ms k f out space =
       let grown : length out.new.items ≡ length out.old.items + length (job phase k) =
       answers_grown k (capacity_of b) (job phase k) b.lines c.lines out.old.items out.new.items
       (out.outcome_is f).worked in
-      let same : vec_capacity out.new ≡ vec_capacity out.old = (out.outcome_is f).room in
+      let same : vec_capacity out.new ≡ vec_capacity out.old = (out.outcome_is f).space in
       let enough : length (job phase k) ≤ vec_capacity out.old - length out.old.items =
-      subst (λ (a : AnswersValue). length (job phase k) ≤ a.room) out.old_shown room in
-      let one : (answers_of (shown_workers vs ls) k).room ≡ vec_capacity out.old - length out.old.items =
-      ap (λ (a : AnswersValue). a.room) out.old_shown in
-      let two : (answers_of (shown_workers ws ms) k).room ≡ vec_capacity out.new - length out.new.items =
-      ap (λ (a : AnswersValue). a.room) out.new_shown in
+      subst (λ (a : AnswersValue). length (job phase k) ≤ a.space) out.old_shown space in
+      let one : (answers_of (shown_workers vs ls) k).space ≡ vec_capacity out.old - length out.old.items =
+      ap (λ (a : AnswersValue). a.space) out.old_shown in
+      let two : (answers_of (shown_workers ws ms) k).space ≡ vec_capacity out.new - length out.new.items =
+      ap (λ (a : AnswersValue). a.space) out.new_shown in
       omega (arith, grown, same, enough, one, two, out.old.ok.1)
 
 module _ {S : Type 0} {K : Ghosts S} where
@@ -350,8 +350,8 @@ module _ {S : Type 0} {K : Ghosts S} where
       each = λ k d below. ledger k d _ _ (omega arith) ((out k (omega arith)).outcome_is d);
     };
     answers = length-map ws (λ (v : AnswerVec). shown v) ∙ lw ∙ n;
-    room = λ k below. rw (calls_of-one phase k)
-        (came_room b c phase vs ws ls ms k none (out k below) (rw (calls_of-one phase k) at (may.room k below)));
+    space = λ k below. rw (calls_of-one phase k)
+        (came_space b c phase vs ws ls ms k none (out k below) (rw (calls_of-one phase k) at (may.space k below)));
   }
     where
       none : LedgerValue
@@ -383,28 +383,28 @@ module _ {S : Type 0} where
     pub ledgers : length ls ≡ length ss
 
   -- and so is the worker set
-  pub record IsCrew (b : BookValue S) (crew : List (Worker (Boxed S) BookHead Line)) (ss : List (BookSeat S))
+  pub record IsWorkerSet (b : BookValue S) (worker_set : List (Worker (Boxed S) BookHead Line)) (ss : List (BookSeat S))
       (vs : List AnswerVec) (ls : List LedgerValue) : Type 0 where
     pub long : AreLong b ss vs ls
-    pub many : length crew ≡ workers_of b
+    pub many : length worker_set ≡ workers_of b
 
 module _ {S : Type 0} {K : Ghosts S} where
   -- a worker set for what may be run, assembled in reverse order from lists with a seat for each worker, is that long
-  pub is_crew : (b : BookValue S) (phase : PhaseValue) (crew : List (Worker (Boxed S) BookHead Line))
+  pub is_worker_set : (b : BookValue S) (phase : PhaseValue) (worker_set : List (Worker (Boxed S) BookHead Line))
       (seats : Vec (BookSeat S) Global) (vs : List AnswerVec) (ls : List LedgerValue) (count : ℕ)
       → count ≡ workers_of b → vec_len seats ≡ count → MayRunAll K b (shown_workers vs ls) (phase ∷ [])
-      → reverse crew ≡ team worker_of seats.items vs ls → IsCrew b crew seats.items vs ls
-  is_crew b phase crew seats vs ls count workers some may is = grind (arith, common_steps, length-map, length-reverse, team-length)
+      → reverse worker_set ≡ team worker_of seats.items vs ls → IsWorkerSet b worker_set seats.items vs ls
+  is_worker_set b phase worker_set seats vs ls count workers some may is = grind (arith, common_steps, length-map, length-reverse, team-length)
 
 -- the lists into which a worker set is disbanded are as long as those from which it was assembled
-as_long : {A B C : Type 0} → (left : Vec A Global) (crew ran : Vec B Global) (made : List C) (n : ℕ)
-    → length crew.items ≡ n → length made ≡ n → vec_len ran ≡ vec_len crew → vec_len left ≡ vec_len ran
+as_long : {A B C : Type 0} → (left : Vec A Global) (worker_set ran : Vec B Global) (made : List C) (n : ℕ)
+    → length worker_set.items ≡ n → length made ≡ n → vec_len ran ≡ vec_len worker_set → vec_len left ≡ vec_len ran
     → length left.items ≡ length made
-as_long left crew ran made n long many same back = omega (arith, long, many, same, back, left.ok.0, crew.ok.0)
+as_long left worker_set ran made n long many same back = omega (arith, long, many, same, back, left.ok.0, worker_set.ok.0)
 
 -- so are all three lists that it left
-pub all_long : {A B C D E : Type 0} → (ts : Vec A Global) (ws : Vec B Global) (ms : Vec C Global) (crew ran : Vec D Global)
-    (made : List E) (n : ℕ) → length crew.items ≡ n → length made ≡ n → vec_len ran ≡ vec_len crew
+pub all_long : {A B C D E : Type 0} → (ts : Vec A Global) (ws : Vec B Global) (ms : Vec C Global) (worker_set ran : Vec D Global)
+    (made : List E) (n : ℕ) → length worker_set.items ≡ n → length made ≡ n → vec_len ran ≡ vec_len worker_set
     → (vec_len ts ≡ vec_len ran) × (vec_len ws ≡ vec_len ran) × (vec_len ms ≡ vec_len ran)
     → (length ts.items ≡ length made) × (length ws.items ≡ length made) × (length ms.items ≡ length made)
-all_long ts ws ms crew ran made n long many same back = grind (arith, common_steps, as_long)
+all_long ts ws ms worker_set ran made n long many same back = grind (arith, common_steps, as_long)

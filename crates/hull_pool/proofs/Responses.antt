@@ -94,7 +94,7 @@ module _ {S : Type 0} (K : Ghosts S) where
   answers_are holds law n b w u es calls answers opened runs served =
       let ran = law n b w u es opened runs in
       let good = (holds n b w u es opened runs).0 in
-      let tells : linear.HeadTellsCapacity (says_boxed K) = λ x y e. ap (λ (h : BookHead). h.journal.capacity) e in
+      let reports : linear.HeadReturnsCapacity (says_boxed K) = λ x y e. ap (λ (h : BookHead). h.journal.capacity) e in
       record {
         legal = subst (λ (h : BookHead). IsLegal h.journal (box_value u.current).lines) good.head ran.0.legal;
         agree = agreed (says_boxed K) (λ line. line) b es calls answers (box_value u.current).lines
@@ -104,16 +104,16 @@ module _ {S : Type 0} (K : Ghosts S) where
             s.1 e)
             (λ r k call found after answer s e. refused (box_value b).head.journal s.0 k call found after answer s.1 e)
             ran.1 served;
-        fulls_last = λ k i r j a s p line f x. ran.1.full_last tells k i r j a s p line f x;
+        fulls_last = λ k i r j a s p line f x. ran.1.full_last reports k i r j a s p line f x;
       }
 
 -- the law of books of a kind that may be drained, from that of the lock
 pub long_answers_are : {S B H : Type 0} (kind : Kind S B H MarkedLine) (head_of : H → BookHead)
     → ((b : B) → kind.says.lawful b → IsLegal (kind.whole b).head.journal (kind.whole b).lines)
     → Linearizable kind.says partitioned_form → LongAnswersAreOfLines kind head_of
-long_answers_are kind head_of tells law n b w u es calls answers opened runs served =
+long_answers_are kind head_of reports law n b w u es calls answers opened runs served =
     let ran = law n b w u es opened runs in let head = (head_of (kind.says.head b)).journal in (
-      tells u.current ran.0,
+      reports u.current ran.0,
       agreed kind.says (λ l. l.line) b es calls answers (kind.says.lines u.current)
           (λ r k call found after answer. (drains : Bool) × (t : ℕ)
           × HasServedLong head drains t k call found after answer)

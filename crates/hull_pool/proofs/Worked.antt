@@ -46,7 +46,7 @@ pub one_more : (head : Head) (k i : ℕ) (calls : List Call) (call : Call) (befo
     → i < length calls → slice_index_or calls i call ≡ call
     → Found (λ ls. ls) k seen (λ t found. HasServed head t k call found lines answer) → newer ≡ new ++ answer ∷ []
     → HasWorked k head.capacity (i + 1) calls before lines old newer
-one_more head k i calls call before seen lines old new newer (Ok reply) had room here s pushed =
+one_more head k i calls call before seen lines old new newer (Ok reply) had space here s pushed =
     let line : Line = record { number = s.number; seat = k; call = call; reply = reply } in
     let less : length s.found < head.capacity = s.is_so.0 in
     let all : length had.served ≡ i =
@@ -62,14 +62,14 @@ one_more head k i calls call before seen lines old new newer (Ok reply) had room
       in_order = map-append (λ (l : Line). l.call) had.served (line ∷ [])
           ∙ ap (λ (xs : List Call). xs ++ call ∷ []) (had.in_order ∙ ap (λ (n : ℕ). take n calls) all)
           ∙ ap (λ (x : Call). take i calls ++ x ∷ []) (sym here)
-          ∙ sym (take_more calls i call room)
+          ∙ sym (take_more calls i call space)
           ∙ sym (ap (λ (n : ℕ). take n calls) longer);
       few = omega (arith, longer);
       answers = answers_ok old new newer had.served line (i - length had.served)
           (i + 1 - length (had.served ++ line ∷ [])) had.answers (omega arith) (omega (arith, longer)) pushed;
       full = λ lt. absurd (omega (arith, longer));
     }
-one_more head k i calls call before seen lines old new newer (Err full) had room here s pushed = record {
+one_more head k i calls call before seen lines old new newer (Err full) had space here s pushed = record {
   served = had.served;
   own_lines = ap (lines_of k) s.is_so.1 ∙ s.own_lines ∙ had.own_lines;
   in_order = had.in_order;

@@ -24,7 +24,7 @@ team make _ _ _ = []
 module _ {B H L : Type 0} where
   -- the worker with this seat, these answers and this ledger
   abbrev pub worker_of : Seat B H L → Vec Answer Global → LedgerValue → Worker B H L
-  worker_of s a l = record { number = seat_number s; seat = Some s; ledger = l; answers = a; apart = tt }
+  worker_of s a l = record { number = seat_number s; seat = Some s; ledger = l; answers = a; cache_padded = tt }
 
 -- a book over such a set on the heap, as contracts see it
 abbrev pub Boxed : Type 0 → Type 0
@@ -52,7 +52,7 @@ pub record IsReady {S : Type 0} (lock : TicketLock (Boxed S) BookHead Line) (b :
   pub below : w.number < workers_of b
   pub job : w.number < length phase
   pub few : length (slice_index_or phase w.number []) ≤ TEXT_LINE_LIMIT
-  pub room : vec_len w.answers + length (slice_index_or phase w.number []) ≤ vec_capacity w.answers
+  pub space : vec_len w.answers + length (slice_index_or phase w.number []) ≤ vec_capacity w.answers
 
 -- The worker has worked on the phase: its seat is present, is of the lock, and has seen what the worker did since the lines of the book b; its ledger
 -- counts its lines among those.
@@ -65,4 +65,4 @@ pub record HasRun {S : Type 0} (lock : TicketLock (Boxed S) BookHead Line) (b : 
       × IsLedgerOf new.number (seat_seen s) new.ledger
       × HasWorked new.number (capacity_of b) (length (slice_index_or phase new.number []))
       (slice_index_or phase new.number []) b.lines (seat_seen s) old.answers.items new.answers.items)
-  pub room : vec_capacity new.answers ≡ vec_capacity old.answers
+  pub space : vec_capacity new.answers ≡ vec_capacity old.answers

@@ -28,7 +28,7 @@ pub record MayRunAll {S : Type 0} (K : Ghosts S) (b : BookValue S) (w : WorkersV
   pub answers : length w.answers ≡ workers_of b
   pub jobs : All (λ phase. length phase ≡ workers_of b) phases
   pub few : (k : ℕ) → k < workers_of b → length (calls_of k phases) ≤ TEXT_LINE_LIMIT
-  pub room : (k : ℕ) → k < workers_of b → length (calls_of k phases) ≤ (answers_of w k).room
+  pub space : (k : ℕ) → k < workers_of b → length (calls_of k phases) ≤ (answers_of w k).space
 
 -- The phases were run. The book is lawful, with the same head; its journal is the earlier one and then new lines, as many as there are calls or, if
 -- that is less, as many as the journal had space for; the new lines of each worker are a prefix of its calls over the phases in their order, and its
@@ -44,4 +44,4 @@ pub record HasRunAll {S : Type 0} (K : Ghosts S) (b : BookValue S) (w : WorkersV
       (answers_of w k).answers (answers_of v k).answers
   pub ledgers : AreLedgers c v.ledgers
   pub answers : length v.answers ≡ workers_of b
-  pub room : (k : ℕ) → k < workers_of b → (answers_of v k).room + length (calls_of k phases) ≡ (answers_of w k).room
+  pub space : (k : ℕ) → k < workers_of b → (answers_of v k).space + length (calls_of k phases) ≡ (answers_of w k).space

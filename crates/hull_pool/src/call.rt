@@ -4,7 +4,7 @@ ghost use Rattle.ticket_lock.specs.Tokens.{guard_book, guard_lock, guard_number,
 ghost use Rattle.hull_book.specs.Kinds.{kind_of};
 ghost use Rattle.hull_pool.specs.Handing.{Found, HasCome, HoldsBook, MayCall};
 
-use hull_book::{Book, Journalled, Ledger, LongBook};
+use hull_book::{Book, JournaledBook, Ledger, LongBook};
 use hull_set::Call;
 use std::sync::Wait;
 use ticket_lock::{Guard, Seat, TicketLock};
@@ -37,15 +37,15 @@ pub type LongGuard<'a, S> = Guard<'a, Box<LongBook<S>>>;
 /// taken out before, the call's own as the last of them; or that there was no space: if the lines do not stay, there is a spare line for the call's
 /// own, however many the book has. In this case journal and capacity are those of the whole journal, including the lines that were taken out. The
 /// journal handed on is legal.
-pub fn serve_and_hand_on<B: Journalled>(
+pub fn serve_and_hand_on<B: JournaledBook>(
     guard: Guard<'_, Box<B>>,
     number: u8,
     call: Call,
     ledger: &mut Ledger,
-    then: B::Then,
+    then: B::AfterCall,
 ) -> (Seat<Box<B>>, B::Answer)
     requires may { HoldsBook (kind_of B.Chronicle B.whole B.plain) guard number ledger.old }
-    requires room { B.room (B.head (box_value (guard_book guard))) then }
+    requires space { B.space (B.head (box_value (guard_book guard))) then }
     ensures back { HasCome (kind_of B.Chronicle B.whole B.plain) (guard_lock guard.entry) number (guard_seen guard.entry)
         result.0 ledger.new }
     ensures served { let found = box_value (guard_book guard.entry) in
@@ -66,17 +66,17 @@ pub fn serve_and_hand_on<B: Journalled>(
 /// reply, whose line is in the journal, in this seat's name, and with it the segment that was taken out; or that there was no space for the line,
 /// which leaves the journal unchanged. The returned seat has seen the whole journal as it handed it on, which is a legal history and begins with the
 /// lines that it had seen before.
-pub fn make_call<R: Wait, B: Journalled>(
+pub fn make_call<R: Wait, B: JournaledBook>(
     rt: &R,
     lock: &TicketLock<Box<B>>,
     seat: Seat<Box<B>>,
     number: u8,
     call: Call,
     ledger: &mut Ledger,
-    then: B::Then,
+    then: B::AfterCall,
 ) -> (Seat<Box<B>>, B::Answer)
     requires may { MayCall (kind_of B.Chronicle B.whole B.plain) lock.now number seat ledger.old }
-    requires room { B.room (B.head (box_value (opening_book lock.now))) then }
+    requires space { B.space (B.head (box_value (opening_book lock.now))) then }
     ensures back { HasCome (kind_of B.Chronicle B.whole B.plain) lock.now number (seat_seen seat) result.0 ledger.new }
     ensures served { Found B.plain number (seat_seen seat) (λ t found.
         B.served (B.head (box_value (opening_book lock.now))) then t number call found (seat_seen result.0) result.1) }

@@ -7,13 +7,13 @@ ghost use Rattle.hull_book.specs.Books.{IsLawful};
 ghost use Rattle.hull_book.specs.Ledgers.{IsLedgerOf};
 ghost use Rattle.hull_pool.specs.Work.{lines_of, workers_of};
 
-use hull_book::{Journalled, Ledger, gather};
+use hull_book::{JournaledBook, Ledger, gather};
 use ticket_lock::{Seat, TicketLock};
 
 /// Closes the lock and gathers the ledgers. Returns the book, and how many calls have their line in its whole journal, including the lines that were
 /// taken out. You pass all seats of the lock in the order of their numbers, and the ledger of each, in the same order. The journal begins with what
 /// each seat has seen, and in each seat's name it contains exactly the lines that the seat has seen in its name.
-pub fn close_book<B: Journalled>(
+pub fn close_book<B: JournaledBook>(
     lock: TicketLock<Box<B>>,
     seats: Vec<Seat<Box<B>>>,
     ledgers: Vec<Ledger>,

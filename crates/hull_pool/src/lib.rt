@@ -21,8 +21,8 @@
 //! # A book that is open for a long time
 //!
 //! You share a `LongBook` of `hull_book` in the same way, with [`make_call`] and [`close_book`]. One of its seats takes the lines out, with a call by
-//! `Then::TakeOut`: under the lock only the lists change owners. If the book has as many lines as it may, calls with `Then::Keep` are refused until
-//! then. If you want no journal, make the calls of all seats with `Then::LetGo`. [`two_seats_share`] is the whole flow for two seats, to copy.
+//! `AfterCall::Drain`: under the lock only the lists change owners. If the book has as many lines as it may, calls with `AfterCall::Keep` are refused until
+//! then. If you want no journal, make the calls of all seats with `AfterCall::Discard`. [`two_seats_share`] is the whole flow for two seats, to copy.
 //!
 //! # A whole script
 //!
@@ -31,15 +31,15 @@
 //! `specs/Scripts.antt` adds that they ran one after the other.
 #![tactic(auto)]
 
-mod apart;
+mod cache_padded;
 mod call;
 mod close;
-mod crew;
 mod gate;
 mod law;
 mod phase;
 mod two_seats;
 mod worker;
+mod worker_set;
 mod workers;
 
 pub use call::{

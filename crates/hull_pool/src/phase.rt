@@ -10,9 +10,9 @@ ghost use Rattle.hull_pool.specs.Runs.{MayRunAll, HasRunAll};
 ghost use Rattle.hull_pool.specs.Scripts.{Runs, RunsFront};
 
 use super::call::{BookLock, BookSeat};
-use super::crew::{dismiss, hire};
 use super::gate::Gate;
 use super::worker::{Worker, work_all};
+use super::worker_set::{assemble, disband};
 use super::workers::Workers;
 use hull_book::{Answer, Book, Ledger, Phase, Script};
 use hull_set::HullSet;
@@ -42,7 +42,7 @@ pub struct PhaseEnd<S: HullSet + Drop> {
 struct SetUp<S: HullSet + Drop> {
     lock: BookLock<S>,
     seats: Vec<BookSeat<S>>,
-    crew: Vec<Worker<Box<Book<S>>>>,
+    worker_set: Vec<Worker<Box<Book<S>>>>,
 }
 
 /// Runs the workers over the phase under a lock that was opened for them, and closes it.
@@ -52,11 +52,11 @@ fn run_locked<R: Threads + Wait + Sync, S: HullSet + Drop + Send + Sync, G: Gate
     mut seats: Vec<BookSeat<S>>,
     answers: &mut Vec<Vec<Answer>>,
     ledgers: &mut Vec<Ledger>,
-    mut crew: Vec<Worker<Box<Book<S>>>>,
+    mut worker_set: Vec<Worker<Box<Book<S>>>>,
     phase: &Phase,
     gate: &G,
 ) -> Box<Book<S>>
-    requires crew { (crew.items ≡ []) × (vec_len seats ≤ vec_capacity crew) }
+    requires worker_set { (worker_set.items ≡ []) × (vec_len seats ≤ vec_capacity worker_set) }
     requires some { 1 ≤ vec_len seats }
     requires seats { (seat_count lock ≡ workers_of (box_value (opening_book lock))) × (vec_len seats ≡ seat_count lock)
         × (vec_len seats ≤ vec_capacity seats) × All (IsSeatOf book_head lock) seats.items × AreNumbered seats.items
@@ -66,10 +66,10 @@ fn run_locked<R: Threads + Wait + Sync, S: HullSet + Drop + Send + Sync, G: Gate
     ensures { HasRunAll S.HullSet (box_value (opening_book lock)) (shown_workers answers.old.items ledgers.old.items)
         (phase.now ∷ []) (box_value result) (shown_workers answers.new.items ledgers.new.items) }
 {
-    hire(&mut seats, answers, ledgers, &mut crew);
-    work_all(rt, &lock, phase, gate, &mut crew);
-    dismiss(&mut crew, &mut seats, answers, ledgers);
-    crew.destroy_empty();
+    assemble(&mut seats, answers, ledgers, &mut worker_set);
+    work_all(rt, &lock, phase, gate, &mut worker_set);
+    disband(&mut worker_set, &mut seats, answers, ledgers);
+    worker_set.destroy_empty();
     lock.close(seats)
 }
 
@@ -90,7 +90,7 @@ fn refused<S: HullSet + Drop>(book: Book<S>, workers: Workers) -> PhaseEnd<S>
 fn set_up<S: HullSet + Drop>(alloc: Global, book: Book<S>) -> Result<SetUp<S>, Book<S>>
     requires lawful { IsLawful S.HullSet book }
     ensures lock { IfOk result (λ r. (box_value (opening_book r.lock) ≡ book) × (seat_count r.lock ≡ workers_of book)) }
-    ensures crew { IfOk result (λ r. (r.crew.items ≡ []) × (vec_len r.seats ≤ vec_capacity r.crew)) }
+    ensures worker_set { IfOk result (λ r. (r.worker_set.items ≡ []) × (vec_len r.seats ≤ vec_capacity r.worker_set)) }
     ensures seats { IfOk result
         (λ r. (1 ≤ vec_len r.seats) × (vec_len r.seats ≡ seat_count r.lock) × (vec_len r.seats ≤ vec_capacity r.seats)
         × All (IsSeatOf book_head r.lock) r.seats.items × AreNumbered r.seats.items
@@ -98,20 +98,24 @@ fn set_up<S: HullSet + Drop>(alloc: Global, book: Book<S>) -> Result<SetUp<S>, B
     ensures back { IfErr result (λ b. b ≡ book) }
 {
     let workers = book.workers();
-    let Ok(crew) = Vec::with_capacity(alloc, usize::from(workers)) else {
+    let Ok(worker_set) = Vec::with_capacity(alloc, usize::from(workers)) else {
         return Err(book);
     };
     let boxed = match Box::new(alloc, book) {
         Ok(boxed) => boxed,
         Err(back) => {
-            crew.destroy_empty();
+            worker_set.destroy_empty();
             return Err(back.value);
         }
     };
     match TicketLock::open(alloc, boxed, workers) {
-        Ok((lock, seats)) => Ok(SetUp { lock, seats, crew }),
+        Ok((lock, seats)) => Ok(SetUp {
+            lock,
+            seats,
+            worker_set,
+        }),
         Err((_, boxed)) => {
-            crew.destroy_empty();
+            worker_set.destroy_empty();
             Err(Box::into_inner(boxed))
         }
     }
@@ -133,7 +137,11 @@ pub fn run_phase<R: Threads + Wait + Sync, S: HullSet + Drop + Send + Sync, G: G
     ensures ran { OnOk result.ended (HasRunAll S.HullSet book workers (phase.now ∷ []) result.book result.workers) }
     ensures refused { OnErr result.ended ((result.book ≡ book) × (result.workers ≡ workers)) }
 {
-    let SetUp { lock, seats, crew } = match set_up(alloc, book) {
+    let SetUp {
+        lock,
+        seats,
+        worker_set,
+    } = match set_up(alloc, book) {
         Ok(made) => made,
         Err(book) => return refused(book, workers),
     };
@@ -147,7 +155,7 @@ pub fn run_phase<R: Threads + Wait + Sync, S: HullSet + Drop + Send + Sync, G: G
         seats,
         &mut answers,
         &mut ledgers,
-        crew,
+        worker_set,
         phase,
         gate,
     );

@@ -10,7 +10,7 @@ ghost use Rattle.hull_pool.specs.Work.{workers_of};
 
 use super::call::{LongLock, LongSeat, make_call};
 use super::close::close_book;
-use hull_book::{Call, Ledger, LongAnswer, LongBook, Room, Then};
+use hull_book::{AfterCall, Call, Ledger, LongAnswer, LongBook, Space};
 use hull_set::HullSet;
 use std::sync::Wait;
 
@@ -30,7 +30,7 @@ pub fn two_seats_share<R: Wait, S: HullSet + Drop>(
     lock: LongLock<S>,
     zero: Member<S>,
     one: Member<S>,
-    room: Room,
+    space: Space,
     mut seats: Vec<LongSeat<S>>,
     mut ledgers: Vec<Ledger>,
     call: Call,
@@ -38,7 +38,7 @@ pub fn two_seats_share<R: Wait, S: HullSet + Drop>(
     requires two { (seat_count lock ≡ 2) × (workers_of (whole_of (opening_book lock)) ≡ 2) }
     requires zero { MayCall (drained S.HullSet) lock 0 zero.seat zero.ledger }
     requires one { MayCall (drained S.HullSet) lock 1 one.seat one.ledger }
-    requires room { (long_book_head (opening_book lock)).journal.capacity ≤ room }
+    requires space { (long_book_head (opening_book lock)).journal.capacity ≤ space }
     requires empty { (seats.items ≡ []) × (ledgers.items ≡ []) }
     requires lists { (2 ≤ vec_capacity seats) × (2 ≤ vec_capacity ledgers) }
     ensures lawful { IsLawful S.HullSet (whole result.0) }
@@ -52,10 +52,18 @@ pub fn two_seats_share<R: Wait, S: HullSet + Drop>(
         seat: one,
         ledger: mut ones,
     } = one;
-    let (zero, _answer) = make_call(rt, &lock, zero, 0, call, &mut zeros, Then::Keep);
-    let take = Then::TakeOut(room);
+    let (zero, _answer) = make_call(rt, &lock, zero, 0, call, &mut zeros, AfterCall::Keep);
+    let take = AfterCall::Drain(space);
     let (one, part) = make_call(rt, &lock, one, 1, Call::Count, &mut ones, take);
-    let (zero, _count) = make_call(rt, &lock, zero, 0, Call::Count, &mut zeros, Then::LetGo);
+    let (zero, _count) = make_call(
+        rt,
+        &lock,
+        zero,
+        0,
+        Call::Count,
+        &mut zeros,
+        AfterCall::Discard,
+    );
     seats.push_reserved(zero);
     seats.push_reserved(one);
     ledgers.push_reserved(zeros);

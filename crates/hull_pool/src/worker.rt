@@ -4,7 +4,7 @@ ghost use Rattle.std.specs.List.{AllZip};
 ghost use Rattle.ticket_lock.specs.Tokens.{opening_book};
 ghost use Rattle.hull_pool.specs.Crews.{IsReady, HasRun};
 
-use super::apart::Apart;
+use super::cache_padded::CachePadded;
 use super::call::{BookLock, make_call};
 use super::gate::Gate;
 use hull_book::{Answer, Book, Ledger, Phase};
@@ -21,7 +21,7 @@ pub(crate) struct Worker<B: Chronicle> {
     pub(crate) seat: Option<Seat<B>>,
     pub(crate) ledger: Ledger,
     pub(crate) answers: Vec<Answer>,
-    pub(crate) apart: Apart,
+    pub(crate) cache_padded: CachePadded,
 }
 
 /// Makes the worker's calls of the phase in their order, with the gate around each.
@@ -56,21 +56,21 @@ fn work_each<R: Threads + Wait + Sync, S: HullSet + Drop + Send + Sync, G: Gate>
     lock: &BookLock<S>,
     phase: &Phase,
     gate: &G,
-    crew: &mut [Worker<Box<Book<S>>>],
+    worker_set: &mut [Worker<Box<Book<S>>>],
 )
-    requires some { 0 < length crew.old }
-    requires ready { All (IsReady lock.now (box_value (opening_book lock.now)) phase.now) crew.old }
-    ensures { (i : ℕ) (d : _) → i < length crew.old
-        → HasRun lock.now (box_value (opening_book lock.now)) phase.now (slice_index_or crew.old i d)
-        (slice_index_or crew.new i d) }
+    requires some { 0 < length worker_set.old }
+    requires ready { All (IsReady lock.now (box_value (opening_book lock.now)) phase.now) worker_set.old }
+    ensures { (i : ℕ) (d : _) → i < length worker_set.old
+        → HasRun lock.now (box_value (opening_book lock.now)) phase.now (slice_index_or worker_set.old i d)
+        (slice_index_or worker_set.new i d) }
 {
-    let threads = crew.len();
+    let threads = worker_set.len();
     let each = |_: usize, worker: &mut Worker<Box<Book<S>>>|
         requires { IsReady lock.now (box_value (opening_book lock.now)) phase.now worker.now }
         ensures { HasRun lock.entry.now
             (box_value (opening_book lock.entry.now)) phase.entry.now worker.entry.now worker.exit.now }
     { work(rt, lock, phase, gate, worker) };
-    thread::for_each_mut(rt, crew, threads, &each);
+    thread::for_each_mut(rt, worker_set, threads, &each);
 }
 
 /// All workers of a set work on the phase at once.
@@ -79,13 +79,13 @@ pub(crate) fn work_all<R: Threads + Wait + Sync, S: HullSet + Drop + Send + Sync
     lock: &BookLock<S>,
     phase: &Phase,
     gate: &G,
-    crew: &mut Vec<Worker<Box<Book<S>>>>,
+    worker_set: &mut Vec<Worker<Box<Book<S>>>>,
 )
-    requires some { 0 < vec_len crew.old }
-    requires ready { All (IsReady lock.now (box_value (opening_book lock.now)) phase.now) (reverse crew.old.items) }
-    ensures ran { AllZip (HasRun lock.now (box_value (opening_book lock.now)) phase.now) (reverse crew.old.items)
-        (reverse crew.new.items) }
-    ensures many { vec_len crew.new ≡ vec_len crew.old }
+    requires some { 0 < vec_len worker_set.old }
+    requires ready { All (IsReady lock.now (box_value (opening_book lock.now)) phase.now) (reverse worker_set.old.items) }
+    ensures ran { AllZip (HasRun lock.now (box_value (opening_book lock.now)) phase.now) (reverse worker_set.old.items)
+        (reverse worker_set.new.items) }
+    ensures many { vec_len worker_set.new ≡ vec_len worker_set.old }
 {
-    work_each(rt, lock, phase, gate, crew.as_mut_slice());
+    work_each(rt, lock, phase, gate, worker_set.as_mut_slice());
 }

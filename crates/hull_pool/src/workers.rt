@@ -2,7 +2,7 @@ ghost use Rattle.std.specs.Prelude.{◌≡◌, ◌≤◌, ◌<◌, All, IfOk, If
 ghost use Rattle.hull_book.specs.Scripts.{calls_of, calls_in_all};
 ghost use Rattle.hull_book.specs.declared.limits.TheConstants.{TEXT_LINE_LIMIT};
 ghost use Rattle.hull_book.specs.Answers.{answers_in};
-ghost use Rattle.hull_pool.specs.Answers.{HasRoomFor, shown};
+ghost use Rattle.hull_pool.specs.Answers.{HasSpaceFor, shown};
 
 use hull_book::{Answer, Ledger, Phase, Script};
 use hull_set::NoMemory;
@@ -40,7 +40,7 @@ fn count_of(phases: &[Phase], worker: u8) -> usize
 
 /// Makes a list for each worker, with storage for its answers.
 fn lists_for(alloc: Global, script: &Script) -> Result<Vec<Vec<Answer>>, AllocError>
-    ensures { IfOk result (λ lists. HasRoomFor script.now.workers script.now.phases (map (λ v. shown v) lists.items)) }
+    ensures { IfOk result (λ lists. HasSpaceFor script.now.workers script.now.phases (map (λ v. shown v) lists.items)) }
 {
     let workers = script.workers();
     let mut lists = Vec::with_capacity(alloc, usize::from(workers))?;
@@ -61,7 +61,7 @@ impl Workers {
     ) -> Result<Workers, (NoMemory, Vec<Ledger>)>
         requires { vec_len ledgers ≡ script.now.workers }
         ensures ledgers { IfOk result (λ w. w.ledgers ≡ ledgers.items) }
-        ensures room { IfOk result (λ w. HasRoomFor script.now.workers script.now.phases w.answers) }
+        ensures space { IfOk result (λ w. HasSpaceFor script.now.workers script.now.phases w.answers) }
         ensures back { IfErr result (λ e. e.1 ≡ ledgers) }
     {
         match lists_for(alloc, script) {

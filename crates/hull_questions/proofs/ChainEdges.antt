@@ -18,7 +18,7 @@ use Rattle.hull_geometry.proofs.Orientation.{orient-cross, at_least, above, ahea
 use Rattle.lattice.proofs.Sides.{side_by_start, side_by_end, side_after, side_to_end}
 use Rattle.lattice.proofs.Numbers.{nn_above, sum_above}
 use Rattle.hull_questions.proofs.StoredEdges.{same_ends}
-use Rattle.hull_geometry.specs.Sights.{IsLowerEdgeAt}
+use Rattle.hull_geometry.specs.Locations.{IsLowerEdgeAt}
 use Rattle.hull_geometry.proofs.EdgesAt.{up_to}
 
 -- if an edge cd begins before a and the edge ab is steeper, a point that lies over ab, after a, lies over cd

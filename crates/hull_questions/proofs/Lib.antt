@@ -5,7 +5,7 @@ pub mod ChainEdges
 pub mod SlabParts
 pub mod TurnedEdges
 pub mod Sighted
-pub mod Corners
+pub mod VertexLists
 pub mod Stretched
 pub mod Walked
 pub mod FanSizes

@@ -13,33 +13,33 @@ use Rattle.bridge_search.specs.TurnedTrees.{turned_tree, bridged_turned}
 use Rattle.bridge_search.specs.Leaves.{points_of}
 use Rattle.hull_geometry.proofs.PointLists.{only_member}
 use Rattle.hull_geometry.proofs.Rounding.{front_of}
-use Rattle.hull_questions.specs.Stretches.{IsStretch, IsStretchAcross}
+use Rattle.hull_questions.specs.ChainRanges.{IsChainRange, IsChainRangeAcross}
 use Rattle.hull_questions.specs.Walks.{IsWalk, IsListed, IsListedUpTo, upright}
-use Rattle.hull_questions.proofs.Stretched.{stretch_left, stretch_right, stretch_across, whole_stretch}
+use Rattle.hull_questions.proofs.Stretched.{chain_range_left, chain_range_right, chain_range_across, whole_chain_range}
 use Rattle.hull_questions.proofs.Walked.{both_listed, listed_over}
 
 -- whether one point is before another can be decided
-before_told : (p q : Pair) → IsBefore p q ⊎ ¬ (IsBefore p q)
-before_told p q = elim (before_total p q) [
+before_returned : (p q : Pair) → IsBefore p q ⊎ ¬ (IsBefore p q)
+before_returned p q = elim (before_total p q) [
   | inl b ↦ inl b
   | inr (inl e) ↦ inr (λ b. before_irrefl q (subst (λ (z : Pair). IsBefore z q) e b))
   | inr (inr b) ↦ inr (before_not q p b)
 ]
 
 -- each range has a walk
-walk_there : (t : Tree) (from to : Pair) → IsBridged t → IsStretch t from to → (passed : List Pair) × IsWalk t from passed to
+walk_there : (t : Tree) (from to : Pair) → IsBridged t → IsChainRange t from to → (passed : List Pair) × IsWalk t from passed to
 walk_there (Leaf x) from to h s =
     ([], record { chain = tt; ends = only_member x from s.starts.there ∙ sym (only_member x to s.ends.there) })
-walk_there (Fork e f u w) from to h s = elim (before_told f.0 to) [
+walk_there (Fork e f u w) from to h s = elim (before_returned f.0 to) [
   | inr n ↦
-      let k = (stretch_left (Fork e f u w) f.0 f.1 from to h refl s n).1 in
-      let r = walk_there u from to h.3 k.stretch in (r.0, k.walks r.0 r.1)
-  | inl b ↦ elim (before_told from f.1) [
+      let k = (chain_range_left (Fork e f u w) f.0 f.1 from to h refl s n).1 in
+      let r = walk_there u from to h.3 k.chain_range in (r.0, k.walks r.0 r.1)
+  | inl b ↦ elim (before_returned from f.1) [
     | inr n ↦
-        let k = (stretch_right (Fork e f u w) f.0 f.1 from to h refl s n).1 in
-        let r = walk_there w from to h.4 k.stretch in (r.0, k.walks r.0 r.1)
+        let k = (chain_range_right (Fork e f u w) f.0 f.1 from to h refl s n).1 in
+        let r = walk_there w from to h.4 k.chain_range in (r.0, k.walks r.0 r.1)
     | inl c ↦
-        let k = (stretch_across (Fork e f u w) f.0 f.1 from to h refl s b c).1 in
+        let k = (chain_range_across (Fork e f u w) f.0 f.1 from to h refl s b c).1 in
         let r = walk_there u from f.0 h.3 k.left in
         let q = walk_there w f.1 to h.4 k.right in (r.0 ++ f.1 ∷ q.0, k.walks r.0 q.0 r.1 q.1)
   ]
@@ -51,7 +51,7 @@ pub record IsLonger (t : Tree) (from to : Pair) (side : Side) (before : List Pai
   pub listed : IsListed t from to side before all
   pub long : length before ≤ length all
 
-pub listed_there : (t : Tree) (from to : Pair) (side : Side) (before : List Pair) → IsBridged t → IsStretch t from to
+pub listed_there : (t : Tree) (from to : Pair) (side : Side) (before : List Pair) → IsBridged t → IsChainRange t from to
     → IsLonger t from to side before
 listed_there t from to side before h s =
     let k = walk_there t from to h s in
@@ -75,7 +75,7 @@ right_bridged (Fork e f u w) k h = h.4
 
 -- if the left half's range fills the list, all are too many for it
 pub too_many_left : (t : Tree) (from a b to : Pair) (side : Side) (most : ℕ) (before one : List Pair) → IsBridged t → IsFork t
-    → IsStretchAcross t from a b to → IsListed (left_of t) from a side before one → most ≤ length one
+    → IsChainRangeAcross t from a b to → IsListed (left_of t) from a side before one → most ≤ length one
     → (all : List Pair) × IsListed t from to side before all × (most < length all)
 too_many_left t from a b to side most before one h f k l n =
     let two = one ++ upright side a ∷ [] in
@@ -100,5 +100,5 @@ pub long_lower : (t : Tree) (most : ℕ) (one : List Pair) → IsBridged t → I
     → IsListed t (first_of t) (last_of t) Lower [] one → most < length one → IsLongerThan most (points_of t)
 long_lower t most one h b l n =
     let u : Tree = turned_tree t in
-    let r = listed_there u (first_of u) (last_of u) Upper one (bridged_turned t h) (whole_stretch u (bridged_turned t h)) in
+    let r = listed_there u (first_of u) (last_of u) Upper one (bridged_turned t h) (whole_chain_range u (bridged_turned t h)) in
     (r.all, both_listed t one r.all h b l r.listed, omega (arith, n, r.long))

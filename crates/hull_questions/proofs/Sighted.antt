@@ -8,7 +8,7 @@ use Rattle.bridge_search.proofs.Ends.{last_by, on_last}
 use Rattle.bridge_search.proofs.Leaves.{on_of_contains, contains_of_on}
 use Rattle.bridge_search.proofs.Turns.{first_by, on_first}
 use Rattle.hull_geometry.specs.Edges.{IsFirst, IsLast}
-use Rattle.hull_geometry.specs.Sights.{IsLowerEdgeAt, IsBetweenEnds, AreEnds}
+use Rattle.hull_geometry.specs.Locations.{IsLowerEdgeAt, IsBetweenEnds, AreEnds}
 use Rattle.hull_geometry.proofs.EdgesAt.{up_to, on_from, touching_last}
 
 -- no point is before the first

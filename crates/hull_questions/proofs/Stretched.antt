@@ -9,19 +9,19 @@ use Rattle.bridge_search.specs.Leaves.{points_of}
 use Rattle.bridge_search.proofs.Ends.{last_by}
 use Rattle.bridge_search.proofs.Turns.{on_first}
 use Rattle.hull_geometry.specs.Edges.{IsLowerEdge, IsChain, end_of}
-use Rattle.hull_questions.specs.Stretches.{IsStretch, IsStretchOf, IsStretchAcross}
+use Rattle.hull_questions.specs.ChainRanges.{IsChainRange, IsChainRangeOf, IsChainRangeAcross}
 use Rattle.hull_geometry.proofs.EdgesAt.{on_from}
 use Rattle.hull_questions.proofs.ChainEdges.{left_lifts, right_lifts, edge_here}
-use Rattle.hull_questions.proofs.Corners.{first_corner, last_corner, bridge_start, bridge_end, corner_left}
-use Rattle.hull_questions.proofs.Corners.{corner_right, none_between, in_left, in_right}
+use Rattle.hull_questions.proofs.VertexLists.{first_vertex, last_vertex, bridge_start, bridge_end, vertex_left}
+use Rattle.hull_questions.proofs.VertexLists.{vertex_right, none_between, in_left, in_right}
 use Rattle.hull_questions.proofs.StoredEdges.{same_ends}
 use Rattle.hull_geometry.proofs.Passes.{end_from}
 
 -- the whole lower chain is a range
-pub whole_stretch : (t : Tree) → IsBridged t → IsStretch t (first_of t) (last_of t)
-whole_stretch t h = record {
-  starts = first_corner t h;
-  ends = last_corner t h;
+pub whole_chain_range : (t : Tree) → IsBridged t → IsChainRange t (first_of t) (last_of t)
+whole_chain_range t h = record {
+  starts = first_vertex t h;
+  ends = last_vertex t h;
   onward = λ b. last_by t h (first_of t) (on_first t) b;
 }
 
@@ -65,17 +65,17 @@ chain_over E v (x ∷ xs) b ys c e d = (c.0, chain_over E x xs b ys c.1 e d)
 -- ---- the three cases
 
 -- a range that does not end after the start of the bridge is in the left half
-pub stretch_left : (t : Tree) (a b from to : Pair) → IsBridged t → Some (a, b) ≡ lower_of t → IsStretch t from to
-    → ¬ (IsBefore a to) → IsFork t × IsStretchOf (left_of t) t from to
-stretch_left (Leaf x) a b from to h g s n = absurd (cc)
-stretch_left (Fork e f u w) a b from to h g s n =
+pub chain_range_left : (t : Tree) (a b from to : Pair) → IsBridged t → Some (a, b) ≡ lower_of t → IsChainRange t from to
+    → ¬ (IsBefore a to) → IsFork t × IsChainRangeOf (left_of t) t from to
+chain_range_left (Leaf x) a b from to h g s n = absurd (cc)
+chain_range_left (Fork e f u w) a b from to h g s n =
     let k : ¬ (IsBefore f.0 to) = subst (λ (z : Pair). ¬ (IsBefore z to)) (same_ends g).0 n in (
       tt,
       record {
-        stretch = record {
-          starts = corner_left (points_of u) (points_of w) from s.starts
+        chain_range = record {
+          starts = vertex_left (points_of u) (points_of w) from s.starts
               (in_left u w f.0 from h.0 h.2.from_left s.starts.there (λ b. k (on_from f.0 from to b s.onward)));
-          ends = corner_left (points_of u) (points_of w) to s.ends
+          ends = vertex_left (points_of u) (points_of w) to s.ends
               (in_left u w f.0 to h.0 h.2.from_left s.ends.there k);
           onward = s.onward;
         };
@@ -88,17 +88,17 @@ stretch_left (Fork e f u w) a b from to h g s n =
     )
 
 -- a range that does not begin before the end of the bridge is in the right half
-pub stretch_right : (t : Tree) (a b from to : Pair) → IsBridged t → Some (a, b) ≡ lower_of t → IsStretch t from to
-    → ¬ (IsBefore from b) → IsFork t × IsStretchOf (right_of t) t from to
-stretch_right (Leaf x) a b from to h g s n = absurd (cc)
-stretch_right (Fork e f u w) a b from to h g s n =
+pub chain_range_right : (t : Tree) (a b from to : Pair) → IsBridged t → Some (a, b) ≡ lower_of t → IsChainRange t from to
+    → ¬ (IsBefore from b) → IsFork t × IsChainRangeOf (right_of t) t from to
+chain_range_right (Leaf x) a b from to h g s n = absurd (cc)
+chain_range_right (Fork e f u w) a b from to h g s n =
     let k : ¬ (IsBefore from f.1) = subst (λ (z : Pair). ¬ (IsBefore from z)) (same_ends g).1 n in (
       tt,
       record {
-        stretch = record {
-          starts = corner_right (points_of u) (points_of w) from s.starts
+        chain_range = record {
+          starts = vertex_right (points_of u) (points_of w) from s.starts
               (in_right u w f.1 from h.0 h.2.to_right s.starts.there k);
-          ends = corner_right (points_of u) (points_of w) to s.ends
+          ends = vertex_right (points_of u) (points_of w) to s.ends
               (in_right u w f.1 to h.0 h.2.to_right s.ends.there (λ b. s.onward (on_from to f.1 from b k)));
           onward = s.onward;
         };
@@ -107,27 +107,27 @@ stretch_right (Fork e f u w) a b from to h g s n =
     )
 
 -- a range from before the end of the bridge to after its start goes over the bridge
-pub stretch_across : (t : Tree) (a b from to : Pair) → IsBridged t → Some (a, b) ≡ lower_of t → IsStretch t from to
-    → IsBefore a to → IsBefore from b → IsFork t × IsStretchAcross t from a b to
-stretch_across (Leaf x) a b from to h g s at fb = absurd (cc)
-stretch_across (Fork e f u w) a b from to h g s at fb =
+pub chain_range_across : (t : Tree) (a b from to : Pair) → IsBridged t → Some (a, b) ≡ lower_of t → IsChainRange t from to
+    → IsBefore a to → IsBefore from b → IsFork t × IsChainRangeAcross t from a b to
+chain_range_across (Leaf x) a b from to h g s at fb = absurd (cc)
+chain_range_across (Fork e f u w) a b from to h g s at fb =
     rw ((same_ends g).0, (same_ends g).1) (over (rw (same_ends g).0 at at) (rw (same_ends g).1 at fb))
   where
-    over : IsBefore f.0 to → IsBefore from f.1 → Unit {0} × IsStretchAcross (Fork e f u w) from f.0 f.1 to
+    over : IsBefore f.0 to → IsBefore from f.1 → Unit {0} × IsChainRangeAcross (Fork e f u w) from f.0 f.1 to
     over k l =
         let n : ¬ (IsBefore f.0 from) = λ b. none_between u w f.0 f.1 from h.2 s.starts b l in
         let m : ¬ (IsBefore to f.1) = λ b. none_between u w f.0 f.1 to h.2 s.ends k b in (
           tt,
           record {
             left = record {
-              starts = corner_left (points_of u) (points_of w) from s.starts
+              starts = vertex_left (points_of u) (points_of w) from s.starts
                   (in_left u w f.0 from h.0 h.2.from_left s.starts.there n);
               ends = bridge_start u w f.0 f.1 h.0 h.2;
               onward = n;
             };
             right = record {
               starts = bridge_end u w f.0 f.1 h.0 h.2;
-              ends = corner_right (points_of u) (points_of w) to s.ends
+              ends = vertex_right (points_of u) (points_of w) to s.ends
                   (in_right u w f.1 to h.0 h.2.to_right s.ends.there m);
               onward = m;
             };

@@ -23,7 +23,7 @@ use Rattle.hull_geometry.specs.Tangents.{IsNoMore, IsTangent}
 use Rattle.hull_questions.specs.Hands.{half_on, outermost, IsBeyond}
 use Rattle.hull_questions.proofs.Halves.{AreHalves, swapped, halves_of}
 use Rattle.hull_questions.specs.Parts.{IsTangentPart}
-use Rattle.hull_geometry.specs.Sights.{IsBelow}
+use Rattle.hull_geometry.specs.Locations.{IsBelow}
 use Rattle.hull_geometry.specs.declared.hand.Hand.{Hand}
 use Rattle.hull_geometry.specs.declared.hand.Hand.TheVariants.{Left, Right}
 use Rattle.lattice.specs.declared.side.Side.TheVariants.{Lower}

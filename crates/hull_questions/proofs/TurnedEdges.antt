@@ -14,7 +14,7 @@ use Rattle.bridge_search.proofs.Leaves.{on_of_contains, contains_of_on}
 use Rattle.hull_geometry.proofs.PointLists.{all_of}
 use Rattle.hull_geometry.proofs.Orientation.{at_least}
 use Rattle.hull_geometry.specs.Edges.{IsLowerEdge, IsUpperEdge}
-use Rattle.hull_geometry.specs.Sights.{IsLowerEdgeAt, IsUpperEdgeAt}
+use Rattle.hull_geometry.specs.Locations.{IsLowerEdgeAt, IsUpperEdgeAt}
 use Rattle.hull_questions.specs.Chains.{IsBeforeEnd, IsAfterStart}
 
 -- a property of all points of the rotated half is one of each rotated point of the half

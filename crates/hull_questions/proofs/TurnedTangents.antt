@@ -11,7 +11,7 @@ use Rattle.bridge_search.specs.Leaves.{points_of}
 use Rattle.hull_geometry.specs.Hands.{other_hand, IsOnHand}
 use Rattle.hull_geometry.specs.Tangents.{IsNoMore, IsTangent}
 use Rattle.hull_questions.specs.Hands.{outermost}
-use Rattle.hull_geometry.specs.Sights.{IsBelow, IsAbove}
+use Rattle.hull_geometry.specs.Locations.{IsBelow, IsAbove}
 use Rattle.hull_geometry.specs.declared.hand.Hand.{Hand}
 use Rattle.hull_geometry.specs.declared.hand.Hand.TheVariants.{Left, Right}
 use Rattle.hull_questions.proofs.TurnedEdges.{turned_all, turned_member}

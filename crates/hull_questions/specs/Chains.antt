@@ -13,6 +13,6 @@ abbrev pub IsAfterStart : Tree → Pair → Type 0
 IsAfterStart t v = IsBefore (first_of t) v × ¬ IsBefore (last_of t) v
 
 -- v is a point of S, and lies below each segment from a point of S before it to one after it
-pub record IsLowerCorner (S : List Pair) (v : Pair) : Type 0 where
+pub record IsLowerVertex (S : List Pair) (v : Pair) : Type 0 where
   pub there : Contains S v
   pub under : (s t : Pair) → Contains S s → Contains S t → IsBefore s v → IsBefore v t → orient s t v <ℤ pos 0

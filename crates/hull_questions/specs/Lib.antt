@@ -1,8 +1,8 @@
 pub mod Parts
 pub mod Chains
 pub mod Slabs
-pub mod Sights
+pub mod Locations
 pub mod Hands
 pub mod Walks
-pub mod Stretches
+pub mod ChainRanges
 pub mod Shapes

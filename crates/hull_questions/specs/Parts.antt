@@ -6,7 +6,7 @@ use Rattle.bridge_search.specs.Leaves.{points_of}
 use Rattle.hull_geometry.specs.Hands.{IsOnHand}
 use Rattle.hull_geometry.specs.Tangents.{IsFirstFarthest, IsTangent}
 use Rattle.hull_questions.specs.Hands.{outermost}
-use Rattle.hull_geometry.specs.Sights.{IsBelow}
+use Rattle.hull_geometry.specs.Locations.{IsBelow}
 use Rattle.hull_geometry.specs.declared.hand.Hand.{Hand}
 
 -- an answer for the subtree is one for the whole, and the height of the subtree is less

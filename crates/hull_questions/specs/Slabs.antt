@@ -3,7 +3,7 @@ use Rattle.std.specs.Prelude.{◌≡◌}
 use Rattle.lattice.specs.Plane.{Pair, IsBefore}
 use Rattle.bridge_search.specs.Trees.{Tree, first_of, last_of}
 use Rattle.bridge_search.specs.Leaves.{points_of}
-use Rattle.hull_geometry.specs.Sights.{IsLowerEdgeAt}
+use Rattle.hull_geometry.specs.Locations.{IsLowerEdgeAt}
 use Rattle.hull_questions.specs.declared.slabs.Slab.{Slab}
 use Rattle.hull_questions.specs.declared.slabs.Slab.TheVariants.{Before, After, Last, Edge}
 

@@ -30,8 +30,8 @@ IsFan t apex from to z = (passed : List Pair) × IsWalk t from passed to × (z �
 
 -- a vertex was appended to the list, which has at most `most` points; or the list is full
 abbrev pub IsPushedUpTo : Pair → ℕ → List Pair → List Pair → Bool → Type 0
-IsPushedUpTo corner most before after true = (after ≡ before ++ corner ∷ []) × (length after ≤ most)
-IsPushedUpTo corner most before after false = most ≤ length before
+IsPushedUpTo vertex most before after true = (after ≡ before ++ vertex ∷ []) × (length after ≤ most)
+IsPushedUpTo vertex most before after false = most ≤ length before
 
 -- the points of a walk without the last were appended to the list; or they are too many for it
 abbrev pub IsListedUpTo : Tree → Pair → Pair → Side → ℕ → List Pair → List Pair → Bool → Type 0

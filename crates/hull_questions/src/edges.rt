@@ -1,7 +1,7 @@
 //! The edges of the lower and of the upper chain, each found on one path down the stored bridges.
 ghost use Rattle.std.specs.Prelude.{◌≡◌};
 ghost use Rattle.bridge_search.specs.Leaves.{points_of};
-ghost use Rattle.hull_geometry.specs.Sights.{IsLowerEdgeAt, IsUpperEdgeAt};
+ghost use Rattle.hull_geometry.specs.Locations.{IsLowerEdgeAt, IsUpperEdgeAt};
 ghost use Rattle.hull_questions.specs.Chains.{IsBeforeEnd, IsAfterStart};
 
 use crate::slabs::{Slab, slab_of};

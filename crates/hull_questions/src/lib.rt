@@ -6,11 +6,11 @@
 //! parts of the half that have vertices.
 #![tactic(auto)]
 
+mod chain_ranges;
 mod edges;
+mod locations;
 mod questions;
-mod sights;
 mod slabs;
-mod stretches;
 
 pub use questions::area::area2;
 pub use questions::extreme::{extreme, extreme_counted};

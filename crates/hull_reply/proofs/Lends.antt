@@ -267,14 +267,14 @@ module _ {M : Type 1} (𝓤 : Ura M) (𝓛 : Logic 𝓤) (𝓜 : Model 𝓤 𝓛
   exported S c {k} e closed sp tells walk = entered 𝓤 H (triple_of 𝓛 S c) 𝓣.C 𝓣.Λ k e closed (λ y.
       let Rs : List RattleType = types_at S.params y.0.0 in let a : Denots Rs = y.0.3 in
       let asks : SProp 𝓤 = (c y.0.0 a).requires y.1 in
-      let told : (vss : Valss Rs) → Are Rs (Ises Rs) a vss → vss ≡ valss Rs (sp y.0.0) a =
+      let encoded : (vss : Valss Rs) → Are Rs (Ises Rs) a vss → vss ≡ valss Rs (sp y.0.0) a =
       all_tell Rs (Ises Rs) (sp y.0.0) (tells y.0.0) a in
       fact_use 𝓤 (Are Rs (Ises Rs) a y.0.4)
       (via 𝓤 _ (fst∗ 𝓤 (on_entry 𝓛 S y.0.0 y.0.1 a y.0.4) asks)
       (via 𝓤 _ (snd∗ 𝓤 (toks 𝓛 S.lifetimes y.0.0 y.0.1) (sem 𝓛 (owns Rs a y.0.4))) (owns_show 𝓛 Rs (Ises Rs) (showss 𝓛 Rs) a y.0.4)))
       (λ are. subst (λ (vss : Valss Rs). ent 𝓤 (sep 𝓤 (on_entry 𝓛 S y.0.0 y.0.1 a vss) asks)
-      (WpFn 𝓤 H 𝓣.C 𝓣.Λ e (flat Rs vss) ((triple_of 𝓛 S c).post y))) (sym (told y.0.4 are))
-      (walk y.0.0 y.0.1 a y.1 (subst (Are Rs (Ises Rs) a) (told y.0.4 are) are))))
+      (WpFn 𝓤 H 𝓣.C 𝓣.Λ e (flat Rs vss) ((triple_of 𝓛 S c).post y))) (sym (encoded y.0.4 are))
+      (walk y.0.0 y.0.1 a y.1 (subst (Are Rs (Ises Rs) a) (encoded y.0.4 are) are))))
 
   module _ (n : ℕ) (As : List (Argument n)) (R : RattleType) (Out : Result)
       (law : (κs : Lfts n) (a : Denots (types_at (slots As) κs)) → R.Denot → R.Denot

@@ -1,7 +1,7 @@
-pub mod Told
-pub mod Corners
+pub mod Encoded
+pub mod Vertices
 pub mod Coordinates
 pub mod Requests
 pub mod Served
 pub mod Left
-pub mod Rooms
+pub mod Storages

@@ -1,5 +1,5 @@
 ghost use Rattle.std.specs.Prelude.{◌≡◌};
-ghost use Rattle.hull_reply.specs.Told.{code_number};
+ghost use Rattle.hull_reply.specs.Encoded.{code_number};
 
 /// The result of a call of a library for C. The headers name each by its number, which is the discriminant here.
 #[derive(Clone, Copy, PartialEq, Eq, Debug)]
@@ -40,7 +40,7 @@ pub enum Code {
     /// `number`; an area is 2^64 times `high` more.
     Number = 17,
     /// There are `number` vertices, which are at the front of the array if one was passed.
-    Corners = 18,
+    Vertices = 18,
     /// The array is too small for the `number` vertices or bytes that are to be written.
     TooSmall = 19,
     /// There is no point any more.
@@ -50,14 +50,14 @@ pub enum Code {
     /// No kind that can be asked here has this number.
     UnknownKind = 22,
     /// They have a point in common.
-    Meeting = 23,
+    Intersecting = 23,
     /// A direction (`other_x`, `other_y`), at most 2^41 in size, separates them: of the one, no vertex is farther in it
     /// than (`x`, `y`), and each vertex of the other is.
-    Apart = 24,
+    Disjoint = 24,
     /// The polygon covers the point, which is its own nearest.
     Covered = 25,
     /// The vertex (`x`, `y`) is the nearest.
-    Corner = 26,
+    Vertex = 26,
     /// The foot on the edge from (`x`, `y`) to the next vertex, (`other_x`, `other_y`), is the nearest.
     Edge = 27,
     /// The box from its least point (`x`, `y`) to its greatest, (`other_x`, `other_y`).
@@ -75,21 +75,21 @@ pub enum Code {
     /// The shared hull was opened before.
     WasOpened = 34,
     /// The seat is in the storage now.
-    Lent = 35,
+    Acquired = 35,
     /// No seat of this number is free: it is acquired, or there never was one.
     NoSeat = 36,
     /// The storage has a seat already.
-    RoomInUse = 37,
+    StorageInUse = 37,
     /// The shared hull is not open.
     NotOpen = 38,
     /// The seat is released, and the storage has none.
-    Returned = 39,
+    Released = 39,
     /// The storage has no seat.
     Vacant = 40,
     /// The seat has a number, whose call is not finished.
     Waiting = 41,
     /// The seat's slot of the shared hull is not free.
-    PlaceInUse = 42,
+    SlotInUse = 42,
     /// The seat has a number now.
     Taken = 43,
     /// Another number is served: look again.
@@ -114,9 +114,9 @@ pub enum Code {
     /// The segment has space for lines now.
     Reserved = 53,
     /// The segment has space or lines already.
-    PartInUse = 54,
+    SegmentInUse = 54,
     /// The segment has too little space for the lines that the journal may have: no look was made.
-    NoRoom = 55,
+    NoSpace = 55,
     /// The segment has no lines.
     NoLines = 56,
     /// The text is not a journal: line `number` of it, from 1, has the first fault, `high`: 1 its form, 2 a number, 3 a
@@ -129,9 +129,9 @@ pub enum Code {
     /// The journal has lines by `number` seats (0 to `number` - 1), more than were asked for.
     TooFewSeats = 60,
     /// The shared hull takes so many readers.
-    Admitted = 67,
+    ReadersSet = 67,
     /// The reader has this snapshot, which was the newest.
-    Viewed = 68,
+    SnapshotTaken = 68,
     /// The reader has the snapshot that it had before: others delayed a newer one.
     Old = 69,
     // end of what tools/table.py writes

@@ -1,7 +1,7 @@
 //! The reply to a caller in C: the number of a code, and the values that belong to it.
 ghost use Rattle.std.specs.Prelude.{◌≢◌, ◌≡◌};
 ghost use Rattle.lattice.specs.Plane.{Pair};
-ghost use Rattle.hull_reply.specs.Told.{AreNumbers, ArePoints, IsBare, IsNumber, IsPoint, IsWide, Tells};
+ghost use Rattle.hull_reply.specs.Encoded.{AreNumbers, ArePoints, IsBare, IsNumber, IsPoint, IsWide, Encodes};
 
 use crate::code::Code;
 use hull_set::{Place, Reply};
@@ -93,7 +93,7 @@ impl HullReply {
 }
 
 fn code_of(place: Place) -> Code
-    ensures { (r : HullReply) → IsBare result r → Tells r (Reply.Lies place) }
+    ensures { (r : HullReply) → IsBare result r → Encodes r (Reply.Lies place) }
 {
     match place {
         Place::Inside => Code::Inside,
@@ -103,9 +103,9 @@ fn code_of(place: Place) -> Code
 }
 
 /// Returns the reply of a set that counts its points, in numbers.
-pub fn told(reply: Reply) -> HullReply
+pub fn encoded(reply: Reply) -> HullReply
     requires { reply ≢ Reply.Already }
-    ensures { Tells result reply }
+    ensures { Encodes result reply }
 {
     match reply {
         // written by tools/table.py: a case for each reply
@@ -122,7 +122,7 @@ pub fn told(reply: Reply) -> HullReply
         Reply::Lies(place) => HullReply::bare(code_of(place)),
         Reply::TangentPoints(left, right) => HullReply::with_points(Code::Tangents, left, right),
         Reply::NoTangent => HullReply::bare(Code::NoTangent),
-        Reply::VertexList(list) => HullReply::numbered(Code::Corners, list.as_slice().len() as u64),
+        Reply::VertexList(all) => HullReply::numbered(Code::Vertices, all.as_slice().len() as u64),
         Reply::DoubledArea(area) => HullReply::wide(area),
         Reply::PointCount(count) => HullReply::numbered(Code::Number, u64::from(count)),
         // end of what tools/table.py writes

@@ -117,7 +117,7 @@ pub ascending : (xs : List Pair) → IsSorted point_cmp xs → IsAscending xs
 ascending xs s i j d l m b =
     let f : is_lt (point_cmp (get_or xs j d) (get_or xs i d)) ≡ false =
     sorted_far (λ x y. is_lt (point_cmp x y)) (ranks_by total (λ x. x)) xs s i j d l m in
-    tells (rw (less (get_or xs j d) (get_or xs i d) b) at f)
+    reports (rw (less (get_or xs j d) (get_or xs i d) b) at f)
   where
-    tells : true ≡ false → ⊥
-    tells e = absurd (cc)
+    reports : true ≡ false → ⊥
+    reports e = absurd (cc)

@@ -9,12 +9,12 @@ use Rattle.hull_set.specs.Held.{Held, once, times_among}
 use Rattle.hull_set.specs.PointLists.{is_same_pair}
 
 -- the test decides whether both coordinates are equal
-told : (p q : Pair) → Decides (is_same_pair p q) ((p.x ≡ q.x) × (p.y ≡ q.y))
-told p q = Decides-and _ _ (Decides-int_eq p.x q.x) (Decides-int_eq p.y q.y)
+returned : (p q : Pair) → Decides (is_same_pair p q) ((p.x ≡ q.x) × (p.y ≡ q.y))
+returned p q = Decides-and _ _ (Decides-int_eq p.x q.x) (Decides-int_eq p.y q.y)
 
 -- a point is equal to itself
 pub same_true : (p : Pair) → is_same_pair p p ≡ true
-same_true p = (told p p).1 (refl, refl)
+same_true p = (returned p p).1 (refl, refl)
 
 -- a test that cannot be true is false
 pub fails : (b : Bool) → ¬ (b ≡ true) → b ≡ false
@@ -28,7 +28,7 @@ true_not_false e = absurd (cc)
 -- a different point is not equal
 pub same_false : (p q : Pair) → ¬ (p ≡ q) → is_same_pair p q ≡ false
 same_false p q n = fails (is_same_pair p q)
-    (λ t. n (λ i. record { x = ((told p q).0 t).0 i; y = ((told p q).0 t).1 i }))
+    (λ t. n (λ i. record { x = ((returned p q).0 t).0 i; y = ((returned p q).0 t).1 i }))
 
 -- a point counts once at itself
 pub once_same : (p : Pair) → once p p ≡ 1
@@ -48,12 +48,12 @@ same_or_other p q =
     ]
 
 -- points that the test finds equal are equal
-pub told_same : (p q : Pair) → is_same_pair p q ≡ true → p ≡ q
-told_same p q t = elim (same_or_other p q) [ inl h ↦ h | inr d ↦ absurd (true_not_false (sym t ∙ same_false p q d)) ]
+pub returned_same : (p q : Pair) → is_same_pair p q ≡ true → p ≡ q
+returned_same p q t = elim (same_or_other p q) [ inl h ↦ h | inr d ↦ absurd (true_not_false (sym t ∙ same_false p q d)) ]
 
 -- points that the test does not find equal are different
-pub told_other : (p q : Pair) → is_same_pair p q ≡ false → ¬ (p ≡ q)
-told_other p q f s =
+pub returned_other : (p q : Pair) → is_same_pair p q ≡ false → ¬ (p ≡ q)
+returned_other p q f s =
     true_not_false (sym (subst (λ z. is_same_pair p z ≡ true) s (same_true p)) ∙ f)
 
 -- a point is once more among the first i + 1 points than among the first i, if it is the one at i

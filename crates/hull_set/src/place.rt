@@ -1,21 +1,21 @@
 //! The place of a point, by its location relative to the hull.
-ghost use Rattle.hull_set.specs.Places.{TellsPlace};
+ghost use Rattle.hull_set.specs.Places.{ReturnsPlace};
 
 use super::set::Place;
-use hull_geometry::Sight;
+use hull_geometry::Location;
 
 impl Place {
     /// Returns the place of a point with this location.
-    pub fn of_sight(sight: Sight) -> Self
-        ensures { TellsPlace sight result }
+    pub fn of_location(location: Location) -> Self
+        ensures { ReturnsPlace location result }
     {
-        match sight {
-            Sight::Before => Place::Outside,
-            Sight::After => Place::Outside,
-            Sight::Below => Place::Outside,
-            Sight::Above => Place::Outside,
-            Sight::Touching => Place::On,
-            Sight::Within => Place::Inside,
+        match location {
+            Location::Before => Place::Outside,
+            Location::After => Place::Outside,
+            Location::Below => Place::Outside,
+            Location::Above => Place::Outside,
+            Location::Touching => Place::On,
+            Location::Within => Place::Inside,
         }
     }
 }

@@ -3,11 +3,11 @@ mod Makes
 mod SeatReplies
 pub mod Books
 pub mod Changes
-mod JournalViews
+mod JournalSnapshots
 pub mod Fronts
 pub mod Homes
 pub mod Lists
 pub mod Served
 pub mod Found
-mod ViewReplies
-pub mod Halls
+mod SnapshotReplies
+pub mod SnapshotSlots

@@ -2,30 +2,30 @@
 use Rattle.std.specs.Prelude.{◌≡◌, ◌≢◌, ◌⊎◌, ◌+◌, ℕ, Bool, true, false, Option, Some, None, Result, Ok, Err}
 use Rattle.hull_reply.specs.declared.code.Code.{Code}
 use Rattle.hull_reply.specs.declared.code.Code.TheVariants as code
-use Rattle.hull_views.specs.Readers.{ComesIn}
-use Rattle.hull_views.specs.Tellers.{IsOpened, entrance_name}
-use Rattle.published_views.specs.Views.{HallName}
-use Rattle.hull_views.specs.declared.teller.Teller.{Teller}
+use Rattle.hull_snapshots.specs.Readers.{ComesIn}
+use Rattle.hull_snapshots.specs.ChangePublishers.{IsOpened, reader_registry_name}
+use Rattle.published_snapshots.specs.Snapshots.{SnapshotSlotsName}
+use Rattle.hull_snapshots.specs.declared.change_publisher.ChangePublisher.{ChangePublisher}
 use Rattle.hull_shared.specs.declared.gate.Gate.{Gate}
 use Rattle.hull_shared.specs.declared.reader.OutReader.{OutReader}
 
 -- the publisher and the registry of a shared hull that is opened for so many readers, none of whom is acquired:
 -- neither, if there are none
-abbrev pub IsGateFor : ℕ → ℕ → Option Teller → Option Gate → Type 0
+abbrev pub IsGateFor : ℕ → ℕ → Option ChangePublisher → Option Gate → Type 0
 IsGateFor readers first None None = readers ≡ 0
 IsGateFor readers first (Some t) (Some g) =
-    (readers ≢ 0) × IsOpened readers t g.entrance × (g.admitted ≡ readers) × (g.out ≡ 0) × (g.first ≡ first)
+    (readers ≢ 0) × IsOpened readers t g.reader_registry × (g.readers_set ≡ readers) × (g.out ≡ 0) × (g.first ≡ first)
 IsGateFor readers first _ _ = ⊥
 
 -- the name of the registry's snapshot slots, if there is a registry
-abbrev pub hall_behind : Option Gate → Option HallName
-hall_behind None = None
-hall_behind (Some g) = Some (entrance_name g.entrance)
+abbrev pub snapshot_slots_behind : Option Gate → Option SnapshotSlotsName
+snapshot_slots_behind None = None
+snapshot_slots_behind (Some g) = Some (reader_registry_name g.reader_registry)
 
 -- so many readers may be acquired, and none is
 abbrev pub LetsSoMany : ℕ → ℕ → Option Gate → Type 0
 LetsSoMany readers first None = readers ≡ 0
-LetsSoMany readers first (Some g) = (g.admitted ≡ readers) × (g.out ≡ 0) × (g.first ≡ first)
+LetsSoMany readers first (Some g) = (g.readers_set ≡ readers) × (g.out ≡ 0) × (g.first ≡ first)
 
 -- some reader is acquired
 abbrev pub AreReadersOut : Option Gate → Type 0
@@ -34,14 +34,14 @@ AreReadersOut (Some g) = g.out ≢ 0
 
 -- the registry is the same but for how many readers are acquired
 abbrev pub IsSameGate : Gate → Gate → Type 0
-IsSameGate g h = (h.entrance ≡ g.entrance) × (h.admitted ≡ g.admitted) × (h.first ≡ g.first)
+IsSameGate g h = (h.reader_registry ≡ g.reader_registry) × (h.readers_set ≡ g.readers_set) × (h.first ≡ g.first)
 
 -- a reader was acquired; or all are, or memory was refused before that, and the registry is unchanged
 abbrev pub LetsIn : Gate → Gate → Result OutReader Code → Type 0
 LetsIn g h (Ok r) =
-    IsSameGate g h × (h.out ≡ g.out + 1) × ComesIn g.entrance r.reader × (r.first ≡ g.first)
+    IsSameGate g h × (h.out ≡ g.out + 1) × ComesIn g.reader_registry r.reader × (r.first ≡ g.first)
 LetsIn g h (Err fault) =
-    (h ≡ g) × (((g.out ≡ g.admitted) × (fault ≡ code.NoSeat)) ⊎ ((g.out ≢ g.admitted) × (fault ≡ code.NoMemory)))
+    (h ≡ g) × (((g.out ≡ g.readers_set) × (fault ≡ code.NoSeat)) ⊎ ((g.out ≢ g.readers_set) × (fault ≡ code.NoMemory)))
 
 -- a reader was released; or none was acquired
 abbrev pub TakesIn : Gate → Gate → Bool → Type 0

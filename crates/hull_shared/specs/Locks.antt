@@ -16,33 +16,33 @@ use Rattle.lattice.specs.Plane.{Pair}
 use Rattle.ticket_lock.specs.declared.chronicle.Chronicle as chronicle
 use Rattle.ticket_lock.specs.declared.lock.TicketLock.{TicketLock}
 use Rattle.ticket_lock.specs.Tokens.{opening_book}
-use Rattle.hull_shared.specs.DeskBooks.{DeskValue, desk_head}
-use Rattle.hull_shared.specs.declared.book.DeskHead.{DeskHead}
+use Rattle.hull_shared.specs.SharedHullBooks.{SharedHullValue, shared_hull_head}
+use Rattle.hull_shared.specs.declared.book.SharedHullHead.{SharedHullHead}
 
 -- the lock that an owner owns
 abbrev pub lock_of : {X Z : Type 0} → Arc (ManuallyDrop X) Z → X
 lock_of owner = manually_drop_value (arc_value owner)
 
 -- the book of a shared hull on the heap, as contracts see it
-abbrev pub DeskBoxed : Type 0
-DeskBoxed = Box DeskValue Global
+abbrev pub SharedHullBoxed : Type 0
+SharedHullBoxed = Box SharedHullValue Global
 
 -- what no call changes of it
-abbrev pub boxed_head : DeskBoxed → DeskHead
-boxed_head b = desk_head (box_value b)
+abbrev pub boxed_head : SharedHullBoxed → SharedHullHead
+boxed_head b = shared_hull_head (box_value b)
 
 -- the book of all its lines, including those that were drained
-abbrev pub whole_of : DeskBoxed → BookValue LimitedTree
+abbrev pub whole_of : SharedHullBoxed → BookValue LimitedTree
 whole_of b = whole (box_value b).book
 
 -- all its lines, with their marks
-abbrev pub lines_at : DeskBoxed → List MarkedLine
+abbrev pub lines_at : SharedHullBoxed → List MarkedLine
 lines_at b = (box_value b).book.lines
 
 -- the kind of such books
-abbrev pub desk : Kind LimitedTree DeskBoxed DeskHead MarkedLine
-desk = kind_of (record {
-  head = desk_head;
+abbrev pub shared_hull : Kind LimitedTree SharedHullBoxed SharedHullHead MarkedLine
+shared_hull = kind_of (record {
+  head = shared_hull_head;
   lines = λ b. b.book.lines;
   capacity = λ b. (whole b.book).head.journal.capacity;
   turn = λ b. b.book.turn;
@@ -52,8 +52,8 @@ desk = kind_of (record {
 }) (λ b. whole b.book) plain
 
 -- the ghosts of the lock's trait `Chronicle` for such books
-abbrev pub says_desk : chronicle.Ghosts DeskBoxed DeskHead MarkedLine
-says_desk = desk.says
+abbrev pub says_shared_hull : chronicle.Ghosts SharedHullBoxed SharedHullHead MarkedLine
+says_shared_hull = shared_hull.says
 
 -- Each bridge that a tree over buckets stores is that of the points below it, each bucket has the vertices of its own
 -- points, and all these are the points.
@@ -62,15 +62,15 @@ StoresBridgesOf tree points = IsWellBuiltRoot tree.root × (points_of_root tree.
 
 -- a lock round such a book
 abbrev pub HullLock : Type 0
-HullLock = TicketLock DeskBoxed DeskHead MarkedLine
+HullLock = TicketLock SharedHullBoxed SharedHullHead MarkedLine
 
 -- the book as it was when the lock was opened round it
-abbrev pub book_of : HullLock → DeskValue
+abbrev pub book_of : HullLock → SharedHullValue
 book_of lock = box_value (opening_book lock)
 
 -- what no call changes: the first number, the limit, the capacity in lines, and whether lines are kept
-abbrev pub head_of : HullLock → DeskHead
-head_of lock = desk_head (book_of lock)
+abbrev pub head_of : HullLock → SharedHullHead
+head_of lock = shared_hull_head (book_of lock)
 
 -- how many seats the book was opened for
 abbrev pub seats_of : HullLock → ℕ

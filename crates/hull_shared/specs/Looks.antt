@@ -7,17 +7,17 @@ use Rattle.hull_book.specs.declared.marked_line.MarkedLine.{MarkedLine}
 use Rattle.hull_pool.specs.Work.{lines_of}
 use Rattle.hull_set.specs.declared.call.Call.{Call}
 use Rattle.hull_set.specs.declared.reply.Reply.TheVariants as reply
-use Rattle.hull_reply.specs.Corners.{TellsCorners}
-use Rattle.hull_reply.specs.Told.{IsBare, Tells}
+use Rattle.hull_reply.specs.Vertices.{EncodesVertices}
+use Rattle.hull_reply.specs.Encoded.{IsBare, Encodes}
 use Rattle.hull_reply.specs.declared.code.Code.{Code}
 use Rattle.hull_reply.specs.declared.code.Code.TheVariants as code
 use Rattle.hull_reply.specs.declared.reply.HullReply.{HullReply}
 use Rattle.ticket_lock.specs.Tokens.{seat_seen, ticket_looks, ticket_number, ticket_seen}
 use Rattle.hull_shared.specs.Asked.{IsAsked}
-use Rattle.hull_shared.specs.DeskBooks.{HasServedAt}
+use Rattle.hull_shared.specs.SharedHullBooks.{HasServedAt}
 use Rattle.hull_shared.specs.declared.answer.Behind.{Behind}
-use Rattle.hull_shared.specs.declared.answer.DeskAnswer.{DeskAnswer}
-use Rattle.hull_shared.specs.declared.answer.DeskAnswer.TheVariants.{Written, Unwritten, Full}
+use Rattle.hull_shared.specs.declared.answer.SharedHullAnswer.{SharedHullAnswer}
+use Rattle.hull_shared.specs.declared.answer.SharedHullAnswer.TheVariants.{Written, Unwritten, Full}
 use Rattle.hull_shared.specs.Locks.{head_of, lock_of}
 use Rattle.hull_shared.specs.declared.looking.Looked.{Looked}
 use Rattle.hull_shared.specs.declared.looking.Looked.TheVariants as looked
@@ -35,21 +35,21 @@ WaitsFor i w call = (lock_of w.lock ≡ lock_of i.lock) × (w.number ≡ i.numbe
     × (ticket_seen w.ticket ≡ seat_seen i.seat) × (w.ledger ≡ i.ledger)
 
 -- the reply has the number of a line, or none
-abbrev pub TellsLine : Option ℕ → SeatReply → Type 0
-TellsLine (Some n) r = (r.line ≡ n) × (r.has_line ≡ 1)
-TellsLine None r = (r.line ≡ 0) × (r.has_line ≡ 0)
+abbrev pub EncodesLine : Option ℕ → SeatReply → Type 0
+EncodesLine (Some n) r = (r.line ≡ n) × (r.has_line ≡ 1)
+EncodesLine None r = (r.line ≡ 0) × (r.has_line ≡ 0)
 
 -- the reply has no line, and no number of lines
-abbrev pub TellsNothing : SeatReply → Type 0
-TellsNothing r = TellsLine None r × (r.held ≡ 0)
+abbrev pub EncodesNothing : SeatReply → Type 0
+EncodesNothing r = EncodesLine None r × (r.held ≡ 0)
 
 -- the reply of a seat with no number: this code and nothing else
 abbrev pub IsBareReply : Code → SeatReply → Type 0
-IsBareReply c r = IsBare c r.told × (r.turn ≡ 0) × TellsNothing r
+IsBareReply c r = IsBare c r.encoded × (r.turn ≡ 0) × EncodesNothing r
 
 -- the reply of a waiting seat: this code, and its number
 abbrev pub IsReplyOf : Code → WaitingSeat → SeatReply → Type 0
-IsReplyOf c w r = IsBare c r.told × (r.turn ≡ ticket_number w.ticket) × TellsNothing r
+IsReplyOf c w r = IsBare c r.encoded × (r.turn ≡ ticket_number w.ticket) × EncodesNothing r
 
 -- the result of asking a seat with no number for a call, or for none
 abbrev pub TakesFor : IdleSeat → SharedSeat → SeatReply → Result Call Code → Type 0
@@ -85,7 +85,7 @@ pub record HasFound (w : WaitingSeat) (i : IdleSeat) (so : List MarkedLine → T
 
 -- The call was served with this answer and this state after it, by the number that the seat had taken, and handed on
 -- the journal that the seat has seen now.
-abbrev pub WasServed : WaitingSeat → IdleSeat → DeskAnswer → Behind → Type 0
+abbrev pub WasServed : WaitingSeat → IdleSeat → SharedHullAnswer → Behind → Type 0
 WasServed w i answer behind = HasFound w i (λ found. HasServedAt (head_of (lock_of w.lock)) (ticket_number w.ticket) w.number
     w.call found (seat_seen i.seat) answer behind)
 
@@ -95,19 +95,19 @@ HasLooked w (looked.NotYet v) = WaitsOn w v
 HasLooked w (looked.Served i answer behind) = WasServed w i answer behind
 
 -- the reply has an answer: the numbers of the set's reply, or that the book is full
-abbrev pub TellsAnswer : HullReply → DeskAnswer → Type 0
-TellsAnswer told (Written reply) = Tells told reply
-TellsAnswer told (Unwritten reply) = Tells told reply
-TellsAnswer told Full = IsBare code.Full told
+abbrev pub EncodesAnswer : HullReply → SharedHullAnswer → Type 0
+EncodesAnswer encoded (Written reply) = Encodes encoded reply
+EncodesAnswer encoded (Unwritten reply) = Encodes encoded reply
+EncodesAnswer encoded Full = IsBare code.Full encoded
 
--- the reply has an answer: as `TellsAnswer`, but for a list of vertices, which was written to the array
-abbrev pub PutsAnswer : List Pair → List Pair → HullReply → DeskAnswer → Type 0
-PutsAnswer before after told (Written (reply.VertexList corners)) = TellsCorners corners before after told
-PutsAnswer before after told (Unwritten (reply.VertexList corners)) = TellsCorners corners before after told
-PutsAnswer before after told answer = (after ≡ before) × TellsAnswer told answer
+-- the reply has an answer: as `EncodesAnswer`, but for a list of vertices, which was written to the array
+abbrev pub PutsAnswer : List Pair → List Pair → HullReply → SharedHullAnswer → Type 0
+PutsAnswer before after encoded (Written (reply.VertexList vertices)) = EncodesVertices vertices before after encoded
+PutsAnswer before after encoded (Unwritten (reply.VertexList vertices)) = EncodesVertices vertices before after encoded
+PutsAnswer before after encoded answer = (after ≡ before) × EncodesAnswer encoded answer
 
 -- no answer of a set that counts its points is `already`
-abbrev pub IsCounted : DeskAnswer → Type 0
+abbrev pub IsCounted : SharedHullAnswer → Type 0
 IsCounted (Written r) = r ≢ reply.Already
 IsCounted (Unwritten r) = r ≢ reply.Already
 IsCounted Full = Unit {0}
@@ -117,28 +117,28 @@ abbrev pub HasSeen : SharedSeat → SharedSeat → Seen → Type 0
 HasSeen Vacant new s = (new ≡ Vacant) × ((r : SeatReply) × (s ≡ Unserved r) × IsBareReply code.Vacant r)
 HasSeen (Idle i) new s = (new ≡ Idle i) × ((r : SeatReply) × (s ≡ Unserved r) × IsBareReply code.NoNumber r)
 HasSeen (Waiting w) (Waiting v) s = WaitsOn w v × ((r : SeatReply) × (s ≡ Unserved r) × IsReplyOf code.NotYet w r)
-HasSeen (Waiting w) (Idle i) s = (answer : DeskAnswer) × (behind : Behind) × WasServed w i answer behind
+HasSeen (Waiting w) (Idle i) s = (answer : SharedHullAnswer) × (behind : Behind) × WasServed w i answer behind
     × (s ≡ Served answer (ticket_number w.ticket) behind)
 HasSeen (Waiting w) Vacant s = ⊥
 
 -- the reply has what follows a call
-abbrev pub TellsBehind : Behind → SeatReply → Type 0
-TellsBehind behind r = TellsLine behind.line r × (r.held ≡ behind.held)
+abbrev pub EncodesBehind : Behind → SeatReply → Type 0
+EncodesBehind behind r = EncodesLine behind.line r × (r.held ≡ behind.held)
 
 -- the reply has what the look saw
-abbrev pub TellsSeen : Seen → SeatReply → Type 0
-TellsSeen (Unserved reply) r = r ≡ reply
-TellsSeen (Served answer turn behind) r = TellsAnswer r.told answer × (r.turn ≡ turn) × TellsBehind behind r
+abbrev pub EncodesSeen : Seen → SeatReply → Type 0
+EncodesSeen (Unserved reply) r = r ≡ reply
+EncodesSeen (Served answer turn behind) r = EncodesAnswer r.encoded answer × (r.turn ≡ turn) × EncodesBehind behind r
 
 -- the reply has what the look saw, and vertices are written to the array, the rest of which is unchanged
 abbrev pub PutsSeen : List Pair → List Pair → Seen → SeatReply → Type 0
 PutsSeen before after (Unserved reply) r = (after ≡ before) × (r ≡ reply)
 PutsSeen before after (Served answer turn behind) r =
-    PutsAnswer before after r.told answer × (r.turn ≡ turn) × TellsBehind behind r
+    PutsAnswer before after r.encoded answer × (r.turn ≡ turn) × EncodesBehind behind r
 
 -- a look, whose answer is in the reply
 abbrev pub HasReplied : SharedSeat → SharedSeat → SeatReply → Type 0
-HasReplied old new r = (seen : Seen) × HasSeen old new seen × TellsSeen seen r
+HasReplied old new r = (seen : Seen) × HasSeen old new seen × EncodesSeen seen r
 
 -- a look, whose answer is in the reply, with vertices written to the array
 abbrev pub HasRepliedInto : SharedSeat → SharedSeat → List Pair → List Pair → SeatReply → Type 0
@@ -151,5 +151,5 @@ capacity_at (Idle i) = i.capacity
 capacity_at (Waiting w) = w.capacity
 
 -- that number is returned, and the seat is unchanged
-abbrev pub HasToldCapacity : SharedSeat → SharedSeat → ℕ → Type 0
-HasToldCapacity old new told = (new ≡ old) × (told ≡ capacity_at old)
+abbrev pub HasReportedCapacity : SharedSeat → SharedSeat → ℕ → Type 0
+HasReportedCapacity old new encoded = (new ≡ old) × (encoded ≡ capacity_at old)

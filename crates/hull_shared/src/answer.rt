@@ -1,13 +1,13 @@
 //! The answer to a call on a shared hull.
 ghost use Rattle.std.specs.Prelude.{◌≡◌};
-ghost use Rattle.hull_shared.specs.DeskBooks.{desk_answer_of};
+ghost use Rattle.hull_shared.specs.SharedHullBooks.{shared_hull_answer_of};
 ghost use Rattle.hull_shared.specs.Lines.{number_if_written};
 
 use hull_book::LongAnswer;
 use hull_set::Reply;
 
 /// The answer to a call on a shared hull.
-pub(crate) enum DeskAnswer {
+pub(crate) enum SharedHullAnswer {
     /// This reply; the call has its line.
     Written(Reply),
     /// This reply to a question, which has no line because the book is full.
@@ -26,18 +26,18 @@ pub(crate) struct Behind {
 }
 
 /// Returns the number of the call's line, if it has one.
-pub(crate) fn line_of(answer: &DeskAnswer, number: u64) -> Option<u64>
+pub(crate) fn line_of(answer: &SharedHullAnswer, number: u64) -> Option<u64>
     ensures { result ≡ number_if_written answer.now number }
 {
     match answer {
-        DeskAnswer::Written(_) => Some(number),
+        SharedHullAnswer::Written(_) => Some(number),
         _ => None,
     }
 }
 
 /// Returns the number of the line of a call that drained, if it has one.
 pub(crate) fn line_of_drain(drained: &LongAnswer, number: u64) -> Option<u64>
-    ensures { result ≡ number_if_written (desk_answer_of drained.now) number }
+    ensures { result ≡ number_if_written (shared_hull_answer_of drained.now) number }
 {
     match drained {
         Ok(_) => Some(number),

@@ -3,19 +3,19 @@ ghost use Rattle.std.specs.Prelude.{◌≤◌};
 
 use crate::reader::OutReader;
 use hull_reply::Code;
-use hull_views::Entrance;
+use hull_snapshots::ReaderRegistry;
 
 /// The reader registry of a shared hull that was opened for readers.
 #[derive(Drop)]
 pub(crate) struct Gate {
-    pub(crate) entrance: Entrance,
+    pub(crate) reader_registry: ReaderRegistry,
     /// For how many readers the shared hull was opened.
-    pub(crate) admitted: u8,
+    pub(crate) readers_set: u8,
     /// How many of them are acquired.
     pub(crate) out: u8,
     /// The number of the first line.
     pub(crate) first: u64,
-    ghost few: { out ≤ admitted },
+    ghost few: { out ≤ readers_set },
 }
 
 impl Gate {
@@ -25,10 +25,10 @@ impl Gate {
     pub(crate) fn let_in(&mut self) -> Result<OutReader, Code>
         ensures { LetsIn self.old self.new result }
     {
-        if self.out == self.admitted {
+        if self.out == self.readers_set {
             return Err(Code::NoSeat);
         }
-        match self.entrance.reader() {
+        match self.reader_registry.reader() {
             Some(reader) => {
                 self.out += 1;
                 Ok(OutReader {

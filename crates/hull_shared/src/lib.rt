@@ -9,100 +9,103 @@
 //! # A shared hull for two threads
 //!
 //! ```
-//! open(&mut desk, alloc, 1000, 0, 64, 2); // up to 1000 points, numbers from 0, 64 calls, 2 seats
-//! lend(&mut desk, &mut room, 0); // seat 0, for the thread that has the storage
+//! open(&mut shared hull, alloc, 1000, 0, 64, 2); // up to 1000 points, numbers from 0, 64 calls, 2 seats
+//! lend(&mut shared hull, &mut room, 0); // seat 0, for the thread that has the storage
 //! take(&mut room, 1, 3, 4); // a number for `add 3 4`
 //! let reply = look(&mut room); // until its code is not that of `NotYet`; `look_into` writes vertices to an array
-//! give_back(&mut desk, &mut room);
-//! close(&mut desk); // once all seats are released
-//! text(&mut desk, &mut out); // the journal, which `hullbook check` judges
+//! give_back(&mut shared hull, &mut room);
+//! close(&mut shared hull); // once all seats are released
+//! text(&mut shared hull, &mut out); // the journal, which `hullbook check` judges
 //! ```
 #![tactic(auto)]
 
 ghost use Rattle.std.specs.Prelude.{◌≡◌, false, true};
 ghost use Rattle.std.specs.Borrow.{full_share, sem};
 ghost use Rattle.std.specs.Ptr.{lies_at, room_at};
-ghost use Rattle.hull_shared.specs.contracts.desk.Desk.{the_row as desk_row};
-ghost use Rattle.hull_shared.specs.contracts.part.Part.{the_row as part_row};
+ghost use Rattle.hull_shared.specs.contracts.shared_hull.SharedHull.{the_row as shared_hull_row};
+ghost use Rattle.hull_shared.specs.contracts.segment.Segment.{the_row as segment_row};
 ghost use Rattle.hull_shared.specs.contracts.reader.SharedReader.{the_row as reader_row};
 ghost use Rattle.hull_shared.specs.contracts.seat.SharedSeat.{the_row as seat_row};
-ghost use Rattle.hull_shared.specs.Desks.{HasClosed, HasEnded, HasLent, HasOpened, HasReturned, HasWritten};
-ghost use Rattle.hull_shared.specs.Desks.{IsFreshForNone, IsSeatOfDesk};
+ghost use Rattle.hull_shared.specs.SharedHulls.{HasClosed, HasEnded, HasAcquired, HasOpened, HasReturned, HasWritten};
+ghost use Rattle.hull_shared.specs.SharedHulls.{IsFreshForNone, IsSeatOfSharedHull};
 ghost use Rattle.hull_reply.specs.Left.{leaves};
-ghost use Rattle.hull_reply.specs.Rooms.{room_alignment, room_size};
+ghost use Rattle.hull_reply.specs.Storages.{storage_alignment, storage_size};
 ghost use Rattle.hull_shared.specs.Left.{leaves_both};
 ghost use Rattle.hull_shared.specs.Limits.{kept_with, unkept_with};
 ghost use Rattle.hull_shared.specs.Drains.{HasRepliedWith};
-ghost use Rattle.hull_shared.specs.Looks.{HasReplied, HasRepliedInto, HasTaken, HasToldCapacity};
-ghost use Rattle.hull_shared.specs.Pieces.{HasWrittenPiece, HasWrittenPieceOfDesk};
-ghost use Rattle.hull_shared.specs.Readings.{HasAdmitted, HasLentReader, HasPutView, HasReturnedReader};
-ghost use Rattle.hull_shared.specs.Readings.{HasToldNewest, HasViewedIn};
+ghost use Rattle.hull_shared.specs.Looks.{HasReplied, HasRepliedInto, HasTaken, HasReportedCapacity};
+ghost use Rattle.hull_shared.specs.Pieces.{HasWrittenPiece, HasWrittenPieceOfSharedHull};
+ghost use Rattle.hull_shared.specs.Readings.{HasSetReaders, HasAcquiredReader, HasPutSnapshot, HasReturnedReader};
+ghost use Rattle.hull_shared.specs.Readings.{HasReportedNewest, HasSnapshotTakenIn};
 ghost use Rattle.hull_shared.specs.Reopenings.{HasReopened};
-ghost use Rattle.hull_shared.specs.Parts.{HasEndedPart, HasReserved, HasToldRoom, HasWrittenPart};
-ghost use Rattle.hull_shared.specs.declared.part.Part.TheVariants.{Bare};
+ghost use Rattle.hull_shared.specs.Segments.{HasEndedSegment, HasReserved, HasReportedSpace, HasWrittenSegment};
+ghost use Rattle.hull_shared.specs.declared.segment.Segment.TheVariants.{Bare};
 ghost use Rattle.hull_shared.specs.declared.reader.SharedReader.TheVariants.{Vacant as NoReader};
 ghost use Rattle.hull_shared.specs.declared.seat.SharedSeat.TheVariants.{Vacant};
 
-mod admitting;
+mod acquiring;
 mod answer;
 mod book;
 mod closing;
-mod desk;
 mod draining;
 mod gate;
 mod law;
-mod lending;
 mod limits;
 mod lock;
 mod looking;
 mod opening;
-mod part;
-mod parts;
 mod pieces;
 mod place;
 mod places;
+mod publishing;
 mod reader;
 mod reading;
 mod reopening;
 mod seat;
+mod segment;
+mod segments;
 mod serving;
+mod setting_readers;
 mod setting_up;
-mod telling;
+mod shared_hull;
 #[cfg(test)]
 mod tests;
 mod threads;
 
-use desk::{Desk, FreshDesk};
 use hull_reply::{HullPoint, HullReply};
-pub use law::{answers_at_desks_are_of_lines, headline_holds_of_desks, views_are_of_the_journal};
+pub use law::{
+    answers_at_shared_hulls_are_of_lines, headline_holds_of_shared_hulls,
+    snapshots_are_of_the_journal,
+};
 pub use looking::SeatReply;
-use part::Part;
 use reader::SharedReader;
-pub use reading::ViewReply;
+pub use reading::SnapshotReply;
 use seat::SharedSeat;
+use segment::Segment;
+use shared_hull::{FreshSharedHull, SharedHull};
 use std::alloc::Global;
-pub use threads::rooms_go_to_any_thread;
+pub use threads::storages_go_to_any_thread;
 
 /// Returns the size of the storage of a shared hull, in bytes.
 #[unsafe(no_mangle)]
-pub extern "C" fn hull_shared_desk_size() -> usize
-    ensures { result ≡ room_size desk_row }
+pub extern "C" fn hull_shared_size() -> usize
+    ensures { result ≡ storage_size shared_hull_row }
 {
-    size_of::<Desk>()
+    size_of::<SharedHull>()
 }
 
 /// Returns the alignment of the storage of a shared hull, in bytes.
 #[unsafe(no_mangle)]
-pub extern "C" fn hull_shared_desk_alignment() -> usize
-    ensures { result ≡ room_alignment desk_row }
+pub extern "C" fn hull_shared_alignment() -> usize
+    ensures { result ≡ storage_alignment shared_hull_row }
 {
-    align_of::<Desk>()
+    align_of::<SharedHull>()
 }
 
 /// Returns the size of the storage of a seat, in bytes.
 #[unsafe(no_mangle)]
 pub extern "C" fn hull_shared_seat_size() -> usize
-    ensures { result ≡ room_size seat_row }
+    ensures { result ≡ storage_size seat_row }
 {
     size_of::<SharedSeat>()
 }
@@ -110,31 +113,31 @@ pub extern "C" fn hull_shared_seat_size() -> usize
 /// Returns the alignment of the storage of a seat, in bytes.
 #[unsafe(no_mangle)]
 pub extern "C" fn hull_shared_seat_alignment() -> usize
-    ensures { result ≡ room_alignment seat_row }
+    ensures { result ≡ storage_alignment seat_row }
 {
     align_of::<SharedSeat>()
 }
 
 /// Returns the size of the storage of a segment of a journal, in bytes.
 #[unsafe(no_mangle)]
-pub extern "C" fn hull_shared_part_size() -> usize
-    ensures { result ≡ room_size part_row }
+pub extern "C" fn hull_shared_segment_size() -> usize
+    ensures { result ≡ storage_size segment_row }
 {
-    size_of::<Part>()
+    size_of::<Segment>()
 }
 
 /// Returns the alignment of the storage of a segment, in bytes.
 #[unsafe(no_mangle)]
-pub extern "C" fn hull_shared_part_alignment() -> usize
-    ensures { result ≡ room_alignment part_row }
+pub extern "C" fn hull_shared_segment_alignment() -> usize
+    ensures { result ≡ storage_alignment segment_row }
 {
-    align_of::<Part>()
+    align_of::<Segment>()
 }
 
 /// Returns the size of the storage of a reader, in bytes.
 #[unsafe(no_mangle)]
 pub extern "C" fn hull_shared_reader_size() -> usize
-    ensures { result ≡ room_size reader_row }
+    ensures { result ≡ storage_size reader_row }
 {
     size_of::<SharedReader>()
 }
@@ -142,16 +145,16 @@ pub extern "C" fn hull_shared_reader_size() -> usize
 /// Returns the alignment of the storage of a reader, in bytes.
 #[unsafe(no_mangle)]
 pub extern "C" fn hull_shared_reader_alignment() -> usize
-    ensures { result ≡ room_alignment reader_row }
+    ensures { result ≡ storage_alignment reader_row }
 {
     align_of::<SharedReader>()
 }
 
 /// Makes a shared hull that is not open.
-fn fresh_desk() -> Desk
+fn fresh_shared_hull() -> SharedHull
     ensures { IsFreshForNone result }
 {
-    Desk::Fresh(FreshDesk::of_none())
+    SharedHull::Fresh(FreshSharedHull::of_none())
 }
 
 /// Makes storage with no seat.
@@ -169,40 +172,40 @@ fn no_reader() -> SharedReader
 }
 
 /// Makes a segment that contains nothing.
-fn bare_part() -> Part
+fn bare_segment() -> Segment
     ensures { result ≡ Bare }
 {
-    Part::Bare
+    Segment::Bare
 }
 
 /// Makes a shared hull in its storage, which is not open and contains nothing.
 ///
 /// # Safety
 ///
-/// `room` has [`hull_shared_desk_size`] bytes at a multiple of [`hull_shared_desk_alignment`], which nothing else
+/// `storage` has [`hull_shared_size`] bytes at a multiple of [`hull_shared_alignment`], which nothing else
 /// uses.
 #[unsafe(no_mangle)]
-pub unsafe extern "C" fn hull_shared_make_desk(room: *mut u8)
-    requires* { sem 𝓛 (room_at desk_row room) }
-    ensures* { sem 𝓛 (leaves desk_row room IsFreshForNone) }
+pub unsafe extern "C" fn hull_shared_make(storage: *mut u8)
+    requires* { sem 𝓛 (room_at shared_hull_row storage) }
+    ensures* { sem 𝓛 (leaves shared_hull_row storage IsFreshForNone) }
 {
-    let at = room as *mut Desk;
-    let desk = fresh_desk();
-    unsafe { at.write(desk) };
+    let at = storage as *mut SharedHull;
+    let shared_hull = fresh_shared_hull();
+    unsafe { at.write(shared_hull) };
 }
 
 /// Makes storage for a seat, with no seat in it.
 ///
 /// # Safety
 ///
-/// `room` has [`hull_shared_seat_size`] bytes at a multiple of [`hull_shared_seat_alignment`], which nothing else
+/// `storage` has [`hull_shared_seat_size`] bytes at a multiple of [`hull_shared_seat_alignment`], which nothing else
 /// uses.
 #[unsafe(no_mangle)]
-pub unsafe extern "C" fn hull_shared_make_seat(room: *mut u8)
-    requires* { sem 𝓛 (room_at seat_row room) }
-    ensures* { sem 𝓛 (leaves seat_row room (λ new. new ≡ Vacant)) }
+pub unsafe extern "C" fn hull_shared_make_seat(storage: *mut u8)
+    requires* { sem 𝓛 (room_at seat_row storage) }
+    ensures* { sem 𝓛 (leaves seat_row storage (λ new. new ≡ Vacant)) }
 {
-    let at = room as *mut SharedSeat;
+    let at = storage as *mut SharedSeat;
     let seat = vacant_seat();
     unsafe { at.write(seat) };
 }
@@ -211,14 +214,14 @@ pub unsafe extern "C" fn hull_shared_make_seat(room: *mut u8)
 ///
 /// # Safety
 ///
-/// `room` has [`hull_shared_reader_size`] bytes at a multiple of [`hull_shared_reader_alignment`], which nothing else
+/// `storage` has [`hull_shared_reader_size`] bytes at a multiple of [`hull_shared_reader_alignment`], which nothing else
 /// uses.
 #[unsafe(no_mangle)]
-pub unsafe extern "C" fn hull_shared_make_reader(room: *mut u8)
-    requires* { sem 𝓛 (room_at reader_row room) }
-    ensures* { sem 𝓛 (leaves reader_row room (λ new. new ≡ NoReader)) }
+pub unsafe extern "C" fn hull_shared_make_reader(storage: *mut u8)
+    requires* { sem 𝓛 (room_at reader_row storage) }
+    ensures* { sem 𝓛 (leaves reader_row storage (λ new. new ≡ NoReader)) }
 {
-    let at = room as *mut SharedReader;
+    let at = storage as *mut SharedReader;
     let reader = no_reader();
     unsafe { at.write(reader) };
 }
@@ -227,16 +230,16 @@ pub unsafe extern "C" fn hull_shared_make_reader(room: *mut u8)
 ///
 /// # Safety
 ///
-/// `room` has [`hull_shared_part_size`] bytes at a multiple of [`hull_shared_part_alignment`], which nothing else
+/// `storage` has [`hull_shared_segment_size`] bytes at a multiple of [`hull_shared_segment_alignment`], which nothing else
 /// uses.
 #[unsafe(no_mangle)]
-pub unsafe extern "C" fn hull_shared_make_part(room: *mut u8)
-    requires* { sem 𝓛 (room_at part_row room) }
-    ensures* { sem 𝓛 (leaves part_row room (λ new. new ≡ Bare)) }
+pub unsafe extern "C" fn hull_shared_make_segment(storage: *mut u8)
+    requires* { sem 𝓛 (room_at segment_row storage) }
+    ensures* { sem 𝓛 (leaves segment_row storage (λ new. new ≡ Bare)) }
 {
-    let at = room as *mut Part;
-    let part = bare_part();
-    unsafe { at.write(part) };
+    let at = storage as *mut Segment;
+    let segment = bare_segment();
+    unsafe { at.write(segment) };
 }
 
 /// Opens a shared hull round an empty set: for up to `limit` different points, `capacity` calls whose numbers begin
@@ -254,13 +257,20 @@ pub unsafe extern "C" fn hull_shared_open(
     capacity: u32,
     seats: u32,
 ) -> u32
-    ghost t: { desk_row.Denot }
-    requires* { sem 𝓛 (lies_at desk_row full_share at t) }
-    ensures* { sem 𝓛 (leaves desk_row at
+    ghost t: { shared_hull_row.Denot }
+    requires* { sem 𝓛 (lies_at shared_hull_row full_share at t) }
+    ensures* { sem 𝓛 (leaves shared_hull_row at
         (λ new. HasOpened (kept_with limit first capacity seats false) t new result)) }
 {
-    let desk = at as *mut Desk;
-    opening::open(unsafe { &mut *desk }, alloc, limit, first, capacity, seats)
+    let shared_hull = at as *mut SharedHull;
+    opening::open(
+        unsafe { &mut *shared_hull },
+        alloc,
+        limit,
+        first,
+        capacity,
+        seats,
+    )
 }
 
 /// Opens a shared hull as [`hull_shared_open`] does, but one that also answers questions when the book is full: such
@@ -278,13 +288,20 @@ pub unsafe extern "C" fn hull_shared_open_answering(
     capacity: u32,
     seats: u32,
 ) -> u32
-    ghost t: { desk_row.Denot }
-    requires* { sem 𝓛 (lies_at desk_row full_share at t) }
-    ensures* { sem 𝓛 (leaves desk_row at
+    ghost t: { shared_hull_row.Denot }
+    requires* { sem 𝓛 (lies_at shared_hull_row full_share at t) }
+    ensures* { sem 𝓛 (leaves shared_hull_row at
         (λ new. HasOpened (kept_with limit first capacity seats true) t new result)) }
 {
-    let desk = at as *mut Desk;
-    opening::open_answering(unsafe { &mut *desk }, alloc, limit, first, capacity, seats)
+    let shared_hull = at as *mut SharedHull;
+    opening::open_answering(
+        unsafe { &mut *shared_hull },
+        alloc,
+        limit,
+        first,
+        capacity,
+        seats,
+    )
 }
 
 /// Opens a shared hull as [`hull_shared_open`] does, but one that discards the line of each call.
@@ -300,13 +317,13 @@ pub unsafe extern "C" fn hull_shared_open_without_journal(
     first: u64,
     seats: u32,
 ) -> u32
-    ghost t: { desk_row.Denot }
-    requires* { sem 𝓛 (lies_at desk_row full_share at t) }
-    ensures* { sem 𝓛 (leaves desk_row at
+    ghost t: { shared_hull_row.Denot }
+    requires* { sem 𝓛 (lies_at shared_hull_row full_share at t) }
+    ensures* { sem 𝓛 (leaves shared_hull_row at
         (λ new. HasOpened (unkept_with limit first seats) t new result)) }
 {
-    let desk = at as *mut Desk;
-    opening::open_without_journal(unsafe { &mut *desk }, alloc, limit, first, seats)
+    let shared_hull = at as *mut SharedHull;
+    opening::open_without_journal(unsafe { &mut *shared_hull }, alloc, limit, first, seats)
 }
 
 /// Opens a shared hull round a set with the points that a journal left, which continues where the journal ends.
@@ -324,12 +341,12 @@ pub unsafe extern "C" fn hull_shared_reopen(
     capacity: u32,
     seats: u32,
 ) -> HullReply
-    ghost t: { desk_row.Denot }
-    requires* { sem 𝓛 (lies_at desk_row full_share at t) }
-    ensures* { sem 𝓛 (leaves desk_row at (λ new. HasReopened text.now capacity seats false t new result)) }
+    ghost t: { shared_hull_row.Denot }
+    requires* { sem 𝓛 (lies_at shared_hull_row full_share at t) }
+    ensures* { sem 𝓛 (leaves shared_hull_row at (λ new. HasReopened text.now capacity seats false t new result)) }
 {
-    let desk = at as *mut Desk;
-    reopening::reopen(unsafe { &mut *desk }, alloc, text, capacity, seats)
+    let shared_hull = at as *mut SharedHull;
+    reopening::reopen(unsafe { &mut *shared_hull }, alloc, text, capacity, seats)
 }
 
 /// Opens a shared hull as [`hull_shared_reopen`] does, but one that also answers questions when the book is full.
@@ -345,48 +362,48 @@ pub unsafe extern "C" fn hull_shared_reopen_answering(
     capacity: u32,
     seats: u32,
 ) -> HullReply
-    ghost t: { desk_row.Denot }
-    requires* { sem 𝓛 (lies_at desk_row full_share at t) }
-    ensures* { sem 𝓛 (leaves desk_row at (λ new. HasReopened text.now capacity seats true t new result)) }
+    ghost t: { shared_hull_row.Denot }
+    requires* { sem 𝓛 (lies_at shared_hull_row full_share at t) }
+    ensures* { sem 𝓛 (leaves shared_hull_row at (λ new. HasReopened text.now capacity seats true t new result)) }
 {
-    let desk = at as *mut Desk;
-    reopening::reopen_answering(unsafe { &mut *desk }, alloc, text, capacity, seats)
+    let shared_hull = at as *mut SharedHull;
+    reopening::reopen_answering(unsafe { &mut *shared_hull }, alloc, text, capacity, seats)
 }
 
 /// Moves the seat of a number out of its shared hull, into storage.
 ///
 /// # Safety
 ///
-/// `at` points to a shared hull and `room` to storage for a seat, and no other call on either is under way.
+/// `at` points to a shared hull and `storage` to storage for a seat, and no other call on either is under way.
 #[unsafe(no_mangle)]
-pub unsafe extern "C" fn hull_shared_lend(at: *mut u8, room: *mut u8, number: u32) -> u32
-    ghost t: { desk_row.Denot × seat_row.Denot }
-    requires* desk { sem 𝓛 (lies_at desk_row full_share at t.0) }
-    requires* room { sem 𝓛 (lies_at seat_row full_share room t.1) }
-    ensures* { sem 𝓛 (leaves_both desk_row seat_row at room (λ new left. HasLent number t.0 new t.1 left result)) }
+pub unsafe extern "C" fn hull_shared_acquire_seat(at: *mut u8, storage: *mut u8, number: u32) -> u32
+    ghost t: { shared_hull_row.Denot × seat_row.Denot }
+    requires* shared_hull { sem 𝓛 (lies_at shared_hull_row full_share at t.0) }
+    requires* storage { sem 𝓛 (lies_at seat_row full_share storage t.1) }
+    ensures* { sem 𝓛 (leaves_both shared_hull_row seat_row at storage (λ new left. HasAcquired number t.0 new t.1 left result)) }
 {
-    let desk = at as *mut Desk;
-    let seat = room as *mut SharedSeat;
-    lending::lend(unsafe { &mut *desk }, unsafe { &mut *seat }, number)
+    let shared_hull = at as *mut SharedHull;
+    let seat = storage as *mut SharedSeat;
+    acquiring::acquire(unsafe { &mut *shared_hull }, unsafe { &mut *seat }, number)
 }
 
 /// Moves the seat in the storage back to its shared hull.
 ///
 /// # Safety
 ///
-/// `at` points to a shared hull and `room` to storage for a seat; a seat in it was acquired from that shared hull;
+/// `at` points to a shared hull and `storage` to storage for a seat; a seat in it was acquired from that shared hull;
 /// and no other call on either is under way.
 #[unsafe(no_mangle)]
-pub unsafe extern "C" fn hull_shared_give_back(at: *mut u8, room: *mut u8) -> u32
-    ghost t: { desk_row.Denot × seat_row.Denot }
-    requires own { IsSeatOfDesk t.0 t.1 }
-    requires* desk { sem 𝓛 (lies_at desk_row full_share at t.0) }
-    requires* room { sem 𝓛 (lies_at seat_row full_share room t.1) }
-    ensures* { sem 𝓛 (leaves_both desk_row seat_row at room (λ new left. HasReturned t.0 new t.1 left result)) }
+pub unsafe extern "C" fn hull_shared_release_seat(at: *mut u8, storage: *mut u8) -> u32
+    ghost t: { shared_hull_row.Denot × seat_row.Denot }
+    requires own { IsSeatOfSharedHull t.0 t.1 }
+    requires* shared_hull { sem 𝓛 (lies_at shared_hull_row full_share at t.0) }
+    requires* storage { sem 𝓛 (lies_at seat_row full_share storage t.1) }
+    ensures* { sem 𝓛 (leaves_both shared_hull_row seat_row at storage (λ new left. HasReturned t.0 new t.1 left result)) }
 {
-    let desk = at as *mut Desk;
-    let seat = room as *mut SharedSeat;
-    lending::give_back(unsafe { &mut *desk }, unsafe { &mut *seat })
+    let shared_hull = at as *mut SharedHull;
+    let seat = storage as *mut SharedSeat;
+    acquiring::release(unsafe { &mut *shared_hull }, unsafe { &mut *seat })
 }
 
 /// Takes a number for a call, by its kind and a point or a direction.
@@ -441,13 +458,13 @@ pub unsafe extern "C" fn hull_shared_look_into(at: *mut u8, out: &mut [HullPoint
 ///
 /// `at` points to a segment, and no other call on it is under way.
 #[unsafe(no_mangle)]
-pub unsafe extern "C" fn hull_shared_part_reserve(at: *mut u8, alloc: Global, lines: u32) -> u32
-    ghost t: { part_row.Denot }
-    requires* { sem 𝓛 (lies_at part_row full_share at t) }
-    ensures* { sem 𝓛 (leaves part_row at (λ new. HasReserved lines t new result)) }
+pub unsafe extern "C" fn hull_shared_segment_reserve(at: *mut u8, alloc: Global, lines: u32) -> u32
+    ghost t: { segment_row.Denot }
+    requires* { sem 𝓛 (lies_at segment_row full_share at t) }
+    ensures* { sem 𝓛 (leaves segment_row at (λ new. HasReserved lines t new result)) }
 {
-    let part = at as *mut Part;
-    parts::reserve(unsafe { &mut *part }, alloc, lines)
+    let segment = at as *mut Segment;
+    segments::reserve(unsafe { &mut *segment }, alloc, lines)
 }
 
 /// Returns for how many lines a segment has storage, or 0 if it has none.
@@ -456,13 +473,13 @@ pub unsafe extern "C" fn hull_shared_part_reserve(at: *mut u8, alloc: Global, li
 ///
 /// `at` points to a segment, and no other call on it is under way.
 #[unsafe(no_mangle)]
-pub unsafe extern "C" fn hull_shared_part_room(at: *mut u8) -> u32
-    ghost t: { part_row.Denot }
-    requires* { sem 𝓛 (lies_at part_row full_share at t) }
-    ensures* { sem 𝓛 (leaves part_row at (λ new. HasToldRoom t new result)) }
+pub unsafe extern "C" fn hull_shared_segment_space(at: *mut u8) -> u32
+    ghost t: { segment_row.Denot }
+    requires* { sem 𝓛 (lies_at segment_row full_share at t) }
+    ensures* { sem 𝓛 (leaves segment_row at (λ new. HasReportedSpace t new result)) }
 {
-    let part = at as *mut Part;
-    parts::room(unsafe { &mut *part })
+    let segment = at as *mut Segment;
+    segments::storage(unsafe { &mut *segment })
 }
 
 /// Returns how many lines the book of a seat's shared hull may contain, or 0 if the storage has no seat.
@@ -474,7 +491,7 @@ pub unsafe extern "C" fn hull_shared_part_room(at: *mut u8) -> u32
 pub unsafe extern "C" fn hull_shared_capacity(at: *mut u8) -> u32
     ghost t: { seat_row.Denot }
     requires* { sem 𝓛 (lies_at seat_row full_share at t) }
-    ensures* { sem 𝓛 (leaves seat_row at (λ new. HasToldCapacity t new result)) }
+    ensures* { sem 𝓛 (leaves seat_row at (λ new. HasReportedCapacity t new result)) }
 {
     let seat = at as *mut SharedSeat;
     looking::capacity(unsafe { &mut *seat })
@@ -485,16 +502,16 @@ pub unsafe extern "C" fn hull_shared_capacity(at: *mut u8) -> u32
 ///
 /// # Safety
 ///
-/// `at` points to storage for a seat and `part` to a segment, and no other call on either is under way.
+/// `at` points to storage for a seat and `segment` to a segment, and no other call on either is under way.
 #[unsafe(no_mangle)]
-pub unsafe extern "C" fn hull_shared_look_and_drain(at: *mut u8, part: *mut u8) -> SeatReply
-    ghost t: { seat_row.Denot × part_row.Denot }
+pub unsafe extern "C" fn hull_shared_look_and_drain(at: *mut u8, segment: *mut u8) -> SeatReply
+    ghost t: { seat_row.Denot × segment_row.Denot }
     requires* seat { sem 𝓛 (lies_at seat_row full_share at t.0) }
-    requires* part { sem 𝓛 (lies_at part_row full_share part t.1) }
-    ensures* { sem 𝓛 (leaves_both seat_row part_row at part (λ new left. HasRepliedWith t.0 new t.1 left result)) }
+    requires* segment { sem 𝓛 (lies_at segment_row full_share segment t.1) }
+    ensures* { sem 𝓛 (leaves_both seat_row segment_row at segment (λ new left. HasRepliedWith t.0 new t.1 left result)) }
 {
     let seat = at as *mut SharedSeat;
-    let lines = part as *mut Part;
+    let lines = segment as *mut Segment;
     draining::look_and_drain(unsafe { &mut *seat }, unsafe { &mut *lines })
 }
 
@@ -504,13 +521,13 @@ pub unsafe extern "C" fn hull_shared_look_and_drain(at: *mut u8, part: *mut u8) 
 ///
 /// `at` points to a segment, and no other call on it is under way.
 #[unsafe(no_mangle)]
-pub unsafe extern "C" fn hull_shared_part_text(at: *mut u8, out: &mut [u8]) -> HullReply
-    ghost t: { part_row.Denot }
-    requires* { sem 𝓛 (lies_at part_row full_share at t) }
-    ensures* { sem 𝓛 (leaves part_row at (λ new. HasWrittenPart t new out.old out.new result)) }
+pub unsafe extern "C" fn hull_shared_segment_text(at: *mut u8, out: &mut [u8]) -> HullReply
+    ghost t: { segment_row.Denot }
+    requires* { sem 𝓛 (lies_at segment_row full_share at t) }
+    ensures* { sem 𝓛 (leaves segment_row at (λ new. HasWrittenSegment t new out.old out.new result)) }
 {
-    let part = at as *mut Part;
-    parts::text(unsafe { &mut *part }, out)
+    let segment = at as *mut Segment;
+    segments::text(unsafe { &mut *segment }, out)
 }
 
 /// Writes whole lines of the text of a segment's lines to the front of an array, from line `from` of the text on,
@@ -520,17 +537,17 @@ pub unsafe extern "C" fn hull_shared_part_text(at: *mut u8, out: &mut [u8]) -> H
 ///
 /// `at` points to a segment, and no other call on it is under way.
 #[unsafe(no_mangle)]
-pub unsafe extern "C" fn hull_shared_part_text_from(
+pub unsafe extern "C" fn hull_shared_segment_text_from(
     at: *mut u8,
     from: u64,
     out: &mut [u8],
 ) -> HullReply
-    ghost t: { part_row.Denot }
-    requires* { sem 𝓛 (lies_at part_row full_share at t) }
-    ensures* { sem 𝓛 (leaves part_row at (λ new. HasWrittenPiece from t new out.old out.new result)) }
+    ghost t: { segment_row.Denot }
+    requires* { sem 𝓛 (lies_at segment_row full_share at t) }
+    ensures* { sem 𝓛 (leaves segment_row at (λ new. HasWrittenPiece from t new out.old out.new result)) }
 {
-    let part = at as *mut Part;
-    pieces::text_from(unsafe { &mut *part }, from, out)
+    let segment = at as *mut Segment;
+    pieces::text_from(unsafe { &mut *segment }, from, out)
 }
 
 /// Frees the memory of a segment: it contains nothing then, and its storage may be used for anything.
@@ -539,13 +556,13 @@ pub unsafe extern "C" fn hull_shared_part_text_from(
 ///
 /// `at` points to a segment, and no other call on it is under way.
 #[unsafe(no_mangle)]
-pub unsafe extern "C" fn hull_shared_part_end(at: *mut u8) -> u32
-    ghost t: { part_row.Denot }
-    requires* { sem 𝓛 (lies_at part_row full_share at t) }
-    ensures* { sem 𝓛 (leaves part_row at (λ new. HasEndedPart t new result)) }
+pub unsafe extern "C" fn hull_shared_segment_end(at: *mut u8) -> u32
+    ghost t: { segment_row.Denot }
+    requires* { sem 𝓛 (lies_at segment_row full_share at t) }
+    ensures* { sem 𝓛 (leaves segment_row at (λ new. HasEndedSegment t new result)) }
 {
-    let part = at as *mut Part;
-    parts::end(unsafe { &mut *part })
+    let segment = at as *mut Segment;
+    segments::end(unsafe { &mut *segment })
 }
 
 /// Sets for how many readers a shared hull is opened.
@@ -554,48 +571,48 @@ pub unsafe extern "C" fn hull_shared_part_end(at: *mut u8) -> u32
 ///
 /// `at` points to a shared hull, and no other call on it is under way.
 #[unsafe(no_mangle)]
-pub unsafe extern "C" fn hull_shared_admit(at: *mut u8, readers: u32) -> u32
-    ghost t: { desk_row.Denot }
-    requires* { sem 𝓛 (lies_at desk_row full_share at t) }
-    ensures* { sem 𝓛 (leaves desk_row at (λ new. HasAdmitted readers t new result)) }
+pub unsafe extern "C" fn hull_shared_set_max_readers(at: *mut u8, readers: u32) -> u32
+    ghost t: { shared_hull_row.Denot }
+    requires* { sem 𝓛 (lies_at shared_hull_row full_share at t) }
+    ensures* { sem 𝓛 (leaves shared_hull_row at (λ new. HasSetReaders readers t new result)) }
 {
-    let desk = at as *mut Desk;
-    reading::admit(unsafe { &mut *desk }, readers)
+    let shared_hull = at as *mut SharedHull;
+    reading::set_max_readers(unsafe { &mut *shared_hull }, readers)
 }
 
 /// Moves a reader out of its shared hull, into storage.
 ///
 /// # Safety
 ///
-/// `at` points to a shared hull and `room` to storage for a reader, and no other call on either is under way.
+/// `at` points to a shared hull and `storage` to storage for a reader, and no other call on either is under way.
 #[unsafe(no_mangle)]
-pub unsafe extern "C" fn hull_shared_lend_reader(at: *mut u8, room: *mut u8) -> u32
-    ghost t: { desk_row.Denot × reader_row.Denot }
-    requires* desk { sem 𝓛 (lies_at desk_row full_share at t.0) }
-    requires* room { sem 𝓛 (lies_at reader_row full_share room t.1) }
-    ensures* { sem 𝓛 (leaves_both desk_row reader_row at room (λ new left. HasLentReader t.0 new t.1 left result)) }
+pub unsafe extern "C" fn hull_shared_acquire_reader(at: *mut u8, storage: *mut u8) -> u32
+    ghost t: { shared_hull_row.Denot × reader_row.Denot }
+    requires* shared_hull { sem 𝓛 (lies_at shared_hull_row full_share at t.0) }
+    requires* storage { sem 𝓛 (lies_at reader_row full_share storage t.1) }
+    ensures* { sem 𝓛 (leaves_both shared_hull_row reader_row at storage (λ new left. HasAcquiredReader t.0 new t.1 left result)) }
 {
-    let desk = at as *mut Desk;
-    let reader = room as *mut SharedReader;
-    reading::lend_reader(unsafe { &mut *desk }, unsafe { &mut *reader })
+    let shared_hull = at as *mut SharedHull;
+    let reader = storage as *mut SharedReader;
+    reading::acquire_reader(unsafe { &mut *shared_hull }, unsafe { &mut *reader })
 }
 
 /// Moves the reader in the storage back to its shared hull, and drops its snapshot.
 ///
 /// # Safety
 ///
-/// `at` points to a shared hull and `room` to storage for a reader; a reader in it was acquired from that shared
+/// `at` points to a shared hull and `storage` to storage for a reader; a reader in it was acquired from that shared
 /// hull; and no other call on either is under way.
 #[unsafe(no_mangle)]
-pub unsafe extern "C" fn hull_shared_return_reader(at: *mut u8, room: *mut u8) -> u32
-    ghost t: { desk_row.Denot × reader_row.Denot }
-    requires* desk { sem 𝓛 (lies_at desk_row full_share at t.0) }
-    requires* room { sem 𝓛 (lies_at reader_row full_share room t.1) }
-    ensures* { sem 𝓛 (leaves_both desk_row reader_row at room (λ new left. HasReturnedReader t.0 new t.1 left result)) }
+pub unsafe extern "C" fn hull_shared_release_reader(at: *mut u8, storage: *mut u8) -> u32
+    ghost t: { shared_hull_row.Denot × reader_row.Denot }
+    requires* shared_hull { sem 𝓛 (lies_at shared_hull_row full_share at t.0) }
+    requires* storage { sem 𝓛 (lies_at reader_row full_share storage t.1) }
+    ensures* { sem 𝓛 (leaves_both shared_hull_row reader_row at storage (λ new left. HasReturnedReader t.0 new t.1 left result)) }
 {
-    let desk = at as *mut Desk;
-    let reader = room as *mut SharedReader;
-    reading::return_reader(unsafe { &mut *desk }, unsafe { &mut *reader })
+    let shared_hull = at as *mut SharedHull;
+    let reader = storage as *mut SharedReader;
+    reading::return_reader(unsafe { &mut *shared_hull }, unsafe { &mut *reader })
 }
 
 /// Takes the newest snapshot, in a few atomic steps without a lock, and returns its numbers.
@@ -604,13 +621,13 @@ pub unsafe extern "C" fn hull_shared_return_reader(at: *mut u8, room: *mut u8) -
 ///
 /// `at` points to storage for a reader, and no other call on it is under way.
 #[unsafe(no_mangle)]
-pub unsafe extern "C" fn hull_shared_read(at: *mut u8) -> ViewReply
+pub unsafe extern "C" fn hull_shared_read(at: *mut u8) -> SnapshotReply
     ghost t: { reader_row.Denot }
     requires* { sem 𝓛 (lies_at reader_row full_share at t) }
-    ensures* { sem 𝓛 (leaves reader_row at (λ new. HasViewedIn t new result)) }
+    ensures* { sem 𝓛 (leaves reader_row at (λ new. HasSnapshotTakenIn t new result)) }
 {
     let reader = at as *mut SharedReader;
-    reading::view(unsafe { &mut *reader })
+    reading::snapshot(unsafe { &mut *reader })
 }
 
 /// Writes the vertices of the reader's snapshot to the front of an array.
@@ -619,13 +636,16 @@ pub unsafe extern "C" fn hull_shared_read(at: *mut u8) -> ViewReply
 ///
 /// `at` points to storage for a reader, and no other call on it is under way.
 #[unsafe(no_mangle)]
-pub unsafe extern "C" fn hull_shared_view_corners(at: *mut u8, out: &mut [HullPoint]) -> HullReply
+pub unsafe extern "C" fn hull_shared_snapshot_vertices(
+    at: *mut u8,
+    out: &mut [HullPoint],
+) -> HullReply
     ghost t: { reader_row.Denot }
     requires* { sem 𝓛 (lies_at reader_row full_share at t) }
-    ensures* { sem 𝓛 (leaves reader_row at (λ new. HasPutView t new out.old out.new result)) }
+    ensures* { sem 𝓛 (leaves reader_row at (λ new. HasPutSnapshot t new out.old out.new result)) }
 {
     let reader = at as *mut SharedReader;
-    reading::put_view(unsafe { &mut *reader }, out)
+    reading::put_snapshot(unsafe { &mut *reader }, out)
 }
 
 /// Returns 1 if the reader's snapshot is the newest, and else 0.
@@ -637,7 +657,7 @@ pub unsafe extern "C" fn hull_shared_view_corners(at: *mut u8, out: &mut [HullPo
 pub unsafe extern "C" fn hull_shared_is_newest(at: *mut u8) -> u32
     ghost t: { reader_row.Denot }
     requires* { sem 𝓛 (lies_at reader_row full_share at t) }
-    ensures* { sem 𝓛 (leaves reader_row at (λ new. HasToldNewest t new result)) }
+    ensures* { sem 𝓛 (leaves reader_row at (λ new. HasReportedNewest t new result)) }
 {
     let reader = at as *mut SharedReader;
     reading::is_newest(unsafe { &mut *reader })
@@ -650,12 +670,12 @@ pub unsafe extern "C" fn hull_shared_is_newest(at: *mut u8) -> u32
 /// `at` points to a shared hull, and no other call on it is under way.
 #[unsafe(no_mangle)]
 pub unsafe extern "C" fn hull_shared_close(at: *mut u8) -> u32
-    ghost t: { desk_row.Denot }
-    requires* { sem 𝓛 (lies_at desk_row full_share at t) }
-    ensures* { sem 𝓛 (leaves desk_row at (λ new. HasClosed t new result)) }
+    ghost t: { shared_hull_row.Denot }
+    requires* { sem 𝓛 (lies_at shared_hull_row full_share at t) }
+    ensures* { sem 𝓛 (leaves shared_hull_row at (λ new. HasClosed t new result)) }
 {
-    let desk = at as *mut Desk;
-    closing::close(unsafe { &mut *desk })
+    let shared_hull = at as *mut SharedHull;
+    closing::close(unsafe { &mut *shared_hull })
 }
 
 /// Writes the text of the last segment of a closed shared hull's journal, the lines still in its book, to the front
@@ -666,12 +686,12 @@ pub unsafe extern "C" fn hull_shared_close(at: *mut u8) -> u32
 /// `at` points to a shared hull, and no other call on it is under way.
 #[unsafe(no_mangle)]
 pub unsafe extern "C" fn hull_shared_text(at: *mut u8, out: &mut [u8]) -> HullReply
-    ghost t: { desk_row.Denot }
-    requires* { sem 𝓛 (lies_at desk_row full_share at t) }
-    ensures* { sem 𝓛 (leaves desk_row at (λ new. HasWritten t new out.old out.new result)) }
+    ghost t: { shared_hull_row.Denot }
+    requires* { sem 𝓛 (lies_at shared_hull_row full_share at t) }
+    ensures* { sem 𝓛 (leaves shared_hull_row at (λ new. HasWritten t new out.old out.new result)) }
 {
-    let desk = at as *mut Desk;
-    closing::text(unsafe { &mut *desk }, out)
+    let shared_hull = at as *mut SharedHull;
+    closing::text(unsafe { &mut *shared_hull }, out)
 }
 
 /// Writes whole lines of that text to the front of an array, from line `from` of it on, counted from 0: as many as
@@ -682,12 +702,12 @@ pub unsafe extern "C" fn hull_shared_text(at: *mut u8, out: &mut [u8]) -> HullRe
 /// `at` points to a shared hull, and no other call on it is under way.
 #[unsafe(no_mangle)]
 pub unsafe extern "C" fn hull_shared_text_from(at: *mut u8, from: u64, out: &mut [u8]) -> HullReply
-    ghost t: { desk_row.Denot }
-    requires* { sem 𝓛 (lies_at desk_row full_share at t) }
-    ensures* { sem 𝓛 (leaves desk_row at (λ new. HasWrittenPieceOfDesk from t new out.old out.new result)) }
+    ghost t: { shared_hull_row.Denot }
+    requires* { sem 𝓛 (lies_at shared_hull_row full_share at t) }
+    ensures* { sem 𝓛 (leaves shared_hull_row at (λ new. HasWrittenPieceOfSharedHull from t new out.old out.new result)) }
 {
-    let desk = at as *mut Desk;
-    pieces::desk_text_from(unsafe { &mut *desk }, from, out)
+    let shared_hull = at as *mut SharedHull;
+    pieces::shared_hull_text_from(unsafe { &mut *shared_hull }, from, out)
 }
 
 /// Ends a shared hull that is not open: it contains nothing then, and its storage may be used for anything.
@@ -697,10 +717,10 @@ pub unsafe extern "C" fn hull_shared_text_from(at: *mut u8, from: u64, out: &mut
 /// `at` points to a shared hull, and no other call on it is under way.
 #[unsafe(no_mangle)]
 pub unsafe extern "C" fn hull_shared_end(at: *mut u8) -> u32
-    ghost t: { desk_row.Denot }
-    requires* { sem 𝓛 (lies_at desk_row full_share at t) }
-    ensures* { sem 𝓛 (leaves desk_row at (λ new. HasEnded t new result)) }
+    ghost t: { shared_hull_row.Denot }
+    requires* { sem 𝓛 (lies_at shared_hull_row full_share at t) }
+    ensures* { sem 𝓛 (leaves shared_hull_row at (λ new. HasEnded t new result)) }
 {
-    let desk = at as *mut Desk;
-    closing::end(unsafe { &mut *desk })
+    let shared_hull = at as *mut SharedHull;
+    closing::end(unsafe { &mut *shared_hull })
 }

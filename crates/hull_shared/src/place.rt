@@ -1,10 +1,10 @@
 //! The seats that are not acquired.
-use crate::lock::DeskSeat;
+use crate::lock::SharedHullSeat;
 use hull_book::Ledger;
 
 /// A seat of the lock, with its ledger.
 pub(crate) struct SeatPlace {
-    pub(crate) seat: DeskSeat,
+    pub(crate) seat: SharedHullSeat,
     pub(crate) ledger: Ledger,
 }
 
@@ -12,6 +12,6 @@ pub(crate) struct SeatPlace {
 /// acquired. Beside them is capacity for all seats and all ledgers, so that closing needs no memory.
 pub(crate) struct SeatPlaces {
     pub(crate) list: Vec<Option<SeatPlace>>,
-    pub(crate) seats: Vec<DeskSeat>,
+    pub(crate) seats: Vec<SharedHullSeat>,
     pub(crate) ledgers: Vec<Ledger>,
 }

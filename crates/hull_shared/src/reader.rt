@@ -1,5 +1,5 @@
 //! A reader that is acquired.
-use hull_views::Reader;
+use hull_snapshots::Reader;
 
 /// A reader, and the number of the first line.
 #[derive(Drop)]

@@ -5,14 +5,14 @@ ghost use Rattle.hull_book.specs.Ledgers.{IsLedgerOf};
 ghost use Rattle.hull_book.specs.Marks.{plain};
 ghost use Rattle.hull_shared.specs.Locks.{boxed_head, capacity_of, lock_of, seats_of};
 
-use crate::lock::{DeskSeat, DeskTicket, SharedLock};
+use crate::lock::{SharedHullSeat, SharedHullTicket, SharedLock};
 use hull_book::Ledger;
 use hull_set::Call;
 
 /// A seat with no number.
 pub(crate) struct IdleSeat {
     pub(crate) lock: SharedLock,
-    pub(crate) seat: DeskSeat,
+    pub(crate) seat: SharedHullSeat,
     pub(crate) ledger: Ledger,
     pub(crate) number: u8,
     pub(crate) capacity: u32,
@@ -26,7 +26,7 @@ pub(crate) struct IdleSeat {
 /// A seat with a number, and the call that it will make.
 pub(crate) struct WaitingSeat {
     pub(crate) lock: SharedLock,
-    pub(crate) ticket: DeskTicket,
+    pub(crate) ticket: SharedHullTicket,
     pub(crate) ledger: Ledger,
     pub(crate) number: u8,
     pub(crate) capacity: u32,

@@ -4,17 +4,17 @@ ghost use Rattle.hull_book.specs.Books.{IsLawful};
 ghost use Rattle.hull_book.specs.Ledgers.{AreLedgers};
 ghost use Rattle.hull_book.specs.LongBooks.{whole};
 ghost use Rattle.bucket_tree.specs.Sets.{bucket_set};
-ghost use Rattle.hull_shared.specs.Desks.{IsDeskRound};
+ghost use Rattle.hull_shared.specs.SharedHulls.{IsSharedHullRound};
 ghost use Rattle.hull_shared.specs.Locks.{book_of, boxed_head, capacity_of, lock_of};
 ghost use Rattle.hull_shared.specs.Places.{AreLaidOut};
 ghost use Rattle.ticket_lock.specs.Tokens.{AreNumbered, IsSeatOf, seat_count, seat_seen};
 
-use crate::book::DeskBook;
-use crate::desk::OpenDesk;
+use crate::book::SharedHullBook;
 use crate::gate::Gate;
-use crate::lock::{DeskLock, DeskSeat};
+use crate::lock::{SharedHullLock, SharedHullSeat};
 use crate::place::SeatPlaces;
 use crate::places::{close_lock, lay_out};
+use crate::shared_hull::OpenSharedHull;
 use core::mem::ManuallyDrop;
 use hull_book::{Ledger, gather};
 use hull_set::NoMemory;
@@ -24,17 +24,17 @@ use ticket_lock::TicketLock;
 
 /// A lock that was just opened, with its seats and ledgers.
 struct NewLock {
-    lock: DeskLock,
-    seats: Vec<DeskSeat>,
+    lock: SharedHullLock,
+    seats: Vec<SharedHullSeat>,
     ledgers: Vec<Ledger>,
 }
 
 /// Moves the book to the heap, with its ledgers.
 fn boxed(
     alloc: Global,
-    book: DeskBook,
+    book: SharedHullBook,
     ledgers: Vec<Ledger>,
-) -> Result<(Box<DeskBook>, Vec<Ledger>), NoMemory>
+) -> Result<(Box<SharedHullBook>, Vec<Ledger>), NoMemory>
     requires lawful { IsLawful bucket_set (whole book.book) }
     requires ledgers { AreLedgers (whole book.book) ledgers.items }
     ensures { IfOk result (λ r. (box_value r.0 ≡ book) × (r.1 ≡ ledgers)) }
@@ -51,7 +51,7 @@ fn boxed(
 /// Makes a lock round the book.
 fn new_lock(
     alloc: Global,
-    book: Box<DeskBook>,
+    book: Box<SharedHullBook>,
     ledgers: Vec<Ledger>,
     seats: u8,
 ) -> Result<NewLock, NoMemory>
@@ -79,14 +79,14 @@ fn new_lock(
 
 /// Makes a shared hull round the lock, which it will own together with the acquired seats. If memory is refused,
 /// closes the lock again.
-fn new_desk(
+fn new_shared_hull(
     alloc: Global,
-    lock: DeskLock,
+    lock: SharedHullLock,
     seats: u8,
     capacity: u32,
     places: SeatPlaces,
     gate: Option<Gate>,
-) -> Result<OpenDesk, NoMemory>
+) -> Result<OpenSharedHull, NoMemory>
     requires capacity { capacity ≡ capacity_of lock }
     requires laid_out { AreLaidOut lock seats places }
     requires all_in { All IsSome places.list.items }
@@ -94,7 +94,7 @@ fn new_desk(
         × (d.gate ≡ gate)) }
 {
     match Arc::new(alloc, unsafe { ManuallyDrop::new_unchecked(lock) }) {
-        Ok(lock) => Ok(OpenDesk {
+        Ok(lock) => Ok(OpenSharedHull {
             alloc,
             lock,
             seats,
@@ -113,17 +113,17 @@ fn new_desk(
 /// Makes a shared hull round the book, with all its seats. If memory is refused, takes apart what was made by then.
 pub(crate) fn set_up(
     alloc: Global,
-    book: DeskBook,
+    book: SharedHullBook,
     ledgers: Vec<Ledger>,
     seats: u8,
     capacity: u32,
     gate: Option<Gate>,
-) -> Result<OpenDesk, NoMemory>
+) -> Result<OpenSharedHull, NoMemory>
     requires lawful { IsLawful bucket_set (whole book.book) }
     requires ledgers { AreLedgers (whole book.book) ledgers.items }
     requires seats { seats ≡ book.book.head.workers }
     requires capacity { capacity ≡ book.book.head.journal.capacity }
-    ensures desk { IfOk result (IsDeskRound book seats) }
+    ensures shared_hull { IfOk result (IsSharedHullRound book seats) }
     ensures gate { IfOk result (λ d. d.gate ≡ gate) }
 {
     let (book, ledgers) = boxed(alloc, book, ledgers)?;
@@ -144,5 +144,5 @@ pub(crate) fn set_up(
         ledgers,
     } = made;
     let (lock, places) = lay_out(lock, all, ledgers, list);
-    new_desk(alloc, lock, seats, capacity, places, gate)
+    new_shared_hull(alloc, lock, seats, capacity, places, gate)
 }

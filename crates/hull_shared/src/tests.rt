@@ -1,52 +1,52 @@
 //! A property that no contract can state: that calls which may be refused are served.
+use crate::acquiring::{acquire, release};
 use crate::closing::{close, end};
-use crate::desk::{Desk, FreshDesk};
-use crate::lending::{give_back, lend};
 use crate::opening::open;
 use crate::reader::SharedReader;
-use crate::reading::{admit, lend_reader, return_reader};
+use crate::reading::{acquire_reader, return_reader, set_max_readers};
 use crate::reopening::reopen;
 use crate::seat::SharedSeat;
+use crate::shared_hull::{FreshSharedHull, SharedHull};
 use hull_reply::Code;
 use std::alloc::Global;
 use std::process::Abort;
 
 /// Returns the codes of a shared hull for two seats: opening it, acquiring a seat, closing it meanwhile, releasing
 /// the seat, closing it, ending it.
-fn told_by_a_desk(rt: &impl Abort, alloc: Global) -> [u32; 6] {
-    let mut desk = Desk::Fresh(FreshDesk::of_none());
-    let mut room = SharedSeat::Vacant;
-    let opened = open(&mut desk, alloc, 4, 0, 4, 2);
-    let lent = lend(&mut desk, &mut room, 1);
-    let kept = close(&mut desk);
-    let returned = give_back(&mut desk, &mut room);
-    let closed = close(&mut desk);
-    let ended = end(&mut desk);
-    let Desk::Fresh(_) = desk else {
+fn published_by_a_shared_hull(rt: &impl Abort, alloc: Global) -> [u32; 6] {
+    let mut shared_hull = SharedHull::Fresh(FreshSharedHull::of_none());
+    let mut storage = SharedSeat::Vacant;
+    let opened = open(&mut shared_hull, alloc, 4, 0, 4, 2);
+    let lent = acquire(&mut shared_hull, &mut storage, 1);
+    let kept = close(&mut shared_hull);
+    let returned = release(&mut shared_hull, &mut storage);
+    let closed = close(&mut shared_hull);
+    let ended = end(&mut shared_hull);
+    let SharedHull::Fresh(_) = shared_hull else {
         panic!(rt; "the desk is closed")
     };
-    let SharedSeat::Vacant = room else {
+    let SharedSeat::Vacant = storage else {
         unreachable!()
     };
     [opened, lent, kept, returned, closed, ended]
 }
 
 #[test]
-fn lend_always_refuses(rt: HostRuntime) {
-    let [opened, lent, _, returned, _, _] = told_by_a_desk(&rt, rt.alloc());
+fn acquire_always_refuses(rt: HostRuntime) {
+    let [opened, lent, _, returned, _, _] = published_by_a_shared_hull(&rt, rt.alloc());
     assert_eq!(rt;
         [opened, lent, returned],
         [
             Code::Open.number(),
-            Code::Lent.number(),
-            Code::Returned.number()
+            Code::Acquired.number(),
+            Code::Released.number()
         ]
     );
 }
 
 #[test]
 fn close_always_in_use(rt: HostRuntime) {
-    let [_, _, kept, _, closed, ended] = told_by_a_desk(&rt, rt.alloc());
+    let [_, _, kept, _, closed, ended] = published_by_a_shared_hull(&rt, rt.alloc());
     assert_eq!(rt;
         [kept, closed, ended],
         [
@@ -58,39 +58,41 @@ fn close_always_in_use(rt: HostRuntime) {
 }
 
 #[test]
-fn a_text_with_no_header_is_told_as_no_journal(rt: HostRuntime) {
-    let mut desk = Desk::Fresh(FreshDesk::of_none());
-    let told = reopen(&mut desk, rt.alloc(), b"end 0\n", 4, 2);
-    let Desk::Fresh(_) = desk else { unreachable!() };
+fn a_text_with_no_header_is_encoded_as_no_journal(rt: HostRuntime) {
+    let mut shared_hull = SharedHull::Fresh(FreshSharedHull::of_none());
+    let encoded = reopen(&mut shared_hull, rt.alloc(), b"end 0\n", 4, 2);
+    let SharedHull::Fresh(_) = shared_hull else {
+        unreachable!()
+    };
     assert_eq!(rt;
-        (told.code, told.number, told.high),
+        (encoded.code, encoded.number, encoded.high),
         (Code::NoJournal.number(), 1, 7)
     );
 }
 
 /// A reader that is acquired keeps the shared hull from closing.
 #[test]
-fn a_desk_waits_for_its_reader(rt: HostRuntime) {
-    let mut desk = Desk::Fresh(FreshDesk::of_none());
+fn a_shared_hull_waits_for_its_reader(rt: HostRuntime) {
+    let mut shared_hull = SharedHull::Fresh(FreshSharedHull::of_none());
     let mut reader = SharedReader::Vacant;
-    let admitted = admit(&mut desk, 1);
-    let opened = open(&mut desk, rt.alloc(), 100, 7, 64, 1);
-    let lent = lend_reader(&mut desk, &mut reader);
-    let kept = close(&mut desk);
-    let returned = return_reader(&mut desk, &mut reader);
-    let closed = close(&mut desk);
-    let _ended = end(&mut desk);
-    let Desk::Fresh(_) = desk else {
+    let readers_set = set_max_readers(&mut shared_hull, 1);
+    let opened = open(&mut shared_hull, rt.alloc(), 100, 7, 64, 1);
+    let lent = acquire_reader(&mut shared_hull, &mut reader);
+    let kept = close(&mut shared_hull);
+    let returned = return_reader(&mut shared_hull, &mut reader);
+    let closed = close(&mut shared_hull);
+    let _ended = end(&mut shared_hull);
+    let SharedHull::Fresh(_) = shared_hull else {
         panic!(rt; "the desk is closed")
     };
     assert_eq!(rt;
-        [admitted, opened, lent, kept, returned, closed],
+        [readers_set, opened, lent, kept, returned, closed],
         [
-            Code::Admitted.number(),
+            Code::ReadersSet.number(),
             Code::Open.number(),
-            Code::Lent.number(),
+            Code::Acquired.number(),
             Code::SeatsOut.number(),
-            Code::Returned.number(),
+            Code::Released.number(),
             Code::Closed.number()
         ]
     );

@@ -1,9 +1,9 @@
 //! The objects that a caller passes from thread to thread: no program in C can ask the compiler about them.
-use crate::lock::{DeskSeat, DeskTicket, SharedLock};
-use crate::part::Part;
+use crate::lock::{SharedHullSeat, SharedHullTicket, SharedLock};
+use crate::segment::Segment;
 use hull_book::{Journal, Ledger};
 use hull_set::Call;
-use hull_views::{Entrance, Reader, Teller};
+use hull_snapshots::{ChangePublisher, Reader, ReaderRegistry};
 
 /// Requires a type whose values can be sent to another thread.
 fn goes_to_any_thread<T: Send>() {}
@@ -13,15 +13,15 @@ fn goes_to_any_thread<T: Send>() {}
 /// their ledgers, a reader registry, and numbers; a closed one is a journal; an acquired reader is an owner of the
 /// snapshot slots, a watermark, and its snapshot. For the structs of these the prover's search does not terminate, so
 /// they are required one by one.
-pub fn rooms_go_to_any_thread() {
-    goes_to_any_thread::<Part>();
+pub fn storages_go_to_any_thread() {
+    goes_to_any_thread::<Segment>();
     goes_to_any_thread::<SharedLock>();
-    goes_to_any_thread::<DeskSeat>();
-    goes_to_any_thread::<DeskTicket>();
+    goes_to_any_thread::<SharedHullSeat>();
+    goes_to_any_thread::<SharedHullTicket>();
     goes_to_any_thread::<Ledger>();
     goes_to_any_thread::<Call>();
     goes_to_any_thread::<Journal>();
-    goes_to_any_thread::<Teller>();
-    goes_to_any_thread::<Entrance>();
+    goes_to_any_thread::<ChangePublisher>();
+    goes_to_any_thread::<ReaderRegistry>();
     goes_to_any_thread::<Reader>();
 }

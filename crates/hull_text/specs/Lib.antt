@@ -1,7 +1,7 @@
 pub mod Fault
 pub mod Version
 pub mod Number
-pub mod Told
+pub mod Returned
 pub mod Words
 pub mod Field
 pub mod Call

@@ -34,6 +34,6 @@ signed_of [] = None
 signed_of (b ∷ bs) = if b == 45 then negated (number_of bs) else positive (number_of (b ∷ bs))
 
 -- a value below this bound is the number; else the number is no smaller than the bound
-abbrev pub Tells : ℕ → Option ℕ → ℕ → Type 0
-Tells bound None n = bound ≤ n
-Tells bound (Some v) n = n ≡ v
+abbrev pub Returns : ℕ → Option ℕ → ℕ → Type 0
+Returns bound None n = bound ≤ n
+Returns bound (Some v) n = n ≡ v

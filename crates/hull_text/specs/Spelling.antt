@@ -13,7 +13,7 @@ use Rattle.hull_set.specs.declared.set.Place.{Place as Where}
 use Rattle.hull_set.specs.declared.set.Place.TheVariants.{Inside, On, Outside}
 use Rattle.hull_text.specs.declared.version.Version.{Version}
 use Rattle.hull_text.specs.declared.words.CallWord.TheVariants as word
-use Rattle.hull_text.specs.declared.words.ReplyWord.TheVariants as told
+use Rattle.hull_text.specs.declared.words.ReplyWord.TheVariants as returned
 use Rattle.hull_text.specs.Version.{coordinate_limit, version_rules}
 use Rattle.hull_text.specs.Words.{call_word_text, reply_word_text}
 
@@ -89,29 +89,29 @@ IsReply v r = IsReplyOf (version_rules v) r × IsReplyInRange v r
 
 -- the fields of a point's location
 abbrev pub place_fields : Where → List (List ℕ)
-place_fields Inside = reply_word_text told.Inside ∷ []
-place_fields On = reply_word_text told.On ∷ []
-place_fields Outside = reply_word_text told.Outside ∷ []
+place_fields Inside = reply_word_text returned.Inside ∷ []
+place_fields On = reply_word_text returned.On ∷ []
+place_fields Outside = reply_word_text returned.Outside ∷ []
 
 -- a reply is spelled by its word, and by the fields that belong to it
 abbrev pub reply_fields : Reply → List (List ℕ)
 -- written by tools/table.py: a case for each reply, spelled
-reply_fields reply.Added = reply_word_text told.Added ∷ []
-reply_fields reply.Already = reply_word_text told.Already ∷ []
-reply_fields (reply.Again n) = reply_word_text told.Again ∷ decimal n ∷ []
-reply_fields reply.TooMany = reply_word_text told.TooMany ∷ []
-reply_fields reply.NoMemory = reply_word_text told.NoMemory ∷ []
-reply_fields reply.Removed = reply_word_text told.Removed ∷ []
-reply_fields (reply.Left n) = reply_word_text told.Left ∷ decimal n ∷ []
-reply_fields reply.Absent = reply_word_text told.Absent ∷ []
-reply_fields (reply.Farthest p) = reply_word_text told.Point ∷ pair_fields p
-reply_fields reply.Empty = reply_word_text told.Empty ∷ []
+reply_fields reply.Added = reply_word_text returned.Added ∷ []
+reply_fields reply.Already = reply_word_text returned.Already ∷ []
+reply_fields (reply.Again n) = reply_word_text returned.Again ∷ decimal n ∷ []
+reply_fields reply.TooMany = reply_word_text returned.TooMany ∷ []
+reply_fields reply.NoMemory = reply_word_text returned.NoMemory ∷ []
+reply_fields reply.Removed = reply_word_text returned.Removed ∷ []
+reply_fields (reply.Left n) = reply_word_text returned.Left ∷ decimal n ∷ []
+reply_fields reply.Absent = reply_word_text returned.Absent ∷ []
+reply_fields (reply.Farthest p) = reply_word_text returned.Point ∷ pair_fields p
+reply_fields reply.Empty = reply_word_text returned.Empty ∷ []
 reply_fields (reply.Lies place) = place_fields place
-reply_fields (reply.TangentPoints l r) = reply_word_text told.Tangents ∷ (pair_fields l ++ pair_fields r)
-reply_fields reply.NoTangent = reply_word_text told.NoTangent ∷ []
-reply_fields (reply.VertexList ps) = reply_word_text told.List ∷ decimal (length ps) ∷ points_fields ps
-reply_fields (reply.DoubledArea n) = reply_word_text told.Area ∷ decimal n ∷ []
-reply_fields (reply.PointCount n) = reply_word_text told.Count ∷ decimal n ∷ []
+reply_fields (reply.TangentPoints l r) = reply_word_text returned.Tangents ∷ (pair_fields l ++ pair_fields r)
+reply_fields reply.NoTangent = reply_word_text returned.NoTangent ∷ []
+reply_fields (reply.VertexList ps) = reply_word_text returned.List ∷ decimal (length ps) ∷ points_fields ps
+reply_fields (reply.DoubledArea n) = reply_word_text returned.Area ∷ decimal n ∷ []
+reply_fields (reply.PointCount n) = reply_word_text returned.Count ∷ decimal n ∷ []
 
 -- end of what tools/table.py writes
 

@@ -70,7 +70,7 @@ pub by_halves : (n l r : node.Node) (v : Tree) (a : ℕ) → halves_of n ≡ Som
     → IsDearerByAtMost (tree_of r) v a → IsDearerByAtMost (tree_of n) v a
 by_halves (node.Node' upper lower height near times node.None') l r v a e h g = absurd (cc)
 by_halves (node.Node' upper lower height near times
-    (node.Some' i (halves.Halves' left right last_left first_right))) l r v a e h g = parts
+    (node.Some' i (halves.Halves' left right last_left right_first))) l r v a e h g = parts
   where
     from_left : IsDearerByAtMost (tree_of left) v a
     from_left = subst (λ (z : node.Node). IsDearerByAtMost (tree_of z) v a)

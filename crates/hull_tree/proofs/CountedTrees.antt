@@ -99,7 +99,7 @@ answers_again {root} {n} {m} {p} {count} {limit} {r} k l f =
 -- a new point is one too many if the set has as many points as its limit
 pub answers_many : {root : Option Node} {n m : Node} {p : Pair} {count limit r : ℕ} → IsCounted root n m p count limit r
     → r ≡ 0 → limit ≤ count → AnswersAdd Counted (held_by root) limit p TooMany
-answers_many k z l = inl (dead k z, omega (arith, k.limited.counted, k.limited.room, l))
+answers_many k z l = inl (dead k z, omega (arith, k.limited.counted, k.limited.space, l))
 
 -- otherwise there is capacity for it
 pub answers_new : {root : Option Node} {n m : Node} {p : Pair} {count limit r : ℕ} → IsCounted root n m p count limit r

@@ -13,14 +13,14 @@ use Rattle.hull_tree.specs.declared.node.Halves as halves
 use Rattle.hull_tree.specs.Nodes.{tree_of, halves_of, below_of, left_half, right_half, times_below, IsWellBuilt}
 use Rattle.hull_tree.specs.Nodes.{DifferByAtMost}
 use Rattle.hull_tree.specs.Changes.{points_below, height_at, points_within, times_within, height_within, AreInRow}
-use Rattle.hull_tree.specs.Changes.{AreParted}
+use Rattle.hull_tree.specs.Changes.{AreSeparated}
 use Rattle.hull_geometry.proofs.PointSets.{set_left, set_right}
 use Rattle.hull_tree.proofs.PointRows.{all_before_of_set}
 use Rattle.hull_tree.proofs.ChangedRows.{IsChange}
 
 -- what is known of the halves h of the well-built fork n
 pub record IsOver (n : node.Node) (h : halves.Halves) : Type 0 where
-  pub parted : AreParted h
+  pub separated : AreSeparated h
   pub halves : halves_of n ≡ Some (left_half h, right_half h)
   pub points : points_below n ≡ points_within h
   pub times : (q : Pair) → times_below n q ≡ times_within h q
@@ -38,17 +38,17 @@ pub over_halves : (n : node.Node) (h : halves.Halves) → IsWellBuilt n → belo
 unfolding node.out-Node halves.out-Halves denote.Hole.Carrier.out
 over_halves (node.Node' upper lower height near times node.None') h b e = absurd (cc)
 over_halves (node.Node' upper lower height near times
-    (node.Some' i (halves.Halves' left right last_left first_right))) h b e =
+    (node.Some' i (halves.Halves' left right last_left right_first))) h b e =
     subst (λ (z : halves.Halves). IsOver
-    (node.Node' upper lower height near times (node.Some' i (halves.Halves' left right last_left first_right))) z)
+    (node.Node' upper lower height near times (node.Some' i (halves.Halves' left right last_left right_first))) z)
     (same_below e) record {
-      parted = record {
+      separated = record {
         row = record {
           left_built = record { bridged = b.bridged.3; balanced = b.balanced.1; labelled = b.labelled.3 };
           right_built = record { bridged = b.bridged.4; balanced = b.balanced.2; labelled = b.labelled.4 };
           in_order = points_in_order
               (tree_of (node.Node' upper lower height near times
-              (node.Some' i (halves.Halves' left right last_left first_right)))) b.bridged;
+              (node.Some' i (halves.Halves' left right last_left right_first)))) b.bridged;
         };
         ends_left = b.labelled.0;
         starts_right = b.labelled.1;

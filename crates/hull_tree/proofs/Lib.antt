@@ -5,10 +5,10 @@ pub mod Heights
 pub mod LimitedTrees
 pub mod Costs
 pub mod Renewed
-pub mod PartingPoints
+pub mod SplitPoints
 pub mod Multiplicities
 pub mod CountedTrees
 pub mod Halvings
 pub mod LoadedRows
-pub mod Stretches
+pub mod ChainRanges
 pub mod NodeEntries

@@ -23,7 +23,7 @@ sound None count limit h = record { built = tt; in_order = AllPairs-none; low = 
 sound (Some n) count limit h = record {
   built = h.built;
   in_order = points_in_order (tree_of n) h.built.bridged;
-  low = at_most_28 (tree_of n) h.built.balanced (omega (arith, h.counted, h.room, h.high));
+  low = at_most_28 (tree_of n) h.built.balanced (omega (arith, h.counted, h.space, h.high));
 }
 
 -- one point more, below the limit
@@ -33,7 +33,7 @@ pub limited_with : (n m : Node) (p : Pair) (count limit : ℕ) → IsLimited (So
 limited_with n m p count limit h b e a l =
     let k : length (points_below m) ≡ length (points_below n) + 1 =
     ap (λ (z : List Pair). length z) e ∙ with_length p (points_below n) a in
-    record { built = b; counted = omega (arith, h.counted, k); room = omega (arith, l); low = h.low; high = h.high }
+    record { built = b; counted = omega (arith, h.counted, k); space = omega (arith, l); low = h.low; high = h.high }
 
 -- one point less
 pub limited_without : (n : Node) (root : Option Node) (p : Pair) (count limit : ℕ) → IsLimited (Some n) count limit
@@ -46,7 +46,7 @@ limited_without n root p count limit h b e m =
     record {
       built = b;
       counted = omega (arith, h.counted, k);
-      room = omega (arith, h.room);
+      space = omega (arith, h.space);
       low = h.low;
       high = h.high;
     }

@@ -77,7 +77,7 @@ pub limited_over : (es : List (Pair × ℕ)) (n : Node) (limit : ℕ) → IsOver
 limited_over es n limit h r l g = record {
   built = h.built;
   counted = sym (ap (λ (z : List Pair). length z) h.points ∙ length-keys_of es);
-  room = r;
+  space = r;
   low = l;
   high = g;
 }

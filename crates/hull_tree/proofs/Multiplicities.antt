@@ -18,7 +18,7 @@ use Rattle.leaf_trees.proofs.Multiplicities.{several_there, several_elsewhere}
 use Rattle.hull_tree.specs.declared.node.Node as node
 use Rattle.hull_tree.specs.declared.node.Halves as halves
 use Rattle.hull_tree.specs.Nodes.{tree_of, times_below, IsLabelled, IsWellBuilt}
-use Rattle.hull_tree.specs.Changes.{points_below, AreInRow, IsPartedAt}
+use Rattle.hull_tree.specs.Changes.{points_below, AreInRow, IsSeparatedAt}
 use Rattle.hull_tree.proofs.HalfRows.{before_first, after_first}
 
 -- a point that is not below a node has multiplicity 0 there
@@ -26,17 +26,17 @@ pub times_absent : (n : node.Node) (p : Pair) → ¬ (On (tree_of n) p) → time
 times_absent (node.Node' upper lower height near times node.None') p a =
     several_elsewhere times upper.0 p (λ e. a (sym e))
 times_absent (node.Node' upper lower height near times
-    (node.Some' i (halves.Halves' left right last_left first_right))) p a =
+    (node.Some' i (halves.Halves' left right last_left right_first))) p a =
     omega (arith, times_absent left p (λ h. a (inl h)), times_absent right p (λ h. a (inr h)))
 
 -- one that is below it has a multiplicity of at least one
 pub times_live : (n : node.Node) (p : Pair) → IsLabelled n → On (tree_of n) p → 1 ≤ times_below n p
 times_live (node.Node' upper lower height near times node.None') p l e = grind (arith, common_steps, several, several_there)
 times_live (node.Node' upper lower height near times
-    (node.Some' i (halves.Halves' left right last_left first_right))) p l (inl h) =
+    (node.Some' i (halves.Halves' left right last_left right_first))) p l (inl h) =
     omega (arith, times_live left p l.3 h)
 times_live (node.Node' upper lower height near times
-    (node.Some' i (halves.Halves' left right last_left first_right))) p l (inr h) =
+    (node.Some' i (halves.Halves' left right last_left right_first))) p l (inr h) =
     omega (arith, times_live right p l.4 h)
 
 -- if the sum of two numbers is at least one, so is one of them
@@ -53,7 +53,7 @@ live_by_times (node.Node' upper lower height near times node.None') p h =
           omega (arith, e, h))
     ]
 live_by_times (node.Node' upper lower height near times
-    (node.Some' i (halves.Halves' left right last_left first_right))) p h =
+    (node.Some' i (halves.Halves' left right last_left right_first))) p h =
     elim (some_of (times_below left p) (times_below right p) h) [
       | inl k ↦ inl (live_by_times left p k)
       | inr k ↦ inr (live_by_times right p k)
@@ -67,7 +67,7 @@ times_few (node.Node' upper lower height near times node.None') p b l = at_most 
     at_most true = l.1.1
     at_most false = omega arith
 times_few (node.Node' upper lower height near times
-    (node.Some' i (halves.Halves' left right last_left first_right))) p b l =
+    (node.Some' i (halves.Halves' left right last_left right_first))) p b l =
     elim (some_or_none (times_below left p)) [
       | inl e ↦ omega (arith, e, times_few right p b.4 l.4)
       | inr h ↦ omega (
@@ -103,12 +103,12 @@ none_left l r p k b =
     (All-contains (λ t. IsBefore t p) (points_below l) p (after_first l r p k b) (contains_of_on (tree_of l) p h)))
 
 -- so the multiplicity of p before the split is that in the left one
-pub all_left : (l r : node.Node) (p last first : Pair) → IsPartedAt l r last first → IsBefore p first
+pub all_left : (l r : node.Node) (p last first : Pair) → IsSeparatedAt l r last first → IsBefore p first
     → times_below l p + times_below r p ≡ times_below l p
 all_left l r p last first k b = omega (arith, none_right l r p k.row (subst (IsBefore p) k.starts_right b))
 
 -- and any other as in the right one
-pub all_right : (l r : node.Node) (p last first : Pair) → IsPartedAt l r last first → ¬ (IsBefore p first)
+pub all_right : (l r : node.Node) (p last first : Pair) → IsSeparatedAt l r last first → ¬ (IsBefore p first)
     → times_below l p + times_below r p ≡ times_below r p
 all_right l r p last first k b =
     omega (arith, none_left l r p k.row (λ h. b (subst (IsBefore p) (sym k.starts_right) h)))
@@ -124,17 +124,17 @@ leaf_once (node.Node' upper lower height near times node.None') p t e q =
     same_leaf : {a b : Pair} → Leaf a ≡ Leaf b → a ≡ b
     same_leaf h = cc
 leaf_once (node.Node' upper lower height near times
-    (node.Some' i (halves.Halves' left right last_left first_right))) p t e q = absurd (cc)
+    (node.Some' i (halves.Halves' left right last_left right_first))) p t e q = absurd (cc)
 
 -- p before the split, with multiplicity one in both halves together, has multiplicity one in the left one and is one of its points
-pub once_left : (l r : node.Node) (p last first : Pair) → IsPartedAt l r last first → IsBefore p first
+pub once_left : (l r : node.Node) (p last first : Pair) → IsSeparatedAt l r last first → IsBefore p first
     → times_below l p + times_below r p ≡ 1 → (times_below l p ≡ 1) × Contains (points_below l) p
 once_left l r p last first k b e =
     let a : times_below l p ≡ 1 = sym (all_left l r p last first k b) ∙ e in
     (a, (live_iff l p k.row.left_built).1 (omega (arith, a)))
 
 -- and any other in the right one
-pub once_right : (l r : node.Node) (p last first : Pair) → IsPartedAt l r last first → ¬ (IsBefore p first)
+pub once_right : (l r : node.Node) (p last first : Pair) → IsSeparatedAt l r last first → ¬ (IsBefore p first)
     → times_below l p + times_below r p ≡ 1 → (times_below r p ≡ 1) × Contains (points_below r) p
 once_right l r p last first k b e =
     let a : times_below r p ≡ 1 = sym (all_right l r p last first k b) ∙ e in
@@ -174,7 +174,7 @@ unfolding node.roll-Node node.out-Node denote.Hole.Carrier.out denote.Hole.Carri
 leaf_raised (node.Node' upper lower height near times node.None') p q e s =
     rw s (several_more (is_same_pair upper.0 q) times)
 leaf_raised (node.Node' upper lower height near times
-    (node.Some' i (halves.Halves' left right last_left first_right))) p q e s = absurd (cc)
+    (node.Some' i (halves.Halves' left right last_left right_first))) p q e s = absurd (cc)
 
 -- and one whose number fell by one holds it once less
 pub leaf_lowered : (n : node.Node) (p q : Pair) → (node.out-Node n).below ≡ None → p ≡ (node.out-Node n).upper.0
@@ -184,4 +184,4 @@ unfolding node.roll-Node node.out-Node denote.Hole.Carrier.out denote.Hole.Carri
 leaf_lowered (node.Node' upper lower height near times node.None') p q e s h =
     rw s (several_less (is_same_pair upper.0 q) times h)
 leaf_lowered (node.Node' upper lower height near times
-    (node.Some' i (halves.Halves' left right last_left first_right))) p q e s h = absurd (cc)
+    (node.Some' i (halves.Halves' left right last_left right_first))) p q e s h = absurd (cc)

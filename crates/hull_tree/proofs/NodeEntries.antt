@@ -24,7 +24,7 @@ use Rattle.hull_tree.proofs.HalfRows.{same_below}
 pub points_of_entries : (n : node.Node) → points_listed (entries_below n) ≡ points_below n
 points_of_entries (node.Node' upper lower height near times node.None') = refl
 points_of_entries (node.Node' upper lower height near times
-    (node.Some' i (halves.Halves' left right last_left first_right))) =
+    (node.Some' i (halves.Halves' left right last_left right_first))) =
     map-append (λ (e : Pair × ℕ). e.0) (entries_below left) (entries_below right)
     ∙ ap (λ (z : List Pair). z ++ points_listed (entries_below right)) (points_of_entries left)
     ∙ ap (λ (z : List Pair). points_below left ++ z) (points_of_entries right)
@@ -37,7 +37,7 @@ length_of_entries n = sym (length-keys_of (entries_below n)) ∙ ap (λ (z : Lis
 pub times_of_entries : (n : node.Node) (q : Pair) → times_listed (entries_below n) q ≡ times_below n q
 times_of_entries (node.Node' upper lower height near times node.None') q = omega arith
 times_of_entries (node.Node' upper lower height near times
-    (node.Some' i (halves.Halves' left right last_left first_right))) q =
+    (node.Some' i (halves.Halves' left right last_left right_first))) q =
     omega (
       arith,
       sum_by-append (λ (e : Pair × ℕ). several e.1 e.0 q) (entries_below left) (entries_below right),
@@ -50,7 +50,7 @@ held_of_entries : (n : node.Node) → IsLabelled n → All (λ (e : Pair × ℕ)
 held_of_entries (node.Node' upper lower height near times node.None') l =
     All-cons (λ (e : Pair × ℕ). IsMultiplicity e.1) (upper.0, times) [] l.1 (λ k d l. absurd (omega arith))
 held_of_entries (node.Node' upper lower height near times
-    (node.Some' i (halves.Halves' left right last_left first_right))) l =
+    (node.Some' i (halves.Halves' left right last_left right_first))) l =
     All-append (λ (e : Pair × ℕ). IsMultiplicity e.1) (entries_below left) (entries_below right)
     (held_of_entries left l.3) (held_of_entries right l.4)
 
@@ -65,7 +65,7 @@ pub listed_halves : (n : node.Node) (h : halves.Halves) → below_of n ≡ Some 
 unfolding node.out-Node halves.out-Halves denote.Hole.Carrier.out
 listed_halves (node.Node' upper lower height near times node.None') h e = absurd (cc)
 listed_halves (node.Node' upper lower height near times
-    (node.Some' i (halves.Halves' left right last_left first_right))) h e = grind (arith, common_steps, near, last_left, same_below)
+    (node.Some' i (halves.Halves' left right last_left right_first))) h e = grind (arith, common_steps, near, last_left, same_below)
 
 -- so they are entries
 pub entries_are : (n : node.Node) → IsWellBuilt n → AreEntries (entries_below n)

@@ -10,7 +10,7 @@ use Rattle.hull_tree.specs.declared.node.Node.{Node}
 use Rattle.hull_tree.specs.declared.node.Node as node
 use Rattle.hull_tree.specs.declared.node.Halves.{Halves}
 use Rattle.hull_tree.specs.declared.node.Halves as halves
-use Rattle.hull_tree.specs.Nodes.{tree_of, left_half, right_half, before_parting, after_parting, times_below}
+use Rattle.hull_tree.specs.Nodes.{tree_of, left_half, right_half, before_split, after_split, times_below}
 use Rattle.hull_tree.specs.Nodes.{IsWellBuilt, DifferByAtMost}
 
 -- the points below a node, in order
@@ -28,7 +28,7 @@ pub record AreInRow (l r : Node) : Type 0 where
   pub in_order : IsPointSet (points_below l ++ points_below r)
 
 -- two nodes in a row, with the last point of the one and the first one of the other
-pub record IsPartedAt (l r : Node) (last first : Pair) : Type 0 where
+pub record IsSeparatedAt (l r : Node) (last first : Pair) : Type 0 where
   pub row : AreInRow l r
   pub ends_left : last ≡ last_of (tree_of l)
   pub starts_right : first ≡ first_of (tree_of r)
@@ -50,14 +50,14 @@ abbrev pub IsAtMostOneMore : ℕ → ℕ → Type 0
 IsAtMostOneMore m n = (m ≤ n) × (n ≤ m + 1)
 
 -- two nodes in a row that store the points at their split
-abbrev pub AreParted : Halves → Type 0
-AreParted h = IsPartedAt (left_half h) (right_half h) (before_parting h) (after_parting h)
+abbrev pub AreSeparated : Halves → Type 0
+AreSeparated h = IsSeparatedAt (left_half h) (right_half h) (before_split h) (after_split h)
 
 -- a fork over two such halves, whose edges and height may still have to be renewed
-abbrev pub IsParted : Node → Type 0
-IsParted (node.Node' upper lower height near times node.None') = ⊥
-IsParted (node.Node' upper lower height near times (node.Some' i (halves.Halves' left right last_left first_right))) =
-    IsPartedAt left right last_left first_right
+abbrev pub IsSeparated : Node → Type 0
+IsSeparated (node.Node' upper lower height near times node.None') = ⊥
+IsSeparated (node.Node' upper lower height near times (node.Some' i (halves.Halves' left right last_left right_first))) =
+    IsSeparatedAt left right last_left right_first
 
 -- the height of a node's left half; for a leaf its own
 abbrev pub left_height : Node → ℕ

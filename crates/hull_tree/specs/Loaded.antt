@@ -12,7 +12,7 @@ use Rattle.hull_tree.specs.Changes.{points_below, height_at}
 abbrev pub entries_below : Node → List (Pair × ℕ)
 entries_below (node.Node' upper lower height near times node.None') = (upper.0, times) ∷ []
 entries_below (node.Node' upper lower height near times
-    (node.Some' i (halves.Halves' left right last_left first_right))) = entries_below left ++ entries_below right
+    (node.Some' i (halves.Halves' left right last_left right_first))) = entries_below left ++ entries_below right
 
 -- the points of a whole tree
 abbrev pub entries_of_root : Option Node → List (Pair × ℕ)

@@ -12,7 +12,7 @@ use Rattle.hull_tree.specs.declared.node.Halves as halves
 -- the tree of a node: a node with nothing below it is one point, which is both ends of the edges that it stores
 abbrev pub tree_of : Node → Tree
 tree_of (node.Node' upper lower height near times node.None') = Leaf upper.0
-tree_of (node.Node' upper lower height near times (node.Some' i (halves.Halves' left right last_left first_right))) =
+tree_of (node.Node' upper lower height near times (node.Some' i (halves.Halves' left right last_left right_first))) =
     Fork upper lower (tree_of left) (tree_of right)
 
 -- the left one of two halves
@@ -24,12 +24,12 @@ abbrev pub right_half : Halves → Node
 right_half h = (out-Halves h).right
 
 -- the point before the split, as two halves store it
-abbrev pub before_parting : Halves → Pair
-before_parting h = (out-Halves h).last_left
+abbrev pub before_split : Halves → Pair
+before_split h = (out-Halves h).last_left
 
 -- the point after it
-abbrev pub after_parting : Halves → Pair
-after_parting h = (out-Halves h).first_right
+abbrev pub after_split : Halves → Pair
+after_split h = (out-Halves h).right_first
 
 -- the node with other edges, another height and another flag whether its points are near, and the same halves
 abbrev pub keeping : Node → Pair × Pair → Pair × Pair → ℕ → Bool → Node
@@ -42,26 +42,26 @@ below_of n = option_map (λ b. b.value) (out-Node n).below
 -- the left and the right half of a fork; for a leaf nothing
 abbrev pub halves_of : Node → Option (Node × Node)
 halves_of (node.Node' upper lower height near times node.None') = None
-halves_of (node.Node' upper lower height near times (node.Some' i (halves.Halves' left right last_left first_right))) =
+halves_of (node.Node' upper lower height near times (node.Some' i (halves.Halves' left right last_left right_first))) =
     Some (left, right)
 
 -- the point of a leaf; for a fork nothing
 abbrev pub point_of : Node → Option Pair
 point_of (node.Node' upper lower height near times node.None') = Some upper.0
 point_of (node.Node' upper lower height near times
-    (node.Some' i (halves.Halves' left right last_left first_right))) = None
+    (node.Some' i (halves.Halves' left right last_left right_first))) = None
 
 -- the multiplicity of a leaf's point; for a fork nothing
 abbrev pub multiplicity_of : Node → Option ℕ
 multiplicity_of (node.Node' upper lower height near times node.None') = Some times
 multiplicity_of (node.Node' upper lower height near times
-    (node.Some' i (halves.Halves' left right last_left first_right))) = None
+    (node.Some' i (halves.Halves' left right last_left right_first))) = None
 
 -- the multiplicity of each point below a node
 abbrev pub times_below : Node → Pair → ℕ
 times_below (node.Node' upper lower height near times node.None') q = several times upper.0 q
 times_below (node.Node' upper lower height near times
-    (node.Some' i (halves.Halves' left right last_left first_right))) q = times_below left q + times_below right q
+    (node.Some' i (halves.Halves' left right last_left right_first))) q = times_below left q + times_below right q
 
 -- the numbers differ by at most this
 abbrev pub DifferByAtMost : ℕ → ℕ → ℕ → Type 0
@@ -77,8 +77,8 @@ IsBalanced (Fork e f u w) = DifferByAtMost 1 (height_of u) (height_of w) × IsBa
 abbrev pub IsLabelled : Node → Type 0
 IsLabelled (node.Node' upper lower height near times node.None') =
     (height ≡ 0) × IsMultiplicity times × (near ≡ is_near upper.0)
-IsLabelled (node.Node' upper lower height near times (node.Some' i (halves.Halves' left right last_left first_right))) =
-    (last_left ≡ last_of (tree_of left)) × (first_right ≡ first_of (tree_of right))
+IsLabelled (node.Node' upper lower height near times (node.Some' i (halves.Halves' left right last_left right_first))) =
+    (last_left ≡ last_of (tree_of left)) × (right_first ≡ first_of (tree_of right))
     × (height ≡ height_of (Fork upper lower (tree_of left) (tree_of right))) × IsLabelled left × IsLabelled right
     × (near ≡ are_near (Fork upper lower (tree_of left) (tree_of right)))
 

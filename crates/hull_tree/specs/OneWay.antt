@@ -33,9 +33,9 @@ IsLabelled-prop (node.Node' upper lower height near times node.None') =
     let n : IsProp (near ≡ is_near upper.0) = Bool-set near (is_near upper.0) in
     hlevel (h, a, b, n)
 IsLabelled-prop (node.Node' upper lower height near times
-    (node.Some' i (halves.Halves' left right last_left first_right))) =
+    (node.Some' i (halves.Halves' left right last_left right_first))) =
     let a : IsProp (last_left ≡ last_of (tree_of left)) = same_point last_left (last_of (tree_of left)) in
-    let b : IsProp (first_right ≡ first_of (tree_of right)) = same_point first_right (first_of (tree_of right)) in
+    let b : IsProp (right_first ≡ first_of (tree_of right)) = same_point right_first (first_of (tree_of right)) in
     let c : IsProp (height ≡ height_of (Fork upper lower (tree_of left) (tree_of right))) =
     same_number height (height_of (Fork upper lower (tree_of left) (tree_of right))) in
     let k : IsProp (IsLabelled left) = IsLabelled-prop left in

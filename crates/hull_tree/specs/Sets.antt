@@ -18,7 +18,7 @@ pub record LimitedTree : Type 0 where
 pub record IsLimited (root : Option Node) (count limit : ℕ) : Type 0 where
   pub built : IsWellBuiltRoot root
   pub counted : count ≡ length (points_of_root root)
-  pub room : count ≤ limit
+  pub space : count ≤ limit
   pub low : 1 ≤ limit
   pub high : limit ≤ POINT_LIMIT
 

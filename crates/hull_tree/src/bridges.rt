@@ -5,7 +5,7 @@ ghost use Rattle.bridge_search.specs.Near.{are_near};
 ghost use Rattle.bridge_search.specs.Search.{IsDepthSum};
 ghost use Rattle.leaf_trees.specs.Heights.{greatest_height};
 ghost use Rattle.hull_tree.specs.Nodes.{tree_of, left_half, right_half};
-ghost use Rattle.hull_tree.specs.Changes.{height_at, height_within, IsBridgeOf, AreParted};
+ghost use Rattle.hull_tree.specs.Changes.{height_at, height_within, IsBridgeOf, AreSeparated};
 ghost use Rattle.hull_tree.specs.Turns.{IsForkCost};
 
 use super::keeping::Found;
@@ -15,7 +15,7 @@ use bridge_search::{Counted, Near, both_bridges_between};
 
 /// Whether all points of two halves are near.
 fn both_near(halves: &Halves) -> bool
-    requires { AreParted halves.now }
+    requires { AreSeparated halves.now }
     ensures { result ≡ (are_near (tree_of (left_half halves.now)) && are_near (tree_of (right_half halves.now))) }
 {
     near_of(&halves.left) && near_of(&halves.right)
@@ -24,7 +24,7 @@ fn both_near(halves: &Halves) -> bool
 /// Searches both bridges between two halves: in 64 bits if all their points are near, which is tested once for both searches and not at each of their
 /// turns.
 fn both_bridges_of(halves: &Halves) -> (Counted, Counted)
-    requires parted { AreParted halves.now }
+    requires separated { AreSeparated halves.now }
     requires low { height_within halves.now ≤ greatest_height }
     ensures upper { IsBridgeOf Upper halves.now result.0.0 }
     ensures lower { IsBridgeOf Lower halves.now result.1.0 }
@@ -36,7 +36,7 @@ fn both_bridges_of(halves: &Halves) -> (Counted, Counted)
     ensures lower_few { result.1.1 ≤ height_at (left_half halves.now) + height_at (right_half halves.now) }
 {
     let (u, w) = (NodeRef::new(&halves.left), NodeRef::new(&halves.right));
-    let (last, first) = (halves.last_left, halves.first_right);
+    let (last, first) = (halves.last_left, halves.right_first);
     if both_near(halves) {
         both_bridges_between(Near::new(u), Near::new(w), last, first)
     } else {
@@ -46,7 +46,7 @@ fn both_bridges_of(halves: &Halves) -> (Counted, Counted)
 
 /// Searches both bridges between two halves.
 pub(crate) fn search_both(halves: &Halves) -> Found
-    requires parted { AreParted halves.now }
+    requires separated { AreSeparated halves.now }
     requires low { height_within halves.now ≤ greatest_height }
     ensures upper { IsBridgeOf Upper halves.now result.upper }
     ensures lower { IsBridgeOf Lower halves.now result.lower }

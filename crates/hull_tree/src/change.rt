@@ -4,12 +4,12 @@ ghost use Rattle.lattice.specs.Plane.{Pair, IsBefore};
 ghost use Rattle.lattice.specs.Covers.{with_point, without_point};
 ghost use Rattle.hull_set.specs.Held.{once};
 ghost use Rattle.bridge_search.specs.Trees.{Leaf, IsFork, first_of as first_in, last_of as last_in};
-ghost use Rattle.hull_tree.specs.Nodes.{tree_of, left_half, right_half, before_parting, after_parting};
+ghost use Rattle.hull_tree.specs.Nodes.{tree_of, left_half, right_half, before_split, after_split};
 ghost use Rattle.hull_tree.specs.Nodes.{times_below, IsWellBuilt};
 ghost use Rattle.leaf_trees.specs.Entries.{several, IsMultiplicity};
 ghost use Rattle.leaf_trees.specs.Heights.{greatest_height};
 ghost use Rattle.hull_tree.specs.Changes.{points_below, height_at, points_within, times_within, height_within};
-ghost use Rattle.hull_tree.specs.Changes.{AreParted, IsAtMostOneMore};
+ghost use Rattle.hull_tree.specs.Changes.{AreSeparated, IsAtMostOneMore};
 ghost use Rattle.hull_tree.specs.Turns.{IsCostAtMost, turns_a_level};
 
 use super::joining::{join, take_halves};
@@ -27,7 +27,7 @@ pub(crate) fn times_of(node: &Node, p: Point) -> u32
     match &node.below {
         None => { if p == node.upper.0 { node.times } else { 0 } }
         Some(halves) => {
-            if before(p, halves.first_right) {
+            if before(p, halves.right_first) {
                 times_of(&halves.left, p)
             } else {
                 times_of(&halves.right, p)
@@ -60,7 +60,7 @@ pub(crate) fn raise(node: &mut Node, p: Point) -> u32
             times
         }
         Some(halves) => {
-            if before(p, halves.first_right) {
+            if before(p, halves.right_first) {
                 raise(&mut halves.left, p)
             } else {
                 raise(&mut halves.right, p)
@@ -90,7 +90,7 @@ pub(crate) fn lower(node: &mut Node, p: Point) -> u32
             times
         }
         Some(halves) => {
-            if before(p, halves.first_right) {
+            if before(p, halves.right_first) {
                 lower(&mut halves.left, p)
             } else {
                 lower(&mut halves.right, p)
@@ -100,7 +100,7 @@ pub(crate) fn lower(node: &mut Node, p: Point) -> u32
 }
 
 /// Makes the fork over two points with these multiplicities, in an existing box for the halves.
-fn parted(mut spare: Box<Halves, Heap>, first: (Point, u32), last: (Point, u32)) -> Node
+fn separated(mut spare: Box<Halves, Heap>, first: (Point, u32), last: (Point, u32)) -> Node
     requires in_order { IsBefore first.0 last.0 }
     requires times_first { IsMultiplicity first.1 }
     requires times_last { IsMultiplicity last.1 }
@@ -112,7 +112,7 @@ fn parted(mut spare: Box<Halves, Heap>, first: (Point, u32), last: (Point, u32))
     ensures cost_last { IsCostAtMost (tree_of result) last.0 0 }
 {
     spare.last_left = first.0;
-    spare.first_right = last.0;
+    spare.right_first = last.0;
     join(
         spare,
         Node::leaf(first.0, first.1),
@@ -132,9 +132,9 @@ fn beside(point: Point, times: u32, p: Point, spare: Box<Halves, Heap>) -> Node
     ensures cost { IsCostAtMost (tree_of result) p 0 }
 {
     if before(p, point) {
-        parted(spare, (p, 1), (point, times))
+        separated(spare, (p, 1), (point, times))
     } else {
-        parted(spare, (point, times), (p, 1))
+        separated(spare, (point, times), (p, 1))
     }
 }
 
@@ -177,10 +177,10 @@ pub(crate) fn insert(node: &mut Node, p: Point, spare: Box<Halves, Heap>) -> u32
 /// Adds a point to the half that it belongs to, and keeps the points at the split.
 #[cycle(insert)]
 fn insert_below(halves: &mut Halves, p: Point, spare: Box<Halves, Heap>) -> u32
-    requires parted { AreParted halves.old }
+    requires separated { AreSeparated halves.old }
     requires absent { ¬ Contains (points_within halves.old) p }
     requires low { height_within halves.old ≤ greatest_height }
-    ensures parted { AreParted halves.new }
+    ensures separated { AreSeparated halves.new }
     ensures points { points_within halves.new ≡ with_point p (points_within halves.old) }
     ensures times { (q : Pair) → times_within halves.new q ≡ times_within halves.old q + once p q }
     ensures left { IsAtMostOneMore (height_at (left_half halves.old)) (height_at (left_half halves.new)) }
@@ -189,7 +189,7 @@ fn insert_below(halves: &mut Halves, p: Point, spare: Box<Halves, Heap>) -> u32
     ensures cost { IsCostAtMost (tree_of (left_half halves.new)) p result
         ⊎ IsCostAtMost (tree_of (right_half halves.new)) p result }
 {
-    if before(p, halves.first_right) {
+    if before(p, halves.right_first) {
         reach(&mut halves.last_left, p);
         insert(&mut halves.left, p, spare)
     } else {
@@ -251,19 +251,19 @@ pub(crate) fn remove(node: &mut Node, p: Point) -> u32
 /// Removes a point from the half that it belongs to, which has other points too, and keeps the points at the split.
 #[cycle(remove)]
 fn remove_below(halves: &mut Halves, p: Point) -> u32
-    requires parted { AreParted halves.old }
+    requires separated { AreSeparated halves.old }
     requires once { times_within halves.old p ≡ 1 }
     requires more_left { ¬ (tree_of (left_half halves.old) ≡ Leaf p) }
     requires more_right { ¬ (tree_of (right_half halves.old) ≡ Leaf p) }
     requires low { height_within halves.old ≤ greatest_height }
-    ensures parted { AreParted halves.new }
+    ensures separated { AreSeparated halves.new }
     ensures points { points_within halves.new ≡ without_point p (points_within halves.old) }
     ensures times { (q : Pair) → times_within halves.new q + once p q ≡ times_within halves.old q }
     ensures left { IsAtMostOneMore (height_at (left_half halves.new)) (height_at (left_half halves.old)) }
     ensures right { IsAtMostOneMore (height_at (right_half halves.new)) (height_at (right_half halves.old)) }
     ensures few { result ≤ turns_a_level * height_within halves.old }
 {
-    if before(p, halves.first_right) {
+    if before(p, halves.right_first) {
         let turns = remove(&mut halves.left, p);
         draw_back_last(halves, p);
         turns
@@ -276,10 +276,10 @@ fn remove_below(halves: &mut Halves, p: Point) -> u32
 
 /// Finds the last point of the left half again, if it was p, which was removed from that half.
 fn draw_back_last(halves: &mut Halves, p: Point)
-    requires { ¬ (before_parting halves.old ≡ p)
-        → before_parting halves.old ≡ last_in (tree_of (left_half halves.old)) }
-    ensures last { before_parting halves.new ≡ last_in (tree_of (left_half halves.old)) }
-    ensures first { after_parting halves.new ≡ after_parting halves.old }
+    requires { ¬ (before_split halves.old ≡ p)
+        → before_split halves.old ≡ last_in (tree_of (left_half halves.old)) }
+    ensures last { before_split halves.new ≡ last_in (tree_of (left_half halves.old)) }
+    ensures first { after_split halves.new ≡ after_split halves.old }
     ensures left { left_half halves.new ≡ left_half halves.old }
     ensures right { right_half halves.new ≡ right_half halves.old }
 {
@@ -290,14 +290,14 @@ fn draw_back_last(halves: &mut Halves, p: Point)
 
 /// Finds the first point of the right half again, if it was p, which was removed from that half.
 fn draw_back_first(halves: &mut Halves, p: Point)
-    requires { ¬ (after_parting halves.old ≡ p)
-        → after_parting halves.old ≡ first_in (tree_of (right_half halves.old)) }
-    ensures last { before_parting halves.new ≡ before_parting halves.old }
-    ensures first { after_parting halves.new ≡ first_in (tree_of (right_half halves.old)) }
+    requires { ¬ (after_split halves.old ≡ p)
+        → after_split halves.old ≡ first_in (tree_of (right_half halves.old)) }
+    ensures last { before_split halves.new ≡ before_split halves.old }
+    ensures first { after_split halves.new ≡ first_in (tree_of (right_half halves.old)) }
     ensures left { left_half halves.new ≡ left_half halves.old }
     ensures right { right_half halves.new ≡ right_half halves.old }
 {
-    if halves.first_right == p {
-        halves.first_right = first_of(&halves.right);
+    if halves.right_first == p {
+        halves.right_first = first_of(&halves.right);
     }
 }

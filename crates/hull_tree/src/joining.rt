@@ -3,9 +3,9 @@ ghost use Rattle.std.specs.Prelude.{◌≡◌, Some, ◌≤◌, ◌+◌, ◌*◌
 ghost use Rattle.lattice.specs.Plane.{Pair};
 ghost use Rattle.bridge_search.specs.Trees.{IsFork, left_of, right_of, first_of as first_in, last_of as last_in};
 ghost use Rattle.leaf_trees.specs.Heights.{greatest_height};
-ghost use Rattle.hull_tree.specs.Nodes.{tree_of, halves_of, left_half, right_half, before_parting, after_parting};
+ghost use Rattle.hull_tree.specs.Nodes.{tree_of, halves_of, left_half, right_half, before_split, after_split};
 ghost use Rattle.hull_tree.specs.Nodes.{times_below, IsWellBuilt, DifferByAtMost};
-ghost use Rattle.hull_tree.specs.Changes.{points_below, height_at, left_height, right_height, IsParted, IsPartedAt};
+ghost use Rattle.hull_tree.specs.Changes.{points_below, height_at, left_height, right_height, IsSeparated, IsSeparatedAt};
 ghost use Rattle.hull_tree.specs.Turns.{IsDearerByAtMost, turns_a_fork};
 
 use super::bridges::search_both;
@@ -21,7 +21,7 @@ pub(crate) fn blank(point: Point) -> Halves {
         left: Node::leaf(point, 1),
         right: Node::leaf(point, 1),
         last_left: point,
-        first_right: point,
+        right_first: point,
     }
 }
 
@@ -29,8 +29,8 @@ pub(crate) fn blank(point: Point) -> Halves {
 pub(crate) fn take_halves(halves: &mut Halves) -> (Node, Node)
     ensures left { result.0 ≡ left_half halves.old }
     ensures right { result.1 ≡ right_half halves.old }
-    ensures last { before_parting halves.new ≡ before_parting halves.old }
-    ensures first { after_parting halves.new ≡ after_parting halves.old }
+    ensures last { before_split halves.new ≡ before_split halves.old }
+    ensures first { after_split halves.new ≡ after_split halves.old }
 {
     let point = halves.last_left;
     let left = mem::replace(&mut halves.left, Node::leaf(point, 1));
@@ -43,7 +43,7 @@ pub(crate) fn take_apart(node: Node) -> (Node, Node, Box<Halves, Heap>)
     requires built { IsWellBuilt node }
     requires fork { IsFork (tree_of node) }
     ensures halves { halves_of node ≡ Some (result.0, result.1) }
-    ensures parted { IsPartedAt result.0 result.1 (before_parting result.2.value) (after_parting result.2.value) }
+    ensures separated { IsSeparatedAt result.0 result.1 (before_split result.2.value) (after_split result.2.value) }
     ensures points { points_below node ≡ points_below result.0 ++ points_below result.1 }
     ensures times { (q : Pair) → times_below node q ≡ times_below result.0 q + times_below result.1 q }
     ensures first { first_in (tree_of node) ≡ first_in (tree_of result.0) }
@@ -62,7 +62,7 @@ pub(crate) fn take_apart(node: Node) -> (Node, Node, Box<Halves, Heap>)
 /// Searches both bridges of a fork, stores them and its height, and returns how many turns the two searches took. Every bridge of the tree is stored
 /// here.
 pub(crate) fn renew(node: &mut Node) -> u32
-    requires parted { IsParted node.old }
+    requires separated { IsSeparated node.old }
     requires balanced { DifferByAtMost 1 (left_height node.old) (right_height node.old) }
     requires low { max (left_height node.old) (right_height node.old) ≤ greatest_height }
     ensures built { IsWellBuilt node.new }
@@ -87,7 +87,7 @@ pub(crate) fn renew(node: &mut Node) -> u32
 
 /// Makes the fork over two halves, in a box that keeps the points at their split. Returns it and how many turns the searches for its bridges took.
 pub(crate) fn join(mut spare: Box<Halves, Heap>, left: Node, right: Node) -> (Node, u32)
-    requires parted { IsPartedAt left right (before_parting spare.value) (after_parting spare.value) }
+    requires separated { IsSeparatedAt left right (before_split spare.value) (after_split spare.value) }
     requires balanced { DifferByAtMost 1 (height_at left) (height_at right) }
     requires low { max (height_at left) (height_at right) ≤ greatest_height }
     ensures built { IsWellBuilt result.0 }

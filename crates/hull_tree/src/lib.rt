@@ -24,6 +24,7 @@
 #![tactic(auto)]
 
 mod bridges;
+mod chain_range;
 mod change;
 mod joining;
 mod keeping;
@@ -33,7 +34,6 @@ mod load;
 mod node;
 mod node_ref;
 mod rotation;
-mod stretch;
 mod tree;
 
 pub use laws::path_cost_is_unique;

@@ -24,14 +24,14 @@ pub(crate) fn node_over(alloc: Heap, entries: &[(Point, u32)]) -> Result<Node, N
     let (front, back) = entries.split_at(entries.len() / 2);
     let left = node_over(alloc, front)?;
     let right = node_over(alloc, back)?;
-    let (last_left, first_right) = (last_of(&left), first_of(&right));
-    let parting = Halves {
+    let (last_left, right_first) = (last_of(&left), first_of(&right));
+    let split = Halves {
         left: Node::leaf(last_left, 1),
-        right: Node::leaf(first_right, 1),
+        right: Node::leaf(right_first, 1),
         last_left,
-        first_right,
+        right_first,
     };
-    let Ok(spare) = Box::new(alloc, parting) else {
+    let Ok(spare) = Box::new(alloc, split) else {
         return Err(NoMemory);
     };
     Ok(join(spare, left, right).0)

@@ -35,7 +35,7 @@ pub struct Halves {
     pub(crate) left: Node,
     pub(crate) right: Node,
     pub(crate) last_left: Point,
-    pub(crate) first_right: Point,
+    pub(crate) right_first: Point,
 }
 
 impl Node {

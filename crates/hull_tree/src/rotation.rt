@@ -3,8 +3,8 @@ ghost use Rattle.std.specs.Prelude.{◌≡◌, ◌≤◌, ◌+◌, ◌++◌, max
 ghost use Rattle.lattice.specs.Plane.{Pair};
 ghost use Rattle.bridge_search.specs.Trees.{left_of, right_of};
 ghost use Rattle.leaf_trees.specs.Heights.{greatest_height};
-ghost use Rattle.hull_tree.specs.Nodes.{tree_of, before_parting, after_parting, times_below, IsWellBuilt, DifferByAtMost};
-ghost use Rattle.hull_tree.specs.Changes.{points_below, height_at, left_height, right_height, IsParted, IsPartedAt};
+ghost use Rattle.hull_tree.specs.Nodes.{tree_of, before_split, after_split, times_below, IsWellBuilt, DifferByAtMost};
+ghost use Rattle.hull_tree.specs.Changes.{points_below, height_at, left_height, right_height, IsSeparated, IsSeparatedAt};
 ghost use Rattle.hull_tree.specs.Changes.{IsAtMostOneMore, IsHeightOver};
 ghost use Rattle.hull_tree.specs.Turns.{IsDearerByAtMost, turns_a_level};
 
@@ -15,7 +15,7 @@ use heap::Heap;
 /// Makes the fork over two halves of which the left one is two higher, after a rotation to the right, which is double if the left half leans to the
 /// right.
 fn rotate_right(spare: Box<Halves, Heap>, left: Node, right: Node) -> (Node, u32)
-    requires parted { IsPartedAt left right (before_parting spare.value) (after_parting spare.value) }
+    requires separated { IsSeparatedAt left right (before_split spare.value) (after_split spare.value) }
     requires two_higher { height_at left ≡ height_at right + 2 }
     requires low { height_at left ≤ greatest_height }
     ensures built { IsWellBuilt result.0 }
@@ -42,7 +42,7 @@ fn rotate_right(spare: Box<Halves, Heap>, left: Node, right: Node) -> (Node, u32
 /// Makes the fork over two halves of which the right one is two higher, after a rotation to the left, which is double if the right half leans to the
 /// left.
 fn rotate_left(spare: Box<Halves, Heap>, left: Node, right: Node) -> (Node, u32)
-    requires parted { IsPartedAt left right (before_parting spare.value) (after_parting spare.value) }
+    requires separated { IsSeparatedAt left right (before_split spare.value) (after_split spare.value) }
     requires two_higher { height_at right ≡ height_at left + 2 }
     requires low { height_at right ≤ greatest_height }
     ensures built { IsWellBuilt result.0 }
@@ -69,7 +69,7 @@ fn rotate_left(spare: Box<Halves, Heap>, left: Node, right: Node) -> (Node, u32)
 /// Renews a fork whose halves differ in height by at most two: rotates it if they differ by two. Returns how many turns its searches took: at most
 /// three forks are renewed, with two bridges each, and a bridge between halves of at most 28 forks each takes at most 56 turns.
 pub(crate) fn rebalance(node: &mut Node) -> u32
-    requires parted { IsParted node.old }
+    requires separated { IsSeparated node.old }
     requires near { DifferByAtMost 2 (left_height node.old) (right_height node.old) }
     requires low { max (left_height node.old) (right_height node.old) ≤ greatest_height }
     ensures built { IsWellBuilt node.new }

@@ -9,13 +9,13 @@ ghost use Rattle.hull_tree.specs.Sets.{LimitedTree, IsSound, IsWhole};
 ghost use Rattle.hull_tree.specs.Levels.{bridges_at};
 ghost use Rattle.hull_tree.specs.Turns.{IsLeastCount, IsLeafDepth};
 
+use super::chain_range::push_from;
 use super::change::{insert, is_leaf, lower, raise, remove, times_of};
 use super::joining::blank;
 use super::levels::push_level;
 use super::load::{node_over, push_entries};
 use super::node::Node;
 use super::node_ref::NodeRef;
-use super::stretch::push_from;
 use bridge_search::Half;
 use heap::Heap;
 use hull_questions::{area2, extreme_counted, place, tangents, vertices};

@@ -15,21 +15,21 @@ use Rattle.hullbook.specs.declared.fault.Fault.{Fault}
 use Rattle.hullbook.specs.declared.fault.Fault.TheVariants as refused
 use Rattle.hullbook.specs.declared.fault.Failure.{Failure}
 use Rattle.hullbook.specs.declared.fault.Failure.TheVariants.{Refused, Rules, Illegal}
-use Rattle.hullbook.specs.declared.fault.Failure.TheVariants.{Journal, First, Limit, Lines, Part}
+use Rattle.hullbook.specs.declared.fault.Failure.TheVariants.{Journal, First, Limit, Lines, Segment}
 use Rattle.hullbook.specs.declared.after.AfterFault.{AfterFault}
 use Rattle.hullbook.specs.declared.after.AfterFault.TheVariants as after
-use Rattle.hullbook.specs.declared.parts.PartFault.{PartFault}
-use Rattle.hullbook.specs.declared.parts.PartFault.TheVariants as part
+use Rattle.hullbook.specs.declared.segments.SegmentFault.{SegmentFault}
+use Rattle.hullbook.specs.declared.segments.SegmentFault.TheVariants as segment
 use Rattle.hullbook.specs.declared.run.RunFault.{RunFault}
 use Rattle.hullbook.specs.declared.run.RunFault.TheVariants as engine
 
 -- the exit status if a segment of a journal was not judged: that of its text, 3 if it cannot be opened, 4 if memory
 -- was refused
-abbrev pub part_status : PartFault → ℕ
-part_status part.Open = 3
-part_status part.OpenMemory = 4
-part_status (part.Text f) = text_status f
-part_status part.Memory = 4
+abbrev pub segment_status : SegmentFault → ℕ
+segment_status segment.Open = 3
+segment_status segment.OpenMemory = 4
+segment_status (segment.Text f) = text_status f
+segment_status segment.Memory = 4
 
 -- 2 for words and texts that are refused, 3 for a file or a device that failed, 4 if memory was refused
 abbrev pub fault_status : Fault → ℕ
@@ -62,7 +62,7 @@ status_of (First n) = 2
 status_of (Limit n) = 2
 status_of (Lines n) = 2
 status_of (Illegal line) = 1
-status_of (Part path f) = part_status f
+status_of (Segment path f) = segment_status f
 
 -- the failure of a program whose engine ended with this fault
 abbrev pub fault_of_engine : RunFault → Failure

@@ -3,6 +3,6 @@ pub mod Outcomes
 pub mod Reads
 pub mod Afters
 pub mod Checks
-pub mod Parts
+pub mod Segments
 pub mod Explanations
 pub mod Faults

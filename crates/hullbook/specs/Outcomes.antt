@@ -54,10 +54,10 @@ pub record IsRunOn {S : Type 0} (K : Ghosts S) (opened : BookValue S) (script : 
 -- the run of a script on a book that was opened with these options: over the tree that searches each bridge, or over
 -- buckets for a sparing run
 abbrev pub IsRun : Bool → ScriptValue → Options → List (List Answer) → List ℕ → JournalValue → Type 0
-IsRun sparing script o answers counts journal =
-    (sparing ≡ false
+IsRun bucketed script o answers counts journal =
+    (bucketed ≡ false
     → IsRunOn hull_tree (opening (empty_tree o.limit) o script.workers) script answers counts journal)
-    × (sparing ≡ true
+    × (bucketed ≡ true
     → IsRunOn bucket_set (opening (empty_buckets o.limit) o script.workers) script answers counts journal)
 
 -- the journal if it is requested, and else the report
@@ -71,19 +71,19 @@ IsJournalWhereAsked asked text journal = asked ≡ true → IsJournalText text j
 
 -- The bytes, if they are known, were read as a script, it was run, and this holds of the text of the run. If they are
 -- not known some script was read nevertheless.
-pub record HasRun (sparing : Bool) (o : Options) (bytes : Option (List ℕ)) (Holds : List ℕ → Type 0) : Type 0 where
+pub record HasRun (bucketed : Bool) (o : Options) (bytes : Option (List ℕ)) (Holds : List ℕ → Type 0) : Type 0 where
   pub script : ScriptValue
   pub answers : List (List Answer)
   pub counts : List ℕ
   pub journal : JournalValue
   pub reads : ReadsKnownScript bytes (Ok script)
-  pub runs : IsRun sparing script o answers counts journal
+  pub runs : IsRun bucketed script o answers counts journal
   pub holds : Holds (output_text o.journal script answers counts journal)
   pub said : IsJournalWhereAsked o.journal (output_text o.journal script answers counts journal) journal
 
 -- what a run with this outcome has read and written
 abbrev pub EndsRun : Bool → Options → Passage → Passage → Result Unit RunFault → Type 0
-EndsRun sparing o input output (Ok done) = IsSound input × HasRun sparing o input.before (HasTaken output)
-EndsRun sparing o input output (Err (Text f)) = HasStopped ReadsKnownScript input output f
-EndsRun sparing o input output (Err Memory) = HasRefused (IsSomeScript input.before) input output
-EndsRun sparing o input output (Err Write) = IsSound input × HasRun sparing o input.before (HasTakenFront output)
+EndsRun bucketed o input output (Ok done) = IsSound input × HasRun bucketed o input.before (HasTaken output)
+EndsRun bucketed o input output (Err (Text f)) = HasStopped ReadsKnownScript input output f
+EndsRun bucketed o input output (Err Memory) = HasRefused (IsSomeScript input.before) input output
+EndsRun bucketed o input output (Err Write) = IsSound input × HasRun bucketed o input.before (HasTakenFront output)

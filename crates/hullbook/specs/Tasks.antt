@@ -31,10 +31,10 @@ IsWithinLimits (Upgrade path) = Unit {0}
 -- a request has no other numbers
 abbrev pub IsRequestWithinLimits : Request → Type 0
 IsRequestWithinLimits (request.Task t) = IsWithinLimits t
-IsRequestWithinLimits (request.RunSparing path o) = AreWithinLimits o
+IsRequestWithinLimits (request.RunBucketed path o) = AreWithinLimits o
 IsRequestWithinLimits (request.RunAfter script journal s) = AreStatedWithinLimits s
 IsRequestWithinLimits (request.Explain path) = Unit {0}
-IsRequestWithinLimits (request.CheckParts paths) = Unit {0}
+IsRequestWithinLimits (request.CheckSegments paths) = Unit {0}
 IsRequestWithinLimits (request.Compact path) = Unit {0}
 
 -- the texts are `check` and these names, which may follow a mark that ends the options
@@ -52,10 +52,10 @@ NamesWords texts (Upgrade path) = IsOneOf texts (string_bytes path)
 -- after `check`
 abbrev pub RequestNamesWords : List (List ℕ) → Request → Type 0
 RequestNamesWords texts (request.Task t) = NamesWords texts t
-RequestNamesWords texts (request.RunSparing path o) = IsOneOf texts (string_bytes path)
+RequestNamesWords texts (request.RunBucketed path o) = IsOneOf texts (string_bytes path)
 RequestNamesWords texts (request.RunAfter script journal s) =
     IsOneOf texts (string_bytes script) × IsOneOf texts (string_bytes journal)
 RequestNamesWords texts (request.Explain path) = IsOneOf texts (string_bytes path)
-RequestNamesWords texts (request.CheckParts paths) =
+RequestNamesWords texts (request.CheckSegments paths) =
     (2 ≤ length paths.items) × AreBehindCheck texts (words_as_texts paths.items)
 RequestNamesWords texts (request.Compact path) = IsOneOf texts (string_bytes path)

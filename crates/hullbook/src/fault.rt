@@ -1,12 +1,12 @@
 ghost use Rattle.std.specs.Prelude.{◌≡◌};
 ghost use Rattle.hullbook.specs.Faults.{fault_of_after, fault_of_compact, fault_of_engine, fault_of_options};
-ghost use Rattle.hullbook.specs.Faults.{fault_of_program, fault_of_refusal, fault_of_upgrade, fault_status, part_status};
+ghost use Rattle.hullbook.specs.Faults.{fault_of_program, fault_of_refusal, fault_of_upgrade, fault_status, segment_status};
 ghost use Rattle.hullbook.specs.Faults.{status_of};
 ghost use Rattle.hullbook.specs.declared.fault.Failure.TheVariants as failure;
 
 use crate::after::AfterFault;
-use crate::parts::PartFault;
 use crate::run::RunFault;
+use crate::segments::SegmentFault;
 use hull_book::CompactRefusal;
 use hull_program::{OptionFault, Refusal, text_status};
 use hull_text::{CompactFault, TextFault, UpgradeFault};
@@ -88,7 +88,7 @@ pub enum Failure {
     Illegal(u64),
     /// A segment of a journal, which is at this path, was not judged.
     #[error("hullbook: {0}: {1}")]
-    Part(String, PartFault),
+    Segment(String, SegmentFault),
     /// The stated first number is not that of the journal, which is this one.
     #[error("hullbook: the journal's first number is {0}")]
     First(u64),
@@ -101,13 +101,13 @@ pub enum Failure {
 }
 
 /// Returns the exit status of a program that ends with this fault of a segment.
-fn part_status(fault: &PartFault) -> u8
-    ensures { result ≡ part_status fault.now }
+fn segment_status(fault: &SegmentFault) -> u8
+    ensures { result ≡ segment_status fault.now }
 {
     match fault {
-        PartFault::Open => 3,
-        PartFault::OpenMemory | PartFault::Memory => 4,
-        PartFault::Text(fault) => text_status(fault),
+        SegmentFault::Open => 3,
+        SegmentFault::OpenMemory | SegmentFault::Memory => 4,
+        SegmentFault::Text(fault) => text_status(fault),
     }
 }
 
@@ -121,7 +121,7 @@ impl Failure {
             Failure::Rules | Failure::First(_) | Failure::Limit(_) | Failure::Lines(_) => 2,
             Failure::Refused(fault) => fault.status(),
             Failure::Journal(fault) => text_status(fault),
-            Failure::Part(_, fault) => part_status(fault),
+            Failure::Segment(_, fault) => segment_status(fault),
         }
     }
 }

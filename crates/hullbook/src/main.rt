@@ -10,13 +10,13 @@ mod check;
 mod explain;
 mod fault;
 mod options;
-mod part_files;
-mod parts;
 mod progress;
 mod run;
+mod segment_files;
+mod segments;
 #[cfg(test)]
 mod tests;
-mod watched;
+mod with_progress;
 
 use after::run_after;
 use check::{check_text_with, check_whole_text};
@@ -26,10 +26,10 @@ use hull_plain::PlainSet;
 use hull_program::{Refusal, block_writer, open_file, texts_of, words_given};
 use hull_text::{compact, upgrade};
 use options::{Options, Request, Stated, Task, request};
-use part_files::PartFiles;
-use parts::{PartsFault, check_parts};
 use progress::{Progress, TerminalLine};
-use run::{run, run_sparing};
+use run::{run, run_bucketed};
+use segment_files::SegmentFiles;
+use segments::{SegmentsFault, check_segments};
 use std::alloc::Global;
 use std::io;
 use std::process::ExitCode;
@@ -37,7 +37,7 @@ use std::rt::{Env, Files};
 use std::sync::Wait;
 use std::thread::Threads;
 use text_io::Counted;
-use watched::Watched;
+use with_progress::WithProgress;
 
 /// Returns the task that the words after the program's name request.
 fn request_of<R: Env + AllocGlobal>(rt: &R) -> Result<Request, Refusal>
@@ -62,7 +62,7 @@ fn run_file<R: Threads + Wait + Sync + Files + Print + AllocGlobal>(
 }
 
 /// Runs the script at the path on a tree over buckets and writes to standard output.
-fn run_file_sparing<R: Threads + Wait + Sync + Files + Print + AllocGlobal>(
+fn run_file_bucketed<R: Threads + Wait + Sync + Files + Print + AllocGlobal>(
     rt: &R,
     path: &str,
     options: &Options,
@@ -71,7 +71,7 @@ fn run_file_sparing<R: Threads + Wait + Sync + Files + Print + AllocGlobal>(
 {
     let mut input = Counted::new(open_file(rt, path)?);
     let mut output = Counted::new(block_writer(rt)?);
-    run_sparing(rt, rt.alloc(), &mut input, &mut output, options).map_err(Failure::from)
+    run_bucketed(rt, rt.alloc(), &mut input, &mut output, options).map_err(Failure::from)
 }
 
 /// Runs the script at the path on the book that continues the journal at the other, and writes to standard output.
@@ -85,7 +85,7 @@ fn run_files<R: Threads + Wait + Sync + Files + Print + AllocGlobal, P: Progress
     requires { AreStatedWithinLimits stated.now }
 {
     let mut input = Counted::new(open_file(rt, path)?);
-    let mut before = Counted::new(Watched::new(open_file(rt, journal)?, progress));
+    let mut before = Counted::new(WithProgress::new(open_file(rt, journal)?, progress));
     let mut output = Counted::new(block_writer(rt)?);
     run_after(
         rt,
@@ -105,7 +105,7 @@ fn check_file<R: Files + Print + AllocGlobal, P: Progress>(
     path: &str,
     progress: &P,
 ) -> Result<bool, Failure> {
-    let mut input = Counted::new(Watched::new(open_file(rt, path)?, progress));
+    let mut input = Counted::new(WithProgress::new(open_file(rt, path)?, progress));
     let mut output = Counted::new(io::writer(rt));
     let wrong = check_text_with(rt.alloc(), &mut input, &mut output, progress).map_err(
         Failure::from,
@@ -120,7 +120,7 @@ fn explain_file<R: Files + Print + AllocGlobal, E: Print, P: Progress>(
     path: &str,
     progress: &P,
 ) -> Result<bool, Failure> {
-    let mut input = Counted::new(Watched::new(open_file(rt, path)?, progress));
+    let mut input = Counted::new(WithProgress::new(open_file(rt, path)?, progress));
     let mut output = Counted::new(io::writer(rt));
     let checked = check_whole_text(rt.alloc(), &mut input, &mut output, progress).map_err(
         Failure::from,
@@ -129,8 +129,8 @@ fn explain_file<R: Files + Print + AllocGlobal, E: Print, P: Progress>(
         return Ok(true);
     };
     let mut notes = Counted::new(io::writer(error));
-    let told = explain(rt.alloc(), &checked.journal, place, &mut notes);
-    if told == Err(Unexplained::Memory) {
+    let returned = explain(rt.alloc(), &checked.journal, place, &mut notes);
+    if returned == Err(Unexplained::Memory) {
         let _ = error.println("hullbook: memory");
     }
     Ok(false)
@@ -143,15 +143,18 @@ fn check_files<R: Files + Print + AllocGlobal, P: Progress>(
     progress: &P,
 ) -> Result<bool, Failure> {
     let mut output = Counted::new(io::writer(rt));
-    let checked = check_parts(
+    let checked = check_segments(
         rt.alloc(),
-        &PartFiles::new(rt, &paths, progress),
+        &SegmentFiles::new(rt, &paths, progress),
         &mut output,
     );
     match checked {
         Ok(wrong) => Ok(wrong.is_none()),
-        Err(PartsFault::Part(part, fault)) => Err(Failure::Part(paths.swap_remove(part), fault)),
-        Err(PartsFault::Write) => Err(Failure::from(Fault::Write)),
+        Err(SegmentsFault::Segment(segment, fault)) => Err(Failure::Segment(
+            paths.swap_remove(segment),
+            fault,
+        )),
+        Err(SegmentsFault::Write) => Err(Failure::from(Fault::Write)),
     }
 }
 
@@ -161,7 +164,7 @@ fn upgrade_file<R: Files + Print + AllocGlobal, P: Progress>(
     path: &str,
     progress: &P,
 ) -> Result<(), Failure> {
-    let mut input = Counted::new(Watched::new(open_file(rt, path)?, progress));
+    let mut input = Counted::new(WithProgress::new(open_file(rt, path)?, progress));
     let mut output = Counted::new(block_writer(rt)?);
     upgrade(rt.alloc(), &mut input, &mut output).map_err(Failure::from)
 }
@@ -172,7 +175,7 @@ fn compact_file<R: Files + Print + AllocGlobal, P: Progress>(
     path: &str,
     progress: &P,
 ) -> Result<(), Failure> {
-    let mut input = Counted::new(Watched::new(open_file(rt, path)?, progress));
+    let mut input = Counted::new(WithProgress::new(open_file(rt, path)?, progress));
     let mut output = Counted::new(block_writer(rt)?);
     let alloc = rt.alloc();
     let empty = |limit| PlainSet::new(alloc, limit);
@@ -208,8 +211,8 @@ fn work<R: Threads + Wait + Sync + Env + Files + Print + AllocGlobal, E: Print, 
 ) -> Result<bool, Failure> {
     match request_of(rt)? {
         Request::Task(task) => perform(rt, task, progress),
-        Request::RunSparing(path, options) => {
-            run_file_sparing(rt, &path, &options)?;
+        Request::RunBucketed(path, options) => {
+            run_file_bucketed(rt, &path, &options)?;
             Ok(true)
         }
         Request::RunAfter(path, journal, stated) => {
@@ -217,7 +220,7 @@ fn work<R: Threads + Wait + Sync + Env + Files + Print + AllocGlobal, E: Print, 
             Ok(true)
         }
         Request::Explain(path) => explain_file(rt, error, &path, progress),
-        Request::CheckParts(paths) => check_files(rt, paths, progress),
+        Request::CheckSegments(paths) => check_files(rt, paths, progress),
         Request::Compact(path) => {
             compact_file(rt, &path, progress)?;
             Ok(true)

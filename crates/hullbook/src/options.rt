@@ -29,7 +29,7 @@ pub struct Stated {
     /// Whether the journal is written in place of the report.
     pub journal: bool,
     /// Whether the set is a tree over buckets, which keeps the bridges that a change cannot alter.
-    pub sparing: bool,
+    pub bucketed: bool,
 }
 
 /// The task of the program for one file.
@@ -50,13 +50,13 @@ pub enum Request {
     Task(Task),
     /// To run the script at this path on a tree over buckets, which keeps the bridges that a change cannot alter: the same
     /// replies, sooner.
-    RunSparing(String, Options),
+    RunBucketed(String, Options),
     /// To run the script at the first path on the book that continues the journal at the second.
     RunAfter(String, String, Stated),
     /// To check the journal at this path, and to explain why a line is wrong.
     Explain(String),
     /// To check the segments of one journal at these paths, in this order.
-    CheckParts(Vec<String>),
+    CheckSegments(Vec<String>),
     /// To write a short journal that leaves the same points as the journal at this path.
     Compact(String),
 }

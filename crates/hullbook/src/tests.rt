@@ -5,15 +5,15 @@ mod afters;
 mod answers;
 mod asked;
 mod checks;
-mod parts;
 mod refused;
+mod segments;
 
 use crate::check::check_text;
 use crate::fault::{Failure, Fault};
 use crate::options::{Options, Request, Stated, Task, options, request};
-use crate::parts::PartFault;
 use crate::progress::Progress;
 use crate::run::{RunFault, run};
+use crate::segments::SegmentFault;
 use hull_program::{OptionFault, Refusal};
 use hull_text::{TextFault, UpgradeFault, WriteFault};
 use std::alloc::Global;
@@ -256,8 +256,8 @@ fn run_of(alloc: Global, words: &[&str], wanted: &str) -> Option<Options> {
 }
 
 // Returns the numbers of the run of the script at this path on a tree over buckets, if the words request that.
-fn sparing_run_of(alloc: Global, words: &[&str], wanted: &str) -> Option<Options> {
-    let Ok(Request::RunSparing(path, numbers)) = request(alloc, words) else {
+fn bucketed_run_of(alloc: Global, words: &[&str], wanted: &str) -> Option<Options> {
+    let Ok(Request::RunBucketed(path, numbers)) = request(alloc, words) else {
         return None;
     };
     (path.as_str() == wanted).then_some(numbers)
@@ -299,8 +299,8 @@ fn check_of(alloc: Global, words: &[&str], wanted: &str) -> Option<bool> {
 }
 
 // Whether the words request a check of three segments at these paths.
-fn is_check_of_parts(alloc: Global, words: &[&str], wanted: (&str, &str, &str)) -> bool {
-    let Ok(Request::CheckParts(paths)) = request(alloc, words) else {
+fn is_check_of_segments(alloc: Global, words: &[&str], wanted: (&str, &str, &str)) -> bool {
+    let Ok(Request::CheckSegments(paths)) = request(alloc, words) else {
         return false;
     };
     if paths.len() != 3 {
@@ -331,12 +331,12 @@ fn words_that_are_taken(rt: HostRuntime) {
     let alloc = rt.alloc();
     let numbers = run_of(alloc, &words, "a b.txt");
     let plain = run_of(alloc, &["run", "x"], "x");
-    let sparing = sparing_run_of(alloc, &["run", "--sparing", "x"], "x");
+    let bucketed = bucketed_run_of(alloc, &["run", "--sparing", "x"], "x");
     let upgrade = is_upgrade_of(alloc, &["upgrade", "a b"], "a b");
     let compact = is_compact_of(alloc, &["compact", "a b"], "a b");
     assert_eq!(rt; numbers, Some(wanted));
     assert_eq!(rt; plain, Some(PLAIN));
-    assert_eq!(rt; sparing, Some(PLAIN));
+    assert_eq!(rt; bucketed, Some(PLAIN));
     assert!(rt; upgrade && compact);
 }
 
@@ -345,9 +345,9 @@ fn words_of_a_check(rt: HostRuntime) {
     let alloc = rt.alloc();
     let plain = check_of(alloc, &["check", "x"], "x");
     let explained = check_of(alloc, &["check", "--explain", "x"], "x");
-    let parts = is_check_of_parts(alloc, &["check", "y", "x", "y"], ("y", "x", "y"));
+    let segments = is_check_of_segments(alloc, &["check", "y", "x", "y"], ("y", "x", "y"));
     assert_eq!(rt; (plain, explained), (Some(false), Some(true)));
-    assert!(rt; parts);
+    assert!(rt; segments);
 }
 
 /// Numbers that are not stated for a run after a journal are taken from the journal.
@@ -359,7 +359,7 @@ fn words_of_a_run_after_a_journal(rt: HostRuntime) {
         limit: Some(7),
         first: None,
         journal: false,
-        sparing: true,
+        bucketed: true,
     };
     let stated = run_after_of(rt.alloc(), &words, ("s", "j"));
     assert_eq!(rt; stated, Some(wanted));
@@ -431,8 +431,8 @@ fn refused_memory_of_the_system(rt: HostRuntime) -> Result<(), Fail> {
 // Whether the two faults end the program with the same status, and with the same words.
 fn alike(alloc: Global, one: Failure, other: Failure) -> Result<(bool, bool), Fail> {
     let same_status = one.status() == other.status();
-    let (told, wanted) = (format!(in alloc; "{one}")?, format!(in alloc; "{other}")?);
-    Ok((same_status, told.as_str() == wanted.as_str()))
+    let (returned, wanted) = (format!(in alloc; "{one}")?, format!(in alloc; "{other}")?);
+    Ok((same_status, returned.as_str() == wanted.as_str()))
 }
 
 /// A journal that was not upgraded ends the program as a journal that was not checked.
@@ -454,9 +454,9 @@ fn faults_of_an_upgrade_are_those_of_a_check(rt: HostRuntime) -> Result<(), Fail
 }
 
 // Whether the program ends with these words by this fault, which is dropped here.
-fn tells(alloc: Global, fault: Failure, words: &str) -> bool {
+fn reports(alloc: Global, fault: Failure, words: &str) -> bool {
     match format!(in alloc; "{fault}") {
-        Ok(told) => told.as_str() == words,
+        Ok(returned) => returned.as_str() == words,
         Err(_) => false,
     }
 }
@@ -466,48 +466,48 @@ fn tells(alloc: Global, fault: Failure, words: &str) -> bool {
 fn faults_have_their_words(rt: HostRuntime) {
     let text = TextFault { number: 3, line: 2 };
     let alloc = rt.alloc();
-    let told = [
-        tells(alloc, Failure::Refused(Fault::Usage), "hullbook: usage"),
-        tells(alloc, Failure::Refused(Fault::Open), "hullbook: open"),
-        tells(alloc, Failure::Refused(Fault::Memory), "hullbook: memory"),
-        tells(alloc, Failure::Refused(Fault::Write), "hullbook: write"),
-        tells(
+    let returned = [
+        reports(alloc, Failure::Refused(Fault::Usage), "hullbook: usage"),
+        reports(alloc, Failure::Refused(Fault::Open), "hullbook: open"),
+        reports(alloc, Failure::Refused(Fault::Memory), "hullbook: memory"),
+        reports(alloc, Failure::Refused(Fault::Write), "hullbook: write"),
+        reports(
             alloc,
             Failure::Refused(Fault::Text(text)),
             "hullbook: line 2: fault 3",
         ),
-        tells(
+        reports(
             alloc,
             Failure::Journal(text),
             "hullbook: journal: line 2: fault 3",
         ),
-        tells(
+        reports(
             alloc,
             Failure::Rules,
             "hullbook: points are not counted before version 3, and upgrade keeps that",
         ),
-        tells(
+        reports(
             alloc,
             Failure::Illegal(4294967297),
             "hullbook: illegal 4294967297",
         ),
-        tells(
+        reports(
             alloc,
             Failure::First(18446744073709551615),
             "hullbook: the journal's first number is 18446744073709551615",
         ),
-        tells(
+        reports(
             alloc,
             Failure::Limit(4),
             "hullbook: the journal's limit is 4",
         ),
-        tells(
+        reports(
             alloc,
             Failure::Lines(3),
             "hullbook: the journal has 3 lines",
         ),
     ];
-    assert_eq!(rt; told, [true; 11]);
+    assert_eq!(rt; returned, [true; 11]);
 }
 
 // Returns the status of a program that ends with this fault, which is dropped here: a test that owned it would drop
@@ -533,7 +533,7 @@ fn faults_have_their_statuses(rt: HostRuntime) {
         status_of(Failure::First(0)),
         status_of(Failure::Limit(4)),
         status_of(Failure::Lines(3)),
-        status_of(Failure::Part(String::new(rt.alloc()), PartFault::Open)),
+        status_of(Failure::Segment(String::new(rt.alloc()), SegmentFault::Open)),
     ];
     let journals = [
         status_of(Failure::Journal(at_first_line(7))),

@@ -47,8 +47,8 @@ weight_within u p r hu hp hr =
     (within_mul widest_side (widest + widest) u (p -ℤ r) hu (within_sub widest widest p r hp hr))
 
 -- a coordinate that a point returned is kept by a cast to 64 bits
-pub cast_told : (z w : ℤ) → IsCoordinate z → z ≡ w → to_z w64 (of_z w64 z) ≡ w
-cast_told z w h e = cast64 z (coordinate_within z h) ∙ e
+pub cast_returned : (z w : ℤ) → IsCoordinate z → z ≡ w → to_z w64 (of_z w64 z) ≡ w
+cast_returned z w h e = cast64 z (coordinate_within z h) ∙ e
 
 -- a sum of two small enough numbers fits 128 bits
 pub sum_fits : (m n : ℤ) → IsWithin (2 ^ 125) m → IsWithin (2 ^ 125) n

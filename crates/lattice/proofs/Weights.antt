@@ -16,12 +16,12 @@ weigh : (u v p q s : ℤ) → u *ℤ (p -ℤ s) +ℤ v *ℤ (q -ℤ s) ≡ (u *�
 weigh u v p q s = simp ring_laws (omega (arith, linear))
 
 -- the result that the program computed is that difference
-pub weight_told : (r u v p q s p' q' s' : ℤ) → FitsSigned w128 r → FitsSigned w128 u → FitsSigned w128 v
+pub weight_returned : (r u v p q s p' q' s' : ℤ) → FitsSigned w128 r → FitsSigned w128 u → FitsSigned w128 v
     → to_z w64 (of_z w64 p) ≡ p' → to_z w64 (of_z w64 q) ≡ q' → to_z w64 (of_z w64 s) ≡ s'
     → r ≡ to_z w128 (of_z w128 u) *ℤ (to_z w64 (of_z w64 p) -ℤ to_z w64 (of_z w64 s)) +ℤ to_z w128 (of_z w128 v) *ℤ
     (to_z w64 (of_z w64 q) -ℤ to_z w64 (of_z w64 s))
     → to_z w128 (of_z w128 r) ≡ (u *ℤ p' +ℤ v *ℤ q') -ℤ ((u +ℤ v) *ℤ s')
-weight_told r u v p q s p' q' s' fr fu fv ep eq es e =
+weight_returned r u v p q s p' q' s' fr fu fv ep eq es e =
     cast128 r fr ∙ (rw (cast128 u fu, cast128 v fv, ep, eq, es) at e) ∙ weigh u v p' q' s'
 
 -- a point below zero in x is before

@@ -18,7 +18,7 @@ use Rattle.bridge_search.proofs.Leaves.{sets_in_row}
 use Rattle.hull_set.specs.Held.{once}
 use Rattle.hull_set.specs.PointLists.{is_same_pair}
 use Rattle.hull_geometry.proofs.PointLists.{AllPairs-none, AllPairs-cons, get_or_free, later}
-use Rattle.hull_set.proofs.Times.{same_or_other, once_same, told_other}
+use Rattle.hull_set.proofs.Times.{same_or_other, once_same, returned_other}
 use Rattle.leaf_trees.specs.Entries.{several, IsMultiplicity}
 use Rattle.leaf_trees.specs.Entries.{points_listed, times_listed, AreEntries}
 use Rattle.hull_set.specs.Held.{times_among}
@@ -114,7 +114,7 @@ times_recounted es e p q n s = grind (arith, common_steps, sum_by_push, several,
 
 -- two points are different if the test returned so
 pub other_point : {r : Bool} (p q : Pair) → r ≡ not (is_same_pair p q) → r ≡ true → ¬ (p ≡ q)
-other_point p q e t = told_other p q (not_true _ (sym e ∙ t))
+other_point p q e t = returned_other p q (not_true _ (sym e ∙ t))
   where
     not_true : (b : Bool) → not b ≡ true → b ≡ false
     not_true true h = sym h

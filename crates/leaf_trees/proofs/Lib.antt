@@ -3,5 +3,5 @@ pub mod Rows
 pub mod Multiplicities
 pub mod Counting
 pub mod AddedSets
-pub mod Stretches
-pub mod Told
+pub mod ChainRanges
+pub mod Returned

@@ -3,7 +3,7 @@ use Rattle.std.proofs.Common.{◌≡◌, ℕ, refl, sym, ◌∙◌, Bool, true, 
 use Rattle.std.specs.Prelude.{not}
 use Rattle.lattice.specs.Plane.{Pair}
 use Rattle.hull_set.specs.PointLists.{is_same_pair}
-use Rattle.hull_set.proofs.Times.{same_true, same_false, told_same}
+use Rattle.hull_set.proofs.Times.{same_true, same_false, returned_same}
 use Rattle.leaf_trees.specs.Entries.{several}
 
 -- in the set that contains only p, n times, the multiplicity of p is n
@@ -16,7 +16,7 @@ several_elsewhere n p q d = rw (same_false p q d) refl
 
 -- two points are the same if the test did not return that they differ
 pub same_point : {r : Bool} (p q : Pair) → r ≡ not (is_same_pair p q) → r ≡ false → p ≡ q
-same_point p q e f = told_same p q (not_false _ (sym e ∙ f))
+same_point p q e f = returned_same p q (not_false _ (sym e ∙ f))
   where
     not_false : (b : Bool) → not b ≡ false → b ≡ true
     not_false true h = refl

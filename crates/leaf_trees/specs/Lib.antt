@@ -1,3 +1,3 @@
 pub mod Entries
 pub mod Heights
-pub mod Stretches
+pub mod ChainRanges

@@ -17,7 +17,7 @@ fn count_in(entries: &mut Vec<(Point, u32), Heap>, entry: (Point, u32)) -> bool
     requires entries { AreEntries entries.old.items }
     requires times { IsMultiplicity entry.1 }
     requires last { (t : Pair) → Contains (points_listed entries.old.items) t → ¬ IsBefore entry.0 t }
-    requires room { vec_len entries.old < vec_capacity entries.old }
+    requires space { vec_len entries.old < vec_capacity entries.old }
     ensures entries { AreEntries entries.new.items }
     ensures among { (t : Pair) → Contains (points_listed entries.new.items) t
         → Contains (points_listed entries.old.items) t ⊎ (t ≡ entry.0) }
@@ -49,7 +49,7 @@ fn count_in(entries: &mut Vec<(Point, u32), Heap>, entry: (Point, u32)) -> bool
 fn counted(points: &[Point], entries: &mut Vec<(Point, u32), Heap>) -> bool
     requires ascending { IsAscending points.now }
     requires none { vec_len entries.old ≡ 0 }
-    requires room { length points.now ≤ vec_capacity entries.old }
+    requires space { length points.now ≤ vec_capacity entries.old }
     ensures entries { AreEntries entries.new.items }
     ensures times { IsTrue result → (q : Pair) → times_listed entries.new.items q ≡ times_among points.now q }
     ensures too_often { result ≡ false → (q : Pair) × (MULTIPLICITY_LIMIT < times_among points.now q) }
@@ -86,7 +86,7 @@ fn merged(
     requires first { AreEntries first.now }
     requires second { AreEntries second.now }
     requires none { vec_len entries.old ≡ 0 }
-    requires room { length first.now + length second.now ≤ vec_capacity entries.old }
+    requires space { length first.now + length second.now ≤ vec_capacity entries.old }
     ensures entries { AreEntries entries.new.items }
     ensures times { IsTrue result → (q : Pair) → times_listed entries.new.items q
         ≡ times_listed first.now q + times_listed second.now q }

@@ -3,7 +3,7 @@ ghost use Rattle.std.specs.Prelude.{◌≡◌, ◌≢◌, ◌≤◌, ◌+◌, �
 ghost use Rattle.lattice.specs.Plane.{Pair};
 ghost use Rattle.hull_set.specs.Held.{nothing_held, times_among};
 ghost use Rattle.leaf_trees.specs.Entries.{AreEntries, AreTooMany, held_after_adds, held_listed};
-ghost use Rattle.leaf_trees.specs.Stretches.{IsStretch, entries_from};
+ghost use Rattle.leaf_trees.specs.ChainRanges.{IsChainRange, entries_from};
 
 use super::adding::add_each;
 use super::entries::{entries_of, merged_entries};
@@ -38,7 +38,7 @@ pub trait Listed: HullSet + Drop {
     /// Appends the points that are not before `start`, each with its multiplicity, until there are `most` entries.
     fn push_from(&self, start: Point, most: usize, entries: &mut Vec<(Point, u32), Heap>)
         requires few { vec_len entries.old ≤ most }
-        requires room { most ≤ vec_capacity entries.old }
+        requires space { most ≤ vec_capacity entries.old }
         ensures { entries.new.items ≡ take most (entries.old.items ++ entries_from start (listed self.now)) };
 
     /// Makes the set of some points in order, each with its multiplicity, for up to `limit` points, in a small part of the time of adding them one by
@@ -46,7 +46,7 @@ pub trait Listed: HullSet + Drop {
     fn from_entries(alloc: Heap, limit: u32, entries: &[(Point, u32)]) -> Result<Self, NoMemory>
         requires high { limit ≤ POINT_LIMIT }
         requires low { 1 ≤ limit }
-        requires room { length entries.now ≤ limit }
+        requires space { length entries.now ≤ limit }
         requires entries { AreEntries entries.now }
         ensures held { IfOk result (λ set. Self.held set ≡ held_listed entries.now) }
         ensures limit { IfOk result (λ set. Self.bound set ≡ limit) }
@@ -98,7 +98,7 @@ pub trait Listed: HullSet + Drop {
         start: Point,
         most: usize,
     ) -> Result<Vec<(Point, u32), Heap>, NoMemory>
-        ensures stretch { IfOk result (λ entries. IsStretch (Self.held self.now) start most entries.items) }
+        ensures chain_range { IfOk result (λ entries. IsChainRange (Self.held self.now) start most entries.items) }
         ensures refused { IfErr result (λ _. (Self.held self.now).points ≢ []) }
     {
         self.lists_are_sound();
@@ -106,9 +106,9 @@ pub trait Listed: HullSet + Drop {
         if count == 0 {
             return Ok(Vec::new(self.alloc()));
         }
-        let room = most.min(count);
-        let mut entries = Vec::with_capacity(self.alloc(), room)?;
-        self.push_from(start, room, &mut entries);
+        let space = most.min(count);
+        let mut entries = Vec::with_capacity(self.alloc(), space)?;
+        self.push_from(start, space, &mut entries);
         Ok(entries)
     }
 

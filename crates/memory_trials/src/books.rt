@@ -68,7 +68,7 @@ pub fn try_open<S: HullSet + Drop>(alloc: Global, set: S) -> Result<Stage, &'sta
             Stage::Refused
         }
     };
-    findings.told(stage)
+    findings.returned(stage)
 }
 
 /// Serves one call of seat 0.
@@ -133,7 +133,7 @@ pub fn try_serve<S: HullSet + Drop>(alloc: Global, set: S, p: Point) -> Result<S
     let lines = if stage == Stage::Refused { 3 } else { 2 };
     findings.expect(book.turn() == 7 + lines, "each call has its number");
     give_up(book, ledgers, lines, &mut findings);
-    findings.told(stage)
+    findings.returned(stage)
 }
 
 /// Whether the answer is a list of these points.
@@ -167,5 +167,5 @@ pub fn try_check(alloc: Global, p: Point) -> Result<Stage, &'static str> {
         found => (Stage::Whole, found),
     };
     findings.expect(found == CheckResult::Legal, "the journal is legal");
-    findings.told(stage)
+    findings.returned(stage)
 }

@@ -20,7 +20,7 @@ impl Findings {
     }
 
     /// Returns the stage, or what was wrong.
-    pub fn told(self, stage: Stage) -> Result<Stage, &'static str> {
+    pub fn returned(self, stage: Stage) -> Result<Stage, &'static str> {
         match self.wrong {
             None => Ok(stage),
             Some(what) => Err(what),

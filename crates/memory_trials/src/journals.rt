@@ -1,7 +1,7 @@
 //! Continuing a journal, compacting, draining, and judging it in segments.
 ghost use Rattle.std.specs.Prelude.{◌≡◌, ◌<◌, ◌≤◌, ◌-◌, ◌^◌, IfSome, length};
 ghost use Rattle.hull_set.specs.Held.{nothing_held};
-ghost use Rattle.hull_book.specs.Answers.{HasRoom};
+ghost use Rattle.hull_book.specs.Answers.{HasSpace};
 ghost use Rattle.hull_book.specs.Books.{IsGoneOnFrom, IsLawful};
 ghost use Rattle.hull_book.specs.declared.limits.TheConstants.{SEAT_LIMIT};
 ghost use Rattle.hull_book.specs.Ledgers.{AreLedgers};
@@ -12,8 +12,8 @@ use crate::findings::Findings;
 use crate::stage::Stage;
 use crate::texts::is_memory;
 use hull_book::{
-    Book, BookFault, CompactRefusal, Journal, Ledger, LongAnswer, LongBook, PartsChecker,
-    ReplayFault, Room, Then, gather, replay,
+    AfterCall, Book, BookFault, CompactRefusal, Journal, Ledger, LongAnswer, LongBook, ReplayFault,
+    SegmentsChecker, Space, gather, replay,
 };
 use hull_plain::PlainSet;
 use hull_set::{Call, HullSet, Reply, Rules};
@@ -104,12 +104,12 @@ pub fn try_reopen<S: HullSet + Drop>(alloc: Global, set: S, p: Point) -> Result<
     match Book::reopen(alloc, set, journal, 6, workers) {
         Ok((book, ledgers)) => {
             expect_reopened(book, ledgers, &mut findings);
-            findings.told(Stage::Whole)
+            findings.returned(Stage::Whole)
         }
         Err((fault, set, journal)) => {
             findings.expect(fault == BookFault::NoMemory, "the fault is want of memory");
             reopen_again(alloc, set, journal, workers, &mut findings);
-            findings.told(Stage::Refused)
+            findings.returned(Stage::Refused)
         }
     }
 }
@@ -119,16 +119,16 @@ fn serve_long<S: HullSet + Drop>(
     book: &mut LongBook<S>,
     ledgers: &mut Vec<Ledger>,
     call: Call,
-    then: Then,
+    then: AfterCall,
 ) -> LongAnswer
     requires lawful { IsLawful S.HullSet (whole book.old) }
-    requires room { HasRoom then book.old.head.journal.capacity }
+    requires space { HasSpace then book.old.head.journal.capacity }
     requires ledgers { AreLedgers (whole book.old) ledgers.old.items }
     requires some { 1 ≤ length ledgers.old.items }
     ensures lawful { IsLawful S.HullSet (whole book.new) }
     ensures ledgers { AreLedgers (whole book.new) ledgers.new.items }
     ensures number { length ledgers.new.items ≡ length ledgers.old.items }
-    ensures room { book.new.head.journal.capacity ≡ book.old.head.journal.capacity }
+    ensures space { book.new.head.journal.capacity ≡ book.old.head.journal.capacity }
 {
     book.serve(0, call, &mut ledgers[0], then)
 }
@@ -138,16 +138,16 @@ fn drain<S: HullSet + Drop>(
     book: &mut LongBook<S>,
     ledgers: &mut Vec<Ledger>,
     call: Call,
-    room: Room,
+    space: Space,
 ) -> Option<(Reply, Option<Journal>)>
     requires lawful { IsLawful S.HullSet (whole book.old) }
     requires ledgers { AreLedgers (whole book.old) ledgers.old.items }
     requires some { 1 ≤ length ledgers.old.items }
-    requires room { book.old.head.journal.capacity ≤ room }
+    requires space { book.old.head.journal.capacity ≤ space }
     ensures lawful { IsLawful S.HullSet (whole book.new) }
     ensures ledgers { AreLedgers (whole book.new) ledgers.new.items }
 {
-    match serve_long(book, ledgers, call, Then::TakeOut(room)) {
+    match serve_long(book, ledgers, call, AfterCall::Drain(space)) {
         Ok(drained) => Some(drained),
         Err(_) => None,
     }
@@ -158,15 +158,15 @@ fn reserve<S: HullSet + Drop>(
     alloc: Global,
     book: &LongBook<S>,
     findings: &mut Findings,
-) -> (Stage, Option<Room>)
-    ensures { IfSome result.1 (λ room. 4 ≤ room) }
+) -> (Stage, Option<Space>)
+    ensures { IfSome result.1 (λ space. 4 ≤ space) }
 {
-    match Room::reserve(alloc, 4) {
-        Ok(room) => (Stage::Whole, Some(room)),
+    match Space::reserve(alloc, 4) {
+        Ok(space) => (Stage::Whole, Some(space)),
         Err(_) => {
             let seen = (book.drained(), book.lines().len());
             findings.expect(seen == (0, 1), "nothing is taken out");
-            (Stage::Refused, Room::reserve(alloc, 4).ok())
+            (Stage::Refused, Space::reserve(alloc, 4).ok())
         }
     }
 }
@@ -175,7 +175,7 @@ fn reserve<S: HullSet + Drop>(
 fn give_up_long<S: HullSet + Drop>(
     book: LongBook<S>,
     ledgers: Vec<Ledger>,
-    part: Option<Journal>,
+    segment: Option<Journal>,
     findings: &mut Findings,
 )
     requires lawful { IsLawful S.HullSet (whole book) }
@@ -183,8 +183,8 @@ fn give_up_long<S: HullSet + Drop>(
 {
     let seen = (book.drained(), book.turn(), book.lines().len());
     findings.expect(seen == (2, 9, 0), "the book goes on behind the part");
-    let part = part.map(|part| (part.first(), part.lines().len()));
-    findings.expect(part == Some((7, 2)), "the part has all lines");
+    let segment = segment.map(|segment| (segment.first(), segment.lines().len()));
+    findings.expect(segment == Some((7, 2)), "the part has all lines");
     let sum = gather(&book, ledgers);
     findings.expect(sum == 2, "the ledgers sum to the lines");
     drop(book);
@@ -203,38 +203,38 @@ pub fn try_drain<S: HullSet + Drop>(alloc: Global, set: S, p: Point) -> Result<S
         Ok(book) => book,
         Err((_, book)) => {
             give_up(book, ledgers, 0, &mut findings);
-            return findings.told(Stage::SetUp);
+            return findings.returned(Stage::SetUp);
         }
     };
-    let added = serve_long(&mut book, &mut ledgers, Call::Add(p), Then::Keep);
-    let (stage, room) = reserve(alloc, &book, &mut findings);
-    let drained = match room {
-        Some(room) => drain(&mut book, &mut ledgers, Call::Vertices, room),
+    let added = serve_long(&mut book, &mut ledgers, Call::Add(p), AfterCall::Keep);
+    let (stage, space) = reserve(alloc, &book, &mut findings);
+    let drained = match space {
+        Some(space) => drain(&mut book, &mut ledgers, Call::Vertices, space),
         None => None,
     };
-    let (listed, part) = match drained {
-        Some((reply, part)) => (reply == Reply::NoMemory, part),
+    let (listed, segment) = match drained {
+        Some((reply, segment)) => (reply == Reply::NoMemory, segment),
         None => (false, None),
     };
-    give_up_long(book, ledgers, part, &mut findings);
+    give_up_long(book, ledgers, segment, &mut findings);
     let stage = match added {
         Ok((Reply::NoMemory, _)) => Stage::SetUp,
         _ if listed => Stage::Vertices,
         _ => stage,
     };
-    findings.told(stage)
+    findings.returned(stage)
 }
 
 /// Returns the number after the two segments, if they are those of a legal journal.
 fn judged(alloc: Global, first: &Journal, second: &Journal) -> Result<u64, ReplayFault> {
     let _limits = first.lines();
     let set = PlainSet::new(alloc, first.limit());
-    let checker = PartsChecker::new(set, first).check_next(first)?;
+    let checker = SegmentsChecker::new(set, first).check_next(first)?;
     Ok(checker.check_next(second)?.next())
 }
 
 /// Judges two segments. If memory is refused, the next attempt begins with the first.
-pub fn try_parts(alloc: Global) -> Result<Stage, &'static str> {
+pub fn try_segments(alloc: Global) -> Result<Stage, &'static str> {
     let mut findings = Findings::new();
     let first = read_journal(alloc, &mut Counted::new(Pieces::new(FIRST, 4096)));
     let second = read_journal(alloc, &mut Counted::new(Pieces::new(SECOND, 4096)));
@@ -246,7 +246,7 @@ pub fn try_parts(alloc: Global) -> Result<Stage, &'static str> {
         found => (Stage::Whole, found),
     };
     findings.expect(found == Ok(9), "the parts are legal");
-    findings.told(stage)
+    findings.returned(stage)
 }
 
 /// Compacts a text by a replay on a plain set.
@@ -283,5 +283,5 @@ pub fn try_compact(alloc: Global, size: usize) -> Result<Stage, &'static str> {
     };
     findings.expect(done.is_ok(), "the next attempt has its memory");
     findings.expect(out.get_ref().bytes() == SHORT, "the short journal is whole");
-    findings.told(stage)
+    findings.returned(stage)
 }

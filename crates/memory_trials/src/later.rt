@@ -99,5 +99,5 @@ pub fn try_later<R: Threads + Wait + Sync, S: HullSet + Drop + Send + Sync>(
             serve_on(book, workers, &mut findings)
         }
     };
-    findings.told(stage)
+    findings.returned(stage)
 }

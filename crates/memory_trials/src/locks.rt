@@ -37,5 +37,5 @@ pub fn try_lock<S: HullSet + Drop>(alloc: Global, set: S) -> Result<Stage, &'sta
     let seen = (book.turn(), book.lines().len(), book.workers());
     findings.expect(seen == (7, 0, 3), "the book is as it was");
     drop(book);
-    findings.told(stage)
+    findings.returned(stage)
 }

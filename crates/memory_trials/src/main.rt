@@ -97,14 +97,14 @@ fn trial<R: Threads + Wait + Sync>(
         "tree_reopen" => journals::try_reopen(alloc, HullTree::new(alloc, 12), p),
         "plain_drain" => journals::try_drain(alloc, PlainSet::new(alloc, 12), p),
         "tree_drain" => journals::try_drain(alloc, HullTree::new(alloc, 12), p),
-        "parts" => journals::try_parts(alloc),
+        "parts" => journals::try_segments(alloc),
         "compact" => journals::try_compact(alloc, 1),
         _ => return None,
     })
 }
 
 /// Makes the trial of that name and writes its line. Returns `false` if something was wrong.
-fn told<R: Threads + Wait + Sync + Print + AllocGlobal>(rt: &R, name: &str) -> bool {
+fn returned<R: Threads + Wait + Sync + Print + AllocGlobal>(rt: &R, name: &str) -> bool {
     let Ok(p) = Point::new(3, 4) else {
         return false;
     };
@@ -129,11 +129,11 @@ fn main(rt: HostRuntime) -> ExitCode {
     let mut right = true;
     for word in words.skip(1) {
         named = true;
-        right = told(&rt, word.as_str()) && right;
+        right = returned(&rt, word.as_str()) && right;
     }
     if !named {
         for name in &NAMES {
-            right = told(&rt, name) && right;
+            right = returned(&rt, name) && right;
         }
     }
     if right {

@@ -79,7 +79,7 @@ pub fn try_workers<S: HullSet + Drop>(alloc: Global, set: S) -> Result<Stage, &'
         }
     };
     give_up(book, ledgers, 0, &mut findings);
-    findings.told(stage)
+    findings.returned(stage)
 }
 
 /// Tests the result of a run that ended well: the answers, the ledgers, and the journal.
@@ -155,7 +155,7 @@ pub fn try_phases<R: Threads + Wait + Sync, S: HullSet + Drop + Send + Sync>(
     match ended {
         Ok(()) => {
             let stage = judge(alloc, book, workers, &mut findings);
-            findings.told(stage.unwrap_or(Stage::Whole))
+            findings.returned(stage.unwrap_or(Stage::Whole))
         }
         Err(fault) => {
             findings.expect(fault == PoolFault::NoMemory, "the fault is want of memory");
@@ -163,7 +163,7 @@ pub fn try_phases<R: Threads + Wait + Sync, S: HullSet + Drop + Send + Sync>(
             let given = answers.first().map_or(1, |list| list.len());
             findings.expect(given == 0, "nothing was answered");
             give_up(book, ledgers, 0, &mut findings);
-            findings.told(Stage::Refused)
+            findings.returned(Stage::Refused)
         }
     }
 }
@@ -234,7 +234,7 @@ fn run_first<R: Threads + Wait + Sync, S: HullSet + Drop + Send + Sync>(
             give_up(book, ledgers, 0, &mut findings);
         }
     }
-    findings.told(stage)
+    findings.returned(stage)
 }
 
 /// Runs the one phase of the script.

@@ -8,18 +8,18 @@ use lattice::Point;
 const POINTS: u32 = 12;
 
 /// Returns the point (k, k * k). All such points are vertices, in the order of their numbers.
-fn corner(k: u32) -> Option<Point> {
+fn vertex(k: u32) -> Option<Point> {
     let square = k.checked_mul(k)?;
     Point::new(i64::from(k), i64::from(square)).ok()
 }
 
 /// Whether these are the first `count` such points.
-fn are_corners(points: &[Point], count: u32) -> bool {
+fn are_vertices(points: &[Point], count: u32) -> bool {
     if points.len() != count as usize {
         return false;
     }
     for (k, p) in (0u32..).zip(points) {
-        if corner(k) != Some(*p) {
+        if vertex(k) != Some(*p) {
             return false;
         }
     }
@@ -28,13 +28,13 @@ fn are_corners(points: &[Point], count: u32) -> bool {
 
 /// Whether the set has exactly the first `count` such points: its count is their number, and its vertices are these. If memory for the list is
 /// refused, the second attempt returns it.
-fn has_corners<S: HullSet>(set: &S, count: u32) -> bool {
+fn has_vertices<S: HullSet>(set: &S, count: u32) -> bool {
     let vertices = match set.vertices() {
         Ok(vertices) => Ok(vertices),
         Err(NoMemory) => set.vertices(),
     };
     match vertices {
-        Ok(points) => set.count() == count && are_corners(&points, count),
+        Ok(points) => set.count() == count && are_vertices(&points, count),
         Err(NoMemory) => false,
     }
 }
@@ -44,7 +44,7 @@ fn put<S: HullSet>(set: &mut S, k: u32, p: Point, findings: &mut Findings) -> St
     match set.add(p) {
         AddReply::Added => Stage::Whole,
         AddReply::NoMemory => {
-            findings.expect(has_corners(set, k), "the set is as it was");
+            findings.expect(has_vertices(set, k), "the set is as it was");
             findings.expect(set.add(p) == AddReply::Added, "the next add has its memory");
             Stage::Refused
         }
@@ -60,7 +60,7 @@ pub fn try_add<S: HullSet>(mut set: S) -> (S, Result<Stage, &'static str>) {
     let mut findings = Findings::new();
     let mut stage = Stage::Whole;
     for k in 0..POINTS {
-        let Some(p) = corner(k) else {
+        let Some(p) = vertex(k) else {
             findings.expect(false, "the point is in range");
             break;
         };
@@ -69,14 +69,14 @@ pub fn try_add<S: HullSet>(mut set: S) -> (S, Result<Stage, &'static str>) {
         }
         findings.expect(set.count() == k + 1, "the point is in the set");
     }
-    findings.expect(has_corners(&set, POINTS), "all points are in the set");
-    (set, findings.told(stage))
+    findings.expect(has_vertices(&set, POINTS), "all points are in the set");
+    (set, findings.returned(stage))
 }
 
 /// Adds all points, up to the first for which memory is refused.
 fn fill<S: HullSet>(set: &mut S, findings: &mut Findings) -> Stage {
     for k in 0..POINTS {
-        let Some(p) = corner(k) else { break };
+        let Some(p) = vertex(k) else { break };
         if put(set, k, p, findings) == Stage::Refused {
             return Stage::Refused;
         }
@@ -88,10 +88,10 @@ fn fill<S: HullSet>(set: &mut S, findings: &mut Findings) -> Stage {
 pub fn try_again<S: HullSet>(mut set: S) -> (S, Result<Stage, &'static str>) {
     let mut findings = Findings::new();
     if fill(&mut set, &mut findings) == Stage::Refused {
-        return (set, findings.told(Stage::SetUp));
+        return (set, findings.returned(Stage::SetUp));
     }
     for k in 0..POINTS {
-        let Some(p) = corner(k) else { break };
+        let Some(p) = vertex(k) else { break };
         findings.expect(
             set.add(p) == AddReply::Again(2),
             "a live point is held once more",
@@ -101,19 +101,19 @@ pub fn try_again<S: HullSet>(mut set: S) -> (S, Result<Stage, &'static str>) {
             "it is still held once",
         );
     }
-    findings.expect(has_corners(&set, POINTS), "the points are as they were");
-    (set, findings.told(Stage::Whole))
+    findings.expect(has_vertices(&set, POINTS), "the points are as they were");
+    (set, findings.returned(Stage::Whole))
 }
 
 /// Asks a set of all points for its vertices.
 pub fn try_vertices<S: HullSet>(mut set: S) -> (S, Result<Stage, &'static str>) {
     let mut findings = Findings::new();
     if fill(&mut set, &mut findings) == Stage::Refused {
-        return (set, findings.told(Stage::SetUp));
+        return (set, findings.returned(Stage::SetUp));
     }
     let stage = match set.vertices() {
         Ok(points) => {
-            findings.expect(are_corners(&points, POINTS), "the vertices are the points");
+            findings.expect(are_vertices(&points, POINTS), "the vertices are the points");
             Stage::Whole
         }
         Err(NoMemory) => {
@@ -121,6 +121,6 @@ pub fn try_vertices<S: HullSet>(mut set: S) -> (S, Result<Stage, &'static str>) 
             Stage::Refused
         }
     };
-    findings.expect(has_corners(&set, POINTS), "the next list has its memory");
-    (set, findings.told(stage))
+    findings.expect(has_vertices(&set, POINTS), "the next list has its memory");
+    (set, findings.returned(stage))
 }

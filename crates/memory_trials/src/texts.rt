@@ -39,7 +39,7 @@ pub fn try_script(alloc: Global, size: usize) -> Result<Stage, &'static str> {
         ),
         Err(_) => findings.expect(false, "the next attempt has its memory"),
     }
-    findings.told(stage)
+    findings.returned(stage)
 }
 
 /// Reads the journal in pieces of that size.
@@ -63,14 +63,14 @@ pub fn try_journal(alloc: Global, size: usize) -> Result<Stage, &'static str> {
         ),
         Err(_) => findings.expect(false, "the next attempt has its memory"),
     }
-    findings.told(stage)
+    findings.returned(stage)
 }
 
 /// Upgrades the journal in pieces of that size.
 pub fn try_upgrade(alloc: Global, size: usize) -> Result<Stage, &'static str> {
     let mut findings = Findings::new();
     let Ok(device) = Spout::new(alloc, JOURNAL.len(), size) else {
-        return findings.told(Stage::SetUp);
+        return findings.returned(Stage::SetUp);
     };
     let mut out = Counted::new(device);
     let mut source = Counted::new(Pieces::new(JOURNAL, size));
@@ -94,5 +94,5 @@ pub fn try_upgrade(alloc: Global, size: usize) -> Result<Stage, &'static str> {
         out.get_ref().bytes().len() == JOURNAL.len(),
         "the journal is whole",
     );
-    findings.told(stage)
+    findings.returned(stage)
 }

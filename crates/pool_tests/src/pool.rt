@@ -150,7 +150,7 @@ fn run_first<R: Threads + Wait + Abort + Sync, G: Gate>(
 
 // Returns the sum of the ledgers and the length of the journal, whether that is a legal history, and whether its numbers go up from the first without
 // a gap.
-fn told_of(alloc: Global, first: u64, end: &Outcome) -> (u64, usize, bool, bool) {
+fn returned_of(alloc: Global, first: u64, end: &Outcome) -> (u64, usize, bool, bool) {
     let legal = check(alloc, &end.journal) == CheckResult::Legal;
     let mut runs_on = true;
     for (k, line) in end.journal.lines().iter().enumerate() {
@@ -168,7 +168,7 @@ fn mark_of(journal: &Journal, place: usize) -> Option<(u64, u8)> {
 }
 
 // Three workers add a vertex each, and then the first asks for the vertices.
-fn three_corners(rt: &impl Abort, alloc: Global) -> Result<Script, AllocError> {
+fn three_vertices(rt: &impl Abort, alloc: Global) -> Result<Script, AllocError> {
     let adds = [
         (0, Call::Add(at(rt, 0, 0))),
         (1, Call::Add(at(rt, 4, 0))),
@@ -178,14 +178,14 @@ fn three_corners(rt: &impl Abort, alloc: Global) -> Result<Script, AllocError> {
 }
 
 // Whether the points are added, and the first worker's second answer lists them.
-fn are_of_corners(answers: &[Vec<Answer>], corners: &[Point]) -> bool {
+fn are_of_vertices(answers: &[Vec<Answer>], vertices: &[Point]) -> bool {
     let [zero, one, two] = answers else {
         return false
     };
     let added = matches!(one.as_slice(), [Ok(Reply::Added)])
         && matches!(two.as_slice(), [Ok(Reply::Added)]);
     match zero.as_slice() {
-        [Ok(Reply::Added), Ok(Reply::VertexList(list))] => added && list.as_slice() == corners,
+        [Ok(Reply::Added), Ok(Reply::VertexList(list))] => added && list.as_slice() == vertices,
         _ => false,
     }
 }
@@ -193,14 +193,14 @@ fn are_of_corners(answers: &[Vec<Answer>], corners: &[Point]) -> bool {
 /// A question after a join is answered for all points that were added before it.
 #[test]
 fn three_workers(rt: HostRuntime) -> Result<(), Fail> {
-    let corners = [at(&rt, 0, 0), at(&rt, 4, 0), at(&rt, 0, 4)];
-    let script = three_corners(&rt, rt.alloc())?;
+    let vertices = [at(&rt, 0, 0), at(&rt, 4, 0), at(&rt, 0, 4)];
+    let script = three_vertices(&rt, rt.alloc())?;
     let end = run_script(&rt, rt.alloc(), 7, 8, &script, &NoGate);
-    let told = (end.sum, end.journal.lines().len());
-    let answered = are_of_corners(&end.answers, &corners);
+    let returned = (end.sum, end.journal.lines().len());
+    let answered = are_of_vertices(&end.answers, &vertices);
     drop(end);
     drop(script);
-    assert_eq!(rt; told, (4, 4));
+    assert_eq!(rt; returned, (4, 4));
     assert!(rt; answered);
     Ok(())
 }
@@ -211,11 +211,11 @@ fn three_workers(rt: HostRuntime) -> Result<(), Fail> {
 fn workers_without_calls(rt: HostRuntime) -> Result<(), Fail> {
     let script = two_phases(rt.alloc(), 3, &[(2, Call::Count)], &[])?;
     let end = run_script(&rt, rt.alloc(), 0, 8, &script, &NoGate);
-    let told = (end.sum, end.journal.lines().len(), end.answers.len());
+    let returned = (end.sum, end.journal.lines().len(), end.answers.len());
     let mark = mark_of(&end.journal, 0);
     drop(end);
     drop(script);
-    assert_eq!(rt; told, (1, 1, 3));
+    assert_eq!(rt; returned, (1, 1, 3));
     assert_eq!(rt; mark, Some((0, 2)));
     Ok(())
 }
@@ -274,10 +274,10 @@ fn three_workers_fifty_times(rt: HostRuntime) -> Result<(), Fail> {
     let script = three_at_once(&rt, rt.alloc())?;
     for round in 0..50u64 {
         let end = run_script(&rt, rt.alloc(), round, 32, &script, &NoGate);
-        let told = told_of(rt.alloc(), round, &end);
+        let returned = returned_of(rt.alloc(), round, &end);
         let answered = came_and_went(&end.answers);
         drop(end);
-        assert_eq!(rt; told, (18, 18, true, true));
+        assert_eq!(rt; returned, (18, 18, true, true));
         assert!(rt; answered);
     }
     Ok(())
@@ -313,11 +313,11 @@ fn are_two_and_full(answers: &[Vec<Answer>]) -> bool {
 fn capacity_two(rt: HostRuntime) -> Result<(), Fail> {
     let script = two_and_a_count(&rt, rt.alloc())?;
     let end = run_script(&rt, rt.alloc(), 7, 2, &script, &NoGate);
-    let told = (end.sum, end.journal.lines().len());
+    let returned = (end.sum, end.journal.lines().len());
     let answered = are_two_and_full(&end.answers);
     drop(end);
     drop(script);
-    assert_eq!(rt; told, (2, 2));
+    assert_eq!(rt; returned, (2, 2));
     assert!(rt; answered);
     Ok(())
 }
@@ -335,7 +335,7 @@ fn counts_two(journal: &Journal) -> bool {
 fn wrapping_numbers(rt: HostRuntime) -> Result<(), Fail> {
     let script = two_and_a_count(&rt, rt.alloc())?;
     let end = run_script(&rt, rt.alloc(), u64::MAX, 8, &script, &NoGate);
-    let told = (end.sum, end.journal.lines().len());
+    let returned = (end.sum, end.journal.lines().len());
     let marks = [
         mark_of(&end.journal, 0),
         mark_of(&end.journal, 1),
@@ -344,7 +344,7 @@ fn wrapping_numbers(rt: HostRuntime) -> Result<(), Fail> {
     let counted = counts_two(&end.journal);
     drop(end);
     drop(script);
-    assert_eq!(rt; told, (3, 3));
+    assert_eq!(rt; returned, (3, 3));
     assert_eq!(rt; marks, [Some((u64::MAX, 0)), Some((0, 0)), Some((1, 0))]);
     assert!(rt; counted);
     Ok(())
@@ -386,10 +386,10 @@ fn six_calls_for_four_lines_across_the_wrap(rt: HostRuntime) -> Result<(), Fail>
     let script = six_counts(rt.alloc())?;
     for _ in 0..100u8 {
         let end = run_script(&rt, rt.alloc(), 18446744073709551614, 4, &script, &NoGate);
-        let told = told_of(rt.alloc(), 18446744073709551614, &end);
+        let returned = returned_of(rt.alloc(), 18446744073709551614, &end);
         let answered = (end.answers.len(), counted_and_full(&end.answers));
         drop(end);
-        assert_eq!(rt; told, (4, 4, true, true));
+        assert_eq!(rt; returned, (4, 4, true, true));
         assert_eq!(rt; answered, (3, Some((4, 2))));
     }
     Ok(())

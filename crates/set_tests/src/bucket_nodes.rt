@@ -72,9 +72,9 @@ fn have_same_extremes(tree: &BucketTree, plain: &PlainSet) -> bool {
 
 /// Whether both answer alike.
 fn answer_alike(tree: &BucketTree, plain: &PlainSet, q: Point) -> bool {
-    let corners = plain.vertices();
-    corners.is_ok()
-        && tree.vertices() == corners
+    let vertices = plain.vertices();
+    vertices.is_ok()
+        && tree.vertices() == vertices
         && tree.count() == plain.count()
         && tree.area2() == plain.area2()
         && tree.place(q) == plain.place(q)

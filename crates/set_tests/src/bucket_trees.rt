@@ -64,12 +64,12 @@ impl Sets {
     fn change(&mut self, p: Point, adds: bool, most: &mut u32) -> bool {
         let (alike, turns) = if adds {
             let reply = self.plain.add(p);
-            let (told, turns) = self.tree.add_counted(p);
-            (told == reply, turns)
+            let (returned, turns) = self.tree.add_counted(p);
+            (returned == reply, turns)
         } else {
             let reply = self.plain.remove(p);
-            let (told, turns) = self.tree.remove_counted(p);
-            (told == reply, turns)
+            let (returned, turns) = self.tree.remove_counted(p);
+            (returned == reply, turns)
         };
         *most = (*most).max(turns);
         alike && self.tree.multiplicity(p) == self.plain.multiplicity(p)
@@ -78,9 +78,9 @@ impl Sets {
     /// Whether all questions are answered alike.
     fn are_alike(&self, q: Point, d: Direction) -> bool {
         let (tree, plain) = (&self.tree, &self.plain);
-        let corners = plain.vertices();
-        corners.is_ok()
-            && tree.vertices() == corners
+        let vertices = plain.vertices();
+        vertices.is_ok()
+            && tree.vertices() == vertices
             && tree.area2() == plain.area2()
             && tree.count() == plain.count()
             && tree.place(q) == plain.place(q)
@@ -267,9 +267,9 @@ fn loads_alike(rt: &impl Abort, alloc: Global, count: u32, lines: u32) -> Result
     let extended = extended_twice(alloc, &points)?;
     let entries = tree.entries()?;
     let again = again_of(alloc, &tree)?;
-    let corners = plain.vertices().is_ok();
+    let vertices = plain.vertices().is_ok();
     Ok(
-        corners
+        vertices
             && are_entries(&entries, &plain)
             && is_alike(&tree, &entries, &plain)?
             && is_alike(&extended, &entries, &plain)?

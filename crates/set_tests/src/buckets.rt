@@ -2,12 +2,12 @@
 ghost use Rattle.std.specs.Prelude.{◌<◌, ◌≤◌, ◌+◌, length};
 ghost use Rattle.std.specs.List.{Contains};
 ghost use Rattle.lattice.specs.Bridges.{IsAllBefore};
-ghost use Rattle.hull_buckets.specs.declared.TheConstants.{ROOM};
+ghost use Rattle.hull_buckets.specs.declared.TheConstants.{BUCKET_SIZE};
 
 use crate::numbers::Numbers;
 use crate::tree::turns::both_found;
 use bridge_search::{Counted, Half};
-use hull_buckets::{Bucket, ROOM, Run, bridges_of};
+use hull_buckets::{BUCKET_SIZE, Bucket, Slice, bridges_of};
 use hull_plain::PlainSet;
 use hull_questions::{area2, extreme, place, tangents, vertices};
 use hull_set::{HullSet, POINT_LIMIT};
@@ -24,7 +24,7 @@ fn at(rt: &impl Abort, x: i64, y: i64) -> Point {
 }
 
 /// Whether the point at an index is outwards of each segment from a point before it to one after it.
-fn is_corner(side: Side, points: &[Point], place: usize) -> bool
+fn is_vertex(side: Side, points: &[Point], place: usize) -> bool
     requires { place < length points.now }
 {
     for ahead in 0..place {
@@ -38,11 +38,11 @@ fn is_corner(side: Side, points: &[Point], place: usize) -> bool
 }
 
 /// Whether a mask has the vertices on a side, and no other index.
-fn has_corners(bucket: &Bucket, side: Side) -> bool {
+fn has_vertices(bucket: &Bucket, side: Side) -> bool {
     let points = bucket.points();
-    let mut mask = bucket.corners(side);
+    let mut mask = bucket.vertices(side);
     for place in 0..points.len() {
-        if (mask % 2 == 1) != is_corner(side, points, place) {
+        if (mask % 2 == 1) != is_vertex(side, points, place) {
             return false;
         }
         mask /= 2;
@@ -53,11 +53,11 @@ fn has_corners(bucket: &Bucket, side: Side) -> bool {
 /// Whether points are in order, each has a multiplicity, and the masks are right.
 fn is_right(bucket: &Bucket) -> bool {
     let points = bucket.points();
-    let mut right = bucket.times().len() == points.len() && points.len() <= ROOM;
+    let mut right = bucket.times().len() == points.len() && points.len() <= BUCKET_SIZE;
     for place in 1..points.len() {
         right = before(points[place - 1], points[place]) && right;
     }
-    right && has_corners(bucket, Side::Lower) && has_corners(bucket, Side::Upper)
+    right && has_vertices(bucket, Side::Lower) && has_vertices(bucket, Side::Upper)
 }
 
 /// Adds a point, or, if it is there, removes it; a full bucket is split first, and one of its halves is used from then on.
@@ -120,7 +120,7 @@ fn parabola(rt: &impl Abort, from: i64, to: i64) -> Bucket {
     for x in from.saturating_add(1)..to {
         let p = at(rt, x, x.wrapping_mul(x));
         if let Err(place) = bucket.place_of(p) {
-            if bucket.points().len() < ROOM {
+            if bucket.points().len() < BUCKET_SIZE {
                 bucket.insert(place, p, 2);
             }
         }
@@ -129,18 +129,18 @@ fn parabola(rt: &impl Abort, from: i64, to: i64) -> Bucket {
 }
 
 #[test]
-fn all_corners_parted_and_merged(rt: HostRuntime) {
+fn all_vertices_separated_and_merged(rt: HostRuntime) {
     let mut first = parabola(&rt, -32, 32);
     assert!(rt; first.points().len() > 1);
     let full = (
         first.is_full(),
-        first.corners(Side::Lower),
-        first.corners(Side::Upper),
+        first.vertices(Side::Lower),
+        first.vertices(Side::Upper),
     );
-    let second = parted(&mut first);
+    let second = separated(&mut first);
     let halves = (
         first.points().len(),
-        second.corners(Side::Upper),
+        second.vertices(Side::Upper),
         is_right(&first) && is_right(&second),
     );
     first.merge(&second);
@@ -178,7 +178,7 @@ fn are_found(upper: &Counted, lower: &Counted, found: &((Point, Point), (Point, 
 fn bridges_are_right(first: &Bucket, second: &Bucket) -> bool
     requires { IsAllBefore (Contains first.now.points) (Contains second.now.points) }
 {
-    let Some((upper, lower)) = both_found(Run::new(first), Run::new(second)) else {
+    let Some((upper, lower)) = both_found(Slice::new(first), Slice::new(second)) else {
         return false;
     };
     let found = bridges_of(first, second);
@@ -188,10 +188,10 @@ fn bridges_are_right(first: &Bucket, second: &Bucket) -> bool
 }
 
 /// Splits a bucket of several points, and returns its second half.
-fn parted(bucket: &mut Bucket) -> Bucket
+fn separated(bucket: &mut Bucket) -> Bucket
     requires { 1 < length bucket.old.points }
     ensures order { IsAllBefore (Contains bucket.new.points) (Contains result.points) }
-    ensures room { length bucket.new.points + length result.points ≤ ROOM }
+    ensures space { length bucket.new.points + length result.points ≤ BUCKET_SIZE }
 {
     let _ = bucket.points();
     bucket.split()
@@ -208,7 +208,7 @@ fn plain_of(alloc: Global, bucket: &Bucket) -> PlainSet {
 
 /// The doubled area of a slice, which is at most 16 forks high.
 #[tactic(auto, using(crate::proofs::Sizes::low_size))]
-fn area_of(rt: &impl Abort, run: Run<'_>) -> u128 {
+fn area_of(rt: &impl Abort, run: Slice<'_>) -> u128 {
     assert!(rt; run.height() <= 16);
     area2(run)
 }
@@ -220,7 +220,7 @@ fn has_same_hull(
     bucket: &Bucket,
     plain: &PlainSet,
 ) -> Result<bool, AllocError> {
-    let run = Run::new(bucket);
+    let run = Slice::new(bucket);
     let mut alike = area_of(rt, run) == plain.area2();
     for x in -1i64..2 {
         for y in -1i64..2 {
@@ -237,8 +237,8 @@ fn has_same_hull(
 }
 
 /// Whether a point has the same location and tangents in both.
-fn has_same_sight(bucket: &Bucket, plain: &PlainSet, q: Point) -> bool {
-    let run = Run::new(bucket);
+fn has_same_location(bucket: &Bucket, plain: &PlainSet, q: Point) -> bool {
+    let run = Slice::new(bucket);
     place(run, q) == plain.place(q) && tangents(run, q) == plain.tangents(q)
 }
 
@@ -276,7 +276,7 @@ fn answers_alike(
     let mut alike = has_same_hull(rt, alloc, bucket, &plain)?;
     for _ in 0..8 {
         let q = at(rt, around(numbers, half), around(numbers, half));
-        alike = has_same_sight(bucket, &plain, q) && alike;
+        alike = has_same_location(bucket, &plain, q) && alike;
     }
     Ok(alike)
 }
@@ -292,7 +292,7 @@ fn parts_and_merges(bucket: &mut Bucket) -> bool {
     if bucket.points().len() < 2 {
         return true;
     }
-    let second = parted(bucket);
+    let second = separated(bucket);
     let right = bridges_are_right(bucket, &second);
     bucket.merge(&second);
     is_right(bucket) && right
@@ -325,18 +325,18 @@ fn worked_example(rt: HostRuntime) {
     for (x, y) in [(4, 0), (2, 3), (2, 1)] {
         let p = at(&rt, x, y);
         if let Err(place) = bucket.place_of(p) {
-            if bucket.points().len() < ROOM {
+            if bucket.points().len() < BUCKET_SIZE {
                 bucket.insert(place, p, 1);
             }
         }
     }
-    let chains = (bucket.corners(Side::Lower), bucket.corners(Side::Upper));
+    let chains = (bucket.vertices(Side::Lower), bucket.vertices(Side::Upper));
     let up = Direction::new(0, 1);
-    let highest = up.map(|d| extreme(Run::new(&bucket), d));
+    let highest = up.map(|d| extreme(Slice::new(&bucket), d));
     assert!(rt; bucket.points().len() > 1);
-    let second = parted(&mut bucket);
-    let halves = (bucket.points().len(), second.corners(Side::Upper));
-    let found = both_found(Run::new(&bucket), Run::new(&second));
+    let second = separated(&mut bucket);
+    let halves = (bucket.points().len(), second.vertices(Side::Upper));
+    let found = both_found(Slice::new(&bucket), Slice::new(&second));
     let bridge = found.map(|(upper, _)| upper.0);
     assert!(rt; chains == (0b1001, 0b1101) && highest == Ok(at(&rt, 2, 3)));
     assert!(rt; halves == (2, 0b11) && bridge == Some((at(&rt, 0, 0), at(&rt, 2, 3))));

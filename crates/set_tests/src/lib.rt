@@ -16,8 +16,8 @@ mod plain;
 #[cfg(test)]
 mod plane;
 #[cfg(test)]
-mod questions;
+mod prepared;
 #[cfg(test)]
-mod settled;
+mod questions;
 #[cfg(test)]
 mod tree;

@@ -61,8 +61,8 @@ const SQUARE: [(i64, i64); 4] = [(0, 0), (2, 0), (2, 2), (0, 2)];
 fn empty_set(rt: HostRuntime) {
     let origin = at(&rt, 0, 0);
     let set = PlainSet::new(rt.alloc(), LIMIT);
-    let told = [set.limit(), set.count(), set.multiplicity(origin)];
-    assert_eq!(rt; told, [LIMIT, 0, 0]);
+    let returned = [set.limit(), set.count(), set.multiplicity(origin)];
+    assert_eq!(rt; returned, [LIMIT, 0, 0]);
     assert!(rt; hull_set::POINT_LIMIT == LIMIT);
 }
 
@@ -139,10 +139,10 @@ fn refused_add(rt: HostRuntime) -> Result<(), Fail> {
     let (right, last) = (Direction::new(1, 0)?, at(&rt, 8, 64));
     let mut set = PlainSet::new(rt.alloc(), LIMIT);
     let all = adds_the_bowl(&rt, &mut set);
-    let told = (set.count(), set.extreme(right));
+    let returned = (set.count(), set.extreme(right));
     drop(set);
     assert!(rt; all);
-    assert_eq!(rt; told, (9, Some(last)));
+    assert_eq!(rt; returned, (9, Some(last)));
     Ok(())
 }
 
@@ -179,13 +179,13 @@ fn removes_the_diagonal(rt: &impl Abort, set: &mut PlainSet) -> bool {
 
 /// The points of a grid are added row by row, so that many of them are vertices when they are added; then vertices are removed.
 #[test]
-fn corners_come_and_go(rt: HostRuntime) {
-    let (corner, inner) = (at(&rt, 0, 0), at(&rt, 15, 15));
+fn vertices_come_and_go(rt: HostRuntime) {
+    let (vertex, inner) = (at(&rt, 0, 0), at(&rt, 15, 15));
     let mut set = PlainSet::new(rt.alloc(), LIMIT);
     let come = adds_a_grid(&rt, &mut set);
     let is_square = has_vertices(&set, &[(0, 0), (31, 0), (31, 31), (0, 31)]);
     let go = removes_the_diagonal(&rt, &mut set);
-    let places = (set.place(corner), set.place(inner));
+    let places = (set.place(vertex), set.place(inner));
     let area = set.area2();
     drop(set);
     assert!(rt; come && is_square && go);
@@ -225,8 +225,8 @@ fn replies_to_changes_are_replies(rt: HostRuntime) {
 fn a_list_gives_its_points_back(rt: HostRuntime) -> Result<(), Fail> {
     let list = listed_square(&rt, rt.alloc());
     let count = list.as_slice().len();
-    let corner = list.into_vec().get(2).copied();
-    assert!(rt; (count, corner) == (4, Some(at(&rt, 2, 2))));
+    let vertex = list.into_vec().get(2).copied();
+    assert!(rt; (count, vertex) == (4, Some(at(&rt, 2, 2))));
     let text = format!(in rt.alloc(); "{NoMemory}")?;
     assert!(rt; text.as_str() == "out of memory");
     Ok(())

@@ -6,10 +6,10 @@ use std::test::Fail;
 
 #[test]
 fn coordinates_at_the_limit(rt: HostRuntime) -> Result<(), Fail> {
-    let corner = Point::new(-1099511627776, 1099511627776)?;
+    let vertex = Point::new(-1099511627776, 1099511627776)?;
     let points = (Point::new(1099511627777, 0), Point::new(0, -1099511627777));
     let directions = (Direction::new(0, 0), Direction::new(0, 1099511627777));
-    assert!(rt; (corner.x(), corner.y()) == (-1099511627776, 1099511627776));
+    assert!(rt; (vertex.x(), vertex.y()) == (-1099511627776, 1099511627776));
     assert_eq!(rt;
         points,
         (Err(LatticeFault::OutOfRange), Err(LatticeFault::OutOfRange))
@@ -38,7 +38,7 @@ fn range_corners(rt: HostRuntime) -> Result<(), Fail> {
 
 // The largest sides of near points, and a next one that is not near.
 #[test]
-fn near_corners(rt: HostRuntime) -> Result<(), Fail> {
+fn near_vertices(rt: HostRuntime) -> Result<(), Fail> {
     let a = Point::new(-NEAR_LIMIT, -NEAR_LIMIT)?;
     let b = Point::new(NEAR_LIMIT, -NEAR_LIMIT)?;
     let c = Point::new(NEAR_LIMIT, NEAR_LIMIT)?;

@@ -42,23 +42,23 @@ fn half_of(rt: &impl Abort, alloc: Global, pairs: &[(i64, i64)]) -> Result<Sixte
 }
 
 /// Whether the vertices of a half are these, if there is memory for them.
-fn has_vertices<H: Half>(alloc: Global, half: H, corners: &[Point]) -> bool {
+fn has_vertices<H: Half>(alloc: Global, half: H, wanted: &[Point]) -> bool {
     match vertices(alloc, half) {
-        Ok(found) => found.as_slice() == corners,
+        Ok(found) => found.as_slice() == wanted,
         Err(_) => false,
     }
 }
 
 /// The vertices of a hull, and its doubled area.
-fn assert_outline(
+fn assert_polygon(
     rt: &impl Abort,
     alloc: Global,
     pairs: &[(i64, i64)],
-    corners: &[(i64, i64)],
+    wanted: &[(i64, i64)],
     doubled: u128,
 ) -> Result<(), Fail> {
     let half = half_of(rt, alloc, pairs)?;
-    let expected = points_of(rt, alloc, corners)?;
+    let expected = points_of(rt, alloc, wanted)?;
     let has = has_vertices(alloc, half, &expected);
     assert!(rt; has && area2(half) == doubled);
     Ok(())
@@ -143,12 +143,12 @@ fn left_wall(rt: HostRuntime) -> Result<(), Fail> {
     let extremes = [((-1, 0), (0, 0))];
     let places = [((0, 1), Place::On), ((1, 2), Place::Inside)];
     let tangents = [((0, 4), Some(((2, 3), (0, 0))))];
-    let corners = [(0, 0), (2, 3), (1, 3), (0, 2)];
+    let wanted = [(0, 0), (2, 3), (1, 3), (0, 2)];
     assert_extremes(&rt, rt.alloc(), &points, &extremes)?;
     let placed = are_placed(&rt, rt.alloc(), &points, &places)?;
     let touched = are_touched(&rt, rt.alloc(), &points, &tangents)?;
     assert!(rt; placed && touched);
-    assert_outline(&rt, rt.alloc(), &points, &corners, 5)
+    assert_polygon(&rt, rt.alloc(), &points, &wanted, 5)
 }
 
 const LEAST: i64 = -1048576;
@@ -161,12 +161,12 @@ fn range_corners(rt: HostRuntime) -> Result<(), Fail> {
     let extremes = [((MOST, MOST), (MOST, MOST))];
     let places = [((0, 0), Place::Inside), ((MOST, 0), Place::On)];
     let tangents = [((MOST, 0), None)];
-    let corners = [(LEAST, LEAST), (MOST, LEAST), (MOST, MOST), (LEAST, MOST)];
+    let wanted = [(LEAST, LEAST), (MOST, LEAST), (MOST, MOST), (LEAST, MOST)];
     assert_extremes(&rt, rt.alloc(), &points, &extremes)?;
     let placed = are_placed(&rt, rt.alloc(), &points, &places)?;
     let touched = are_touched(&rt, rt.alloc(), &points, &tangents)?;
     assert!(rt; placed && touched);
-    assert_outline(&rt, rt.alloc(), &points, &corners, 8796093022208)
+    assert_polygon(&rt, rt.alloc(), &points, &wanted, 8796093022208)
 }
 
 /// A plain set of the same points.
@@ -207,11 +207,11 @@ fn agree_on_directions<H: Half>(half: H, set: &PlainSet) -> bool {
 }
 
 /// Whether a half and a plain set have the same polygon.
-fn agree_on_outline<H: Half>(alloc: Global, half: H, set: &PlainSet) -> bool
+fn agree_on_polygon<H: Half>(alloc: Global, half: H, set: &PlainSet) -> bool
     requires { size_of (H.tree half) ≤ 16 }
 {
     match set.vertices() {
-        Ok(corners) => has_vertices(alloc, half, &corners) && area2(half) == set.area2(),
+        Ok(wanted) => has_vertices(alloc, half, &wanted) && area2(half) == set.area2(),
         Err(_) => false,
     }
 }
@@ -222,9 +222,9 @@ fn agree(rt: &impl Abort, alloc: Global, pairs: &[(i64, i64)], end: i64) -> Resu
     let set = plain_of(rt, alloc, pairs);
     let on_points = agree_on_points(rt, half, &set, end);
     let on_directions = agree_on_directions(half, &set);
-    let on_outline = agree_on_outline(alloc, half, &set);
+    let on_polygon = agree_on_polygon(alloc, half, &set);
     drop(set);
-    assert!(rt; on_points && on_directions && on_outline);
+    assert!(rt; on_points && on_directions && on_polygon);
     Ok(())
 }
 

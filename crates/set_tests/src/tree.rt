@@ -41,11 +41,11 @@ fn empty_tree(rt: HostRuntime) {
     let p = at(&rt, 7, 7);
     let mut tree = HullTree::new(rt.alloc(), 3);
     let is_empty = tree.root().is_none();
-    let told = [tree.limit(), tree.count(), tree.multiplicity(p)];
+    let returned = [tree.limit(), tree.count(), tree.multiplicity(p)];
     let removed = tree.remove(p);
     trees_are_sound(&tree);
     drop(tree);
-    assert!(rt; is_empty && told == [3, 0, 0] && removed == RemoveReply::Absent);
+    assert!(rt; is_empty && returned == [3, 0, 0] && removed == RemoveReply::Absent);
 }
 
 /// Whether the points (0, 0) to (1023, 0) are added, one after the other.
@@ -150,12 +150,12 @@ fn as_often_as_may_be(rt: HostRuntime) {
     let mut tree = tree_of(&rt, rt.alloc(), &[p, other]);
     let held = add_to_the_most(&mut tree, p);
     let refused = tree.add_counted(p);
-    let told = [tree.multiplicity(p), tree.multiplicity(other), tree.count()];
+    let returned = [tree.multiplicity(p), tree.multiplicity(other), tree.count()];
     let removed = tree.remove(p);
     drop(tree);
     assert!(rt; held == 65535 && MULTIPLICITY_LIMIT == 65535);
     assert!(rt; refused == (AddReply::TooMany, 0) && removed == RemoveReply::Left(65534));
-    assert!(rt; told == [65535, 1, 2]);
+    assert!(rt; returned == [65535, 1, 2]);
 }
 
 /// Whether a second point is added. If memory is refused, the tree has only the first one, and the second attempt adds it.
@@ -207,11 +207,11 @@ fn add_again(tree: &mut HullTree, p: Point) -> bool {
 }
 
 /// Whether these are the vertices of a tree of this many points. If memory is refused, the second attempt lists them.
-fn has_vertices(tree: &HullTree, corners: &[Point], count: u32) -> bool {
+fn has_vertices(tree: &HullTree, vertices: &[Point], count: u32) -> bool {
     match tree.vertices() {
-        Ok(vertices) => vertices.as_slice() == corners,
+        Ok(vertices) => vertices.as_slice() == vertices,
         Err(NoMemory) => match tree.vertices() {
-            Ok(vertices) => tree.count() == count && vertices.as_slice() == corners,
+            Ok(vertices) => tree.count() == count && vertices.as_slice() == vertices,
             Err(NoMemory) => false,
         },
     }
@@ -220,13 +220,13 @@ fn has_vertices(tree: &HullTree, corners: &[Point], count: u32) -> bool {
 // `rt try --test --fail-alloc N`: N = 1 and 2 refuse the boxes of the second and the third point, N = 3 the list.
 #[test]
 fn refused_vertices(rt: HostRuntime) {
-    let corners = [at(&rt, 0, 0), at(&rt, 4, 0), at(&rt, 2, 3)];
+    let vertices = [at(&rt, 0, 0), at(&rt, 4, 0), at(&rt, 2, 3)];
     let mut tree = HullTree::new(rt.alloc(), POINT_LIMIT);
     let mut all = true;
-    for corner in corners {
-        all = add_again(&mut tree, corner) && all;
+    for vertex in vertices {
+        all = add_again(&mut tree, vertex) && all;
     }
-    let has = has_vertices(&tree, &corners, 3);
+    let has = has_vertices(&tree, &vertices, 3);
     drop(tree);
     assert!(rt; all && has);
 }

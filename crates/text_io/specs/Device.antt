@@ -2,7 +2,7 @@
 use Rattle.std.specs.Prelude.{ℕ, List, Bool}
 
 -- a device, and how often it failed
-pub record Watched (T : Type 0) : Type 0 where
+pub record WithProgress (T : Type 0) : Type 0 where
   pub device : T
   pub failures : ℕ
 
@@ -18,7 +18,7 @@ pub record Cut : Type 0 where
 -- call at which it fails or takes nothing (0 for none), and which of the two.
 pub record Filled : Type 0 where
   pub bytes : List ℕ
-  pub room : ℕ
+  pub space : ℕ
   pub size : ℕ
   pub calls : ℕ
   pub failing : ℕ

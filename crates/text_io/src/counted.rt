@@ -15,9 +15,9 @@ pub struct Counted<T> {
 }
 
 impl<T> Model for Counted<T> {
-    ghost use Rattle.text_io.specs.Device.{Watched};
+    ghost use Rattle.text_io.specs.Device.{WithProgress};
 
-    ghost Value = { Watched T };
+    ghost Value = { WithProgress T };
 
     ghost view = { λ s. record { device = s.inner; failures = s.count } };
 }

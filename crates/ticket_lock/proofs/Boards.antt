@@ -21,7 +21,7 @@ use Rattle.ticket_lock.specs.World.{weigh, HandsOn, Happens}
 use Rattle.ticket_lock.specs.Standing.{stage_of, looks_of}
 use Rattle.ticket_lock.specs.Standing.{nobody, shelf, Standing, took, looked}
 use Rattle.ticket_lock.specs.Standing.{gave}
-use Rattle.ticket_lock.specs.Boards.{Board, Sight, Steps, IsJust, shows, LeadsBy, TakesAreEvents}
+use Rattle.ticket_lock.specs.Boards.{Board, Location, Steps, IsJust, shows, LeadsBy, TakesAreEvents}
 use Rattle.ticket_lock.specs.Boards.{LooksAreEvents, HandOnsAreEvents, IsOpen, CutsComeBefore, JoinsComeAfter}
 use Rattle.ticket_lock.specs.Boards.{NobodyComesIn, EventsStayInside, NothingHappensOutside, PeeksChangeNothing}
 use Rattle.ticket_lock.specs.Boards.{WordZeroIsTurn}
@@ -165,14 +165,14 @@ module _ {B H L : Type 0} (K : Ghosts B H L) (F : Form) where
   module _ (laws : FormLaws F) (n : ℕ) (opening : B) where
     -- a take by an idle seat
     pub take_of : (s u : Board B H L) (r : Standing K F n opening s) (id : ℕ) (m : Memo H L)
-        (cs : List (ℕ × std.Option B)) (after : Sight B H L) (st : Step (std.Option B)) → cs ≡ []
+        (cs : List (ℕ × std.Option B)) (after : Location B H L) (st : Step (std.Option B)) → cs ≡ []
         → Steps id 0 (λ x. wrap (x + 1)) (took st (Idle m, cs)) (Idle m, cs) after s u
         → LeadsBy K F n opening (takes id) (shows K F s r) u
     take_of s u r id m cs after st bare p =
         let w : World B H L = shows K F s r in
         let found : ℕ = get_or s.words 0 0 in
-        let view : after.0 ≡ Waiting m found 0 = ap (λ (z : Sight B H L). z.0) p.tells in
-        let left : after.1 ≡ [] = ap (λ (z : Sight B H L). z.1) p.tells ∙ bare in
+        let view : after.0 ≡ Waiting m found 0 = ap (λ (z : Location B H L). z.0) p.reports in
+        let left : after.1 ≡ [] = ap (λ (z : Location B H L). z.1) p.reports ∙ bare in
         let homes : homes_after s.homes cs p.act ≡ s.homes =
         bare_before r.home r.current s.homes cs after.1 p.act r.shelved bare p.valid p.carries left in
         let stood : Board B H L = record {
@@ -199,19 +199,19 @@ module _ {B H L : Type 0} (K : Ghosts B H L) (F : Form) where
 
     -- a look that finds its number
     enter_of : (s u : Board B H L) (r : Standing K F n opening s) (id : ℕ) (m : Memo H L) (t looks : ℕ)
-        (cs : List (ℕ × std.Option B)) (after : Sight B H L) (st : Step (std.Option B)) → cs ≡ []
+        (cs : List (ℕ × std.Option B)) (after : Location B H L) (st : Step (std.Option B)) → cs ≡ []
         → Steps id (F.serving_word t) (λ x. x) (looked K st (Waiting m t looks, cs)) (Waiting m t looks, cs) after s u
         → get_or s.words (F.serving_word t) 0 ≡ t → LeadsBy K F n opening (enters id) (shows K F s r) u
     enter_of s u r id m t looks cs after st bare p hit =
         let w : World B H L = shows K F s r in
-        let told = p.tells.0 hit in
-        let b : B = told.0 in
+        let returned = p.reports.0 hit in
+        let b : B = returned.0 in
         let front = served K F laws n opening w r.queue id m t looks r.good p.there hit in
         let home : s.homes ≡ shelf true r.current = r.shelved ∙ ap (λ (z : Bool). shelf z r.current) front.2 in
-        let one : after.1 ≡ (0, std.Some b) ∷ [] = ap (λ (z : Sight B H L). z.1) told.1
+        let one : after.1 ≡ (0, std.Some b) ∷ [] = ap (λ (z : Location B H L). z.1) returned.1
         ∙ ap (λ (z : List (ℕ × std.Option B)). (0, std.Some b) ∷ z) bare in
         let took_this = took_it r.current b s.homes cs after.1 p.act home bare p.valid p.carries one in
-        let view : after.0 ≡ Holding (shown m (K.lines r.current)) t = ap (λ (z : Sight B H L). z.0) told.1
+        let view : after.0 ≡ Holding (shown m (K.lines r.current)) t = ap (λ (z : Location B H L). z.0) returned.1
         ∙ ap (λ (z : B). Holding (shown m (K.lines z)) t) (sym took_this.1) in
         let stood : Board B H L = record {
           words = s.words;
@@ -237,14 +237,14 @@ module _ {B H L : Type 0} (K : Ghosts B H L) (F : Form) where
 
     -- a look that does not
     miss_of : (s u : Board B H L) (r : Standing K F n opening s) (id : ℕ) (m : Memo H L) (t looks : ℕ)
-        (cs : List (ℕ × std.Option B)) (after : Sight B H L) (st : Step (std.Option B)) → cs ≡ []
+        (cs : List (ℕ × std.Option B)) (after : Location B H L) (st : Step (std.Option B)) → cs ≡ []
         → Steps id (F.serving_word t) (λ x. x) (looked K st (Waiting m t looks, cs)) (Waiting m t looks, cs) after s u
         → get_or s.words (F.serving_word t) 0 ≢ t → LeadsBy K F n opening (misses id) (shows K F s r) u
     miss_of s u r id m t looks cs after st bare p off =
         let w : World B H L = shows K F s r in
-        let told = p.tells.1 off in
-        let view : after.0 ≡ Waiting m t (looks + 1) = ap (λ (z : Sight B H L). z.0) told in
-        let left : after.1 ≡ [] = ap (λ (z : Sight B H L). z.1) told ∙ bare in
+        let returned = p.reports.1 off in
+        let view : after.0 ≡ Waiting m t (looks + 1) = ap (λ (z : Location B H L). z.0) returned in
+        let left : after.1 ≡ [] = ap (λ (z : Location B H L). z.1) returned ∙ bare in
         let homes : homes_after s.homes cs p.act ≡ s.homes =
         bare_before r.home r.current s.homes cs after.1 p.act r.shelved bare p.valid p.carries left in
         let stood : Board B H L = record {
@@ -271,7 +271,7 @@ module _ {B H L : Type 0} (K : Ghosts B H L) (F : Form) where
 
     -- a hand on by the seat that holds the book
     hand_on_of : (s u : Board B H L) (r : Standing K F n opening s) (id : ℕ) (m : Memo H L) (t : ℕ)
-        (cs : List (ℕ × std.Option B)) (after : Sight B H L) (st : Step (std.Option B)) (b : B)
+        (cs : List (ℕ × std.Option B)) (after : Location B H L) (st : Step (std.Option B)) (b : B)
         → cs ≡ (0, std.Some b) ∷ [] → HandsOn K (memo m.seat (K.head opening) m.seen) t b
         → Steps id (F.serving_word (wrap (t + 1))) (λ _. wrap (t + 1)) (gave K st (Holding m t, cs)) (Holding m t, cs)
         after s u → LeadsBy K F n opening (hands_on id b) (shows K F s r) u
@@ -279,9 +279,9 @@ module _ {B H L : Type 0} (K : Ghosts B H L) (F : Form) where
         let w : World B H L = shows K F s r in
         let mine = r.good.seats.each_seat id (Holding m t) p.there in
         let does : HandsOn K m t b = subst (λ (z : H). HandsOn K (memo m.seat z m.seen) t b) (sym mine.0.head) hands in
-        let told = p.tells b one in
-        let view : after.0 ≡ Idle (shown m (K.lines b)) = ap (λ (z : Sight B H L). z.0) told in
-        let bare : after.1 ≡ [] = ap (λ (z : Sight B H L). z.1) told in
+        let returned = p.reports b one in
+        let view : after.0 ≡ Idle (shown m (K.lines b)) = ap (λ (z : Location B H L). z.0) returned in
+        let bare : after.1 ≡ [] = ap (λ (z : Location B H L). z.1) returned in
         let gone : s.homes ≡ none ∷ [] = r.shelved ∙ ap (λ (z : Bool). shelf z r.current) mine.3 in
         let homes : homes_after s.homes cs p.act ≡ some (std.Some b) ∷ [] =
         gave_it b s.homes cs after.1 p.act gone one p.valid p.carries bare in

@@ -84,7 +84,7 @@ module _ {H L : Type 0} where
   -- the same of a view that is known by an equation
   pub stays_keeper : (v w after : SeatState H L) → stage_of v ≡ 0 → stage_of w ≡ 1 → after ≡ joined v w
       → stage_of after ≡ 0
-  stays_keeper v w after is there told = ap stage_of told ∙ joined_stage v w is there
+  stays_keeper v w after is there returned = ap stage_of returned ∙ joined_stage v w is there
 
   -- it has that seat before those that it had
   joined_more : (v w : SeatState H L) → stage_of v ≡ 0 → stage_of w ≡ 1
@@ -101,7 +101,7 @@ module _ {H L : Type 0} where
   pub gathered : {A : Type 0} (f : A → SeatState H L) (all items new : List A) (a : A) (v after : SeatState H L)
       → stage_of v ≡ 0 → stage_of (f a) ≡ 1 → items ≡ new ++ a ∷ [] → after ≡ joined v (f a)
       → map f all ≡ map f items ++ idles (memos_of v) → map f all ≡ map f new ++ idles (memos_of after)
-  gathered f all items new a v after is there split told before = grind (arith, common_steps, before, idles, memos_of, joined_more)
+  gathered f all items new a v after is there split returned before = grind (arith, common_steps, before, idles, memos_of, joined_more)
 
   -- as many idle seats as memos
   length_idles : (ms : List (Memo H L)) → length (idles ms) ≡ length ms

@@ -15,7 +15,7 @@ use Rattle.ticket_lock.specs.declared.seat_state.SeatState.TheVariants.{Keeper, 
 use Rattle.ticket_lock.specs.World.{Form, World, Event, takes, misses, enters, hands_on, memo, shown, out, HandsOn}
 use Rattle.ticket_lock.specs.World.{taken, missed, entered, handed, Happens, Good}
 use Rattle.ticket_lock.specs.Schedule.{idle_from, nobodies, Opened, Runs}
-use Rattle.ticket_lock.specs.Linearizable.{book_after, journal_after, Call, FoundFull, HeadTellsCapacity, Linearizable}
+use Rattle.ticket_lock.specs.Linearizable.{book_after, journal_after, Call, FoundFull, HeadReturnsCapacity, Linearizable}
 use Rattle.ticket_lock.proofs.Sums.{snoc_at, at_below}
 use Rattle.ticket_lock.proofs.Schedules.{each_idle, good_opened}
 use Rattle.ticket_lock.proofs.Machine.{FormLaws, seats_stay, good_take, good_miss, good_enter, good_hand}
@@ -191,11 +191,11 @@ module _ {B H L : Type 0} (K : Ghosts B H L) (F : Form) (laws : FormLaws F) (n :
     in_order : (k i r p : ℕ) (l : L) (j a s q : ℕ) (m : L) → Call K b es k i r p l → Call K b es j a s q m → r < s
         → p < q
     stays : IsPrefix (K.lines b) (K.lines w.current)
-    filled : HeadTellsCapacity K → (k i r : ℕ) → FoundFull K b es k i r → K.capacity b ≤ length (K.lines w.current)
-    full_last : HeadTellsCapacity K → (k i r j a s p : ℕ) (l : L) → FoundFull K b es k i r → Call K b es j a s p l
+    filled : HeadReturnsCapacity K → (k i r : ℕ) → FoundFull K b es k i r → K.capacity b ≤ length (K.lines w.current)
+    full_last : HeadReturnsCapacity K → (k i r j a s p : ℕ) (l : L) → FoundFull K b es k i r → Call K b es j a s p l
         → s < r
     reached : (k i r : ℕ) (f : FoundFull K b es k i r) → K.capacity f.full.0 ≤ length (K.lines w.current)
-    room_grew : (k i r j a s p : ℕ) (l : L) (f : FoundFull K b es k i r) (c : Call K b es j a s p l) → r < s
+    space_grew : (k i r j a s p : ℕ) (l : L) (f : FoundFull K b es k i r) (c : Call K b es j a s p l) → r < s
         → K.capacity f.full.0 < K.capacity c.ends.0
 
   -- an event that is no hand on adds no call
@@ -243,12 +243,12 @@ module _ {B H L : Type 0} (K : Ghosts B H L) (F : Form) (laws : FormLaws F) (n :
         in_order = λ k i r a l j d s z m c o before. p.in_order k i r a l j d s z m (less k i r a l c)
             (less j d s z m o) before;
         stays = subst (IsPrefix (K.lines b)) (sym lines) p.stays;
-        filled = λ tells k i r f. subst (λ (z : List L). K.capacity b ≤ length z) (sym lines)
-            (p.filled tells k i r (fuller k i r f));
-        full_last = λ tells k i r j a s q m f c. p.full_last tells k i r j a s q m (fuller k i r f) (less j a s q m c);
+        filled = λ reports k i r f. subst (λ (z : List L). K.capacity b ≤ length z) (sym lines)
+            (p.filled reports k i r (fuller k i r f));
+        full_last = λ reports k i r j a s q m f c. p.full_last reports k i r j a s q m (fuller k i r f) (less j a s q m c);
         reached = λ k i r f. subst (λ (z : List L). K.capacity f.full.0 ≤ length z) (sym lines)
             (p.reached k i r (fuller k i r f));
-        room_grew = λ k i r j a s q m f c. p.room_grew k i r j a s q m (fuller k i r f) (less j a s q m c);
+        space_grew = λ k i r j a s q m f c. p.space_grew k i r j a s q m (fuller k i r f) (less j a s q m c);
       }
 
   -- a seat keeps its number if another view of that seat takes its index
@@ -313,7 +313,7 @@ module _ {B H L : Type 0} (K : Ghosts B H L) (F : Form) (laws : FormLaws F) (n :
     now : ((l : L) × (K.lines c ≡ K.lines w.current ++ l ∷ []) × (K.line_seat l ≡ j))
         ⊎ ((K.lines c ≡ K.lines w.current) × (K.capacity c ≤ length (K.lines w.current)))
     head : K.head c ≡ K.head b
-    room : (l : L) → K.lines c ≡ K.lines w.current ++ l ∷ [] → length (K.lines w.current) < K.capacity c
+    space : (l : L) → K.lines c ≡ K.lines w.current ++ l ∷ [] → length (K.lines w.current) < K.capacity c
 
   module _ (es : List (Event B)) (w : World B H L) (j : ℕ) (c : B) (h : Handed es w j c) where
     -- the events with the hand on
@@ -493,27 +493,27 @@ module _ {B H L : Type 0} (K : Ghosts B H L) (F : Form) (laws : FormLaws F) (n :
         is f.same ∙ before)
 
     -- so the journal has its capacity
-    full_now : HeadTellsCapacity K → (k i r : ℕ) → FoundFull K b Longer k i r → K.capacity b ≤ length (K.lines c)
-    full_now tells k i r f = ⊎_elim
-        (λ old. let was = h.past.filled tells k i r old in let more = grows in omega arith)
+    full_now : HeadReturnsCapacity K → (k i r : ℕ) → FoundFull K b Longer k i r → K.capacity b ≤ length (K.lines c)
+    full_now reports k i r f = ⊎_elim
+        (λ old. let was = h.past.filled reports k i r old in let more = grows in omega arith)
         (λ (is : r ≡ length es). let same = found_now k i r f is in
-        let big = tells c b h.head in ⊎_elim
+        let big = reports c b h.head in ⊎_elim
         (λ (t : (x : L) × (K.lines c ≡ K.lines w.current ++ x ∷ []) × (K.line_seat x ≡ j)).
         absurd (no_longer (K.lines w.current) t.0 (sym same ∙ t.1)))
         (λ (t : (K.lines c ≡ K.lines w.current) × (K.capacity c ≤ length (K.lines w.current))).
         let more = grows in let enough = t.1 in omega arith) h.now) (which_full k i r f)
 
     -- a call that has a line ended before one that found the journal full
-    full_after : HeadTellsCapacity K → (k i r k' i' r' p' : ℕ) (l' : L) → FoundFull K b Longer k i r
+    full_after : HeadReturnsCapacity K → (k i r k' i' r' p' : ℕ) (l' : L) → FoundFull K b Longer k i r
         → Call K b Longer k' i' r' p' l' → r' < r
-    full_after tells k i r k' i' r' p' l' f y = ⊎_elim
+    full_after reports k i r k' i' r' p' l' f y = ⊎_elim
         (λ old. let below : r' < length es = at_below es r' (hands_on k' y.ends.0) old in
         let was = call_less K b es (hands_on j c ∷ []) k' i' r' p' l' below y in ⊎_elim
-        (λ full. h.past.full_last tells k i r k' i' r' p' l' full was)
+        (λ full. h.past.full_last reports k i r k' i' r' p' l' full was)
         (λ (is : r ≡ length es). omega arith) (which_full k i r f))
         (λ (t : (r' ≡ length es) × (j ≡ k')). let last = (last_line k' i' r' p' l' y t.0).0 in ⊎_elim
-        (λ full. let was = h.past.filled tells k i r full in let space = h.room l' last in
-        let same = tells c b h.head in absurd (omega arith))
+        (λ full. let was = h.past.filled reports k i r full in let space = h.space l' last in
+        let same = reports c b h.head in absurd (omega arith))
         (λ (is : r ≡ length es). absurd (no_longer (K.lines w.current) l' (sym (found_now k i r f is) ∙ last)))
         (which_full k i r f))
         (which k' r' y.ends.0 y.ends.1)
@@ -537,12 +537,12 @@ module _ {B H L : Type 0} (K : Ghosts B H L) (F : Form) (laws : FormLaws F) (n :
     unfolding call_less full_less
     grew_now k i r k' i' r' p' l' f y later = ⊎_elim
         (λ old. let ends : r' < length es = at_below es r' (hands_on k' y.ends.0) old in
-        h.past.room_grew k i r k' i' r' p' l' (full_less K b es (hands_on j c ∷ []) k i r (omega arith) f)
+        h.past.space_grew k i r k' i' r' p' l' (full_less K b es (hands_on j c ∷ []) k i r (omega arith) f)
         (call_less K b es (hands_on j c ∷ []) k' i' r' p' l' ends y) later)
         (λ (t : (r' ≡ length es) × (hands_on j c ≡ hands_on k' y.ends.0)). let same = t.1 in
         let own : c ≡ y.ends.0 = cc in let last = (last_line k' i' r' p' l' y t.0).0 in
         let was = h.past.reached k i r (full_less K b es (hands_on j c ∷ []) k i r (omega (arith, t.0)) f) in
-        let space = h.room l' last in let cap = ap K.capacity own in omega arith)
+        let space = h.space l' last in let cap = ap K.capacity own in omega arith)
         (snoc_at es (hands_on j c) (hands_on k' y.ends.0) r' y.ends.1)
 
   -- after a hand on
@@ -567,7 +567,7 @@ module _ {B H L : Type 0} (K : Ghosts B H L) (F : Form) (laws : FormLaws F) (n :
             ))
             does.lines;
         head = does.head ∙ mine.0.head;
-        room = λ x is. ⊎_elim
+        space = λ x is. ⊎_elim
             (λ (o : (l : L) × (K.lines c ≡ m.seen ++ l ∷ []) × (K.line_seat l ≡ m.seat) × (K.line_number l ≡ t)
             × (length m.seen < K.capacity c)).
             subst (λ (z : List L). length z < K.capacity c) mine.4 o.4)
@@ -588,7 +588,7 @@ module _ {B H L : Type 0} (K : Ghosts B H L) (F : Form) (laws : FormLaws F) (n :
         filled = full_now es w j c h;
         full_last = full_after es w j c h;
         reached = reached_now es w j c h;
-        room_grew = grew_now es w j c h;
+        space_grew = grew_now es w j c h;
       }
 
   -- after an event
@@ -624,10 +624,10 @@ module _ {B H L : Type 0} (K : Ghosts B H L) (F : Form) (laws : FormLaws F) (n :
     each_end = λ k r c at. absurd (some-ne-none (hands_on k c) (sym at));
     in_order = λ k i r p l j a s q m c d less. absurd (some-ne-none (hands_on k c.ends.0) (sym c.ends.1));
     stays = subst (λ (z : B). IsPrefix (K.lines b) (K.lines z)) (sym o.current) (prefix_refl (K.lines b));
-    filled = λ tells k i r f. absurd (some-ne-none (hands_on k f.full.0) (sym f.full.1));
-    full_last = λ tells k i r j a s p l f c. absurd (some-ne-none (hands_on k f.full.0) (sym f.full.1));
+    filled = λ reports k i r f. absurd (some-ne-none (hands_on k f.full.0) (sym f.full.1));
+    full_last = λ reports k i r j a s p l f c. absurd (some-ne-none (hands_on k f.full.0) (sym f.full.1));
     reached = λ k i r f. absurd (some-ne-none (hands_on k f.full.0) (sym f.full.1));
-    room_grew = λ k i r j a s p l f c later. absurd (some-ne-none (hands_on k f.full.0) (sym f.full.1));
+    space_grew = λ k i r j a s p l f c later. absurd (some-ne-none (hands_on k f.full.0) (sym f.full.1));
   }
 
 -- the law, in every form
@@ -637,7 +637,7 @@ linearizable K F laws n b w u es o r = let p = past_events K F laws n b [] es w 
   record {
     opening = p.stays;
     full_last = p.full_last;
-    room_grew = p.room_grew;
+    space_grew = p.space_grew;
     each_call = p.each_call;
     each_line = p.each_line;
     one_call = λ k i r p' l j a s m c d. dite (dec_le r s)

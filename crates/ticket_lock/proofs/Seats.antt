@@ -369,12 +369,12 @@ module _ {S H L : Type 0} where
   pub cut_keeper : (h : H) (xs : List L) (k c : ℕ) (old new : Me S (SeatState H L))
       → old ≡ (keeper_of h xs k (c - k), []) → k < c → new ≡ (right_of old.0, [])
       → new ≡ (keeper_of h xs (k + 1) (c - (k + 1)), [])
-  cut_keeper h xs k c old new is less told = grind (arith, common_steps, right_of, keeper_step)
+  cut_keeper h xs k c old new is less returned = grind (arith, common_steps, right_of, keeper_step)
 
   -- the seat that the keeper became
   pub cut_seat : (h : H) (xs : List L) (k c : ℕ) (old new : Me S (SeatState H L)) → old ≡ (keeper_of h xs k (c - k), [])
       → k < c → new ≡ (left_of old.0, old.1) → new ≡ (Idle (memo k h xs), [])
-  cut_seat h xs k c old new is less told = grind (arith, common_steps, left_of, keeper_step)
+  cut_seat h xs k c old new is less returned = grind (arith, common_steps, left_of, keeper_step)
 
   -- a view that is an idle seat of number k
   pub is_idle : (m : Memo H L) (k : ℕ) (me : Me S (SeatState H L)) → me ≡ (Idle m, []) → m.seat ≡ k

@@ -228,11 +228,11 @@ module _ {B H L : Type 0} (K : Ghosts B H L) (F : Form) (laws : FormLaws F) wher
       → old.1 ≡ (0, std.None) ∷ []
       → ((c : B) → new.1 ≡ (0, std.Some c) ∷ [] → after ≡ (after_hand (K.lines c) new.0, []))
       → after ≡ (after_hand (K.lines b) old.0, [])
-  gave_from old new after b back is told =
+  gave_from old new after b back is returned =
       let carried : new.1 ≡ (0, std.Some b) ∷ [] =
       ap (λ (z : Me (std.Option B) (SeatState H L)). z.1) back
       ∙ ap (λ (z : List (ℕ × std.Option B)). (0, std.Some b) ∷ rest z) is in
-      told b carried ∙ ap (λ (z : Me (std.Option B) (SeatState H L)). (after_hand (K.lines b) z.0, [])) back
+      returned b carried ∙ ap (λ (z : Me (std.Option B) (SeatState H L)). (after_hand (K.lines b) z.0, [])) back
 
   -- the seat that is returned is idle and has taken no slot
   pub handed_is : (old after : Me (std.Option B) (SeatState H L)) (xs : List L) (k : ℕ) → stage_of old.0 ≡ 3

@@ -20,15 +20,15 @@ abbrev pub Board : Type 0 → Type 0 → Type 0 → Type 0
 Board B H L = State (std.Option B) (SeatState H L)
 
 -- a view of that table, and the slots that the seat has taken
-abbrev pub Sight : Type 0 → Type 0 → Type 0 → Type 0
-Sight B H L = Me (std.Option B) (SeatState H L)
+abbrev pub Location : Type 0 → Type 0 → Type 0 → Type 0
+Location B H L = Me (std.Option B) (SeatState H L)
 
 -- The table's seat `id` made one step on the word i, from the table s to the table u: the word became f of the value that was found in it, the seat
--- went from `me` to `after`, as the relation `told` says of that value, and it took or returned what it may
-pub record Steps {B H L : Type 0} (id i : ℕ) (f : ℕ → ℕ) (told : ℕ → Sight B H L → Type 0) (me after : Sight B H L)
+-- went from `me` to `after`, as the relation `returned` says of that value, and it took or returned what it may
+pub record Steps {B H L : Type 0} (id i : ℕ) (f : ℕ → ℕ) (returned : ℕ → Location B H L → Type 0) (me after : Location B H L)
     (s u : Board B H L) : Type 0 where
   pub there : get_elem? s.views id ≡ some me.0
-  pub tells : told (slice_index s.words i) after
+  pub reports : returned (slice_index s.words i) after
   pub act : Act (std.Option B)
   pub valid : Valid s.homes me.1 act
   pub carries : after.1 ≡ carried_after me.1 act
@@ -58,13 +58,13 @@ module _ {B H L : Type 0} (K : Ghosts B H L) (F : Form) where
   -- A take is one event take: from a table under the rule, the fetch-and-add by which an idle seat takes its number
   abbrev pub TakesAreEvents : Type 0
   TakesAreEvents = (n : ℕ) (opening : B) (s u : Board B H L) (r : Standing K F n opening s) (id : ℕ)
-      (me after : Sight B H L) (st : Step (std.Option B)) → stage_of me.0 ≡ 1 → me.1 ≡ []
+      (me after : Location B H L) (st : Step (std.Option B)) → stage_of me.0 ≡ 1 → me.1 ≡ []
       → Steps id 0 (λ x. wrap (x + 1)) (took st me) me after s u → LeadsBy n opening (takes id) (shows s r) u
 
   -- A look is one event, which is enter if the load found the number of the seat that waits, otherwise miss
   abbrev pub LooksAreEvents : Type 0
   LooksAreEvents = (n : ℕ) (opening : B) (s u : Board B H L) (r : Standing K F n opening s) (id : ℕ)
-      (me after : Sight B H L) (st : Step (std.Option B)) → stage_of me.0 ≡ 2 → me.1 ≡ []
+      (me after : Location B H L) (st : Step (std.Option B)) → stage_of me.0 ≡ 2 → me.1 ≡ []
       → Steps id (F.serving_word (number_of me.0)) (λ x. x) (looked K st me) me after s u
       → (slice_index s.words (F.serving_word (number_of me.0)) ≡ number_of me.0
       → LeadsBy n opening (enters id) (shows s r) u)
@@ -75,7 +75,7 @@ module _ {B H L : Type 0} (K : Ghosts B H L) (F : Form) where
   -- on and was laid back
   abbrev pub HandOnsAreEvents : Type 0
   HandOnsAreEvents = (n : ℕ) (opening : B) (s u : Board B H L) (r : Standing K F n opening s) (id : ℕ)
-      (me after : Sight B H L) (st : Step (std.Option B)) (b : B) → stage_of me.0 ≡ 3 → me.1 ≡ (0, std.Some b) ∷ []
+      (me after : Location B H L) (st : Step (std.Option B)) (b : B) → stage_of me.0 ≡ 3 → me.1 ≡ (0, std.Some b) ∷ []
       → HandsOn K (memo (seat_of me.0) (K.head opening) (seen_of me.0)) (number_of me.0) b
       → Steps id (F.serving_word (wrap (number_of me.0 + 1))) (λ _. wrap (number_of me.0 + 1)) (gave K st me) me after
       s u → LeadsBy n opening (hands_on id b) (shows s r) u

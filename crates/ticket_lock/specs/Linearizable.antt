@@ -39,8 +39,8 @@ module _ {B H L : Type 0} (K : Ghosts B H L) where
     pub full : (c : B) × (get_elem? es r ≡ some (hands_on k c)) × (K.capacity c ≤ length (journal_after b es r))
 
   -- books with one head have one capacity
-  abbrev pub HeadTellsCapacity : Type 0
-  HeadTellsCapacity = (b c : B) → K.head b ≡ K.head c → K.capacity b ≡ K.capacity c
+  abbrev pub HeadReturnsCapacity : Type 0
+  HeadReturnsCapacity = (b c : B) → K.head b ≡ K.head c → K.capacity b ≡ K.capacity c
 
   -- The journal xs is a sequential history of the calls in the events es: it begins with the lines at opening; each call has its line, or found the
   -- journal full; each line is that of just one call; if one call ended before another began, the line of the first comes before that of the second;
@@ -56,8 +56,8 @@ module _ {B H L : Type 0} (K : Ghosts B H L) where
         → ((i : ℕ) × (p : ℕ) × (l : L) × Call b es k i r p l) ⊎ ((i : ℕ) × FoundFull b es k i r)
     pub in_order : (k i r p : ℕ) (l : L) (j a s q : ℕ) (m : L) → Call b es k i r p l → Call b es j a s q m → r < a
         → p < q
-    pub full_last : HeadTellsCapacity → (k i r j a s p : ℕ) (l : L) → FoundFull b es k i r → Call b es j a s p l → s < r
-    pub room_grew : (k i r j a s p : ℕ) (l : L) (f : FoundFull b es k i r) (c : Call b es j a s p l) → r < s
+    pub full_last : HeadReturnsCapacity → (k i r j a s p : ℕ) (l : L) → FoundFull b es k i r → Call b es j a s p l → s < r
+    pub space_grew : (k i r j a s p : ℕ) (l : L) (f : FoundFull b es k i r) (c : Call b es j a s p l) → r < s
         → K.capacity f.full.0 < K.capacity c.ends.0
 
   -- the events es, which ended in the world u of a lock that was opened around the book b, are linearizable

@@ -79,7 +79,7 @@ fn cut<B: Chronicle>(
         × (board.now.shared.key.seats ≡ seats) }
     requires keeper { keeper.me
         ≡ (keeper_of (B.head board.now.shared.key.book.value) (B.lines board.now.shared.key.book.value) 0 seats, []) }
-    requires room { (all.old.items ≡ []) × (seats ≤ vec_capacity all.old) }
+    requires space { (all.old.items ≡ []) × (seats ≤ vec_capacity all.old) }
     ensures keeper { (result.table_id ≡ board.now.shared.table_id)
         × (result.me ≡ (
           keeper_of (B.head board.now.shared.key.book.value)
@@ -93,7 +93,7 @@ fn cut<B: Chronicle>(
     ensures views { map (λ s. s.place.me.0) all.new.items
         ≡ idle_from (B.head board.now.shared.key.book.value) (B.lines board.now.shared.key.book.value) 0 seats }
     ensures numbers { AreNumbered all.new.items }
-    ensures room { (vec_len all.new ≡ seats) × (seats ≤ vec_capacity all.new) }
+    ensures space { (vec_len all.new ≡ seats) × (seats ≤ vec_capacity all.new) }
 {
     let mut keeper = keeper;
     for number in 0..seats {

@@ -19,7 +19,7 @@ fn last_seat<B: Chronicle>(
     requires own { All (IsSeatOf B.head lock.now) seats.old.items }
     ensures own { All (IsSeatOf B.head lock.now) seats.new.items }
     ensures seat { IsSeatOf B.head lock.now result }
-    ensures room { (vec_capacity seats.new ≡ vec_capacity seats.old) × (vec_len seats.new + 1 ≡ vec_len seats.old) }
+    ensures space { (vec_capacity seats.new ≡ vec_capacity seats.old) × (vec_len seats.new + 1 ≡ vec_len seats.old) }
 {
     let Some(seat) = seats.pop() else {
         panic!(rt; "no seat is left")
@@ -200,7 +200,7 @@ fn all_serve(
     done: &mut Vec<Seat<Roll>>,
 )
     requires own { All (IsSeatOf ⟦<Roll as Chronicle>⟧.head lock.now) seats.items × (done.old.items ≡ []) }
-    requires room { vec_len seats ≤ vec_capacity done.old }
+    requires space { vec_len seats ≤ vec_capacity done.old }
     ensures own { All (IsSeatOf ⟦<Roll as Chronicle>⟧.head lock.now) done.new.items
         × (vec_len done.new ≡ vec_len seats) }
 {

@@ -290,18 +290,18 @@ block_after_hole (suc h) n (b ∷ rest) d f within =
 -- a block that the code borrows: it has m points or one less, and the capacity of a full one
 pub record Holds (a : Block) (m : ℕ) : Type 0 where
   pub count : deque_len a ≡ m
-  pub room : BLOCK ≤ deque_capacity a
+  pub space : BLOCK ≤ deque_capacity a
 
 pub record Lacks (a : Block) (m : ℕ) : Type 0 where
   pub count : deque_len a + 1 ≡ m
-  pub room : BLOCK ≤ deque_capacity a
+  pub space : BLOCK ≤ deque_capacity a
 
 -- the block before the hole
 pub before_hole : (k h n : ℕ) (bs : List Block) (a : Block) → h ≡ suc k → IsFilledBut h n bs → a ≡ get_or bs k a
     → Holds a (min BLOCK (n - k * BLOCK))
 before_hole k h n bs a e f at =
     let r = block_before_hole k n bs a (subst (λ (j : ℕ). IsFilledBut j n bs) e f) in
-    subst (λ (z : Block). Holds z (min BLOCK (n - k * BLOCK))) (sym at) (record { count = r.0; room = r.1 })
+    subst (λ (z : Block). Holds z (min BLOCK (n - k * BLOCK))) (sym at) (record { count = r.0; space = r.1 })
 
 -- the block of the hole, after the one before it changed
 pub at_hole : (k h n : ℕ) (bs : List Block) (u q : Block) → h ≡ suc k → IsFilledBut h n bs
@@ -310,7 +310,7 @@ at_hole k h n bs u q e f at =
     let r = hole_block h n bs q f in
     let at' : q ≡ get_or bs h q = at
     ∙ subst (λ (j : ℕ). get_or (set bs k u) j q ≡ get_or bs j q) (sym e) (next_block k bs q u) in
-    subst (λ (z : Block). Lacks z (min BLOCK (n - h * BLOCK))) (sym at') (record { count = r.0; room = r.1 })
+    subst (λ (z : Block). Lacks z (min BLOCK (n - h * BLOCK))) (sym at') (record { count = r.0; space = r.1 })
 
 -- the block after the hole
 pub after_hole : (k h n : ℕ) (bs : List Block) (a : Block) → h ≡ suc k → IsFilledBut k n bs → h < length bs
@@ -318,7 +318,7 @@ pub after_hole : (k h n : ℕ) (bs : List Block) (a : Block) → h ≡ suc k →
 after_hole k h n bs a e f within at =
     let r = block_after_hole k n bs a f (omega (arith, e, within)) in
     subst (λ (z : Block). Holds z (min BLOCK (n - h * BLOCK))) (sym at)
-    (subst (λ (j : ℕ). Holds (get_or bs j a) (min BLOCK (n - j * BLOCK))) (sym e) (record { count = r.0; room = r.1 }))
+    (subst (λ (j : ℕ). Holds (get_or bs j a) (min BLOCK (n - j * BLOCK))) (sym e) (record { count = r.0; space = r.1 }))
 
 -- the block of the hole, after the one after it changed
 pub still_hole : (k h n : ℕ) (bs : List Block) (u q : Block) → h ≡ suc k → IsFilledBut k n bs
@@ -327,18 +327,18 @@ still_hole k h n bs u q e f at =
     let r = hole_block k n bs q f in
     let at' : q ≡ get_or bs k q = at
     ∙ subst (λ (j : ℕ). get_or (set bs j u) k q ≡ get_or bs k q) (sym e) (block_before k bs q u) in
-    subst (λ (z : Block). Lacks z (min BLOCK (n - k * BLOCK))) (sym at') (record { count = r.0; room = r.1 })
+    subst (λ (z : Block). Lacks z (min BLOCK (n - k * BLOCK))) (sym at') (record { count = r.0; space = r.1 })
 
 -- the block of the hole
 pub in_hole : (h n : ℕ) (bs : List Block) (a : Block) → IsFilledBut h n bs → a ≡ get_or bs h a
     → Lacks a (min BLOCK (n - h * BLOCK))
 in_hole h n bs a f at =
     let r = hole_block h n bs a f in
-    subst (λ (z : Block). Lacks z (min BLOCK (n - h * BLOCK))) (sym at) (record { count = r.0; room = r.1 })
+    subst (λ (z : Block). Lacks z (min BLOCK (n - h * BLOCK))) (sym at) (record { count = r.0; space = r.1 })
 
 -- the value that contracts see of blocks
 abbrev pub seen_of : List Block → TieredValue
-seen_of bs = record { items = points_of bs; room = BLOCK * length bs }
+seen_of bs = record { items = points_of bs; space = BLOCK * length bs }
 
 -- the value has as many points as fill the blocks
 pub len_of : (n : ℕ) (bs : List Block) (v : TieredValue) → IsFilled n bs → seen_of bs ≡ v → n ≡ length v.items

@@ -33,7 +33,7 @@ IsFilledBut (suc h) n (b ∷ rest) = IsBlock (min BLOCK n) b × IsFilledBut h (n
 -- the points of a list, and its capacity
 pub record TieredValue : Type 0 where
   pub items : List Pair
-  pub room : ℕ
+  pub space : ℕ
 
 -- the invariant of the type of such a list: its points fill the blocks, whose capacity can be counted in 64 bits
 pub record IsTiered (len : ℕ) (blocks : List Block) : Type 0 where

@@ -23,7 +23,7 @@ impl Model for TieredList {
 
     ghost Value = { TieredValue };
 
-    ghost view = { λ t. record { items = points_of t.blocks.items; room = BLOCK * length t.blocks.items } };
+    ghost view = { λ t. record { items = points_of t.blocks.items; space = BLOCK * length t.blocks.items } };
 
     ghost invariant = { λ t. IsTiered t.len t.blocks.items };
 }
@@ -64,8 +64,8 @@ impl TieredList {
     /// Raises the capacity to at least `count` points. If memory is refused, the capacity is at least what it was.
     pub fn reserve(&mut self, count: usize) -> Result<(), AllocError>
         ensures items { self.new.items ≡ self.old.items }
-        ensures room { self.old.room ≤ self.new.room }
-        ensures enough { OnOk result (count ≤ self.new.room) }
+        ensures space { self.old.space ≤ self.new.space }
+        ensures enough { OnOk result (count ≤ self.new.space) }
     {
         add_blocks(&mut self.blocks, count.div_ceil(BLOCK))
     }
@@ -73,9 +73,9 @@ impl TieredList {
     /// Inserts a point at an index; the points from there on move up by one index.
     pub(crate) fn insert(&mut self, i: usize, point: Point)
         requires within { i ≤ length self.old.items }
-        requires room { length self.old.items < self.old.room }
+        requires space { length self.old.items < self.old.space }
         ensures items { self.new.items ≡ insert self.old.items i point }
-        ensures room { self.new.room ≡ self.old.room }
+        ensures space { self.new.space ≡ self.old.space }
     {
         open_hole(&mut self.blocks, i / BLOCK, self.len);
         self.len += 1;
@@ -86,7 +86,7 @@ impl TieredList {
     pub(crate) fn remove(&mut self, i: usize)
         requires within { i < length self.old.items }
         ensures items { self.new.items ≡ remove self.old.items i }
-        ensures room { self.new.room ≡ self.old.room }
+        ensures space { self.new.space ≡ self.old.space }
     {
         dig_hole(&mut self.blocks, i / BLOCK, i % BLOCK, self.len);
         close_hole(&mut self.blocks, i / BLOCK, self.len);

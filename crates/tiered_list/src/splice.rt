@@ -9,11 +9,11 @@ use std::alloc::AllocError;
 
 impl TieredList {
     /// Removes the points from index `from` up to index `to`, exclusive.
-    fn take_out(&mut self, from: usize, to: usize)
+    fn drain(&mut self, from: usize, to: usize)
         requires order { from ≤ to }
         requires within { to ≤ length self.old.items }
         ensures items { self.new.items ≡ take from self.old.items ++ drop to self.old.items }
-        ensures room { self.new.room ≡ self.old.room }
+        ensures space { self.new.space ≡ self.old.space }
     {
         for _ in from..to {
             self.remove(from);
@@ -23,9 +23,9 @@ impl TieredList {
     /// Inserts points from an index on.
     fn put_in(&mut self, at: usize, points: &[Point])
         requires within { at ≤ length self.old.items }
-        requires room { length self.old.items + length points.now ≤ self.old.room }
+        requires space { length self.old.items + length points.now ≤ self.old.space }
         ensures items { self.new.items ≡ (take at self.old.items ++ points.now) ++ drop at self.old.items }
-        ensures room { self.new.room ≡ self.old.room }
+        ensures space { self.new.space ≡ self.old.space }
     {
         let behind = self.len() - at;
         for i in 0..points.len() {
@@ -37,7 +37,7 @@ impl TieredList {
     /// Appends copies of the points from an index on to a list that has the capacity for them.
     fn copy_rest(&self, from: usize, rest: &mut Vec<Point, Heap>)
         requires within { from ≤ length self.now.items }
-        requires room { length self.now.items ≤ vec_capacity rest.old + from }
+        requires space { length self.now.items ≤ vec_capacity rest.old + from }
         ensures rest { rest.new.items ≡ drop from self.now.items }
         ensures capacity { vec_capacity rest.new ≡ vec_capacity rest.old }
     {
@@ -70,11 +70,11 @@ impl TieredList {
     pub fn splice(&mut self, from: usize, to: usize, points: &[Point], spare: &mut Vec<Point, Heap>)
         requires order { from ≤ to }
         requires within { to ≤ length self.old.items }
-        requires room { length self.old.items + length points.now ≤ self.old.room + (to - from) }
-        requires spare_room { length self.old.items ≤ vec_capacity spare.old + to }
+        requires space { length self.old.items + length points.now ≤ self.old.space + (to - from) }
+        requires spare_space { length self.old.items ≤ vec_capacity spare.old + to }
         ensures items { self.new.items ≡ (take from self.old.items ++ points.now) ++ drop to self.old.items }
-        ensures room { self.new.room ≡ self.old.room }
-        ensures spare_room { vec_capacity spare.new ≡ vec_capacity spare.old }
+        ensures space { self.new.space ≡ self.old.space }
+        ensures spare_space { vec_capacity spare.new ≡ vec_capacity spare.old }
     {
         if self.is_more_than_the_rest((to - from).saturating_add(points.len()), from) {
             self.copy_rest(to, spare);
@@ -83,7 +83,7 @@ impl TieredList {
             let len = self.len();
             self.put_in(len, spare);
         } else {
-            self.take_out(from, to);
+            self.drain(from, to);
             self.put_in(from, points);
         }
     }
@@ -92,7 +92,7 @@ impl TieredList {
     fn truncate(&mut self, len: usize)
         requires within { len ≤ length self.old.items }
         ensures items { self.new.items ≡ take len self.old.items }
-        ensures room { self.new.room ≡ self.old.room }
+        ensures space { self.new.space ≡ self.old.space }
     {
         while self.len() > len {
             let last = self.len() - 1;

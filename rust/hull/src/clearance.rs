@@ -52,6 +52,6 @@ impl PartialOrd for Clearance {
 impl Ord for Clearance {
     fn cmp(&self, other: &Clearance) -> Ordering {
         // SAFETY: both are read alone.
-        unsafe { raw::hull_clearance_compare(&self.told, &other.told) }.cmp(&0)
+        unsafe { raw::hull_distance_bounds_compare(&self.told, &other.told) }.cmp(&0)
     }
 }

@@ -229,7 +229,7 @@ impl Hull {
     /// The set, after a hint that a question follows: its vertices are gathered once questions are many.
     fn settled(&self) -> *mut u8 {
         // SAFETY: as in `call`.
-        unsafe { raw::hull_settle(self.room.as_ptr()) };
+        unsafe { raw::hull_prepare(self.room.as_ptr()) };
         self.room.as_ptr()
     }
 

@@ -24,7 +24,7 @@ impl Corners {
         let (these, those) = (self.corners(), other.corners());
         // SAFETY: both are outlines, which nobody writes.
         let told = unsafe {
-            raw::hull_outline_first_meeting(these.as_ptr(), these.len(), those.as_ptr(), those.len(), way.x, way.y)
+            raw::hull_polygon_first_meeting(these.as_ptr(), these.len(), those.as_ptr(), those.len(), way.x, way.y)
         };
         let (corner, moves) = (told.corner, told.moves == 1);
         Ok(answer::hit(told.hit)?.map(|hit| Motion { hit, corner, moves }))
@@ -48,7 +48,7 @@ impl Outline {
     pub fn moved(&self, by: Point) -> Result<Outline, Fault> {
         // SAFETY: the corners are an outline, and the array has as many, which were written.
         self.rewritten(|these, out| unsafe {
-            raw::hull_outline_moved(these.as_ptr(), these.len(), by.x, by.y, out.as_mut_ptr())
+            raw::hull_polygon_translate(these.as_ptr(), these.len(), by.x, by.y, out.as_mut_ptr())
         })
     }
 
@@ -58,7 +58,7 @@ impl Outline {
     pub fn turned(&self, by: Point) -> Result<Outline, Fault> {
         // SAFETY: the same.
         self.rewritten(|these, out| unsafe {
-            raw::hull_outline_turned(these.as_ptr(), these.len(), by.x, by.y, out.as_mut_ptr())
+            raw::hull_polygon_rotate(these.as_ptr(), these.len(), by.x, by.y, out.as_mut_ptr())
         })
     }
 }

@@ -181,14 +181,14 @@ impl Outline {
     pub fn of_points(points: &[Point]) -> Result<Outline, Fault> {
         let corners = written_corners(|out| {
             // SAFETY: both arrays are slices' own and were written.
-            unsafe { raw::hull_outline_of(points.as_ptr(), points.len(), out.as_mut_ptr(), out.len()) }
+            unsafe { raw::hull_polygon_of(points.as_ptr(), points.len(), out.as_mut_ptr(), out.len()) }
         })?;
         Ok(Outline { corners: Counted::new(corners)? })
     }
 
     pub(crate) fn of(corners: Vec<Point>) -> Result<Outline, Fault> {
         // SAFETY: the points are a vector's own, whose pointer is not null.
-        let told = unsafe { raw::hull_is_outline(corners.as_ptr(), corners.len()) };
+        let told = unsafe { raw::hull_is_polygon(corners.as_ptr(), corners.len()) };
         match answer::number(told)? {
             1 => Ok(Outline { corners: Counted::new(corners)? }),
             _ => Err(Fault::NoOutline),
@@ -223,7 +223,7 @@ impl Corners {
 
     fn ask(&self, kind: u32, at: Point) -> Reply {
         // SAFETY: the corners are an outline, as `Outline::new` saw, and nobody writes them.
-        unsafe { raw::hull_outline_call(self.points.as_ptr(), self.points.len(), kind, at.x, at.y) }
+        unsafe { raw::hull_polygon_call(self.points.as_ptr(), self.points.len(), kind, at.x, at.y) }
     }
 
     /// Returns the location of a point.
@@ -257,7 +257,7 @@ impl Corners {
             let corners = &self.points;
             // SAFETY: the corners are an outline, as `Outline::new` saw; the arrays were written, and are as long as is told.
             unsafe {
-                raw::hull_outline_calls(
+                raw::hull_polygon_calls(
                     corners.as_ptr(),
                     corners.len(),
                     requests.as_ptr(),
@@ -295,7 +295,7 @@ impl Corners {
     pub fn meets_segment(&self, a: Point, b: Point) -> Result<bool, Fault> {
         let corners = &self.points;
         // SAFETY: the corners are an outline, as `Outline::new` saw, and nobody writes them.
-        let told = unsafe { raw::hull_outline_meets_segment(corners.as_ptr(), corners.len(), a.x, a.y, b.x, b.y) };
+        let told = unsafe { raw::hull_polygon_intersects_segment(corners.as_ptr(), corners.len(), a.x, a.y, b.x, b.y) };
         answer::number(told).map(|number| number == 1)
     }
 
@@ -304,69 +304,69 @@ impl Corners {
     pub fn apart_from_segment(&self, a: Point, b: Point) -> Result<Option<Separation>, Fault> {
         let corners = &self.points;
         // SAFETY: the same.
-        let told = unsafe { raw::hull_outline_apart(corners.as_ptr(), corners.len(), a.x, a.y, b.x, b.y) };
+        let told = unsafe { raw::hull_polygon_separation(corners.as_ptr(), corners.len(), a.x, a.y, b.x, b.y) };
         answer::separation(told)
     }
 
     /// Returns where the point is that is nearest to `point`; `None` for a polygon without vertices.
     pub fn nearest(&self, point: Point) -> Result<Option<Nearest>, Fault> {
         // SAFETY: the same.
-        let told = unsafe { raw::hull_outline_nearest(self.points.as_ptr(), self.points.len(), point.x, point.y) };
+        let told = unsafe { raw::hull_polygon_nearest(self.points.as_ptr(), self.points.len(), point.x, point.y) };
         answer::nearest(told)
     }
 
     /// Returns the least and the greatest point of the bounding box; `None` for a polygon without vertices.
     pub fn bounding_box(&self) -> Option<(Point, Point)> {
         // SAFETY: the same.
-        answer::bounds(unsafe { raw::hull_outline_box(self.points.as_ptr(), self.points.len()) })
+        answer::bounds(unsafe { raw::hull_polygon_box(self.points.as_ptr(), self.points.len()) })
     }
 
     /// Returns the extent of the polygon in a direction: the greatest product of a vertex with it less the least; `None` for a
     /// polygon without vertices. Divide it by the length of the direction for the width along it.
     pub fn width_along(&self, direction: Point) -> Result<Option<u128>, Fault> {
         // SAFETY: the same.
-        let told = unsafe { raw::hull_outline_width(self.points.as_ptr(), self.points.len(), direction.x, direction.y) };
+        let told = unsafe { raw::hull_polygon_width(self.points.as_ptr(), self.points.len(), direction.x, direction.y) };
         answer::width(told)
     }
 
     /// Returns the two vertices that are farthest from one another; `None` for a polygon without vertices.
     pub fn diameter(&self) -> Option<(Point, Point)> {
         // SAFETY: the same.
-        answer::points(unsafe { raw::hull_outline_diameter(self.points.as_ptr(), self.points.len()) })
+        answer::points(unsafe { raw::hull_polygon_diameter(self.points.as_ptr(), self.points.len()) })
     }
 
     /// Returns where the polygon is least wide: no direction has a narrower strip; `None` if there are fewer than two vertices.
     pub fn least_width(&self) -> Option<Strip> {
         // SAFETY: the same.
-        answer::strip(unsafe { raw::hull_outline_least_width(self.points.as_ptr(), self.points.len()) })
+        answer::strip(unsafe { raw::hull_polygon_least_width(self.points.as_ptr(), self.points.len()) })
     }
 
     /// Returns whether the two polygons intersect, boundaries included.
     pub fn meets(&self, other: &Corners) -> bool {
         let (these, those) = (&self.points, &other.points);
         // SAFETY: the same, of both.
-        unsafe { raw::hull_outline_meets(these.as_ptr(), these.len(), those.as_ptr(), those.len()) }.number == 1
+        unsafe { raw::hull_polygon_intersects(these.as_ptr(), these.len(), those.as_ptr(), those.len()) }.number == 1
     }
 
     /// Returns whether this polygon contains the other one.
     pub fn contains(&self, other: &Corners) -> bool {
         let (these, those) = (&self.points, &other.points);
         // SAFETY: the same.
-        unsafe { raw::hull_outline_contains(these.as_ptr(), these.len(), those.as_ptr(), those.len()) }.number == 1
+        unsafe { raw::hull_polygon_contains(these.as_ptr(), these.len(), those.as_ptr(), those.len()) }.number == 1
     }
 
     /// Returns how this polygon is related to the other one.
     pub fn relation(&self, other: &Corners) -> Relation {
         let (these, those) = (&self.points, &other.points);
         // SAFETY: the same.
-        answer::relation(unsafe { raw::hull_outline_relation(these.as_ptr(), these.len(), those.as_ptr(), those.len()) }.number)
+        answer::relation(unsafe { raw::hull_polygon_relation(these.as_ptr(), these.len(), those.as_ptr(), those.len()) }.number)
     }
 
     /// Returns whether this polygon contains the other one with no point of it on the boundary.
     pub fn contains_inside(&self, other: &Corners) -> bool {
         let (these, those) = (&self.points, &other.points);
         // SAFETY: the same.
-        unsafe { raw::hull_outline_contains_inside(these.as_ptr(), these.len(), those.as_ptr(), those.len()) }.number == 1
+        unsafe { raw::hull_polygon_contains_inside(these.as_ptr(), these.len(), those.as_ptr(), those.len()) }.number == 1
     }
 
     /// Returns whether their distance is at most `numerator / denominator`, exactly; false if one of them has no vertices. A
@@ -374,7 +374,7 @@ impl Corners {
     pub fn within(&self, other: &Corners, numerator: u64, denominator: u32) -> bool {
         let (these, those) = (&self.points, &other.points);
         // SAFETY: the same.
-        unsafe { raw::hull_outline_within(these.as_ptr(), these.len(), those.as_ptr(), those.len(), numerator, denominator) }.number == 1
+        unsafe { raw::hull_polygon_within_distance(these.as_ptr(), these.len(), those.as_ptr(), those.len(), numerator, denominator) }.number == 1
     }
 
     /// The same for the segment from `a` to `b`, which may be one point.
@@ -382,7 +382,7 @@ impl Corners {
         let corners = &self.points;
         // SAFETY: the same.
         let told = unsafe {
-            raw::hull_outline_within_segment(corners.as_ptr(), corners.len(), a.x, a.y, b.x, b.y, numerator, denominator)
+            raw::hull_polygon_within_distance_of_segment(corners.as_ptr(), corners.len(), a.x, a.y, b.x, b.y, numerator, denominator)
         };
         answer::number(told).map(|number| number == 1)
     }
@@ -396,7 +396,7 @@ impl Corners {
     pub fn relation_to_segment(&self, a: Point, b: Point) -> Result<Relation, Fault> {
         let corners = &self.points;
         // SAFETY: the same.
-        let told = unsafe { raw::hull_outline_relation_to_segment(corners.as_ptr(), corners.len(), a.x, a.y, b.x, b.y) };
+        let told = unsafe { raw::hull_polygon_relation_to_segment(corners.as_ptr(), corners.len(), a.x, a.y, b.x, b.y) };
         answer::number(told).map(|number| answer::relation(number as u64))
     }
 
@@ -404,7 +404,7 @@ impl Corners {
     pub fn clearance(&self, other: &Corners) -> Option<Clearance> {
         let (these, those) = (&self.points, &other.points);
         // SAFETY: the same.
-        let told = unsafe { raw::hull_outline_clearance(these.as_ptr(), these.len(), those.as_ptr(), those.len()) };
+        let told = unsafe { raw::hull_polygon_distance_bounds(these.as_ptr(), these.len(), those.as_ptr(), those.len()) };
         answer::clearance(told).ok().flatten()
     }
 
@@ -413,7 +413,7 @@ impl Corners {
     pub fn clearance_to_segment(&self, a: Point, b: Point) -> Result<Option<Clearance>, Fault> {
         let corners = &self.points;
         // SAFETY: the same.
-        answer::clearance(unsafe { raw::hull_outline_clearance_to_segment(corners.as_ptr(), corners.len(), a.x, a.y, b.x, b.y) })
+        answer::clearance(unsafe { raw::hull_polygon_distance_bounds_to_segment(corners.as_ptr(), corners.len(), a.x, a.y, b.x, b.y) })
     }
 
     /// Returns the distance of the polygon and a point; `None` for a polygon without vertices.
@@ -425,14 +425,14 @@ impl Corners {
     pub fn cast_ray(&self, from: Point, direction: Point) -> Result<Option<Hit>, Fault> {
         let corners = &self.points;
         // SAFETY: the same.
-        answer::hit(unsafe { raw::hull_outline_cast_ray(corners.as_ptr(), corners.len(), from.x, from.y, direction.x, direction.y) })
+        answer::hit(unsafe { raw::hull_polygon_raycast(corners.as_ptr(), corners.len(), from.x, from.y, direction.x, direction.y) })
     }
 
     /// Returns the last point of that ray in the polygon; `None` if it misses.
     pub fn last_on_ray(&self, from: Point, direction: Point) -> Result<Option<Hit>, Fault> {
         let corners = &self.points;
         // SAFETY: the same.
-        answer::hit(unsafe { raw::hull_outline_last_on_ray(corners.as_ptr(), corners.len(), from.x, from.y, direction.x, direction.y) })
+        answer::hit(unsafe { raw::hull_polygon_raycast_exit(corners.as_ptr(), corners.len(), from.x, from.y, direction.x, direction.y) })
     }
 
     /// Returns where the segment from `a` to `b` enters; `None` if it misses. Its last point in the polygon is where that from `b`
@@ -440,20 +440,20 @@ impl Corners {
     pub fn cast_segment(&self, a: Point, b: Point) -> Result<Option<Hit>, Fault> {
         let corners = &self.points;
         // SAFETY: the same.
-        answer::hit(unsafe { raw::hull_outline_cast_segment(corners.as_ptr(), corners.len(), a.x, a.y, b.x, b.y) })
+        answer::hit(unsafe { raw::hull_polygon_raycast_segment(corners.as_ptr(), corners.len(), a.x, a.y, b.x, b.y) })
     }
 
     /// Returns where the two polygons intersect, or what separates them; `None` if one of them has no vertices.
     pub fn witness(&self, other: &Corners) -> Option<Witness> {
         let (these, those) = (&self.points, &other.points);
         // SAFETY: the same.
-        answer::witness(unsafe { raw::hull_outline_witness(these.as_ptr(), these.len(), those.as_ptr(), those.len()) })
+        answer::witness(unsafe { raw::hull_polygon_witness(these.as_ptr(), these.len(), those.as_ptr(), those.len()) })
     }
 
     /// Returns where the two polygons are nearest to one another; `None` if one of them has no vertices.
     pub fn distance(&self, other: &Corners) -> Option<Distance> {
         let (these, those) = (&self.points, &other.points);
         // SAFETY: the same.
-        answer::distance(unsafe { raw::hull_outline_distance(these.as_ptr(), these.len(), those.as_ptr(), those.len()) })
+        answer::distance(unsafe { raw::hull_polygon_distance(these.as_ptr(), these.len(), those.as_ptr(), those.len()) })
     }
 }

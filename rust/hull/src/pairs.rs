@@ -29,7 +29,7 @@ pub fn pairs_within(outlines: &[Outline], numerator: u64, denominator: u32) -> R
         let mut pairs = many([0; 2], room)?;
         // SAFETY: the corners are outlines, which nobody writes; the array was written, and is as long as is told.
         let told = unsafe {
-            raw::hull_pairs_within(all.as_ptr(), all.len(), numerator, denominator, pairs.as_mut_ptr(), pairs.len())
+            raw::hull_pairs_within_distance(all.as_ptr(), all.len(), numerator, denominator, pairs.as_mut_ptr(), pairs.len())
         };
         match told.code {
             code::NUMBER => return Ok(pairs[..told.number as usize].iter().map(|&[a, b]| (a, b)).collect()),
@@ -45,7 +45,7 @@ impl Corners {
         let (these, all) = (self.corners(), places(others)?);
         let mut told = many(0, all.len())?;
         // SAFETY: all are outlines, which nobody writes; the array was written, and has a place for each.
-        unsafe { raw::hull_outline_relations(these.as_ptr(), these.len(), all.as_ptr(), all.len(), told.as_mut_ptr()) };
+        unsafe { raw::hull_polygon_relations(these.as_ptr(), these.len(), all.as_ptr(), all.len(), told.as_mut_ptr()) };
         Ok(told.iter().map(|&relation| answer::relation(relation.into())).collect())
     }
 
@@ -55,7 +55,7 @@ impl Corners {
         let mut told = many(0, segments.len())?;
         // SAFETY: the same.
         let asked = unsafe {
-            raw::hull_outline_meets_segments(these.as_ptr(), these.len(), segments.as_ptr(), segments.len(), told.as_mut_ptr())
+            raw::hull_polygon_intersects_segments(these.as_ptr(), these.len(), segments.as_ptr(), segments.len(), told.as_mut_ptr())
         };
         (asked == segments.len()).then(|| told.iter().map(|&meets| meets == 1).collect()).ok_or(Fault::OutOfRange)
     }
@@ -65,7 +65,7 @@ impl Corners {
         let these = self.corners();
         let mut told = many(0, these.len())?;
         // SAFETY: the same.
-        unsafe { raw::hull_outline_indices(these.as_ptr(), these.len(), points.as_ptr(), points.len(), told.as_mut_ptr()) };
+        unsafe { raw::hull_polygon_indices(these.as_ptr(), these.len(), points.as_ptr(), points.len(), told.as_mut_ptr()) };
         Ok(told.into_iter().map(|place| Some(place).filter(|&place| place < points.len())).collect())
     }
 }

@@ -294,10 +294,10 @@ extern "C" {
     pub(crate) fn hull_place(hull: *const u8, x: i64, y: i64) -> Reply;
     pub(crate) fn hull_tangents(hull: *const u8, x: i64, y: i64) -> Reply;
     pub(crate) fn hull_extreme(hull: *const u8, dx: i64, dy: i64) -> Reply;
-    pub(crate) fn hull_settle(hull: *mut u8) -> Reply;
+    pub(crate) fn hull_prepare(hull: *mut u8) -> Reply;
     pub(crate) fn hull_limit(hull: *mut u8) -> Reply;
     pub(crate) fn hull_clear(hull: *mut u8) -> Reply;
-    pub(crate) fn hull_pairs_within(
+    pub(crate) fn hull_pairs_within_distance(
         outlines: *const CornersAt,
         count: usize,
         numerator: u64,
@@ -305,7 +305,7 @@ extern "C" {
         out: *mut [usize; 2],
         room: usize,
     ) -> Reply;
-    pub(crate) fn hull_outline_first_meeting(
+    pub(crate) fn hull_polygon_first_meeting(
         corners: *const Point,
         count: usize,
         others: *const Point,
@@ -313,34 +313,34 @@ extern "C" {
         dx: i64,
         dy: i64,
     ) -> MotionTold;
-    pub(crate) fn hull_outline_turned(corners: *const Point, count: usize, a: i64, b: i64, out: *mut Point) -> Reply;
+    pub(crate) fn hull_polygon_rotate(corners: *const Point, count: usize, a: i64, b: i64, out: *mut Point) -> Reply;
     pub(crate) fn hull_nearest_held(hull: *mut u8, x: i64, y: i64) -> Reply;
-    pub(crate) fn hull_outline_moved(corners: *const Point, count: usize, dx: i64, dy: i64, out: *mut Point) -> Reply;
-    pub(crate) fn hull_outline_relations(
+    pub(crate) fn hull_polygon_translate(corners: *const Point, count: usize, dx: i64, dy: i64, out: *mut Point) -> Reply;
+    pub(crate) fn hull_polygon_relations(
         corners: *const Point,
         count: usize,
         others: *const CornersAt,
         other_count: usize,
         out: *mut u8,
     );
-    pub(crate) fn hull_outline_meets_segments(
+    pub(crate) fn hull_polygon_intersects_segments(
         corners: *const Point,
         count: usize,
         segments: *const [Point; 2],
         segment_count: usize,
         out: *mut u8,
     ) -> usize;
-    pub(crate) fn hull_outline_indices(
+    pub(crate) fn hull_polygon_indices(
         corners: *const Point,
         count: usize,
         points: *const Point,
         point_count: usize,
         out: *mut usize,
     ) -> usize;
-    pub(crate) fn hull_is_outline(points: *const Point, count: usize) -> Reply;
-    pub(crate) fn hull_outline_of(points: *const Point, count: usize, out: *mut Point, room: usize) -> Reply;
-    pub(crate) fn hull_outline_call(corners: *const Point, count: usize, kind: u32, x: i64, y: i64) -> Reply;
-    pub(crate) fn hull_outline_calls(
+    pub(crate) fn hull_is_polygon(points: *const Point, count: usize) -> Reply;
+    pub(crate) fn hull_polygon_of(points: *const Point, count: usize, out: *mut Point, room: usize) -> Reply;
+    pub(crate) fn hull_polygon_call(corners: *const Point, count: usize, kind: u32, x: i64, y: i64) -> Reply;
+    pub(crate) fn hull_polygon_calls(
         corners: *const Point,
         count: usize,
         requests: *const Request,
@@ -348,7 +348,7 @@ extern "C" {
         replies: *mut Reply,
         reply_room: usize,
     ) -> usize;
-    pub(crate) fn hull_outline_meets_segment(
+    pub(crate) fn hull_polygon_intersects_segment(
         corners: *const Point,
         count: usize,
         ax: i64,
@@ -356,7 +356,7 @@ extern "C" {
         bx: i64,
         by: i64,
     ) -> Reply;
-    pub(crate) fn hull_outline_apart(
+    pub(crate) fn hull_polygon_separation(
         corners: *const Point,
         count: usize,
         ax: i64,
@@ -364,16 +364,16 @@ extern "C" {
         bx: i64,
         by: i64,
     ) -> Reply;
-    pub(crate) fn hull_outline_nearest(corners: *const Point, count: usize, x: i64, y: i64) -> Reply;
-    pub(crate) fn hull_outline_box(corners: *const Point, count: usize) -> Reply;
-    pub(crate) fn hull_outline_width(corners: *const Point, count: usize, x: i64, y: i64) -> Reply;
-    pub(crate) fn hull_outline_diameter(corners: *const Point, count: usize) -> Reply;
-    pub(crate) fn hull_outline_least_width(corners: *const Point, count: usize) -> WitnessTold;
-    pub(crate) fn hull_outline_meets(corners: *const Point, count: usize, others: *const Point, other_count: usize) -> Reply;
-    pub(crate) fn hull_outline_contains(corners: *const Point, count: usize, others: *const Point, other_count: usize) -> Reply;
-    pub(crate) fn hull_outline_relation(corners: *const Point, count: usize, others: *const Point, other_count: usize) -> Reply;
-    pub(crate) fn hull_outline_contains_inside(corners: *const Point, count: usize, others: *const Point, other_count: usize) -> Reply;
-    pub(crate) fn hull_outline_within(
+    pub(crate) fn hull_polygon_nearest(corners: *const Point, count: usize, x: i64, y: i64) -> Reply;
+    pub(crate) fn hull_polygon_box(corners: *const Point, count: usize) -> Reply;
+    pub(crate) fn hull_polygon_width(corners: *const Point, count: usize, x: i64, y: i64) -> Reply;
+    pub(crate) fn hull_polygon_diameter(corners: *const Point, count: usize) -> Reply;
+    pub(crate) fn hull_polygon_least_width(corners: *const Point, count: usize) -> WitnessTold;
+    pub(crate) fn hull_polygon_intersects(corners: *const Point, count: usize, others: *const Point, other_count: usize) -> Reply;
+    pub(crate) fn hull_polygon_contains(corners: *const Point, count: usize, others: *const Point, other_count: usize) -> Reply;
+    pub(crate) fn hull_polygon_relation(corners: *const Point, count: usize, others: *const Point, other_count: usize) -> Reply;
+    pub(crate) fn hull_polygon_contains_inside(corners: *const Point, count: usize, others: *const Point, other_count: usize) -> Reply;
+    pub(crate) fn hull_polygon_within_distance(
         corners: *const Point,
         count: usize,
         others: *const Point,
@@ -381,13 +381,13 @@ extern "C" {
         numerator: u64,
         denominator: u32,
     ) -> Reply;
-    pub(crate) fn hull_outline_clearance(
+    pub(crate) fn hull_polygon_distance_bounds(
         corners: *const Point,
         count: usize,
         others: *const Point,
         other_count: usize,
     ) -> ClearanceTold;
-    pub(crate) fn hull_outline_clearance_to_segment(
+    pub(crate) fn hull_polygon_distance_bounds_to_segment(
         corners: *const Point,
         count: usize,
         ax: i64,
@@ -395,8 +395,8 @@ extern "C" {
         bx: i64,
         by: i64,
     ) -> ClearanceTold;
-    pub(crate) fn hull_clearance_compare(this: *const ClearanceTold, that: *const ClearanceTold) -> i32;
-    pub(crate) fn hull_outline_within_segment(
+    pub(crate) fn hull_distance_bounds_compare(this: *const ClearanceTold, that: *const ClearanceTold) -> i32;
+    pub(crate) fn hull_polygon_within_distance_of_segment(
         corners: *const Point,
         count: usize,
         ax: i64,
@@ -406,7 +406,7 @@ extern "C" {
         numerator: u64,
         denominator: u32,
     ) -> Reply;
-    pub(crate) fn hull_outline_relation_to_segment(
+    pub(crate) fn hull_polygon_relation_to_segment(
         corners: *const Point,
         count: usize,
         ax: i64,
@@ -414,7 +414,7 @@ extern "C" {
         bx: i64,
         by: i64,
     ) -> Reply;
-    pub(crate) fn hull_outline_cast_ray(
+    pub(crate) fn hull_polygon_raycast(
         corners: *const Point,
         count: usize,
         x: i64,
@@ -422,7 +422,7 @@ extern "C" {
         dx: i64,
         dy: i64,
     ) -> HitTold;
-    pub(crate) fn hull_outline_last_on_ray(
+    pub(crate) fn hull_polygon_raycast_exit(
         corners: *const Point,
         count: usize,
         x: i64,
@@ -430,7 +430,7 @@ extern "C" {
         dx: i64,
         dy: i64,
     ) -> HitTold;
-    pub(crate) fn hull_outline_cast_segment(
+    pub(crate) fn hull_polygon_raycast_segment(
         corners: *const Point,
         count: usize,
         ax: i64,
@@ -438,13 +438,13 @@ extern "C" {
         bx: i64,
         by: i64,
     ) -> HitTold;
-    pub(crate) fn hull_outline_witness(
+    pub(crate) fn hull_polygon_witness(
         corners: *const Point,
         count: usize,
         others: *const Point,
         other_count: usize,
     ) -> WitnessTold;
-    pub(crate) fn hull_outline_distance(
+    pub(crate) fn hull_polygon_distance(
         corners: *const Point,
         count: usize,
         others: *const Point,
@@ -465,30 +465,30 @@ extern "C" {
 
 #[link(name = "hull_shared", kind = "static")]
 extern "C" {
-    pub(crate) fn hull_shared_desk_size() -> usize;
-    pub(crate) fn hull_shared_desk_alignment() -> usize;
+    pub(crate) fn hull_shared_size() -> usize;
+    pub(crate) fn hull_shared_alignment() -> usize;
     pub(crate) fn hull_shared_seat_size() -> usize;
     pub(crate) fn hull_shared_seat_alignment() -> usize;
-    pub(crate) fn hull_shared_make_desk(room: *mut u8);
+    pub(crate) fn hull_shared_make(room: *mut u8);
     pub(crate) fn hull_shared_make_seat(room: *mut u8);
     pub(crate) fn hull_shared_open(desk: *mut u8, limit: u32, first: u64, capacity: u32, seats: u32) -> u32;
     pub(crate) fn hull_shared_reopen(desk: *mut u8, text: *const u8, length: usize, capacity: u32, seats: u32) -> Reply;
-    pub(crate) fn hull_shared_lend(desk: *mut u8, line: *mut u8, room: *mut u8, number: u32) -> u32;
-    pub(crate) fn hull_shared_give_back(desk: *mut u8, room: *mut u8) -> u32;
+    pub(crate) fn hull_shared_acquire_seat(desk: *mut u8, line: *mut u8, room: *mut u8, number: u32) -> u32;
+    pub(crate) fn hull_shared_release_seat(desk: *mut u8, room: *mut u8) -> u32;
     pub(crate) fn hull_shared_call_into(line: *mut u8, seat: *mut u8, kind: u32, x: i64, y: i64, to: Target, until: u64) -> SeatReply;
     pub(crate) fn hull_shared_reader_size() -> usize;
     pub(crate) fn hull_shared_reader_alignment() -> usize;
     pub(crate) fn hull_shared_make_reader(room: *mut u8);
-    pub(crate) fn hull_shared_admit(desk: *mut u8, readers: u32) -> u32;
-    pub(crate) fn hull_shared_lend_reader(desk: *mut u8, room: *mut u8) -> u32;
-    pub(crate) fn hull_shared_return_reader(desk: *mut u8, room: *mut u8) -> u32;
+    pub(crate) fn hull_shared_set_max_readers(desk: *mut u8, readers: u32) -> u32;
+    pub(crate) fn hull_shared_acquire_reader(desk: *mut u8, room: *mut u8) -> u32;
+    pub(crate) fn hull_shared_release_reader(desk: *mut u8, room: *mut u8) -> u32;
     pub(crate) fn hull_shared_read(reader: *mut u8) -> View;
-    pub(crate) fn hull_shared_view_corners(reader: *mut u8, out: *mut Point, room: usize) -> Reply;
+    pub(crate) fn hull_shared_snapshot_vertices(reader: *mut u8, out: *mut Point, room: usize) -> Reply;
     pub(crate) fn hull_shared_is_newest(reader: *mut u8) -> u32;
     pub(crate) fn hull_shared_now() -> u64;
-    pub(crate) fn hull_shared_line_wait_for_room(line: *mut u8, waits: i32);
-    pub(crate) fn hull_shared_line_on_half_full(line: *mut u8, hook: Hook, context: *mut u8) -> i32;
-    pub(crate) fn hull_shared_line_end(line: *mut u8);
+    pub(crate) fn hull_shared_gate_wait_for_space(line: *mut u8, waits: i32);
+    pub(crate) fn hull_shared_gate_on_half_full(line: *mut u8, hook: Hook, context: *mut u8) -> i32;
+    pub(crate) fn hull_shared_gate_end(line: *mut u8);
     pub(crate) fn hull_shared_stats(line: *mut u8) -> State;
     pub(crate) fn hull_shared_journal_open(path: *const std::os::raw::c_char, journal: *mut *mut u8) -> Reply;
     pub(crate) fn hull_shared_journal_start(
@@ -501,18 +501,18 @@ extern "C" {
         every: u64,
     ) -> Reply;
     pub(crate) fn hull_shared_journal_compact(path: *const std::os::raw::c_char) -> Reply;
-    pub(crate) fn hull_shared_journal_safe(journal: *mut u8) -> Reply;
+    pub(crate) fn hull_shared_journal_durable(journal: *mut u8) -> Reply;
     pub(crate) fn hull_shared_journal_wait(journal: *mut u8, line: u64, until: u64) -> Reply;
     pub(crate) fn hull_shared_journal_sync(journal: *mut u8, until: u64) -> Reply;
     pub(crate) fn hull_shared_journal_close(journal: *mut u8) -> Reply;
-    pub(crate) fn hull_shared_part_size() -> usize;
-    pub(crate) fn hull_shared_part_alignment() -> usize;
-    pub(crate) fn hull_shared_make_part(room: *mut u8);
+    pub(crate) fn hull_shared_segment_size() -> usize;
+    pub(crate) fn hull_shared_segment_alignment() -> usize;
+    pub(crate) fn hull_shared_make_segment(room: *mut u8);
     pub(crate) fn hull_shared_capacity(seat: *mut u8) -> u32;
-    pub(crate) fn hull_shared_part_reserve(part: *mut u8, lines: u32) -> u32;
-    pub(crate) fn hull_shared_part_text(part: *mut u8, out: *mut u8, length: usize) -> Reply;
-    pub(crate) fn hull_shared_part_text_from(part: *mut u8, line: u64, out: *mut u8, length: usize) -> Reply;
-    pub(crate) fn hull_shared_part_end(part: *mut u8) -> u32;
+    pub(crate) fn hull_shared_segment_reserve(part: *mut u8, lines: u32) -> u32;
+    pub(crate) fn hull_shared_segment_text(part: *mut u8, out: *mut u8, length: usize) -> Reply;
+    pub(crate) fn hull_shared_segment_text_from(part: *mut u8, line: u64, out: *mut u8, length: usize) -> Reply;
+    pub(crate) fn hull_shared_segment_end(part: *mut u8) -> u32;
     pub(crate) fn hull_shared_open_without_journal(desk: *mut u8, limit: u32, first: u64, seats: u32) -> u32;
     pub(crate) fn hull_shared_open_answering(desk: *mut u8, limit: u32, first: u64, capacity: u32, seats: u32) -> u32;
     pub(crate) fn hull_shared_close(desk: *mut u8) -> u32;

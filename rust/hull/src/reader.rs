@@ -39,7 +39,7 @@ impl Reader {
         let room = unsafe {
             let room = Room::new(raw::hull_shared_reader_size(), raw::hull_shared_reader_alignment())?;
             raw::hull_shared_make_reader(room.at());
-            match raw::hull_shared_lend_reader(desk.lock().at(), room.at()) {
+            match raw::hull_shared_acquire_reader(desk.lock().at(), room.at()) {
                 code::LENT => room,
                 other => return Err(answer::fault_of(other)),
             }
@@ -63,7 +63,7 @@ impl Reader {
             self.corners.resize(self.corners.len() + more, NOWHERE);
             let room = self.corners.len();
             // SAFETY: the same; the array was written, and has room for the corners.
-            unsafe { raw::hull_shared_view_corners(self.room.at(), self.corners.as_mut_ptr(), room) };
+            unsafe { raw::hull_shared_snapshot_vertices(self.room.at(), self.corners.as_mut_ptr(), room) };
             self.count = told.count;
             self.lines = Some(told.lines);
             self.line = (told.has_line == 1).then_some(told.line);
@@ -100,7 +100,7 @@ impl Reader {
 impl Drop for Reader {
     fn drop(&mut self) {
         // SAFETY: the reader lies in its room and went out of this desk, whose lock keeps other calls away.
-        unsafe { raw::hull_shared_return_reader(self.desk.lock().at(), self.room.at()) };
+        unsafe { raw::hull_shared_release_reader(self.desk.lock().at(), self.room.at()) };
     }
 }
 

@@ -110,8 +110,8 @@ impl Desk {
     fn new() -> Result<Desk, Fault> {
         // SAFETY: the two that are asked read nothing; the room is of that size and alignment, and nobody else's.
         unsafe {
-            let room = Room::new(raw::hull_shared_desk_size(), raw::hull_shared_desk_alignment())?;
-            raw::hull_shared_make_desk(room.at());
+            let room = Room::new(raw::hull_shared_size(), raw::hull_shared_alignment())?;
+            raw::hull_shared_make(room.at());
             Ok(Desk { room: Mutex::new(room), line: Line::new(), keep: Mutex::new(None), journal: RwLock::new(None) })
         }
     }
@@ -158,7 +158,7 @@ impl Drop for Desk {
         unsafe {
             raw::hull_shared_close(room.at());
             raw::hull_shared_end(room.at());
-            raw::hull_shared_line_end(self.line.at());
+            raw::hull_shared_gate_end(self.line.at());
         }
     }
 }
@@ -265,7 +265,7 @@ impl SharedHull {
     pub fn for_readers(readers: u32) -> Result<Opening, Fault> {
         let opening = Opening::new()?;
         // SAFETY: the desk lies in its room, and nobody else has it yet.
-        let told = unsafe { raw::hull_shared_admit(opening.desk.lock().at(), readers) };
+        let told = unsafe { raw::hull_shared_set_max_readers(opening.desk.lock().at(), readers) };
         match told {
             code::ADMITTED => Ok(opening),
             other => Err(answer::fault_of(other)),
@@ -289,7 +289,7 @@ impl SharedHull {
     /// closed; [`Fault::NoFile`] if a write failed: no later line will be durable.
     pub fn safe(&self) -> Result<u64, Fault> {
         // SAFETY: the journal is there as long as it is read.
-        self.desk.safe(|at| unsafe { raw::hull_shared_journal_safe(at) })
+        self.desk.safe(|at| unsafe { raw::hull_shared_journal_durable(at) })
     }
 
     /// Waits until the lines of all calls that have returned are durable, and returns the number of the first line that is not.
@@ -303,7 +303,7 @@ impl SharedHull {
     pub fn wait_for_room(&mut self, waits: bool) -> Result<(), Fault> {
         self.unused()?;
         // SAFETY: no seat is out, and so no call is under way.
-        unsafe { raw::hull_shared_line_wait_for_room(self.desk.line.at(), waits.into()) };
+        unsafe { raw::hull_shared_gate_wait_for_space(self.desk.line.at(), waits.into()) };
         Ok(())
     }
 
@@ -318,7 +318,7 @@ impl SharedHull {
         *self.desk.keep.lock().unwrap_or_else(PoisonError::into_inner) = Some(Box::new(keep));
         let context: *const Desk = &*self.desk;
         // SAFETY: no seat is out; the desk lies in one place as long as one is, and what it was given is `Send`.
-        match unsafe { raw::hull_shared_line_on_half_full(self.desk.line.at(), keep_part, context as *mut u8) } {
+        match unsafe { raw::hull_shared_gate_on_half_full(self.desk.line.at(), keep_part, context as *mut u8) } {
             0 => Err(Fault::NoMemory),
             _ => Ok(()),
         }
@@ -356,7 +356,7 @@ impl SharedHull {
         unsafe {
             let room = Room::new(raw::hull_shared_seat_size(), raw::hull_shared_seat_alignment())?;
             raw::hull_shared_make_seat(room.at());
-            match raw::hull_shared_lend(self.desk.lock().at(), self.desk.line.at(), room.at(), number) {
+            match raw::hull_shared_acquire_seat(self.desk.lock().at(), self.desk.line.at(), room.at(), number) {
                 code::LENT => Ok(Seat { room, desk: self.desk.clone(), number, turn: None, corners: 64, patience: None }),
                 other => Err(answer::fault_of(other)),
             }
@@ -527,10 +527,10 @@ impl JournalPart {
     fn new(lines: u32) -> Result<JournalPart, Fault> {
         // SAFETY: the two that are asked read nothing; the room is of that size and alignment, and nobody else's.
         unsafe {
-            let room = Room::new(raw::hull_shared_part_size(), raw::hull_shared_part_alignment())?;
-            raw::hull_shared_make_part(room.at());
+            let room = Room::new(raw::hull_shared_segment_size(), raw::hull_shared_segment_alignment())?;
+            raw::hull_shared_make_segment(room.at());
             let part = JournalPart { room };
-            match raw::hull_shared_part_reserve(part.room.at(), lines) {
+            match raw::hull_shared_segment_reserve(part.room.at(), lines) {
                 code::RESERVED => Ok(part),
                 other => Err(answer::fault_of(other)),
             }
@@ -542,7 +542,7 @@ impl JournalPart {
     pub fn text(&self) -> Result<String, Fault> {
         // SAFETY: the part lies in the room, and writing its text leaves it as it is; no other thread has it, since it is not
         // `Sync`; the array was written.
-        written(|text| unsafe { raw::hull_shared_part_text(self.room.at(), text.as_mut_ptr(), text.len()) })
+        written(|text| unsafe { raw::hull_shared_segment_text(self.room.at(), text.as_mut_ptr(), text.len()) })
     }
 
     /// Returns the lines of that text, from the header to the end line.
@@ -561,7 +561,7 @@ impl JournalPart {
     pub fn pieces(&self, bytes: usize) -> impl Iterator<Item = Result<String, Fault>> + '_ {
         // SAFETY: as in `text`.
         pieces_of(bytes, |line, text| unsafe {
-            raw::hull_shared_part_text_from(self.room.at(), line, text.as_mut_ptr(), text.len())
+            raw::hull_shared_segment_text_from(self.room.at(), line, text.as_mut_ptr(), text.len())
         })
     }
 
@@ -603,7 +603,7 @@ fn told_as_io(fault: Fault) -> std::io::Error {
 impl Drop for JournalPart {
     fn drop(&mut self) {
         // SAFETY: the part lies in its room, and nothing else uses it.
-        unsafe { raw::hull_shared_part_end(self.room.at()) };
+        unsafe { raw::hull_shared_segment_end(self.room.at()) };
     }
 }
 
@@ -668,7 +668,7 @@ impl Seat {
         // SAFETY: the journal is there as long as it is read.
         let told = self.desk.safe(|at| match self.turn {
             Some(line) => unsafe { raw::hull_shared_journal_wait(at, line, until) },
-            None => unsafe { raw::hull_shared_journal_safe(at) },
+            None => unsafe { raw::hull_shared_journal_durable(at) },
         });
         told.map(|_| ())
     }
@@ -775,7 +775,7 @@ impl Seat {
 impl Drop for Seat {
     fn drop(&mut self) {
         // SAFETY: the seat lies in its room and went out of this desk, whose lock keeps other calls away.
-        unsafe { raw::hull_shared_give_back(self.desk.lock().at(), self.room.at()) };
+        unsafe { raw::hull_shared_release_seat(self.desk.lock().at(), self.room.at()) };
     }
 }
 

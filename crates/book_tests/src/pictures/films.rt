@@ -38,7 +38,7 @@ fn film_of_a_small_journal(rt: HostRuntime) -> Result<(), Fail> {
 }
 
 #[test]
-fn faults_of_a_film_are_told(rt: HostRuntime) -> Result<(), Fail> {
+fn faults_of_a_film_are_encoded(rt: HostRuntime) -> Result<(), Fail> {
     let read = DrawFault::Text(TextFault { number: 8, line: 1 });
     assert_eq!(rt; ends(rt.alloc(), 2, 0)?, (Err(read), 0));
     assert_eq!(rt; ends(rt.alloc(), 0, 1)?, (Err(DrawFault::Write), 0));

@@ -246,7 +246,7 @@ fn rules_of(alloc: Global, version: &[u8]) -> Option<Rules> {
 }
 
 #[test]
-fn the_version_tells_the_rules(rt: HostRuntime) {
+fn the_version_reports_the_rules(rt: HostRuntime) {
     let first = rules_of(rt.alloc(), b"1");
     let second = rules_of(rt.alloc(), b"2");
     let third = rules_of(rt.alloc(), b"3");

@@ -76,7 +76,7 @@ fn is_sent_whole(alloc: Global, report: &Report<'_>, want: &[u8]) -> bool {
 }
 
 #[test]
-fn a_report_tells_answers_ledgers_and_their_sum(rt: HostRuntime) -> Result<(), Fail> {
+fn a_report_reports_answers_ledgers_and_their_sum(rt: HostRuntime) -> Result<(), Fail> {
     let origin = Point::new(0, 0)?;
     let answers = answers(rt.alloc(), origin)?;
     let (script, journal) = texts(&rt, rt.alloc(), SCRIPT, JOURNAL);
@@ -107,7 +107,7 @@ fn held_answers(alloc: Global) -> Result<Vec<Vec<Answer>>, AllocError> {
 }
 
 #[test]
-fn a_report_tells_how_often_a_point_is_held(rt: HostRuntime) -> Result<(), Fail> {
+fn a_report_reports_how_often_a_point_is_held(rt: HostRuntime) -> Result<(), Fail> {
     let answers = held_answers(rt.alloc())?;
     let (script, journal) = texts(&rt, rt.alloc(), HELD_SCRIPT, HELD_JOURNAL);
     let report = Report {

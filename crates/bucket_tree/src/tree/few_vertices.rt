@@ -6,7 +6,7 @@ ghost use Rattle.bucket_tree.specs.Roots.{points_of_root};
 
 use super::{BucketTree, bucket_trees_are_sound};
 use crate::part::Part;
-use crate::questions::{corners_answer, corners_are_few};
+use crate::questions::{vertices_answer, vertices_are_few};
 use heap::Heap;
 use hull_questions::vertices_up_to;
 use hull_set::NoMemory;
@@ -25,8 +25,8 @@ impl BucketTree {
         let Some(root) = &self.root else {
             return Ok(Some(Vec::new(self.alloc)));
         };
-        corners_answer(root);
-        corners_are_few(root);
+        vertices_answer(root);
+        vertices_are_few(root);
         Ok(vertices_up_to(self.alloc, Part::new(root), most)?)
     }
 }

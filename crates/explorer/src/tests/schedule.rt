@@ -197,7 +197,7 @@ fn play<'a, C: Choice>(
 }
 
 // Makes a player with each seat and its ledger, the last seat's player first.
-fn hire(
+fn assemble(
     rt: &impl Abort,
     alloc: Global,
     lock: &BookLock<HullTree>,
@@ -236,7 +236,7 @@ fn hire(
 }
 
 // Separates the players, the last first, into their seats, their ledgers and their answers.
-fn dismiss(
+fn disband(
     rt: &impl Abort,
     lock: &BookLock<HullTree>,
     players: &mut Vec<Player>,
@@ -324,9 +324,9 @@ pub(super) fn play_once<C: Choice>(
     };
     let mut seen = Seen::new(alloc);
     let mut answers = Vec::new(alloc);
-    hire(rt, alloc, &lock, &mut seats, &mut ledgers, &mut players);
+    assemble(rt, alloc, &lock, &mut seats, &mut ledgers, &mut players);
     play(rt, &lock, &mut players, game, choice, &mut seen);
-    dismiss(
+    disband(
         rt,
         &lock,
         &mut players,

@@ -2,7 +2,7 @@
 ghost use Rattle.bridge_search.specs.Leaves.{points_of};
 ghost use Rattle.hull_set.specs.Replies.{LiesAt};
 
-use crate::sights::look;
+use crate::locations::look;
 use bridge_search::Half;
 use hull_set::Place;
 use lattice::Point;
@@ -12,5 +12,5 @@ use lattice::Point;
 pub fn place<H: Half>(half: H, q: Point) -> Place
     ensures { LiesAt (points_of (H.tree half)) q result }
 {
-    Place::of_sight(look(half, q))
+    Place::of_location(look(half, q))
 }

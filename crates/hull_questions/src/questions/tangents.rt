@@ -7,10 +7,10 @@ ghost use Rattle.hull_set.specs.Replies.{AnswersTangents, reply_to_tangents};
 ghost use Rattle.hull_questions.specs.Hands.{outermost, IsBeyond};
 ghost use Rattle.hull_questions.specs.Parts.{IsTangentPart};
 ghost use Rattle.hull_geometry.specs.Hands.{IsOnHand};
-ghost use Rattle.hull_geometry.specs.Sights.{IsBelow, IsOnChain};
+ghost use Rattle.hull_geometry.specs.Locations.{IsBelow, IsOnChain};
 ghost use Rattle.hull_geometry.specs.Tangents.{IsTangent};
 
-use crate::sights::look;
+use crate::locations::look;
 use bridge_search::{Half, Turned};
 use hull_geometry::Hand;
 use lattice::{Point, Side, before, orient};

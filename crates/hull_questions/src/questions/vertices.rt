@@ -3,10 +3,10 @@ ghost use Rattle.std.specs.Prelude.{◌≡◌, ◌≤◌, IfOk, vec_len};
 ghost use Rattle.lattice.specs.Vertices.{IsVertexList};
 ghost use Rattle.bridge_search.specs.Trees.{first_of, last_of, size_of};
 ghost use Rattle.bridge_search.specs.Leaves.{points_of};
-ghost use Rattle.hull_questions.specs.Stretches.{IsStretch};
+ghost use Rattle.hull_questions.specs.ChainRanges.{IsChainRange};
 ghost use Rattle.hull_questions.specs.Walks.{IsListed, upright};
 
-use crate::stretches::{Course, course_of};
+use crate::chain_ranges::{RangeShape, range_shape_of};
 use bridge_search::{Half, Turned};
 use heap::Heap;
 use lattice::{Point, Side, before};
@@ -14,34 +14,34 @@ use std::alloc::AllocError;
 
 /// Returns the vertex of the hull for a vertex of a half's lower chain; the hull's upper chain is the lower one of the
 /// half rotated by 180 degrees.
-pub(super) fn seen_from(side: Side, corner: Point) -> Point
-    ensures { result ≡ upright side corner }
+pub(super) fn seen_from(side: Side, vertex: Point) -> Point
+    ensures { result ≡ upright side vertex }
 {
     match side {
-        Side::Lower => corner,
-        Side::Upper => corner.turned(),
+        Side::Lower => vertex,
+        Side::Upper => vertex.turned(),
     }
 }
 
 /// Appends the vertices of the lower chain of a half from one vertex to another, which is left out.
-fn push_stretch<H: Half>(
+fn push_chain_range<H: Half>(
     half: H,
     from: Point,
     to: Point,
     side: Side,
     out: &mut Vec<Point, Heap>,
 ) -> Result<(), AllocError>
-    requires { IsStretch (H.tree half) from to }
+    requires { IsChainRange (H.tree half) from to }
     ensures { IfOk result (λ _. IsListed (H.tree half) from to side out.old.items out.new.items) }
 {
-    match course_of(half, from, to) {
-        Course::Nowhere => Ok(()),
-        Course::Left => push_stretch(half.left(), from, to, side, out),
-        Course::Right => push_stretch(half.right(), from, to, side, out),
-        Course::Across(bridge) => {
-            push_stretch(half.left(), from, bridge.0, side, out)?;
+    match range_shape_of(half, from, to) {
+        RangeShape::Nowhere => Ok(()),
+        RangeShape::Left => push_chain_range(half.left(), from, to, side, out),
+        RangeShape::Right => push_chain_range(half.right(), from, to, side, out),
+        RangeShape::Across(bridge) => {
+            push_chain_range(half.left(), from, bridge.0, side, out)?;
             out.push(seen_from(side, bridge.0))?;
-            push_stretch(half.right(), bridge.1, to, side, out)
+            push_chain_range(half.right(), bridge.1, to, side, out)
         }
     }
 }
@@ -51,7 +51,7 @@ fn push_chain<H: Half>(half: H, side: Side, out: &mut Vec<Point, Heap>) -> Resul
     ensures { IfOk result (λ _. IsListed (H.tree half) (first_of (H.tree half))
         (last_of (H.tree half)) side out.old.items out.new.items) }
 {
-    push_stretch(half, half.first(), half.last(), side, out)
+    push_chain_range(half, half.first(), half.last(), side, out)
 }
 
 /// Returns the vertices of the hull of a half, counterclockwise from the first point; no more than there are points.

@@ -1,8 +1,8 @@
 -- `hull_shared_close` meets its contract.
 use Rattle.hull_reply.proofs.Steps.{w32, []}
 use Rattle.hull_reply.proofs.Lends.{lends, number}
-use Rattle.hull_shared.specs.contracts.desk.Desk.{the_row}
-use Rattle.hull_shared.specs.Desks.{HasClosed}
+use Rattle.hull_shared.specs.contracts.shared_hull.SharedHull.{the_row}
+use Rattle.hull_shared.specs.SharedHulls.{HasClosed}
 use Rattle.hull_shared.proofs.hull_shared_close.Statement.{statement}
 use Rattle.hull_shared.proofs.hull_shared_close.Code as code
 use Rattle.hull_shared.proofs.closing.close.Met.{met}

@@ -1,8 +1,8 @@
 -- `hull_shared_end` meets its contract.
 use Rattle.hull_reply.proofs.Steps.{w32, []}
 use Rattle.hull_reply.proofs.Lends.{lends, number}
-use Rattle.hull_shared.specs.contracts.desk.Desk.{the_row}
-use Rattle.hull_shared.specs.Desks.{HasEnded}
+use Rattle.hull_shared.specs.contracts.shared_hull.SharedHull.{the_row}
+use Rattle.hull_shared.specs.SharedHulls.{HasEnded}
 use Rattle.hull_shared.proofs.hull_shared_end.Statement.{statement}
 use Rattle.hull_shared.proofs.hull_shared_end.Code as code
 use Rattle.hull_shared.proofs.closing.end.Met.{met}

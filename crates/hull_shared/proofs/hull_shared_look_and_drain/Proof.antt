@@ -6,7 +6,7 @@ use Rattle.hull_shared.proofs.LendsBoth.{lends_both}
 use Rattle.hull_shared.proofs.SeatReplies.{seat_reply}
 use mathlib.Core.Option.{none}
 use Rattle.hull_shared.specs.contracts.seat.SharedSeat.{the_row as R}
-use Rattle.hull_shared.specs.contracts.part.Part.{the_row as Q}
+use Rattle.hull_shared.specs.contracts.segment.Segment.{the_row as Q}
 use Rattle.hull_shared.specs.Drains.{HasRepliedWith}
 use Rattle.hull_shared.proofs.hull_shared_look_and_drain.Statement.{statement}
 use Rattle.hull_shared.proofs.hull_shared_look_and_drain.Code as code

@@ -1,9 +1,9 @@
 -- `hull_shared_open_without_journal` meets its contract.
 use Rattle.hull_reply.proofs.Steps.{w32, w64, [], ◌∷◌}
 use Rattle.hull_reply.proofs.Lends.{lends, memory, natural, number}
-use Rattle.hull_shared.specs.contracts.desk.Desk.{the_row}
+use Rattle.hull_shared.specs.contracts.shared_hull.SharedHull.{the_row}
 use Rattle.hull_shared.specs.Limits.{unkept_with}
-use Rattle.hull_shared.specs.Desks.{HasOpened}
+use Rattle.hull_shared.specs.SharedHulls.{HasOpened}
 use Rattle.hull_shared.proofs.hull_shared_open_without_journal.Statement.{statement}
 use Rattle.hull_shared.proofs.hull_shared_open_without_journal.Code as code
 use Rattle.hull_shared.proofs.opening.open_without_journal.Met.{met}

@@ -1,7 +1,7 @@
 -- `hull_shared_reopen` meets its contract.
 use Rattle.hull_reply.proofs.Steps.{w32, [], ◌∷◌}
 use Rattle.hull_reply.proofs.Lends.{lends, memory, natural, reply, shared_array}
-use Rattle.hull_shared.specs.contracts.desk.Desk.{the_row}
+use Rattle.hull_shared.specs.contracts.shared_hull.SharedHull.{the_row}
 use denote.Builtin.{u8}
 use Rattle.std.specs.Prelude.{false}
 use Rattle.hull_shared.specs.Reopenings.{HasReopened}

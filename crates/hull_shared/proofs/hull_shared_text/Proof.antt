@@ -1,9 +1,9 @@
 -- `hull_shared_text` meets its contract.
 use Rattle.hull_reply.proofs.Steps.{[], ◌∷◌}
 use Rattle.hull_reply.proofs.Lends.{lends, relent, reply}
-use Rattle.hull_shared.specs.contracts.desk.Desk.{the_row}
+use Rattle.hull_shared.specs.contracts.shared_hull.SharedHull.{the_row}
 use denote.Builtin.{u8}
-use Rattle.hull_shared.specs.Desks.{HasWritten}
+use Rattle.hull_shared.specs.SharedHulls.{HasWritten}
 use Rattle.hull_shared.proofs.hull_shared_text.Statement.{statement}
 use Rattle.hull_shared.proofs.hull_shared_text.Code as code
 use Rattle.hull_shared.proofs.closing.text.Met.{met}

@@ -4,7 +4,7 @@ ghost use Rattle.lattice.specs.Plane.{IsCoordinate};
 ghost use Rattle.hull_text.specs.Fault.{IsLineFault};
 ghost use Rattle.hull_text.specs.Version.{coordinate_limit};
 ghost use Rattle.hull_text.specs.Number.{negated, positive};
-ghost use Rattle.hull_text.specs.Told.{TellsNumber};
+ghost use Rattle.hull_text.specs.Returned.{ReturnsNumber};
 ghost use Rattle.hull_text.specs.Field.{Gives, fields_left, coordinate_in, coordinate_at, point_at, direction_at};
 ghost use Rattle.hull_text.specs.Field.{number_in as number_within, number_at, seat_in, seat_at};
 
@@ -54,7 +54,7 @@ pub(crate) fn read_as<A, B, F: FnOnce(A) -> B>(
 /// Returns a number after a minus, as a coordinate.
 #[inline(always)]
 fn negative(version: Version, number: Number<u64>) -> Result<i64, FaultKind>
-    ensures value { (spelled : Option ℕ) → TellsNumber (2 ^ 64) number spelled
+    ensures value { (spelled : Option ℕ) → ReturnsNumber (2 ^ 64) number spelled
         → result ≡ coordinate_in (coordinate_limit version) (negated spelled) }
     ensures line { IfErr result IsLineFault }
     ensures small { IfOk result IsCoordinate }
@@ -69,7 +69,7 @@ fn negative(version: Version, number: Number<u64>) -> Result<i64, FaultKind>
 /// Returns a number without a sign, as a coordinate.
 #[inline(always)]
 fn plain(version: Version, number: Number<u64>) -> Result<i64, FaultKind>
-    ensures value { (spelled : Option ℕ) → TellsNumber (2 ^ 64) number spelled
+    ensures value { (spelled : Option ℕ) → ReturnsNumber (2 ^ 64) number spelled
         → result ≡ coordinate_in (coordinate_limit version) (positive spelled) }
     ensures line { IfErr result IsLineFault }
     ensures small { IfOk result IsCoordinate }
@@ -133,7 +133,7 @@ pub(crate) fn direction_of(
 
 #[inline(always)]
 fn number_up_to(limit: u64, number: Number<u64>) -> Result<u64, FaultKind>
-    ensures value { (spelled : Option ℕ) → TellsNumber (2 ^ 64) number spelled → result ≡ number_within limit spelled }
+    ensures value { (spelled : Option ℕ) → ReturnsNumber (2 ^ 64) number spelled → result ≡ number_within limit spelled }
     ensures line { IfErr result IsLineFault }
     ensures small { IfOk result (λ n. n ≤ limit) }
 {
@@ -158,7 +158,7 @@ pub(crate) fn number_of_field(limit: u64, rest: Rest<'_>) -> Result<(u64, Rest<'
 
 #[inline(always)]
 fn seat(number: Number<u64>) -> Result<u8, FaultKind>
-    ensures value { (spelled : Option ℕ) → TellsNumber (2 ^ 64) number spelled → result ≡ seat_in spelled }
+    ensures value { (spelled : Option ℕ) → ReturnsNumber (2 ^ 64) number spelled → result ≡ seat_in spelled }
     ensures line { IfErr result IsLineFault }
     ensures low { IfOk result (λ n. n ≤ 63) }
 {

@@ -1,6 +1,6 @@
 ghost use Rattle.std.specs.Prelude.{◌≡◌, ◌<◌, ◌∷◌, ◌^◌, [], ℕ, MatchOption, IfSome, Some, true};
 ghost use Rattle.hull_text.specs.Number.{digits_after, number_of};
-ghost use Rattle.hull_text.specs.Told.{TellsNumber};
+ghost use Rattle.hull_text.specs.Returned.{ReturnsNumber};
 ghost use Rattle.hull_text.specs.Field.{fields_left, fields_of};
 
 use super::field::{Rest, next_field};
@@ -53,7 +53,7 @@ fn short_number(text: &[u8]) -> Option<(&[u8], u64, Rest<'_>)>
 #[inline(never)]
 fn long_number(rest: Rest<'_>) -> Option<(&[u8], Number<u64>, Rest<'_>)>
     ensures { MatchOption result (fields_left rest.entry ≡ [])
-        (λ x. (fields_left rest.entry ≡ x.0.now ∷ fields_left x.2) × TellsNumber (2 ^ 64) x.1 (number_of x.0.now)) }
+        (λ x. (fields_left rest.entry ≡ x.0.now ∷ fields_left x.2) × ReturnsNumber (2 ^ 64) x.1 (number_of x.0.now)) }
 {
     let (field, after) = next_field(rest)?;
     Some((field, number_in(field), after))
@@ -63,7 +63,7 @@ fn long_number(rest: Rest<'_>) -> Option<(&[u8], Number<u64>, Rest<'_>)>
 #[inline(always)]
 pub(crate) fn next_number(rest: Rest<'_>) -> Option<(&[u8], Number<u64>, Rest<'_>)>
     ensures { MatchOption result (fields_left rest.entry ≡ [])
-        (λ x. (fields_left rest.entry ≡ x.0.now ∷ fields_left x.2) × TellsNumber (2 ^ 64) x.1 (number_of x.0.now)) }
+        (λ x. (fields_left rest.entry ≡ x.0.now ∷ fields_left x.2) × ReturnsNumber (2 ^ 64) x.1 (number_of x.0.now)) }
 {
     if let Some((field, number, after)) = short_number(rest?) {
         return Some((field, Number::Value(number), after));

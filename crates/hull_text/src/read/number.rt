@@ -1,6 +1,6 @@
 ghost use Rattle.std.specs.Prelude.{◌≡◌, ◌+◌, ◌*◌, ◌-◌, ◌≤◌, ◌^◌, ℕ, length};
-ghost use Rattle.hull_text.specs.Number.{Tells, digits_after, number_of};
-ghost use Rattle.hull_text.specs.Told.{TellsNumber};
+ghost use Rattle.hull_text.specs.Number.{Returns, digits_after, number_of};
+ghost use Rattle.hull_text.specs.Returned.{ReturnsNumber};
 
 /// A field that should be a number.
 #[derive(Clone, Copy, Debug, PartialEq, Eq)]
@@ -14,20 +14,20 @@ pub(crate) enum Number<N> {
 
 // value * 10 + digit
 fn with_digit(value: Option<u64>, digit: u8) -> Option<u64>
-    ensures { (n : ℕ) → Tells (2 ^ 64) value n → Tells (2 ^ 64) result (n * 10 + digit) }
+    ensures { (n : ℕ) → Returns (2 ^ 64) value n → Returns (2 ^ 64) result (n * 10 + digit) }
 {
     value?.checked_mul(10)?.checked_add(u64::from(digit))
 }
 
 fn with_digit_wide(value: Option<u128>, digit: u8) -> Option<u128>
-    ensures { (n : ℕ) → Tells (2 ^ 128) value n → Tells (2 ^ 128) result (n * 10 + digit) }
+    ensures { (n : ℕ) → Returns (2 ^ 128) value n → Returns (2 ^ 128) result (n * 10 + digit) }
 {
     value?.checked_mul(10)?.checked_add(u128::from(digit))
 }
 
 #[tactic(auto, unfolding(crate::specs::Number::digits_after))]
 fn digits(field: &[u8]) -> Number<u64>
-    ensures { TellsNumber (2 ^ 64) result (digits_after 0 field.now) }
+    ensures { ReturnsNumber (2 ^ 64) result (digits_after 0 field.now) }
 {
     let mut value = Some(0u64);
     let mut rest = field;
@@ -46,7 +46,7 @@ fn digits(field: &[u8]) -> Number<u64>
 
 #[tactic(auto, unfolding(crate::specs::Number::digits_after))]
 fn digits_wide(field: &[u8]) -> Number<u128>
-    ensures { TellsNumber (2 ^ 128) result (digits_after 0 field.now) }
+    ensures { ReturnsNumber (2 ^ 128) result (digits_after 0 field.now) }
 {
     let mut value = Some(0u128);
     let mut rest = field;
@@ -66,7 +66,7 @@ fn digits_wide(field: &[u8]) -> Number<u128>
 /// Returns the unsigned number that a field spells, if it has at most 64 bits.
 #[tactic(auto, unfolding(crate::specs::Number::number_of, crate::specs::Number::digits_after))]
 pub(crate) fn number_in(field: &[u8]) -> Number<u64>
-    ensures { TellsNumber (2 ^ 64) result (number_of field.now) }
+    ensures { ReturnsNumber (2 ^ 64) result (number_of field.now) }
 {
     match field {
         [] => Number::Unspelled,
@@ -78,7 +78,7 @@ pub(crate) fn number_in(field: &[u8]) -> Number<u64>
 /// Returns the unsigned number that a field spells, if it has at most 128 bits.
 #[tactic(auto, unfolding(crate::specs::Number::number_of, crate::specs::Number::digits_after))]
 pub(crate) fn wide_number_in(field: &[u8]) -> Number<u128>
-    ensures { TellsNumber (2 ^ 128) result (number_of field.now) }
+    ensures { ReturnsNumber (2 ^ 128) result (number_of field.now) }
 {
     match field {
         [] | [b'0', _, ..] => Number::Unspelled,

@@ -54,12 +54,12 @@ fn journal_command<'a>(alloc: Global, name: &'a str) -> Result<Command<'a>, Allo
 
 /// Makes the command that checks a journal, or the segments of one.
 fn check_command<'a>(alloc: Global) -> Result<Command<'a>, AllocError> {
-    let parts = Arg::new(alloc, "part")
+    let segments = Arg::new(alloc, "part")
         .required(true)
         .num_args(1..)
         .action(ArgAction::Append);
     Command::new(alloc, "check")
-        .arg(parts)?
+        .arg(segments)?
         .arg(flag(alloc, "explain"))
 }
 
@@ -103,7 +103,7 @@ fn stated_of(matches: &ArgMatches<'_>) -> Option<Stated>
         None
     };
     let journal = matches.get_flag("journal");
-    let sparing = matches.get_flag("sparing");
+    let bucketed = matches.get_flag("sparing");
     if !is_within(capacity, CAPACITY_LIMIT) || !is_within(limit, POINT_LIMIT) {
         return None;
     }
@@ -112,7 +112,7 @@ fn stated_of(matches: &ArgMatches<'_>) -> Option<Stated>
         limit,
         first,
         journal,
-        sparing,
+        bucketed,
     })
 }
 
@@ -143,8 +143,8 @@ fn run_task(alloc: Global, given: &ArgMatches<'_>, words: &[&str]) -> Result<Req
         return Ok(Request::RunAfter(script, journal, stated));
     }
     let options = options_of(&stated);
-    if stated.sparing {
-        return Ok(Request::RunSparing(script, options));
+    if stated.bucketed {
+        return Ok(Request::RunBucketed(script, options));
     }
     Ok(Request::Task(Task::Run(script, options)))
 }
@@ -184,28 +184,28 @@ fn words_behind<'a>(text: &str, words: &'a [&'a str]) -> Option<&'a [&'a str]>
 }
 
 /// Returns the words after `check`, and after a mark that ends the options.
-fn parts_behind<'a>(words: &'a [&'a str]) -> Option<&'a [&'a str]>
-    ensures { IfSome result (λ parts. AreBehindCheck (texts_of words.now) (texts_of parts.now)) }
+fn segments_behind<'a>(words: &'a [&'a str]) -> Option<&'a [&'a str]>
+    ensures { IfSome result (λ segments. AreBehindCheck (texts_of words.now) (texts_of segments.now)) }
 {
     let behind = words_behind("check", words)?;
     match words_behind("--", behind) {
-        Some(parts) => Some(parts),
+        Some(segments) => Some(segments),
         None => Some(behind),
     }
 }
 
 /// Returns the segments after `check`, of which there must be so many, two or more: all words there, in their order.
-fn parts_task(alloc: Global, number: usize, words: &[&str]) -> Result<Request, OptionFault>
+fn segments_task(alloc: Global, number: usize, words: &[&str]) -> Result<Request, OptionFault>
     ensures limits { IfOk result IsRequestWithinLimits }
     ensures paths { IfOk result (RequestNamesWords (texts_of words.now)) }
 {
-    let Some(parts) = parts_behind(words) else {
+    let Some(segments) = segments_behind(words) else {
         return Err(OptionFault::Usage);
     };
-    if parts.len() < 2 || parts.len() != number {
+    if segments.len() < 2 || segments.len() != number {
         return Err(OptionFault::Usage);
     }
-    Ok(Request::CheckParts(strings_of(alloc, parts)?))
+    Ok(Request::CheckSegments(strings_of(alloc, segments)?))
 }
 
 /// Returns the task that the words after `check` request. A wrong line can be explained only for one path.
@@ -228,10 +228,10 @@ fn check_task(alloc: Global, given: &ArgMatches<'_>, words: &[&str]) -> Result<R
     if explains {
         return Err(OptionFault::Usage);
     }
-    parts_task(alloc, paths.len(), words)
+    segments_task(alloc, paths.len(), words)
 }
 
-/// Returns the request of the words after the program's name: a task of [`options`], `run SCRIPT` with `--sparing` or
+/// Returns the request of the words after the program's name: a task of [`options`], `run SCRIPT` with `--bucketed` or
 /// with `--after JOURNAL`, `check JOURNAL --explain`, `check` with two segments of a journal or more, or `compact
 /// JOURNAL`.
 ///

@@ -15,7 +15,7 @@ const OWN: Stated = Stated {
     limit: None,
     first: None,
     journal: false,
-    sparing: false,
+    bucketed: false,
 };
 
 const SCRIPT: &str = "0 remove 5 5\n1 count\n";
@@ -83,7 +83,7 @@ fn a_report_is_that_of_the_whole(rt: HostRuntime) -> Result<(), Fail> {
 
 /// A fault of the script is reported before the journal is touched, and one of the journal as the journal's.
 #[test]
-fn a_failing_read_tells_which_input(rt: HostRuntime) -> Result<(), Fail> {
+fn a_failing_read_reports_which_input(rt: HostRuntime) -> Result<(), Fail> {
     let fault = TextFault { number: 8, line: 1 };
     let of_script = goes(&rt, rt.alloc(), BEFORE, (1, 1), 0)?;
     let of_journal = goes(&rt, rt.alloc(), BEFORE, (0, 1), 0)?;

@@ -60,7 +60,7 @@ fn words_ask_for_tasks(rt: HostRuntime) {
 }
 
 // Returns the status of a fault, and whether it has these words.
-fn told(alloc: Global, fault: Fault, words: &str) -> Result<(u8, bool), Fail> {
+fn returned(alloc: Global, fault: Fault, words: &str) -> Result<(u8, bool), Fail> {
     let status: u8 = fault.status();
     let text = format!(in alloc; "{fault}")?;
     Ok((status, text.as_str() == words))
@@ -75,20 +75,29 @@ fn faults_of_the_program(rt: HostRuntime) -> Result<(), Fail> {
         number: 10,
         line: 2,
     };
-    assert_eq!(rt; told(alloc, Fault::Usage, "hullbook: usage")?, (2, true));
-    assert_eq!(rt; told(alloc, Fault::Open, "hullbook: open")?, (3, true));
-    assert_eq!(rt; told(alloc, Fault::Memory, "hullbook: memory")?, (4, true));
-    assert_eq!(rt; told(alloc, Fault::Write, "hullbook: write")?, (3, true));
     assert_eq!(rt;
-        told(alloc, Fault::Text(text), "hullbook: line 1: fault 3")?,
+        returned(alloc, Fault::Usage, "hullbook: usage")?,
         (2, true)
     );
+    assert_eq!(rt; returned(alloc, Fault::Open, "hullbook: open")?, (3, true));
     assert_eq!(rt;
-        told(alloc, Fault::Text(refused), "hullbook: line 2: fault 8")?,
+        returned(alloc, Fault::Memory, "hullbook: memory")?,
+        (4, true)
+    );
+    assert_eq!(rt;
+        returned(alloc, Fault::Write, "hullbook: write")?,
         (3, true)
     );
     assert_eq!(rt;
-        told(alloc, Fault::Text(memory), "hullbook: line 2: fault 10")?,
+        returned(alloc, Fault::Text(text), "hullbook: line 1: fault 3")?,
+        (2, true)
+    );
+    assert_eq!(rt;
+        returned(alloc, Fault::Text(refused), "hullbook: line 2: fault 8")?,
+        (3, true)
+    );
+    assert_eq!(rt;
+        returned(alloc, Fault::Text(memory), "hullbook: line 2: fault 10")?,
         (4, true)
     );
     Ok(())

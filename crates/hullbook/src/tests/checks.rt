@@ -65,7 +65,7 @@ fn ends(
 
 /// A text that is no journal is reported with its fault, and not as an illegal journal or refused memory.
 #[test]
-fn faults_of_a_journal_are_told(rt: HostRuntime) -> Result<(), Fail> {
+fn faults_of_a_journal_are_returned(rt: HostRuntime) -> Result<(), Fail> {
     for (journal, number, line) in FAULTY {
         let fault = TextFault { number, line };
         assert_eq!(rt;
@@ -80,19 +80,19 @@ fn faults_of_a_journal_are_told(rt: HostRuntime) -> Result<(), Fail> {
 fn wrong_lines(alloc: Global, journal: &str, wanted: &str) -> Result<[Option<u32>; 2], Fail> {
     let mut output = Counted::new(Spout::new(alloc, 64, 5)?);
     let mut input = Counted::new(Pieces::new(journal.as_bytes(), 7));
-    let told = check_text_with(alloc, &mut input, &mut output, &Silence);
+    let returned = check_text_with(alloc, &mut input, &mut output, &Silence);
     let mut input = Counted::new(Pieces::new(journal.as_bytes(), 7));
     let kept = check_whole_text(alloc, &mut input, &mut output, &Silence);
     if output.get_ref().bytes() != wanted.as_bytes() {
         return Ok([None; 2]);
     }
     let kept = kept.map(|checked| checked.wrong);
-    Ok([told.unwrap_or(None), kept.unwrap_or(None)])
+    Ok([returned.unwrap_or(None), kept.unwrap_or(None)])
 }
 
 /// The first wrong line is reported, whether the lines are kept or not, and none after it.
 #[test]
-fn the_first_wrong_line_is_told(rt: HostRuntime) -> Result<(), Fail> {
+fn the_first_wrong_line_is_returned(rt: HostRuntime) -> Result<(), Fail> {
     let journal =
         "hullbook journal 1 first 0 limit 4 capacity 4\n0 0 count = count 0\n1 0 count = count 1\n5 0 count = count 2\nend 3\n";
     assert_eq!(rt;

@@ -2,7 +2,7 @@
 ghost use Rattle.std.specs.Prelude.{◌≡◌, ◌+◌, ◌<◌, ◌≤◌, [], All, box_value, length, vec_len, vec_capacity};
 ghost use Rattle.std.specs.List.{AllZip};
 ghost use Rattle.ticket_lock.specs.Tokens.{AreNumbered, IsSeatOf, opening_book, seat_count, seat_number, seat_seen};
-ghost use Rattle.hull_book.specs.Answers.{HasRoom};
+ghost use Rattle.hull_book.specs.Answers.{HasSpace};
 ghost use Rattle.hull_book.specs.Books.{IsLawful};
 ghost use Rattle.hull_book.specs.Kinds.{kind_of};
 ghost use Rattle.hull_book.specs.Ledgers.{IsLedgerOf};
@@ -13,7 +13,8 @@ ghost use Rattle.hull_pool.specs.Long.{IsSeatedLong, long_book_head};
 
 use super::{at, opened};
 use hull_book::{
-    Call, Journal, Journalled, Ledger, LongAnswer, LongBook, PartsChecker, ReplayFault, Room, Then,
+    AfterCall, Call, Journal, JournaledBook, Ledger, LongAnswer, LongBook, ReplayFault,
+    SegmentsChecker, Space,
 };
 use hull_plain::PlainSet;
 use hull_pool::{LongLock, LongSeat, close_book, make_call, serve_and_hand_on};
@@ -41,7 +42,7 @@ pub(super) struct Member {
     number: u8,
     seat: Option<LongSeat<PlainSet>>,
     ledger: Ledger,
-    parts: Vec<Journal>,
+    segments: Vec<Journal>,
     refused: u32,
 }
 
@@ -63,9 +64,9 @@ pub(super) fn answered<R: Wait>(
     lock: &LongLock<PlainSet>,
     member: &mut Member,
     call: Call,
-    then: Then,
+    then: AfterCall,
 ) -> LongAnswer
-    requires room { HasRoom then (long_book_head (opening_book lock.now)).journal.capacity }
+    requires space { HasSpace then (long_book_head (opening_book lock.now)).journal.capacity }
     requires ready { IsSeatedLong lock.now member.old.number member.old.ledger member.old.seat }
     ensures ready { IsSeatedLong lock.now member.new.number member.new.ledger member.new.seat }
 {
@@ -83,9 +84,9 @@ pub(super) fn answered_by_look(
     lock: &LongLock<PlainSet>,
     member: &mut Member,
     call: Call,
-    then: Then,
+    then: AfterCall,
 ) -> LongAnswer
-    requires room { HasRoom then (long_book_head (opening_book lock.now)).journal.capacity }
+    requires space { HasSpace then (long_book_head (opening_book lock.now)).journal.capacity }
     requires ready { IsSeatedLong lock.now member.old.number member.old.ledger member.old.seat }
     ensures ready { IsSeatedLong lock.now member.new.number member.new.ledger member.new.seat }
 {
@@ -98,17 +99,17 @@ pub(super) fn answered_by_look(
 }
 
 // Serves a call of a seat, which takes a number and looks once.
-fn look_and_serve<B: Journalled>(
+fn look_and_serve<B: JournaledBook>(
     rt: &impl Abort,
     lock: &TicketLock<Box<B>>,
     seat: Seat<Box<B>>,
     number: u8,
     call: Call,
     ledger: &mut Ledger,
-    then: B::Then,
+    then: B::AfterCall,
 ) -> (Seat<Box<B>>, B::Answer)
     requires may { MayCall (kind_of B.Chronicle B.whole B.plain) lock.now number seat ledger.old }
-    requires room { B.room (B.head (box_value (opening_book lock.now))) then }
+    requires space { B.space (B.head (box_value (opening_book lock.now))) then }
     ensures { HasCome (kind_of B.Chronicle B.whole B.plain) lock.now number (seat_seen seat) result.0 ledger.new }
 {
     match lock.look(lock.take(seat)) {
@@ -118,9 +119,9 @@ fn look_and_serve<B: Journalled>(
 }
 
 // Adds the segment, if lines were taken out.
-fn add_part(rt: &impl Abort, parts: &mut Vec<Journal>, part: Option<Journal>) {
-    if let Some(part) = part {
-        assert!(rt; parts.push(part).is_ok());
+fn add_segment(rt: &impl Abort, segments: &mut Vec<Journal>, segment: Option<Journal>) {
+    if let Some(segment) = segment {
+        assert!(rt; segments.push(segment).is_ok());
     }
 }
 
@@ -130,14 +131,14 @@ fn calls<R: Wait + Abort>(
     lock: &LongLock<PlainSet>,
     member: &mut Member,
     call: Call,
-    then: Then,
+    then: AfterCall,
 )
-    requires room { HasRoom then (long_book_head (opening_book lock.now)).journal.capacity }
+    requires space { HasSpace then (long_book_head (opening_book lock.now)).journal.capacity }
     requires ready { IsSeatedLong lock.now member.old.number member.old.ledger member.old.seat }
     ensures ready { IsSeatedLong lock.now member.new.number member.new.ledger member.new.seat }
 {
     match answered(rt, lock, member, call, then) {
-        Ok((_reply, part)) => add_part(rt, &mut member.parts, part),
+        Ok((_reply, segment)) => add_segment(rt, &mut member.segments, segment),
         Err(_then) => member.refused = member.refused.wrapping_add(1),
     }
 }
@@ -150,19 +151,19 @@ fn drains<R: Wait + Abort>(
     member: &mut Member,
     call: Call,
 )
-    requires room { (long_book_head (opening_book lock.now)).journal.capacity ≤ CAPACITY }
+    requires space { (long_book_head (opening_book lock.now)).journal.capacity ≤ CAPACITY }
     requires ready { IsSeatedLong lock.now member.old.number member.old.ledger member.old.seat }
     ensures ready { IsSeatedLong lock.now member.new.number member.new.ledger member.new.seat }
 {
-    let Ok(room) = Room::reserve(alloc, CAPACITY) else {
+    let Ok(space) = Space::reserve(alloc, CAPACITY) else {
         panic!(rt; "there is memory for the lines")
     };
-    calls(rt, lock, member, call, Then::TakeOut(room));
+    calls(rt, lock, member, call, AfterCall::Drain(space));
 }
 
 // Makes all calls of the member.
 fn works<R: Wait + Abort>(rt: &R, alloc: Global, lock: &LongLock<PlainSet>, member: &mut Member)
-    requires room { (long_book_head (opening_book lock.now)).journal.capacity ≤ CAPACITY }
+    requires space { (long_book_head (opening_book lock.now)).journal.capacity ≤ CAPACITY }
     requires ready { IsSeatedLong lock.now member.old.number member.old.ledger member.old.seat }
     ensures ready { IsSeatedLong lock.now member.new.number member.new.ledger member.new.seat }
 {
@@ -171,7 +172,7 @@ fn works<R: Wait + Abort>(rt: &R, alloc: Global, lock: &LongLock<PlainSet>, memb
         if member.number == 0 && i % EVERY == EVERY - 1 {
             drains(rt, alloc, lock, member, call);
         } else {
-            calls(rt, lock, member, call, Then::Keep);
+            calls(rt, lock, member, call, AfterCall::Keep);
         }
     }
 }
@@ -184,13 +185,13 @@ fn work_each<R: Threads + Wait + Abort + Sync>(
     members: &mut [Member],
 )
     requires some { 0 < length members.old }
-    requires room { (long_book_head (opening_book lock.now)).journal.capacity ≤ CAPACITY }
+    requires space { (long_book_head (opening_book lock.now)).journal.capacity ≤ CAPACITY }
     requires ready { All (λ m. IsSeatedLong lock.now m.number m.ledger m.seat) members.old }
     ensures ready { All (λ m. IsSeatedLong lock.now m.number m.ledger m.seat) members.new }
 {
     let threads = members.len();
     let each = |_: usize, member: &mut Member|
-        requires room { (long_book_head (opening_book lock.now)).journal.capacity ≤ CAPACITY }
+        requires space { (long_book_head (opening_book lock.now)).journal.capacity ≤ CAPACITY }
         requires ready { IsSeatedLong lock.now member.now.number member.now.ledger member.now.seat }
         ensures { IsSeatedLong lock.entry.now member.exit.now.number member.exit.now.ledger member.exit.now.seat }
     { works(rt, alloc, lock, member) };
@@ -205,7 +206,7 @@ fn work_all<R: Threads + Wait + Abort + Sync>(
     members: &mut Vec<Member>,
 )
     requires some { 0 < vec_len members.old }
-    requires room { (long_book_head (opening_book lock.now)).journal.capacity ≤ CAPACITY }
+    requires space { (long_book_head (opening_book lock.now)).journal.capacity ≤ CAPACITY }
     requires ready { All (λ m. IsSeatedLong lock.now m.number m.ledger m.seat) members.old.items }
     ensures ready { All (λ m. IsSeatedLong lock.now m.number m.ledger m.seat) members.new.items }
     ensures many { vec_len members.new ≡ vec_len members.old }
@@ -214,7 +215,7 @@ fn work_all<R: Threads + Wait + Abort + Sync>(
 }
 
 // Makes a member of each seat, with its ledger, before any call.
-pub(super) fn hire(
+pub(super) fn assemble(
     rt: &impl Abort,
     alloc: Global,
     lock: &LongLock<PlainSet>,
@@ -223,14 +224,14 @@ pub(super) fn hire(
     members: &mut Vec<Member>,
 )
     requires seats { All (λ s. IsSeatOf long_book_head lock.now s × (seat_seen s ≡ [])) seats.old.items }
-    requires room { (members.old.items ≡ []) × (vec_len seats.old ≤ vec_capacity members.old) }
+    requires space { (members.old.items ≡ []) × (vec_len seats.old ≤ vec_capacity members.old) }
     requires few { ((long_book_head (opening_book lock.now)).workers ≡ vec_len seats.old)
         × (vec_len ledgers.old ≡ vec_len seats.old) }
     ensures seats { (seats.new.items ≡ []) × (vec_capacity seats.new ≡ vec_capacity seats.old) }
     ensures ledgers { (ledgers.new.items ≡ []) × (vec_capacity ledgers.new ≡ vec_capacity ledgers.old) }
     ensures ready { All (λ m. IsSeatedLong lock.now m.number m.ledger m.seat) members.new.items }
     ensures many { vec_len members.new ≡ vec_len seats.old }
-    ensures room { vec_len seats.old ≤ vec_capacity members.new }
+    ensures space { vec_len seats.old ≤ vec_capacity members.new }
 {
     let workers = seats.len();
     while let Some(seat) = seats.pop() {
@@ -244,31 +245,31 @@ pub(super) fn hire(
             number,
             seat: Some(seat),
             ledger,
-            parts: Vec::new(alloc),
+            segments: Vec::new(alloc),
             refused: 0,
         });
     }
 }
 
 // Keeps the segments of the member that took some out.
-fn keep(parts: &mut Vec<Journal>, own: Vec<Journal>) {
+fn keep(segments: &mut Vec<Journal>, own: Vec<Journal>) {
     if !own.is_empty() {
-        drop(std::mem::replace(parts, own));
+        drop(std::mem::replace(segments, own));
     }
 }
 
 // Separates the members, the last first, into their seats, their ledgers, and the segments that they took out.
-pub(super) fn dismiss(
+pub(super) fn disband(
     rt: &impl Abort,
     lock: &LongLock<PlainSet>,
     members: &mut Vec<Member>,
     seats: &mut Vec<LongSeat<PlainSet>>,
     ledgers: &mut Vec<Ledger>,
-    parts: &mut Vec<Journal>,
+    segments: &mut Vec<Journal>,
 )
     requires ready { All (λ m. IsSeatedLong lock.now m.number m.ledger m.seat) members.old.items }
     requires empty { (seats.old.items ≡ []) × (ledgers.old.items ≡ []) }
-    requires room { (vec_len members.old ≤ vec_capacity seats.old) × (vec_len members.old ≤ vec_capacity ledgers.old) }
+    requires space { (vec_len members.old ≤ vec_capacity seats.old) × (vec_len members.old ≤ vec_capacity ledgers.old) }
     ensures members { members.new.items ≡ [] }
     ensures own { All (IsSeatOf long_book_head lock.now) seats.new.items }
     ensures numbered { AreNumbered seats.new.items }
@@ -281,14 +282,14 @@ pub(super) fn dismiss(
             number,
             seat,
             ledger,
-            parts: own,
+            segments: own,
             refused,
         } = member;
         let Some(seat) = seat else { unreachable!() };
         assert!(rt; usize::from(number) == seats.len() && refused == 0);
         seats.push_reserved(seat);
         ledgers.push_reserved(ledger);
-        keep(parts, own);
+        keep(segments, own);
     }
 }
 
@@ -307,42 +308,42 @@ fn all_share<R: Threads + Wait + Abort + Sync>(rt: &R, alloc: Global) -> (Vec<Jo
     let Ok(mut members) = Vec::with_capacity(alloc, usize::from(MEMBERS)) else {
         panic!(rt; "there is memory for the members")
     };
-    let mut parts = Vec::new(alloc);
-    hire(rt, alloc, &lock, &mut seats, &mut ledgers, &mut members);
+    let mut segments = Vec::new(alloc);
+    assemble(rt, alloc, &lock, &mut seats, &mut ledgers, &mut members);
     work_all(rt, alloc, &lock, &mut members);
-    dismiss(
+    disband(
         rt,
         &lock,
         &mut members,
         &mut seats,
         &mut ledgers,
-        &mut parts,
+        &mut segments,
     );
     members.destroy_empty();
     let (book, sum) = close_book(lock, seats, ledgers);
-    assert!(rt; parts.push(book.into_part()).is_ok());
-    (parts, sum)
+    assert!(rt; segments.push(book.into_segment()).is_ok());
+    (segments, sum)
 }
 
 // Checks the segments with these indices, in this order. Returns how many lines they have, or which of them is not right, and why.
 fn checked(
     alloc: Global,
-    parts: &[Journal],
+    segments: &[Journal],
     order: &[usize],
 ) -> Result<usize, (usize, ReplayFault)> {
-    let [first, ..] = parts else { return Ok(0) };
+    let [first, ..] = segments else { return Ok(0) };
     let _limits = first.lines();
-    let mut checker = PartsChecker::new(PlainSet::new(alloc, first.limit()), first);
+    let mut checker = SegmentsChecker::new(PlainSet::new(alloc, first.limit()), first);
     let mut lines = 0usize;
     for (i, place) in order.iter().enumerate() {
-        let Some(part) = parts.get(*place) else {
+        let Some(segment) = segments.get(*place) else {
             return Ok(lines);
         };
-        match checker.check_next(part) {
+        match checker.check_next(segment) {
             Ok(next) => checker = next,
             Err(fault) => return Err((i, fault)),
         }
-        lines = lines.wrapping_add(part.lines().len());
+        lines = lines.wrapping_add(segment.lines().len());
     }
     Ok(lines)
 }
@@ -352,13 +353,16 @@ fn checked(
 /// at its first line.
 #[test]
 fn eight_threads_and_one_drains(rt: HostRuntime) -> Result<(), Fail> {
-    let (parts, sum) = all_share(&rt, rt.alloc());
-    assert_eq!(rt; (sum, parts.len()), (160_000, 3));
+    let (segments, sum) = all_share(&rt, rt.alloc());
+    assert_eq!(rt; (sum, segments.len()), (160_000, 3));
     let alloc = rt.alloc();
-    assert_eq!(rt; checked(alloc, &parts, &[0, 1, 2]), Ok(160_000));
+    assert_eq!(rt; checked(alloc, &segments, &[0, 1, 2]), Ok(160_000));
     let at_first = ReplayFault::Wrong(0);
-    assert_eq!(rt; checked(alloc, &parts, &[0, 2]), Err((1, at_first)));
-    assert_eq!(rt; checked(alloc, &parts, &[0, 1, 1, 2]), Err((2, at_first)));
-    assert_eq!(rt; checked(alloc, &parts, &[0, 2, 1]), Err((1, at_first)));
+    assert_eq!(rt; checked(alloc, &segments, &[0, 2]), Err((1, at_first)));
+    assert_eq!(rt;
+        checked(alloc, &segments, &[0, 1, 1, 2]),
+        Err((2, at_first))
+    );
+    assert_eq!(rt; checked(alloc, &segments, &[0, 2, 1]), Err((1, at_first)));
     Ok(())
 }

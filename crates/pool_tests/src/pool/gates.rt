@@ -205,16 +205,16 @@ fn eight_workers_meet(rt: HostRuntime) -> Result<(), Fail> {
 /// How often the gate was called for each of three workers that make three calls in each phase, and whether it was ever called for another call than
 /// the next one.
 #[derive(Drop)]
-struct Told {
+struct Returned {
     zero: AtomicU64,
     one: AtomicU64,
     two: AtomicU64,
     out_of_turn: AtomicBool,
 }
 
-impl Told {
-    fn new() -> Told {
-        Told {
+impl Returned {
+    fn new() -> Returned {
+        Returned {
             zero: AtomicU64::new(0),
             one: AtomicU64::new(0),
             two: AtomicU64::new(0),
@@ -223,7 +223,7 @@ impl Told {
     }
 
     // The worker's call begins, or has ended.
-    fn tell(&self, worker: u8, index: u32, has_ended: bool) {
+    fn report(&self, worker: u8, index: u32, has_ended: bool) {
         let times = match worker {
             0 => &self.zero,
             1 => &self.one,
@@ -236,26 +236,26 @@ impl Told {
     }
 }
 
-impl Gate for Told {
+impl Gate for Returned {
     fn before_call(&self, worker: u8, index: u32) {
-        self.tell(worker, index, false);
+        self.report(worker, index, false);
     }
 
     fn after_call(&self, worker: u8, index: u32) {
-        self.tell(worker, index, true);
+        self.report(worker, index, true);
     }
 }
 
 /// The gate is called for each worker's calls in their order, counted from 0 in each phase: when a call begins, and when it has ended.
 #[test]
-fn gate_told_of_each_call(rt: HostRuntime) -> Result<(), Fail> {
+fn gate_returned_of_each_call(rt: HostRuntime) -> Result<(), Fail> {
     let script = three_at_once(&rt, rt.alloc())?;
-    let told = Told::new();
-    let sum = run_script(&rt, rt.alloc(), 0, 32, &script, &told).sum;
-    let out_of_turn = told.out_of_turn.load(Ordering::SeqCst);
-    let zero = told.zero.load(Ordering::SeqCst);
-    let one = told.one.load(Ordering::SeqCst);
-    let two = told.two.load(Ordering::SeqCst);
+    let returned = Returned::new();
+    let sum = run_script(&rt, rt.alloc(), 0, 32, &script, &returned).sum;
+    let out_of_turn = returned.out_of_turn.load(Ordering::SeqCst);
+    let zero = returned.zero.load(Ordering::SeqCst);
+    let one = returned.one.load(Ordering::SeqCst);
+    let two = returned.two.load(Ordering::SeqCst);
     assert_eq!(rt; (sum, out_of_turn), (18, false));
     assert_eq!(rt; (zero, one, two), (12, 12, 12));
     Ok(())

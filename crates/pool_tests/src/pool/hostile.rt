@@ -3,7 +3,7 @@ ghost use Rattle.std.specs.Prelude.{◌≡◌, ◌≤◌, IfOk, length};
 
 use super::gates::Meeting;
 use super::scripts::{one_phase, two_phases};
-use super::{at, mark_of, run_first, run_script, told_of};
+use super::{at, mark_of, returned_of, run_first, run_script};
 use hull_book::{Answer, Call, JournalFull, Line, Phase, Reply, Script};
 use hull_pool::{Gate, NoGate};
 use lattice::Point;
@@ -47,7 +47,7 @@ fn is_parabola(rt: &impl Abort, points: &[Point]) -> bool {
 }
 
 // Whether the first of 64 workers got the answers for that parabola, by values worked out by hand.
-fn told_of_parabola(rt: &impl Abort, answers: &[Vec<Answer>]) -> bool {
+fn returned_of_parabola(rt: &impl Abort, answers: &[Vec<Answer>]) -> bool {
     let [zero, ..] = answers else { return false };
     match zero.as_slice() {
         [Ok(Reply::Added), Ok(Reply::VertexList(list)), area, count] => {
@@ -75,11 +75,11 @@ fn sixty_four_workers_on_a_parabola(rt: HostRuntime) -> Result<(), Fail> {
     let script = sixty_four_points(&rt, rt.alloc())?;
     for _ in 0..RACES {
         let end = run_script(&rt, rt.alloc(), 0, 128, &script, &NoGate);
-        let told = told_of(rt.alloc(), 0, &end);
+        let returned = returned_of(rt.alloc(), 0, &end);
         let workers = end.answers.len();
-        let right = told_of_parabola(&rt, &end.answers) && asks_last(end.journal.lines());
+        let right = returned_of_parabola(&rt, &end.answers) && asks_last(end.journal.lines());
         drop(end);
-        assert_eq!(rt; told, (67, 67, true, true));
+        assert_eq!(rt; returned, (67, 67, true, true));
         assert_eq!(rt; (workers, right), (64, true));
     }
     Ok(())
@@ -193,19 +193,19 @@ const MANY: u32 = 70_000;
 /// How many calls the gate was called for, and whether it was ever called for another than the next one.
 #[derive(Drop)]
 struct Count {
-    told: AtomicU64,
+    returned: AtomicU64,
     out_of_turn: AtomicBool,
 }
 
 impl Gate for Count {
     fn before_call(&self, _worker: u8, index: u32) {
-        if self.told.load(Ordering::SeqCst) != u64::from(index) {
+        if self.returned.load(Ordering::SeqCst) != u64::from(index) {
             self.out_of_turn.store(true, Ordering::SeqCst);
         }
     }
 
     fn after_call(&self, _worker: u8, index: u32) {
-        if self.told.fetch_add(1, Ordering::SeqCst) != u64::from(index) {
+        if self.returned.fetch_add(1, Ordering::SeqCst) != u64::from(index) {
             self.out_of_turn.store(true, Ordering::SeqCst);
         }
     }
@@ -239,19 +239,19 @@ fn filled(answers: &[Vec<Answer>]) -> Option<(usize, bool)> {
 
 /// The gate is called for every call of a list of 70000, each by its own index: a count in 16 bits fails here.
 #[test]
-fn gate_told_of_seventy_thousand_calls(rt: HostRuntime) -> Result<(), Fail> {
+fn gate_returned_of_seventy_thousand_calls(rt: HostRuntime) -> Result<(), Fail> {
     let script = long_list(rt.alloc())?;
     let count = Count {
-        told: AtomicU64::new(0),
+        returned: AtomicU64::new(0),
         out_of_turn: AtomicBool::new(false),
     };
     let end = run_first(&rt, rt.alloc(), &script, &count);
     let (sum, answered) = (end.sum, filled(&end.answers));
     drop(end);
     drop(script);
-    let told = count.told.load(Ordering::SeqCst);
+    let returned = count.returned.load(Ordering::SeqCst);
     let out_of_turn = count.out_of_turn.load(Ordering::SeqCst);
-    assert_eq!(rt; (sum, told, out_of_turn), (8, 70_000, false));
+    assert_eq!(rt; (sum, returned, out_of_turn), (8, 70_000, false));
     assert_eq!(rt; answered, Some((70_000, true)));
     Ok(())
 }

@@ -6,9 +6,9 @@ ghost use Rattle.hull_plain.specs.Sets.{plain_set};
 ghost use Rattle.hull_pool.specs.Handing.{MayCall};
 ghost use Rattle.hull_pool.specs.Long.{IsSeatedLong, long_book_head};
 
-use super::draining::{Member, answered, answered_by_look, dismiss, hire};
+use super::draining::{Member, answered, answered_by_look, assemble, disband};
 use super::{at, opened};
-use hull_book::{Call, Journal, Ledger, LongAnswer, LongBook, Reply, Room, Then};
+use hull_book::{AfterCall, Call, Journal, Ledger, LongAnswer, LongBook, Reply, Space};
 use hull_plain::PlainSet;
 use hull_pool::{LongLock, LongSeat, close_book, two_seats_share};
 use std::alloc::Global;
@@ -46,14 +46,14 @@ fn three_calls<R: Wait + Abort>(
     ensures one { IsSeatedLong lock.now one.new.number one.new.ledger one.new.seat }
 {
     let p = at(rt, 3, 4);
-    let added = answered(rt, lock, zero, Call::Add(p), Then::LetGo);
-    let counted = answered(rt, lock, one, Call::Count, Then::LetGo);
-    let removed = answered_by_look(rt, lock, zero, Call::Remove(p), Then::LetGo);
+    let added = answered(rt, lock, zero, Call::Add(p), AfterCall::Discard);
+    let counted = answered(rt, lock, one, Call::Count, AfterCall::Discard);
+    let removed = answered_by_look(rt, lock, zero, Call::Remove(p), AfterCall::Discard);
     listed(rt, alloc, added, counted, removed)
 }
 
 // Returns the answers of three calls of two seats, the lines that the book has then as a segment, and how many calls have their line.
-fn all_let_go<R: Wait + Abort>(rt: &R, alloc: Global) -> (Vec<LongAnswer>, Journal, u64) {
+fn all_discarded<R: Wait + Abort>(rt: &R, alloc: Global) -> (Vec<LongAnswer>, Journal, u64) {
     let (book, mut ledgers) = opened(rt, alloc, 7, 1, 2);
     let Ok(book) = LongBook::new(book) else {
         panic!(rt; "there is memory for the spare line")
@@ -67,8 +67,8 @@ fn all_let_go<R: Wait + Abort>(rt: &R, alloc: Global) -> (Vec<LongAnswer>, Journ
     let Ok(mut members) = Vec::with_capacity(alloc, 2) else {
         panic!(rt; "there is memory for the members")
     };
-    let mut parts = Vec::new(alloc);
-    hire(rt, alloc, &lock, &mut seats, &mut ledgers, &mut members);
+    let mut segments = Vec::new(alloc);
+    assemble(rt, alloc, &lock, &mut seats, &mut ledgers, &mut members);
     let Some(mut zero) = members.pop() else {
         panic!(rt; "there are two members")
     };
@@ -78,25 +78,25 @@ fn all_let_go<R: Wait + Abort>(rt: &R, alloc: Global) -> (Vec<LongAnswer>, Journ
     let answers = three_calls(rt, alloc, &lock, &mut zero, &mut one);
     members.push_reserved(one);
     members.push_reserved(zero);
-    dismiss(
+    disband(
         rt,
         &lock,
         &mut members,
         &mut seats,
         &mut ledgers,
-        &mut parts,
+        &mut segments,
     );
     members.destroy_empty();
-    assert!(rt; parts.is_empty());
+    assert!(rt; segments.is_empty());
     let (book, sum) = close_book(lock, seats, ledgers);
     assert_eq!(rt; book.drained(), 3);
-    (answers, book.into_part(), sum)
+    (answers, book.into_segment(), sum)
 }
 
 #[test]
-fn lines_that_are_let_go_make_room(rt: HostRuntime) {
-    let (answers, part, sum) = all_let_go(&rt, rt.alloc());
-    let told = match &*answers {
+fn discarded_lines_make_space(rt: HostRuntime) {
+    let (answers, segment, sum) = all_discarded(&rt, rt.alloc());
+    let returned = match &*answers {
         [
             Ok((Reply::Added, None)),
             Ok((Reply::PointCount(1), None)),
@@ -104,10 +104,10 @@ fn lines_that_are_let_go_make_room(rt: HostRuntime) {
         ] => true,
         _ => false,
     };
-    let left = (part.first(), part.lines().len());
+    let left = (segment.first(), segment.lines().len());
     drop(answers);
-    drop(part);
-    assert!(rt; told);
+    drop(segment);
+    assert!(rt; returned);
     assert_eq!(rt; (left, sum), ((10, 0), 3));
 }
 
@@ -124,7 +124,7 @@ fn last_member(
     ensures own { All (λ s. IsSeatOf long_book_head lock.now s × (seat_seen s ≡ [])) seats.new.items }
     ensures ready { MayCall (drained plain_set) lock.now number result.seat result.ledger }
     ensures left { (vec_len seats.new + 1 ≡ vec_len seats.old) × (vec_len ledgers.new + 1 ≡ vec_len ledgers.old) }
-    ensures room { (vec_capacity seats.new ≡ vec_capacity seats.old)
+    ensures space { (vec_capacity seats.new ≡ vec_capacity seats.old)
         × (vec_capacity ledgers.new ≡ vec_capacity ledgers.old) }
 {
     let Some(seat) = seats.pop() else {
@@ -150,25 +150,25 @@ fn both_share<R: Wait + Abort>(rt: &R, alloc: Global) -> (Option<Journal>, u64, 
     let Ok((lock, mut seats)) = TicketLock::open(alloc, book, 2) else {
         panic!(rt; "there is memory for the lock")
     };
-    let Ok(room) = Room::reserve(alloc, 4) else {
+    let Ok(space) = Space::reserve(alloc, 4) else {
         panic!(rt; "there is memory for the lines")
     };
     let one = last_member(rt, &lock, &mut seats, &mut ledgers, 1);
     let zero = last_member(rt, &lock, &mut seats, &mut ledgers, 0);
     let added = Call::Add(at(rt, 3, 4));
-    let (book, drained, sum) = two_seats_share(rt, lock, zero, one, room, seats, ledgers, added);
+    let (book, drained, sum) = two_seats_share(rt, lock, zero, one, space, seats, ledgers, added);
     let held = book.lines().len();
     drop(book);
     match drained {
-        Ok((_reply, part)) => (part, sum, held),
+        Ok((_reply, segment)) => (segment, sum, held),
         Err(_then) => (None, sum, held),
     }
 }
 
 #[test]
 fn two_seats_share_a_book_that_one_of_them_drains(rt: HostRuntime) {
-    let (part, sum, held) = both_share(&rt, rt.alloc());
-    let part = part.map(|part| (part.first(), part.lines().len()));
-    assert!(rt; part == Some((7, 2)));
+    let (segment, sum, held) = both_share(&rt, rt.alloc());
+    let segment = segment.map(|segment| (segment.first(), segment.lines().len()));
+    assert!(rt; segment == Some((7, 2)));
     assert_eq!(rt; (sum, held), (3, 0));
 }

@@ -5,7 +5,7 @@ ghost use Rattle.hull_book.specs.Books.{IsLawful};
 ghost use Rattle.hull_book.specs.Ledgers.{AreLedgers};
 ghost use Rattle.hull_pool.specs.Runs.{MayRunAll, HasRunAll};
 
-use super::{Outcome, outcome_of, ready, three_corners};
+use super::{Outcome, outcome_of, ready, three_vertices};
 use hull_book::{Book, Call, CheckResult, Journal, Ledger, Phase, Reply, Script, check, gather};
 use hull_plain::PlainSet;
 use hull_pool::{Gate, PhaseEnd, PoolFault, Workers, run_phase, run_phases};
@@ -49,10 +49,10 @@ impl Gate for Calls {
 }
 
 // Returns the script of three vertices. If memory is refused, the second attempt returns it.
-fn corners(rt: &impl Abort, alloc: Global) -> Result<Script, AllocError> {
-    match three_corners(rt, alloc) {
+fn vertices(rt: &impl Abort, alloc: Global) -> Result<Script, AllocError> {
+    match three_vertices(rt, alloc) {
         Ok(script) => Ok(script),
-        Err(AllocError) => three_corners(rt, alloc),
+        Err(AllocError) => three_vertices(rt, alloc),
     }
 }
 
@@ -120,7 +120,7 @@ fn is_legal(alloc: Global, journal: &Journal) -> bool {
 /// A phase that is refused memory fails with `NoMemory`: nothing of it ran, its book has no line more, and serves the phase at the second attempt.
 #[test]
 fn refused_phase(rt: HostRuntime) -> Result<(), Fail> {
-    let script = corners(&rt, rt.alloc())?;
+    let script = vertices(&rt, rt.alloc())?;
     assert_eq!(rt; script.phases().len(), 2);
     let calls = Calls::new();
     let end = runs_first(&rt, rt.alloc(), &script, &calls);

@@ -40,7 +40,7 @@ fn last_caller(
     ensures number { result.number ≡ number }
     ensures ready { IsSeated lock.now result.number result.ledger result.seat }
     ensures left { (vec_len seats.new + 1 ≡ vec_len seats.old) × (vec_len ledgers.new + 1 ≡ vec_len ledgers.old) }
-    ensures room { (vec_capacity seats.new ≡ vec_capacity seats.old)
+    ensures space { (vec_capacity seats.new ≡ vec_capacity seats.old)
         × (vec_capacity ledgers.new ≡ vec_capacity ledgers.old) }
 {
     let Some(seat) = seats.pop() else {
@@ -82,7 +82,7 @@ fn ends(
     one: Caller,
 ) -> (Book<PlainSet>, u64)
     requires empty { (seats.items ≡ []) × (ledgers.items ≡ []) }
-    requires room { (2 ≤ vec_capacity seats) × (2 ≤ vec_capacity ledgers) }
+    requires space { (2 ≤ vec_capacity seats) × (2 ≤ vec_capacity ledgers) }
     requires two { (seat_count lock ≡ 2) × (workers_of (box_value (opening_book lock)) ≡ 2) }
     requires numbers { (zero.number ≡ 0) × (one.number ≡ 1) }
     requires zero { IsSeated lock zero.number zero.ledger zero.seat }

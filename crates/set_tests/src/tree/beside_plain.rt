@@ -66,7 +66,7 @@ fn has_same_hull(tree: &HullTree, plain: &PlainSet) -> bool {
 }
 
 /// Whether a point has the same location and tangents in both.
-fn has_same_sight(tree: &HullTree, plain: &PlainSet, q: Point) -> bool {
+fn has_same_location(tree: &HullTree, plain: &PlainSet, q: Point) -> bool {
     tree.place(q) == plain.place(q) && tree.tangents(q) == plain.tangents(q)
 }
 
@@ -114,11 +114,11 @@ fn random_changes(rt: HostRuntime) -> Result<(), Fail> {
 }
 
 /// Whether all points of a square of 9 by 9 have the same location and tangents in both.
-fn has_same_sights(rt: &impl Abort, tree: &HullTree, plain: &PlainSet) -> bool {
+fn has_same_locations(rt: &impl Abort, tree: &HullTree, plain: &PlainSet) -> bool {
     let mut alike = true;
     for x in -4i64..5 {
         for y in -4i64..5 {
-            alike = has_same_sight(tree, plain, at(rt, x, y)) && alike;
+            alike = has_same_location(tree, plain, at(rt, x, y)) && alike;
         }
     }
     alike
@@ -131,7 +131,7 @@ fn answers_alike(rt: &impl Abort, tree: &mut HullTree, plain: &mut PlainSet) -> 
     for step in 0u32..300 {
         alike = change_near(rt, tree, plain, numbers.next()) && alike;
         if step % 10 == 9 {
-            alike = has_same_hull(tree, plain) && has_same_sights(rt, tree, plain) && alike;
+            alike = has_same_hull(tree, plain) && has_same_locations(rt, tree, plain) && alike;
         }
     }
     alike
@@ -170,8 +170,8 @@ fn first_difference(
         if step % 500 == 499 {
             let (beside, above) = (at(rt, centred(right, 50), y), at(rt, x, centred(up, 150)));
             alike = has_same_hull(tree, plain) && alike;
-            alike = has_same_sight(tree, plain, beside) && alike;
-            alike = has_same_sight(tree, plain, above) && alike;
+            alike = has_same_location(tree, plain, beside) && alike;
+            alike = has_same_location(tree, plain, above) && alike;
         }
         if !alike {
             return Some(step);

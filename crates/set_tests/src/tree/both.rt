@@ -58,15 +58,15 @@ impl Sets {
     }
 
     /// Whether all three have the same vertices.
-    fn has_same_corners(&self) -> bool {
-        let corners = self.plain.vertices();
-        corners.is_ok()
-            && self.bucketed.vertices() == corners
-            && self.searching.vertices() == corners
+    fn has_same_vertices(&self) -> bool {
+        let vertices = self.plain.vertices();
+        vertices.is_ok()
+            && self.bucketed.vertices() == vertices
+            && self.searching.vertices() == vertices
     }
 
     /// Whether `q` has the same location and tangents in all, and the farthest point in this direction is the same.
-    fn has_same_sight(&self, q: Point, d: Direction) -> bool {
+    fn has_same_location(&self, q: Point, d: Direction) -> bool {
         let (bucketed, plain) = (&self.bucketed, &self.plain);
         bucketed.place(q) == plain.place(q)
             && bucketed.tangents(q) == plain.tangents(q)
@@ -78,7 +78,7 @@ impl Sets {
         let area = self.plain.area2();
         let areas = self.bucketed.area2() == area && self.searching.area2() == area;
         let count = self.bucketed.count() == self.plain.count();
-        areas && count && self.has_same_corners() && self.has_same_sight(q, d)
+        areas && count && self.has_same_vertices() && self.has_same_location(q, d)
     }
 }
 

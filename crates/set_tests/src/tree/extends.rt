@@ -197,14 +197,14 @@ fn refused_extension(rt: HostRuntime) -> Result<(), Fail> {
     let (apex, twice) = (at(&rt, 2, 3), at(&rt, 9, 2));
     let mut tree = HullTree::new(rt.alloc(), POINT_LIMIT);
     let kept = extend_three_times(&rt, &mut tree);
-    let told = [
+    let returned = [
         tree.count(),
         tree.multiplicity(twice),
         tree.multiplicity(apex),
     ];
     drop(tree);
     assert!(rt; kept?);
-    assert_eq!(rt; told, [67, 2, 2]);
+    assert_eq!(rt; returned, [67, 2, 2]);
     Ok(())
 }
 

@@ -10,9 +10,9 @@ use std::process::Abort;
 use std::test::Fail;
 
 /// Whether these are the vertices of a tree, if there is memory for them.
-fn has_vertices(tree: &BucketTree, corners: &[Point]) -> bool {
+fn has_vertices(tree: &BucketTree, vertices: &[Point]) -> bool {
     match tree.vertices() {
-        Ok(vertices) => vertices.as_slice() == corners,
+        Ok(vertices) => vertices.as_slice() == vertices,
         Err(_) => false,
     }
 }
@@ -24,11 +24,11 @@ fn loaded_as_added(rt: HostRuntime) -> Result<(), Fail> {
     let beyond = at(&rt, 9, 9);
     let points = [apex, left, right, apex, inner];
     let mut loaded = BucketTree::from_points(rt.alloc(), 4, &points)?;
-    let told = (loaded.count(), loaded.multiplicity(apex), loaded.area2());
+    let returned = (loaded.count(), loaded.multiplicity(apex), loaded.area2());
     let is_triangle = has_vertices(&loaded, &[left, right, apex]);
     let replies = (loaded.add(beyond), loaded.add(inner));
     drop(loaded);
-    assert!(rt; told == (4, 2, 12) && is_triangle);
+    assert!(rt; returned == (4, 2, 12) && is_triangle);
     assert_eq!(rt; replies, (AddReply::TooMany, AddReply::Again(2)));
     Ok(())
 }
@@ -36,9 +36,9 @@ fn loaded_as_added(rt: HostRuntime) -> Result<(), Fail> {
 #[test]
 fn nothing_loaded(rt: HostRuntime) -> Result<(), Fail> {
     let loaded = HullTree::from_points(rt.alloc(), 1, &[])?;
-    let told = (loaded.count(), loaded.root().is_none());
+    let returned = (loaded.count(), loaded.root().is_none());
     drop(loaded);
-    assert!(rt; told == (0, true));
+    assert!(rt; returned == (0, true));
     Ok(())
 }
 
@@ -82,9 +82,9 @@ fn refused_load(rt: HostRuntime) -> Result<(), Fail> {
         loaded = HullTree::from_points(rt.alloc(), POINT_LIMIT, &points);
     }
     let tree = loaded?;
-    let told = (tree.count(), tree.area2());
+    let returned = (tree.count(), tree.area2());
     drop(tree);
-    assert!(rt; told == (4, 12));
+    assert!(rt; returned == (4, 12));
     Ok(())
 }
 
@@ -117,12 +117,12 @@ fn seen_of(
 #[test]
 fn as_many_points_as_there_may_be(rt: HostRuntime) -> Result<(), Fail> {
     let (first, last) = (at(&rt, 0, 0), at(&rt, 63, 63));
-    let corners = [first, at(&rt, 63, 0), last, at(&rt, 0, 63)];
+    let vertices = [first, at(&rt, 63, 0), last, at(&rt, 0, 63)];
     let (new, outwards) = (at(&rt, 99, 99), Direction::new(1, 1)?);
     let points = whole_grid(&rt, rt.alloc())?;
     let mut tree = BucketTree::from_points(rt.alloc(), 4096, &points)?;
     let (count, area) = (tree.count(), tree.area2());
-    let is_square = has_vertices(&tree, &corners);
+    let is_square = has_vertices(&tree, &vertices);
     let seen = seen_of(&rt, &tree, outwards);
     let refused = tree.add(new);
     let _ = tree.remove(first);

@@ -14,11 +14,11 @@ use std::process::Abort;
 use std::test::Fail;
 
 /// Four points in no line.
-const CORNERS: [(i64, i64); 4] = [(0, 0), (1, 5), (2, 1), (3, 7)];
+const VERTICES: [(i64, i64); 4] = [(0, 0), (1, 5), (2, 1), (3, 7)];
 
 /// The vertex of this number.
-fn corner(rt: &impl Abort, number: usize) -> Point {
-    match CORNERS.get(number) {
+fn vertex(rt: &impl Abort, number: usize) -> Point {
+    match VERTICES.get(number) {
         Some((x, y)) => at(rt, *x, *y),
         None => panic!(rt; "there are four corners"),
     }
@@ -29,7 +29,7 @@ fn tree_of(rt: &impl Abort, alloc: Global, order: &[usize]) -> HullTree {
     let mut tree = HullTree::new(alloc, POINT_LIMIT);
     let mut all = true;
     for i in order {
-        all = tree.add(corner(rt, *i)) == AddReply::Added && all;
+        all = tree.add(vertex(rt, *i)) == AddReply::Added && all;
     }
     assert!(rt; all);
     tree
@@ -47,7 +47,7 @@ fn are_removed_by(rt: &impl Abort, alloc: Global, order: &[usize], turns: u32) -
     let mut all = true;
     for i in order {
         let mut tree = tree_of(rt, alloc, order);
-        all = is_removed_by(&mut tree, corner(rt, *i), turns) && all;
+        all = is_removed_by(&mut tree, vertex(rt, *i), turns) && all;
     }
     all
 }
@@ -94,7 +94,7 @@ fn turns_of_two_points(rt: HostRuntime) {
 fn third_takes_two(rt: &impl Abort, alloc: Global, order: [usize; 3]) -> bool {
     let [first, second, third] = order;
     let mut tree = tree_of(rt, alloc, &[first, second]);
-    let added = tree.add_counted(corner(rt, third));
+    let added = tree.add_counted(vertex(rt, third));
     added == (AddReply::Added, 2) && are_removed_by(rt, alloc, &order, 0)
 }
 
@@ -193,12 +193,12 @@ fn turns_on_a_grid(rt: HostRuntime) {
 
 /// A half that counts in a cell how often it was asked for one of its two halves.
 #[derive(Clone, Copy)]
-struct Watched<'a, H> {
+struct WithProgress<'a, H> {
     half: H,
     asked: &'a Cell<u32>,
 }
 
-impl<'a, H: Half> Half for Watched<'a, H> {
+impl<'a, H: Half> Half for WithProgress<'a, H> {
     ghost tree = { λ s. H.tree s.half };
 
     ghost Fits = { H.Fits };
@@ -223,7 +223,7 @@ impl<'a, H: Half> Half for Watched<'a, H> {
 
     fn left(self) -> Self {
         self.asked.set(self.asked.get().wrapping_add(1));
-        Watched {
+        WithProgress {
             half: self.half.left(),
             asked: self.asked,
         }
@@ -231,7 +231,7 @@ impl<'a, H: Half> Half for Watched<'a, H> {
 
     fn right(self) -> Self {
         self.asked.set(self.asked.get().wrapping_add(1));
-        Watched {
+        WithProgress {
             half: self.half.right(),
             asked: self.asked,
         }
@@ -296,11 +296,11 @@ type Found = ((u32, u32), (Counted, u32), ((Counted, Counted), u32));
 
 fn found_between(left: &HullTree, right: &HullTree) -> Option<Found> {
     let asked = Cell::new(0u32);
-    let u = Watched {
+    let u = WithProgress {
         half: left.half()?,
         asked: &asked,
     };
-    let w = Watched {
+    let w = WithProgress {
         half: right.half()?,
         asked: &asked,
     };

@@ -15,7 +15,7 @@ use std::marker::Model;
 #[derive(Drop)]
 pub struct Spout {
     bytes: Vec<u8>,
-    room: usize,
+    space: usize,
     size: usize,
     calls: u64,
     failing: u64,
@@ -30,7 +30,7 @@ impl Model for Spout {
 
     ghost view = { λ s. record {
       bytes = s.bytes.items;
-      room = s.room;
+      space = s.space;
       size = s.size;
       calls = s.calls;
       failing =
@@ -38,23 +38,23 @@ impl Model for Spout {
       refusing = s.refusing;
     } };
 
-    ghost invariant = { λ s. (vec_len s.bytes ≤ s.room) × (s.room ≤ vec_capacity s.bytes) };
+    ghost invariant = { λ s. (vec_len s.bytes ≤ s.space) × (s.space ≤ vec_capacity s.bytes) };
 }
 
 impl Spout {
-    /// Makes an empty writer that holds up to `room` bytes, takes at most `size` of them at a call (0 counts as 1)
+    /// Makes an empty writer that holds up to `space` bytes, takes at most `size` of them at a call (0 counts as 1)
     /// and doesn't fail before it is full.
     ///
     /// # Errors
     ///
     /// Fails with `AllocError` if memory was refused.
-    pub fn new(alloc: Global, room: usize, size: usize) -> Result<Spout, AllocError>
+    pub fn new(alloc: Global, space: usize, size: usize) -> Result<Spout, AllocError>
         ensures { IfOk result
-            (λ s. s ≡ record { bytes = []; room = room; size = size; calls = 0; failing = 0; refusing = false }) }
+            (λ s. s ≡ record { bytes = []; space = space; size = size; calls = 0; failing = 0; refusing = false }) }
     {
         Ok(Spout {
-            bytes: Vec::with_capacity(alloc, room)?,
-            room,
+            bytes: Vec::with_capacity(alloc, space)?,
+            space,
             size,
             calls: 0,
             failing: 0,
@@ -68,7 +68,7 @@ impl Spout {
     {
         Spout {
             bytes: self.bytes,
-            room: self.room,
+            space: self.space,
             size: self.size,
             calls: self.calls,
             failing: call,
@@ -82,7 +82,7 @@ impl Spout {
     {
         Spout {
             bytes: self.bytes,
-            room: self.room,
+            space: self.space,
             size: self.size,
             calls: self.calls,
             failing: call,
@@ -117,7 +117,7 @@ impl Write for Spout {
         ensures kind { IfErr result (λ e. error_kind e ≡ ErrorKind.Other) }
         ensures other { self.new.calls ≢ self.old.failing
             → IsOkAnd result (λ n. n
-            ≡ min (min (max self.old.size 1) (length buf.now)) (self.old.room - length self.old.bytes)) }
+            ≡ min (min (max self.old.size 1) (length buf.now)) (self.old.space - length self.old.bytes)) }
         ensures kept { self.new ≡ record self.old { bytes = self.new.bytes; calls = self.new.calls } }
     {
         self.calls = self.calls.wrapping_add(1);
@@ -127,8 +127,8 @@ impl Write for Spout {
             }
             return Err(io::Error::new(ErrorKind::Other, "the chosen write"));
         }
-        let room = self.room - self.bytes.len();
-        let n = self.size.max(1).min(buf.len()).min(room);
+        let space = self.space - self.bytes.len();
+        let n = self.size.max(1).min(buf.len()).min(space);
         match self.bytes.extend_from_slice(&buf[..n]) {
             Ok(()) => Ok(n),
             Err(_) => unreachable!(),

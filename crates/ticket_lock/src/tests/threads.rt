@@ -104,7 +104,7 @@ fn part(
         (λ w. IsSome w.seat × IfSome w.seat
         (λ s. IsSeatOf ⟦<Roll as Chronicle>⟧.head lock.now s × (seat_number s ≡ w.number)
         × (length (own ⟦<Roll as Chronicle>⟧ w.number (seat_seen s)) ≡ w.signed))) workers.items }
-    requires room { (vec_len workers ≤ vec_capacity seats.old) × (vec_len workers ≤ vec_capacity tallies.old)
+    requires space { (vec_len workers ≤ vec_capacity seats.old) × (vec_len workers ≤ vec_capacity tallies.old)
         × (seats.old.items ≡ []) × (tallies.old.items ≡ []) }
     ensures own { All (IsSeatOf ⟦<Roll as Chronicle>⟧.head lock.now) seats.new.items
         × (vec_len seats.new ≡ vec_len workers) }
@@ -136,9 +136,9 @@ fn finish(lock: TicketLock<Roll>, seats: Vec<Seat<Roll>>, tallies: &[Tally]) -> 
 }
 
 // A worker for each seat, before any line is signed.
-fn hire(lock: &TicketLock<Roll>, mut seats: Vec<Seat<Roll>>, workers: &mut Vec<Worker>)
+fn assemble(lock: &TicketLock<Roll>, mut seats: Vec<Seat<Roll>>, workers: &mut Vec<Worker>)
     requires own { All (λ s. IsSeatOf ⟦<Roll as Chronicle>⟧.head lock.now s × (seat_seen s ≡ [])) seats.items }
-    requires room { (vec_len seats ≤ vec_capacity workers.old) × (workers.old.items ≡ []) }
+    requires space { (vec_len seats ≤ vec_capacity workers.old) × (workers.old.items ≡ []) }
     ensures ready { All (λ w. IsSome w.seat × (w.signed ≤ 0)
         × IfSome w.seat (λ s. IsSeatOf ⟦<Roll as Chronicle>⟧.head lock.now s × (seat_number s ≡ w.number)
         × (length (own ⟦<Roll as Chronicle>⟧ w.number (seat_seen s)) ≡ w.signed))) workers.new.items }
@@ -178,7 +178,7 @@ fn all_sign<R: Threads + Wait + Abort + Sync>(
             return Err(refused);
         }
     };
-    hire(&lock, seats, &mut workers);
+    assemble(&lock, seats, &mut workers);
     for round in 0..rounds {
         all_work(rt, &lock, workers.as_mut_slice(), round, crowd);
     }

@@ -13,15 +13,15 @@ new-lower-requires-clause-in_order g c =
     rw (c.new.ensures, c.new-2.ensures)
     (halves_turned (g.H.Half.tree c.args.u) (g.H.Half.tree c.args.w) c.requires.in_order)
 
-pub new-lower-requires-clause-parting : goal.new-lower-requires-clause-parting
-new-lower-requires-clause-parting g c =
+pub new-lower-requires-clause-split : goal.new-lower-requires-clause-split
+new-lower-requires-clause-split g c =
     rw (c.new-2.ensures, c.turned.ensures, c.requires.last) (sym (first_turned (g.H.Half.tree c.args.u)))
 
 pub loop-preserved : goal.loop-preserved
 loop-preserved g c = (
-  turns.under_way_on _ _ _ _ _ _ _ _ _ _ _ c.loop.invariant.0 c.advance.ensures.advance c.advance.ensures.parting,
+  turns.under_way_on _ _ _ _ _ _ _ _ _ _ _ c.loop.invariant.0 c.advance.ensures.advance c.advance.ensures.split,
   turns.under_way_on _ _ _ _ _ _ _ _ _ _ _ c.loop.invariant.1 c.advance-in-loop.ensures.advance
-      c.advance-in-loop.ensures.parting,
+      c.advance-in-loop.ensures.split,
 )
 
 pub returns-clause-upper : goal.returns-clause-upper

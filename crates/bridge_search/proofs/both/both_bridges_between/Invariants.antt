@@ -8,10 +8,10 @@ use Rattle.bridge_search.proofs.both.both_bridges_between.Given as goal
 abbrev pub invariant-loop : goal.invariant-loop
 invariant-loop g l =
     IsReached (g.H.Half.tree l.fn.u) (g.H.Half.tree l.fn.w) (g.H.Half.tree l.upper.left)
-    (g.H.Half.tree l.upper.right) l.upper.parting l.upper.turns
+    (g.H.Half.tree l.upper.right) l.upper.split l.upper.turns
     × IsReached (turned_tree (g.H.Half.tree l.fn.w)) (turned_tree (g.H.Half.tree l.fn.u))
     (turned_tree (g.H.Half.tree l.lower.left.half))
-    (turned_tree (g.H.Half.tree l.lower.right.half)) l.lower.parting l.lower.turns
+    (turned_tree (g.H.Half.tree l.lower.right.half)) l.lower.split l.lower.turns
 
 abbrev pub decreases-loop : goal.decreases-loop
 decreases-loop g l =

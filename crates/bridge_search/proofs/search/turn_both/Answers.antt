@@ -1,5 +1,5 @@
 -- the ends of both edges fit, and each of the four cases of the table keeps the bridge
-use Rattle.bridge_search.proofs.Signs.{not_under, is_under, crossing_told}
+use Rattle.bridge_search.proofs.Signs.{not_under, is_under, crossing_returned}
 use Rattle.bridge_search.proofs.Turns as turns
 use Rattle.lattice.proofs.Tests.{passed, failed}
 use Rattle.bridge_search.proofs.search.turn_both.Goals as goal
@@ -73,7 +73,7 @@ returns-then-weighted_at_or_before g c =
     (is_under _ _ c.orient-side.ensures.size c.orient-side.ensures.value c.if-side-ge0.false)
     (is_under _ _ c.orient.ensures.size c.orient.ensures.value c.if-orient-ge0.false)
     (passed _ _ c.if-weighted_at_or_before.true
-    (crossing_told _ _ _ _ _ _ _ c.args.m c.orient-side.ensures.size c.orient-else-orient-ge0.ensures.size
+    (crossing_returned _ _ _ _ _ _ _ c.args.m c.orient-side.ensures.size c.orient-else-orient-ge0.ensures.size
     c.orient-side.ensures.value c.orient-else-orient-ge0.ensures.value c.weighted_at_or_before.ensures)))
 
 pub returns-else-weighted_at_or_before : goal.returns-else-weighted_at_or_before
@@ -83,5 +83,5 @@ returns-else-weighted_at_or_before g c =
     (is_under _ _ c.orient-side.ensures.size c.orient-side.ensures.value c.if-side-ge0.false)
     (is_under _ _ c.orient.ensures.size c.orient.ensures.value c.if-orient-ge0.false)
     (turns.crossing_after _ _ _ _ _ (failed _ _ c.if-weighted_at_or_before.false
-    (crossing_told _ _ _ _ _ _ _ c.args.m c.orient-side.ensures.size c.orient-else-orient-ge0.ensures.size
+    (crossing_returned _ _ _ _ _ _ _ c.args.m c.orient-side.ensures.size c.orient-else-orient-ge0.ensures.size
     c.orient-side.ensures.value c.orient-else-orient-ge0.ensures.value c.weighted_at_or_before.ensures))))

@@ -4,7 +4,7 @@ use Rattle.bridge_search.proofs.search.upper_bridge_counted.Goals as goal
 
 pub loop-preserved : goal.loop-preserved
 loop-preserved g c =
-    turns.under_way_on _ _ _ _ _ _ _ _ _ _ _ c.loop.invariant c.advance.ensures.advance c.advance.ensures.parting
+    turns.under_way_on _ _ _ _ _ _ _ _ _ _ _ c.loop.invariant c.advance.ensures.advance c.advance.ensures.split
 
 pub returns-clause-depths : goal.returns-clause-depths
 returns-clause-depths g c =

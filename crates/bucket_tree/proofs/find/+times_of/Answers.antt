@@ -4,7 +4,7 @@ use Rattle.lattice.specs.Plane.{IsBefore}
 use Rattle.hull_buckets.specs.Buckets.{BucketValue, IsBucket}
 use Rattle.hull_geometry.specs.Positions.{IsPositionOf}
 use Rattle.bucket_tree.specs.Counts.{times_at}
-use Rattle.bucket_tree.specs.Nodes.{forks_above, IsWellBuilt}
+use Rattle.bucket_tree.specs.Nodes.{node_height, IsWellBuilt}
 use Rattle.bucket_tree.proofs.Gained.{passed, failed}
 use Rattle.bucket_tree.proofs.Lost.{count_at, count_none}
 use Rattle.bucket_tree.proofs.Parts.{count_in}
@@ -13,10 +13,10 @@ use Rattle.bucket_tree.proofs.find.+times_of.Goals as goal
 
 pub times_of-requires : goal.times_of-requires
 times_of-requires t c =
-    let e : forks_above c.args.node.now
-    ≡ max (forks_above c.in-Fork.fork.value.left) (forks_above c.in-Fork.fork.value.right) + 1 =
-    ap forks_above c.in-Fork.is in
-    let k = ap (λ z. forks_above z.left) c.deref-then-before.ensures in (
+    let e : node_height c.args.node.now
+    ≡ max (node_height c.in-Fork.fork.value.left) (node_height c.in-Fork.fork.value.right) + 1 =
+    ap node_height c.in-Fork.is in
+    let k = ap (λ z. node_height z.left) c.deref-then-before.ensures in (
       omega (arith, c.decreases, e, k),
       subst (λ z. IsWellBuilt z.left) (sym c.deref-then-before.ensures)
           (halves_row c.args.node.now c.in-Fork.field-0 c.in-Fork.fork c.in-Fork.is c.requires).left_built,
@@ -24,10 +24,10 @@ times_of-requires t c =
 
 pub times_of-requires-else-before : goal.times_of-requires-else-before
 times_of-requires-else-before t c =
-    let e : forks_above c.args.node.now
-    ≡ max (forks_above c.in-Fork.fork.value.left) (forks_above c.in-Fork.fork.value.right) + 1 =
-    ap forks_above c.in-Fork.is in
-    let k = ap (λ z. forks_above z.right) c.deref-else-before.ensures in (
+    let e : node_height c.args.node.now
+    ≡ max (node_height c.in-Fork.fork.value.left) (node_height c.in-Fork.fork.value.right) + 1 =
+    ap node_height c.in-Fork.is in
+    let k = ap (λ z. node_height z.right) c.deref-else-before.ensures in (
       omega (arith, c.decreases, e, k),
       subst (λ z. IsWellBuilt z.right) (sym c.deref-else-before.ensures)
           (halves_row c.args.node.now c.in-Fork.field-0 c.in-Fork.fork c.in-Fork.is c.requires).right_built,
@@ -55,12 +55,12 @@ pub returns-then-before : goal.returns-then-before
 returns-then-before t c =
     c.times_of.ensures ∙ ap (λ z. times_at z.left c.args.p) c.deref-then-before.ensures
     ∙ sym (count_in true c.args.node.now c.in-Fork.field-0 c.in-Fork.fork c.args.p c.in-Fork.is c.requires
-    (subst (IsBefore c.args.p) (ap (λ z. z.first_right) c.deref-in-Fork.ensures)
+    (subst (IsBefore c.args.p) (ap (λ z. z.right_first) c.deref-in-Fork.ensures)
     (passed c.before-in-Fork.result c.before-in-Fork.ensures.0 c.if-before.true)))
 
 pub returns-else-before : goal.returns-else-before
 returns-else-before t c =
     c.times_of-else-before.ensures ∙ ap (λ z. times_at z.right c.args.p) c.deref-else-before.ensures
     ∙ sym (count_in false c.args.node.now c.in-Fork.field-0 c.in-Fork.fork c.args.p c.in-Fork.is c.requires
-    (subst (λ z. ¬ IsBefore c.args.p z) (ap (λ z. z.first_right) c.deref-in-Fork.ensures)
+    (subst (λ z. ¬ IsBefore c.args.p z) (ap (λ z. z.right_first) c.deref-in-Fork.ensures)
     (failed c.before-in-Fork.result c.before-in-Fork.ensures.1 c.if-before.false)))

@@ -40,11 +40,11 @@ returns-in-Ok-clause-change g t c =
     c.deref_mut-in-Ok.result.now c.change_in_place.new.node c.in-Ok.below c.after_left.result _ i c.in-Ok.ensures.change
     c.requires.few c.requires.low c.deref_mut-in-Ok.ensures.value c.after_left.ensures
 
-pub returns-in-Err-clause-told : goal.returns-in-Err-clause-told
-returns-in-Err-clause-told g t c =
+pub returns-in-Err-clause-returned : goal.returns-in-Err-clause-returned
+returns-in-Err-clause-returned g t c =
     let i = fork_at true _ _ _ _ _ _ c.in-Fork.is c.deref_mut-then-before.ensures.value c.deref.ensures c.requires.built
     (passed _ c.before-in-Fork.ensures.0 c.if-before.true) in
-    c.in-Err.ensures.told ∙ sym (same_below true _ _ _ _ i)
+    c.in-Err.ensures.returned ∙ sym (same_below true _ _ _ _ i)
 
 pub change_in_place-requires-else-before : goal.change_in_place-requires-else-before
 change_in_place-requires-else-before g t c =
@@ -75,9 +75,9 @@ returns-in-Ok-change_in_place-clause-change g t c =
     c.after_right.result _ i c.in-Ok-change_in_place.ensures.change
     c.requires.few c.requires.low c.deref_mut-in-Ok-change_in_place.ensures.value c.after_right.ensures
 
-pub returns-in-Err-change_in_place-clause-told : goal.returns-in-Err-change_in_place-clause-told
-returns-in-Err-change_in_place-clause-told g t c =
+pub returns-in-Err-change_in_place-clause-returned : goal.returns-in-Err-change_in_place-clause-returned
+returns-in-Err-change_in_place-clause-returned g t c =
     let i = fork_at false _ _ _ _ _ _ c.in-Fork.is c.deref_mut-else-before.ensures.value c.deref.ensures
     c.requires.built
     (failed _ c.before-in-Fork.ensures.1 c.if-before.false) in
-    c.in-Err-change_in_place.ensures.told ∙ sym (same_below false _ _ _ _ i)
+    c.in-Err-change_in_place.ensures.returned ∙ sym (same_below false _ _ _ _ i)

@@ -7,5 +7,5 @@ pub renew_edges-above-requires-clause-behind : goal.renew_edges-above-requires-c
 renew_edges-above-requires-clause-behind c =
     let edges = c.requires.behind.edges in
     let f = c.args.fork.now in
-    behind_as c.args.p c.args.below.sides f.left f.right f _ edges.closed edges.clear (same_edges f _ refl refl)
+    behind_as c.args.p c.args.below.sides f.left f.right f _ edges.unaffected edges.clear (same_edges f _ refl refl)
     c.last_after-fork.ensures c.requires.behind.first

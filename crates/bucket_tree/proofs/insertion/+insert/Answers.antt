@@ -3,22 +3,22 @@ use Rattle.std.proofs.Common.{◌∙◌, true, false, ap, subst, sym, arith, Lis
 use Rattle.std.specs.List.{Contains}
 use Rattle.std.proofs.lemmas.List.Elements.{Contains-append_right}
 use Rattle.lattice.specs.Plane.{Pair}
-use Rattle.bucket_tree.specs.Changes.{IsClosedOver}
+use Rattle.bucket_tree.specs.Changes.{IsUnaffectedOver}
 use Rattle.bucket_tree.specs.Counts.{Comes}
-use Rattle.bucket_tree.specs.Nodes.{points_below, forks_above}
+use Rattle.bucket_tree.specs.Nodes.{points_below, node_height}
 use Rattle.bucket_tree.specs.declared.node.Fork.{Fork}
 use Rattle.bucket_tree.proofs.MostTurns.{one_fork, few_sum}
 use Rattle.bucket_tree.proofs.Gained.{passed, failed}
-use Rattle.bucket_tree.proofs.Kept.{behind_as, closed_within, first_kept, last_kept, same_edges}
+use Rattle.bucket_tree.proofs.Kept.{behind_as, unaffected_within, first_kept, last_kept, same_edges}
 use Rattle.bucket_tree.proofs.InPlace.{among_with}
-use Rattle.bucket_tree.proofs.Parts.{alters_with, at, closed_with, differs, few_with, row_with, stands_with}
+use Rattle.bucket_tree.proofs.Parts.{alters_with, at, unaffected_with, differs, few_with, row_with, stands_with}
 use Rattle.bucket_tree.proofs.insertion.+insert.Goals as goal
 
 pub balance-above-requires-clause-row : goal.balance-above-requires-clause-row
 balance-above-requires-clause-row t c =
     let o = c.take_apart-left.ensures in
     let i = at true _ c.args.node _ _ _ o.row o.points o.times
-    (ap (λ z. z.first_right) c.deref.ensures ∙ o.parting) (passed _ c.before-2.ensures.0 c.if-before.true) in
+    (ap (λ z. z.right_first) c.deref.ensures ∙ o.split) (passed _ c.before-2.ensures.0 c.if-before.true) in
     row_with true (Comes c.insert-change.result.refused) _ _ _ _ c.insert-change.result.node i
     c.insert-change.ensures.built c.insert-change.ensures.gained
 
@@ -26,7 +26,7 @@ pub balance-above-requires-clause-few : goal.balance-above-requires-clause-few
 balance-above-requires-clause-few t c =
     let o = c.take_apart-left.ensures in
     let i = at true _ c.args.node _ _ _ o.row o.points o.times
-    (ap (λ z. z.first_right) c.deref.ensures ∙ o.parting) (passed _ c.before-2.ensures.0 c.if-before.true) in
+    (ap (λ z. z.right_first) c.deref.ensures ∙ o.split) (passed _ c.before-2.ensures.0 c.if-before.true) in
     few_with true (Comes c.insert-change.result.refused) _ _ _ _ c.insert-change.result.node i
     c.insert-change.ensures.gained (c.requires.absent, c.requires.few)
 
@@ -45,37 +45,37 @@ balance-above-requires-clause-behind t c =
     c.insert-change.result.node o.row.left_built.ordered c.insert-change.ensures.gained in
     let f = c.take_apart-left.result.2.value in
     behind_as _ _ c.insert-change.result.node c.take_apart-left.result.1 f _
-    (closed_with true (Comes c.insert-change.result.refused) _ _ _ c.insert-change.result.node _ f o.row o.stored
-    c.insert-change.ensures.gained d c.insert-change.ensures.closed)
+    (unaffected_with true (Comes c.insert-change.result.refused) _ _ _ c.insert-change.result.node _ f o.row o.stored
+    c.insert-change.ensures.gained d c.insert-change.ensures.unaffected)
     (λ side. stands_with true side _ c.take_apart-left.result.0 c.take_apart-left.result.1 c.insert-change.result.node _
     (o.stored side) d)
     (same_edges f _ (ap (λ (g : Fork). g.lower) c.deref_mut.ensures.value)
     (ap (λ (g : Fork). g.upper) c.deref_mut.ensures.value))
-    c.last_after.ensures (ap (λ (g : Fork). g.first_right) c.deref_mut.ensures.value ∙ o.parting)
+    c.last_after.ensures (ap (λ (g : Fork). g.right_first) c.deref_mut.ensures.value ∙ o.split)
 
 pub returns-then-before-clause-gained : goal.returns-then-before-clause-gained
 returns-then-before-clause-gained t c =
     let o = c.take_apart-left.ensures in
     let i = at true _ c.args.node _ _ _ o.row o.points o.times
-    (ap (λ z. z.first_right) c.deref.ensures ∙ o.parting) (passed _ c.before-2.ensures.0 c.if-before.true) in
+    (ap (λ z. z.right_first) c.deref.ensures ∙ o.split) (passed _ c.before-2.ensures.0 c.if-before.true) in
     alters_with true (Comes c.insert-change.result.refused) _ _ _ _ c.insert-change.result.node
     c.balance-above.result.node i c.insert-change.ensures.built c.balance-above.ensures.points
     c.balance-above.ensures.times
     c.insert-change.ensures.gained
 
-pub returns-then-before-clause-closed : goal.returns-then-before-clause-closed
-returns-then-before-clause-closed t c = λ r.
-    subst (IsClosedOver c.args.p c.balance-above.result.sides) (sym c.balance-above.ensures.points)
-    (closed_within _ _ _ _ _
+pub returns-then-before-clause-unaffected : goal.returns-then-before-clause-unaffected
+returns-then-before-clause-unaffected t c = λ r.
+    subst (IsUnaffectedOver c.args.p c.balance-above.result.sides) (sym c.balance-above.ensures.points)
+    (unaffected_within _ _ _ _ _
     (among_with true c.take_apart-left.result.0 c.take_apart-left.result.1 c.insert-change.result.node)
-    (c.insert-change.ensures.closed r) c.balance-above.ensures.closes)
+    (c.insert-change.ensures.unaffected r) c.balance-above.ensures.closes)
 
 -- the change below and the fork above it take this many turns together
 pub overflow_add-result : goal.overflow_add-result
 overflow_add-result t c =
     let e = c.take_apart-left.ensures.height in
-    let s = few_sum (forks_above c.args.node)
-    (forks_above c.take_apart-left.result.0) c.insert-change.result.turns c.balance-above.result.turns
+    let s = few_sum (node_height c.args.node)
+    (node_height c.take_apart-left.result.0) c.insert-change.result.turns c.balance-above.result.turns
     (omega (arith, e))
     c.requires.low c.insert-change.ensures.turns
     (omega (arith, c.balance-above.ensures.turns, c.insert-change.ensures.height.1, e)) in
@@ -84,8 +84,8 @@ overflow_add-result t c =
 pub returns-then-before-clause-turns : goal.returns-then-before-clause-turns
 returns-then-before-clause-turns t c =
     let e = c.take_apart-left.ensures.height in
-    let s = one_fork (forks_above c.args.node)
-    (forks_above c.take_apart-left.result.0) c.insert-change.result.turns c.balance-above.result.turns
+    let s = one_fork (node_height c.args.node)
+    (node_height c.take_apart-left.result.0) c.insert-change.result.turns c.balance-above.result.turns
     (omega (arith, e)) c.insert-change.ensures.turns
     (omega (arith, c.balance-above.ensures.turns, c.insert-change.ensures.height.1, e)) in
     omega (arith, s)
@@ -116,7 +116,7 @@ pub balance-above-requires-else-before-clause-row : goal.balance-above-requires-
 balance-above-requires-else-before-clause-row t c =
     let o = c.take_apart-left.ensures in
     let i = at false _ c.args.node _ _ _ o.row o.points o.times
-    (ap (λ z. z.first_right) c.deref.ensures ∙ o.parting) (failed _ c.before-2.ensures.1 c.if-before.false) in
+    (ap (λ z. z.right_first) c.deref.ensures ∙ o.split) (failed _ c.before-2.ensures.1 c.if-before.false) in
     row_with false (Comes c.insert-change-else-before.result.refused) _ _ _ _ c.insert-change-else-before.result.node i
     c.insert-change-else-before.ensures.built c.insert-change-else-before.ensures.gained
 
@@ -124,7 +124,7 @@ pub balance-above-requires-else-before-clause-few : goal.balance-above-requires-
 balance-above-requires-else-before-clause-few t c =
     let o = c.take_apart-left.ensures in
     let i = at false _ c.args.node _ _ _ o.row o.points o.times
-    (ap (λ z. z.first_right) c.deref.ensures ∙ o.parting) (failed _ c.before-2.ensures.1 c.if-before.false) in
+    (ap (λ z. z.right_first) c.deref.ensures ∙ o.split) (failed _ c.before-2.ensures.1 c.if-before.false) in
     few_with false (Comes c.insert-change-else-before.result.refused) _ _ _ _ c.insert-change-else-before.result.node i
     c.insert-change-else-before.ensures.gained (c.requires.absent, c.requires.few)
 
@@ -134,7 +134,7 @@ first_after-requires-clause-kept t c =
     let d = differs (Comes c.insert-change-else-before.result.refused) c.args.p c.take_apart-left.result.1
     c.insert-change-else-before.result.node o.row.right_built.ordered c.insert-change-else-before.ensures.gained in
     first_kept _ _ _ _ o.row.right_built c.insert-change-else-before.ensures.built d
-    (ap (λ (f : Fork). f.first_right) c.deref-else-before.ensures ∙ o.parting)
+    (ap (λ (f : Fork). f.right_first) c.deref-else-before.ensures ∙ o.split)
 
 pub balance-above-requires-else-before-clause-behind : goal.balance-above-requires-else-before-clause-behind
 balance-above-requires-else-before-clause-behind t c =
@@ -143,9 +143,9 @@ balance-above-requires-else-before-clause-behind t c =
     c.insert-change-else-before.result.node o.row.right_built.ordered c.insert-change-else-before.ensures.gained in
     let f = c.take_apart-left.result.2.value in
     behind_as _ _ c.take_apart-left.result.0 c.insert-change-else-before.result.node f _
-    (closed_with false (Comes c.insert-change-else-before.result.refused) _ _ _
+    (unaffected_with false (Comes c.insert-change-else-before.result.refused) _ _ _
     c.insert-change-else-before.result.node _ f o.row o.stored c.insert-change-else-before.ensures.gained d
-    c.insert-change-else-before.ensures.closed)
+    c.insert-change-else-before.ensures.unaffected)
     (λ side. stands_with false side _ c.take_apart-left.result.0 c.take_apart-left.result.1
     c.insert-change-else-before.result.node _ (o.stored side) d)
     (same_edges f _ (ap (λ (g : Fork). g.lower) c.deref_mut-else-before.ensures.value)
@@ -156,26 +156,26 @@ pub returns-else-before-clause-gained : goal.returns-else-before-clause-gained
 returns-else-before-clause-gained t c =
     let o = c.take_apart-left.ensures in
     let i = at false _ c.args.node _ _ _ o.row o.points o.times
-    (ap (λ z. z.first_right) c.deref.ensures ∙ o.parting) (failed _ c.before-2.ensures.1 c.if-before.false) in
+    (ap (λ z. z.right_first) c.deref.ensures ∙ o.split) (failed _ c.before-2.ensures.1 c.if-before.false) in
     alters_with false (Comes c.insert-change-else-before.result.refused) _ _ _ _ c.insert-change-else-before.result.node
     c.balance-above-else-before.result.node i c.insert-change-else-before.ensures.built
     c.balance-above-else-before.ensures.points c.balance-above-else-before.ensures.times
     c.insert-change-else-before.ensures.gained
 
-pub returns-else-before-clause-closed : goal.returns-else-before-clause-closed
-returns-else-before-clause-closed t c = λ r.
-    subst (IsClosedOver c.args.p c.balance-above-else-before.result.sides)
+pub returns-else-before-clause-unaffected : goal.returns-else-before-clause-unaffected
+returns-else-before-clause-unaffected t c = λ r.
+    subst (IsUnaffectedOver c.args.p c.balance-above-else-before.result.sides)
     (sym c.balance-above-else-before.ensures.points)
-    (closed_within _ _ _ _ _
+    (unaffected_within _ _ _ _ _
     (among_with false c.take_apart-left.result.0 c.take_apart-left.result.1 c.insert-change-else-before.result.node)
-    (c.insert-change-else-before.ensures.closed r) c.balance-above-else-before.ensures.closes)
+    (c.insert-change-else-before.ensures.unaffected r) c.balance-above-else-before.ensures.closes)
 
 -- the change below and the fork above it take this many turns together
 pub overflow_add-result-else-before : goal.overflow_add-result-else-before
 overflow_add-result-else-before t c =
     let e = c.take_apart-left.ensures.height in
-    let s = few_sum (forks_above c.args.node)
-    (forks_above c.take_apart-left.result.1) c.insert-change-else-before.result.turns
+    let s = few_sum (node_height c.args.node)
+    (node_height c.take_apart-left.result.1) c.insert-change-else-before.result.turns
     c.balance-above-else-before.result.turns (omega (arith, e))
     c.requires.low c.insert-change-else-before.ensures.turns
     (omega (arith, c.balance-above-else-before.ensures.turns, c.insert-change-else-before.ensures.height.1, e)) in
@@ -184,8 +184,8 @@ overflow_add-result-else-before t c =
 pub returns-else-before-clause-turns : goal.returns-else-before-clause-turns
 returns-else-before-clause-turns t c =
     let e = c.take_apart-left.ensures.height in
-    let s = one_fork (forks_above c.args.node)
-    (forks_above c.take_apart-left.result.1) c.insert-change-else-before.result.turns
+    let s = one_fork (node_height c.args.node)
+    (node_height c.take_apart-left.result.1) c.insert-change-else-before.result.turns
     c.balance-above-else-before.result.turns
     (omega (arith, e)) c.insert-change-else-before.ensures.turns
     (omega (arith, c.balance-above-else-before.ensures.turns, c.insert-change-else-before.ensures.height.1, e)) in

@@ -14,8 +14,8 @@ returns-clause-times c q =
     c.args.place c.args.p q c.buckets_are_sound.ensures.ordered c.buckets_are_sound.ensures.counted
     c.requires.position c.insert.ensures.points c.insert.ensures.times
 
-pub open_at-requires-clause-within : goal.open_at-requires-clause-within
-open_at-requires-clause-within c = omega (
+pub affected_at-requires-clause-within : goal.affected_at-requires-clause-within
+affected_at-requires-clause-within c = omega (
   arith,
   c.requires.position.0,
   ap (λ (z : List Pair). length z) c.insert.ensures.points,
@@ -23,8 +23,8 @@ open_at-requires-clause-within c = omega (
       (no_place c.args.bucket.now.points c.args.place c.args.p c.requires.position),
 )
 
-pub open_at-requires-clause-there : goal.open_at-requires-clause-there
-open_at-requires-clause-there c =
+pub affected_at-requires-clause-there : goal.affected_at-requires-clause-there
+affected_at-requires-clause-there c =
     ap (λ z. point_at z c.args.place) (c.insert.ensures.points
     ∙ sym (insert_is c.args.bucket.now.points c.args.p c.args.place c.buckets_are_sound.ensures.ordered c.requires.position))
     ∙ inserted_there c.args.bucket.now.points c.args.p c.args.place c.requires.position.0

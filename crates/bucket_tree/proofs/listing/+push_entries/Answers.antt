@@ -15,7 +15,7 @@ push_entries-requires-in-Fork t c =
         o.right_buckets,
         omega (
           arith,
-          c.requires.room,
+          c.requires.space,
           o.long,
           o.left_long,
           c.push_entries.ensures.capacity,

@@ -2,7 +2,7 @@
 use Rattle.std.proofs.Common.{◌≤◌, ◌∙◌, refl, ap, arith, length, take, ◌++◌, List, ℕ, subst, vec_len, vec_capacity}
 use Rattle.std.proofs.lemmas.List.{length-take}
 use Rattle.lattice.specs.Plane.{Pair, IsBefore}
-use Rattle.leaf_trees.specs.Stretches.{entries_from}
+use Rattle.leaf_trees.specs.ChainRanges.{entries_from}
 use Rattle.bucket_tree.specs.Lists.{entries_below}
 use Rattle.bucket_tree.specs.Nodes.{IsWellBuilt}
 use Rattle.bucket_tree.specs.declared.node.Fork.{Fork as Below}
@@ -17,7 +17,7 @@ push_from-requires t c =
     let row = halves_row c.args.node.now c.in-Fork.field-0 c.in-Fork.fork c.in-Fork.is c.requires.built in
     rw c.deref-then-not-before.ensures (
       omega (arith, c.decreases, o.height),
-      (row.left_built, (c.requires.few, c.requires.room)),
+      (row.left_built, (c.requires.few, c.requires.space)),
     )
 
 pub push_from-requires-in-Fork : goal.push_from-requires-in-Fork
@@ -35,17 +35,17 @@ push_from-requires-in-Fork t c =
       )
       | else-not-before w ↦ omega (arith, ap (λ v. vec_len v) w.entries-is, c.requires.few)
     ] in
-    let room : c.args.most ≤ vec_capacity c.if-not-before.entries =
+    let space : c.args.most ≤ vec_capacity c.if-not-before.entries =
     elim c.if-not-before.branch [
       | then-not-before w ↦ omega (
         arith,
         ap (λ v. vec_capacity v) w.entries-is,
         w.push_from.ensures.capacity,
-        c.requires.room,
+        c.requires.space,
       )
-      | else-not-before w ↦ omega (arith, ap (λ v. vec_capacity v) w.entries-is, c.requires.room)
+      | else-not-before w ↦ omega (arith, ap (λ v. vec_capacity v) w.entries-is, c.requires.space)
     ] in
-    rw c.deref-in-Fork-2.ensures (omega (arith, c.decreases, o.height), (row.right_built, (few, room)))
+    rw c.deref-in-Fork-2.ensures (omega (arith, c.decreases, o.height), (row.right_built, (few, space)))
 
 pub returns-after-not-before-clause-entries : goal.returns-after-not-before-clause-entries
 returns-after-not-before-clause-entries t c =

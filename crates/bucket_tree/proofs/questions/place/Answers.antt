@@ -8,4 +8,4 @@ use Rattle.bucket_tree.proofs.questions.place.Goals as goal
 
 pub returns : goal.returns
 returns c = lies_for (points_of (tree_of c.args.node.now)) (points_below c.args.node.now) c.args.q c.place.result
-    c.corners_answer.ensures (subst (λ z. LiesAt (points_of z) c.args.q c.place.result) c.new.ensures c.place.ensures)
+    c.vertices_answer.ensures (subst (λ z. LiesAt (points_of z) c.args.q c.place.result) c.new.ensures c.place.ensures)

@@ -8,6 +8,6 @@ use Rattle.bucket_tree.proofs.questions.tangents.Goals as goal
 
 pub returns : goal.returns
 returns c = tangents_for (tree_of c.args.node.now) (points_below c.args.node.now) c.args.q c.tangents.result
-    c.corners_answer.ensures
+    c.vertices_answer.ensures
     (subst (λ z. AnswersTangents (points_of z) c.args.q (reply_to_tangents c.tangents.result)) c.new.ensures
     c.tangents.ensures)

@@ -4,7 +4,7 @@ use Rattle.lattice.specs.Plane.{IsBefore}
 use Rattle.hull_buckets.specs.Buckets.{BucketValue}
 use Rattle.bucket_tree.specs.Counts.{counted, times_at, IsSameButTimes}
 use Rattle.leaf_trees.specs.Entries.{several}
-use Rattle.bucket_tree.specs.Nodes.{forks_above, IsWellBuilt}
+use Rattle.bucket_tree.specs.Nodes.{node_height, IsWellBuilt}
 use Rattle.bucket_tree.proofs.Gained.{passed, failed}
 use Rattle.bucket_tree.proofs.Parts.{count_in}
 use Rattle.bucket_tree.proofs.NodeRows.{halves_row}
@@ -13,12 +13,12 @@ use Rattle.bucket_tree.proofs.recounting.+recount.Goals as goal
 
 pub recount-requires : goal.recount-requires
 recount-requires t c =
-    let e : forks_above c.args.node.now
-    ≡ max (forks_above c.in-Fork.fork.value.left) (forks_above c.in-Fork.fork.value.right) + 1 =
-    ap forks_above c.in-Fork.is in
-    let k = ap (λ z. forks_above z.left) c.deref_mut-then-before.ensures.value in
+    let e : node_height c.args.node.now
+    ≡ max (node_height c.in-Fork.fork.value.left) (node_height c.in-Fork.fork.value.right) + 1 =
+    ap node_height c.in-Fork.is in
+    let k = ap (λ z. node_height z.left) c.deref_mut-then-before.ensures.value in
     let m = count_in true c.args.node.now c.in-Fork.field-0 c.in-Fork.fork c.args.p c.in-Fork.is c.requires.built
-    (subst (IsBefore c.args.p) (ap (λ z. z.first_right) c.deref.ensures)
+    (subst (IsBefore c.args.p) (ap (λ z. z.right_first) c.deref.ensures)
     (passed c.before-in-Fork.result c.before-in-Fork.ensures.0 c.if-before.true)) in
     let v = ap (λ z. times_at z.left c.args.p) c.deref_mut-then-before.ensures.value in (
       omega (arith, c.decreases, e, k),
@@ -31,12 +31,12 @@ recount-requires t c =
 
 pub recount-requires-else-before : goal.recount-requires-else-before
 recount-requires-else-before t c =
-    let e : forks_above c.args.node.now
-    ≡ max (forks_above c.in-Fork.fork.value.left) (forks_above c.in-Fork.fork.value.right) + 1 =
-    ap forks_above c.in-Fork.is in
-    let k = ap (λ z. forks_above z.right) c.deref_mut-else-before.ensures.value in
+    let e : node_height c.args.node.now
+    ≡ max (node_height c.in-Fork.fork.value.left) (node_height c.in-Fork.fork.value.right) + 1 =
+    ap node_height c.in-Fork.is in
+    let k = ap (λ z. node_height z.right) c.deref_mut-else-before.ensures.value in
     let m = count_in false c.args.node.now c.in-Fork.field-0 c.in-Fork.fork c.args.p c.in-Fork.is c.requires.built
-    (subst (λ z. ¬ IsBefore c.args.p z) (ap (λ z. z.first_right) c.deref.ensures)
+    (subst (λ z. ¬ IsBefore c.args.p z) (ap (λ z. z.right_first) c.deref.ensures)
     (failed c.before-in-Fork.result c.before-in-Fork.ensures.1 c.if-before.false)) in
     let v = ap (λ z. times_at z.right c.args.p) c.deref_mut-else-before.ensures.value in (
       omega (arith, c.decreases, e, k),
@@ -61,7 +61,7 @@ pub returns-then-before : goal.returns-then-before
 returns-then-before t c =
     recounted_in true c.args.times c.args.p c.args.node.now c.in-Fork.field-0 c.in-Fork.fork
     c.deref_mut-then-before.result.now c.recount.new.node c.deref_mut-then-before.ensures.value c.in-Fork.is
-    c.requires.built (subst (IsBefore c.args.p) (ap (λ z. z.first_right) c.deref.ensures)
+    c.requires.built (subst (IsBefore c.args.p) (ap (λ z. z.right_first) c.deref.ensures)
     (passed c.before-in-Fork.result c.before-in-Fork.ensures.0 c.if-before.true))
     c.recount.ensures
 
@@ -69,6 +69,6 @@ pub returns-else-before : goal.returns-else-before
 returns-else-before t c =
     recounted_in false c.args.times c.args.p c.args.node.now c.in-Fork.field-0 c.in-Fork.fork
     c.deref_mut-else-before.result.now c.recount-else-before.new.node c.deref_mut-else-before.ensures.value c.in-Fork.is
-    c.requires.built (subst (λ z. ¬ IsBefore c.args.p z) (ap (λ z. z.first_right) c.deref.ensures)
+    c.requires.built (subst (λ z. ¬ IsBefore c.args.p z) (ap (λ z. z.right_first) c.deref.ensures)
     (failed c.before-in-Fork.result c.before-in-Fork.ensures.1 c.if-before.false))
     c.recount-else-before.ensures

@@ -8,8 +8,8 @@ use Rattle.std.specs.List.{remove}
 use Rattle.bucket_tree.specs.Counts.{counted}
 use Rattle.bucket_tree.proofs.BuiltLeaves.{leaf_built}
 use Rattle.bucket_tree.proofs.Lost.{not_held, held_without, only_point, held_alone}
-use Rattle.bucket_tree.specs.Changes.{IsClosedOver}
-use Rattle.bucket_tree.proofs.Kept.{closed_without}
+use Rattle.bucket_tree.specs.Changes.{IsUnaffectedOver}
+use Rattle.bucket_tree.proofs.Kept.{unaffected_without}
 use Rattle.bucket_tree.proofs.removal.remove_leaf.Goals as goal
 
 pub unreachable-requires : goal.unreachable-requires
@@ -49,14 +49,14 @@ returns-clause-lost c =
       (omega arith, omega arith),
     )
 
-pub returns-clause-closed : goal.returns-clause-closed
-returns-clause-closed c =
+pub returns-clause-unaffected : goal.returns-clause-unaffected
+returns-clause-unaffected c =
     let at = subst (λ (z : BucketValue). IsPositionOf z.points c.args.p (Ok c.in-Ok.place)) c.deref.ensures
     (subst (IsPositionOf c.deref.result.now.points c.args.p) c.in-Ok.is c.place_of.ensures) in
     let points = c.remove.ensures.points
     ∙ ap (λ (z : BucketValue). without_point (point_at z.points c.in-Ok.place) z.points) c.deref_mut.ensures.value
     ∙ ap (λ z. without_point z c.args.bucket.value.points) (at.1 origin) in
-    subst (IsClosedOver c.args.p c.open_at-sides.result) (sym points)
-    (closed_without c.args.p c.args.bucket.value.points c.open_at-sides.result c.requires.built.buckets.ordered
-    (subst (λ (z : BucketValue). IsClosedOver c.args.p c.open_at-sides.result z.points) c.deref-2.ensures
-    c.open_at-sides.ensures))
+    subst (IsUnaffectedOver c.args.p c.affected_at-sides.result) (sym points)
+    (unaffected_without c.args.p c.args.bucket.value.points c.affected_at-sides.result c.requires.built.buckets.ordered
+    (subst (λ (z : BucketValue). IsUnaffectedOver c.args.p c.affected_at-sides.result z.points) c.deref-2.ensures
+    c.affected_at-sides.ensures))

@@ -8,16 +8,16 @@ use Rattle.bucket_tree.proofs.InPlace.{lower_moved}
 use Rattle.bucket_tree.proofs.Kept.{closes_by}
 use Rattle.bucket_tree.proofs.renewal.renew_edges.Goals as goal
 
-pub renew_edge-upper_turns-requires-clause-closed : goal.renew_edge-upper_turns-requires-clause-closed
-renew_edge-upper_turns-requires-clause-closed c = c.requires.behind.closed Upper
+pub renew_edge-upper_turns-requires-clause-unaffected : goal.renew_edge-upper_turns-requires-clause-unaffected
+renew_edge-upper_turns-requires-clause-unaffected c = c.requires.behind.unaffected Upper
 
 pub renew_edge-upper_turns-requires-clause-clear : goal.renew_edge-upper_turns-requires-clause-clear
 renew_edge-upper_turns-requires-clause-clear c = c.requires.behind.clear Upper
 
-pub renew_edge-lower_turns-requires-clause-closed : goal.renew_edge-lower_turns-requires-clause-closed
-renew_edge-lower_turns-requires-clause-closed c = λ e.
+pub renew_edge-lower_turns-requires-clause-unaffected : goal.renew_edge-lower_turns-requires-clause-unaffected
+renew_edge-lower_turns-requires-clause-unaffected c = λ e.
     lower_moved c.args.fork.now c.renew_edge-upper_turns.new.fork c.renew_edge-upper_turns.ensures.same
-    (c.requires.behind.closed Lower e)
+    (c.requires.behind.unaffected Lower e)
 
 pub renew_edge-lower_turns-requires-clause-clear : goal.renew_edge-lower_turns-requires-clause-clear
 renew_edge-lower_turns-requires-clause-clear c = λ h.

@@ -14,6 +14,6 @@ sum_of-requires g c =
 
 pub returns-clause-length : goal.returns-clause-length
 returns-clause-length g c =
-    let law = g.met.B.Journalled in let book = c.args.book.now in
+    let law = g.met.B.JournaledBook in let book = c.args.book.now in
     c.sum_of.ensures ∙ all_counts _ _ c.requires.lawful c.requires.ledgers ∙ ap length (law.has_lines book)
     ∙ law.as_many _

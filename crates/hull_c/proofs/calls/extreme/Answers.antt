@@ -19,9 +19,9 @@ returns c =
           (λ (r : HullReply). IsAnswered bucket_set (kind_number Extreme) c.args.x c.args.y c.args.hull.now c.args.hull.now r)
           (sym w.result-is)
           (asked Extreme c.args.x c.args.y (plain.Extreme w.in-Ok.d) c.args.hull.now (reply_to_extreme w.extreme.result)
-          w.told_farthest.result (search rules)
+          w.encoded_farthest.result (search rules)
           (subst (λ (t : LimitedTree). AnswersExtreme (held_by t.root).points w.in-Ok.d (reply_to_extreme w.extreme.result))
-          c.hull.view_is w.extreme.ensures) refl w.told_farthest.ensures)
+          c.hull.view_is w.extreme.ensures) refl w.encoded_farthest.ensures)
       | in-Err w ↦ subst
           (λ (r : HullReply). IsAnswered bucket_set (kind_number Extreme) c.args.x c.args.y c.args.hull.now c.args.hull.now r)
           (sym w.result-is)

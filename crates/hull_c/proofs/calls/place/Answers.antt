@@ -19,10 +19,10 @@ returns c =
       | in-Ok w ↦ subst
           (λ (r : HullReply). IsAnswered bucket_set (kind_number Place) c.args.x c.args.y c.args.hull.now c.args.hull.now r)
           (sym w.result-is)
-          (asked Place c.args.x c.args.y (plain.Place w.in-Ok.q) c.args.hull.now (Lies w.place.result) w.told_place.result
+          (asked Place c.args.x c.args.y (plain.Place w.in-Ok.q) c.args.hull.now (Lies w.place.result) w.encoded_place.result
           (search rules)
           (subst (λ (t : LimitedTree). LiesAt (held_by t.root).points w.in-Ok.q w.place.result) c.hull.view_is w.place.ensures)
-          refl w.told_place.ensures)
+          refl w.encoded_place.ensures)
       | in-Err w ↦ subst
           (λ (r : HullReply). IsAnswered bucket_set (kind_number Place) c.args.x c.args.y c.args.hull.now c.args.hull.now r)
           (sym w.result-is)

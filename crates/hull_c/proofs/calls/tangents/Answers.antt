@@ -7,7 +7,7 @@ use Rattle.hull_set.specs.declared.call.Call.TheVariants as plain
 use Rattle.hull_set.specs.declared.reply.Reply.{Reply}
 use Rattle.hull_reply.specs.Requests.{kind_number}
 use Rattle.hull_reply.specs.Served.{IsAnswered}
-use Rattle.hull_reply.specs.Told.{Tells}
+use Rattle.hull_reply.specs.Encoded.{Encodes}
 use Rattle.hull_reply.specs.declared.kind.Kind.TheVariants.{Tangents}
 use Rattle.hull_reply.specs.declared.reply.HullReply.{HullReply}
 use Rattle.hull_c.proofs.Asked.{asked, not_asked}
@@ -21,10 +21,10 @@ returns c =
           (λ (r : HullReply). IsAnswered bucket_set (kind_number Tangents) c.args.x c.args.y c.args.hull.now c.args.hull.now r)
           (sym w.result-is)
           (asked Tangents c.args.x c.args.y (plain.Tangents w.in-Ok.q) c.args.hull.now (reply_to_tangents w.tangents.result)
-          w.told.result (search rules)
+          w.encoded.result (search rules)
           (subst (λ (t : LimitedTree). AnswersTangents (held_by t.root).points w.in-Ok.q (reply_to_tangents w.tangents.result))
           c.hull.view_is w.tangents.ensures) refl
-          (subst (λ (r : Reply). Tells w.told.result r) w.tangents_reply.ensures w.told.ensures))
+          (subst (λ (r : Reply). Encodes w.encoded.result r) w.tangents_reply.ensures w.encoded.ensures))
       | in-Err w ↦ subst
           (λ (r : HullReply). IsAnswered bucket_set (kind_number Tangents) c.args.x c.args.y c.args.hull.now c.args.hull.now r)
           (sym w.result-is)

@@ -6,5 +6,5 @@ abbrev pub invariant-loop-i : goal.invariant-loop-i
 invariant-loop-i l = record {
   entries : l.entries.items ≡ take l.i l.array;
   short : vec_len l.entries ≡ l.i;
-  room : vec_capacity l.entries ≡ length l.array;
+  storage : vec_capacity l.entries ≡ length l.array;
 }

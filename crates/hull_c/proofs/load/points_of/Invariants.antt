@@ -9,5 +9,5 @@ invariant-loop-i l = record {
   points : l.points.items ≡ take l.i l.array;
   short : vec_len l.points ≡ l.i;
   in_range : All HasCoordinates (take l.i l.array);
-  room : vec_capacity l.points ≡ length l.array;
+  storage : vec_capacity l.points ≡ length l.array;
 }

@@ -1,12 +1,12 @@
 -- the answer of the two convex polygons
 use Rattle.std.proofs.Common.{rules, sym, subst}
-use Rattle.hull_outline.specs.Outlines.{IsOutlineOf}
+use Rattle.hull_polygon.specs.Polygons.{IsPolygonOf}
 use Rattle.hull_c.proofs.pairs.relation.Goals as goal
 
 pub returns : goal.returns
 returns c = (
   c.relation-found.result,
   search rules,
-  λ S o T t. c.relation-found.ensures S (subst (IsOutlineOf S) (sym c.of_vertices.ensures) o) T
-      (subst (IsOutlineOf T) (sym c.of_vertices-2.ensures) t),
+  λ S o T t. c.relation-found.ensures S (subst (IsPolygonOf S) (sym c.of_vertices.ensures) o) T
+      (subst (IsPolygonOf T) (sym c.of_vertices-2.ensures) t),
 )

@@ -7,4 +7,4 @@ use Rattle.hull_draw.proofs.captions.left_out_after.Goals as goal
 pub returns : goal.returns
 returns g c =
     let more : (c.args.count == 0) ≡ false = ne_eqb c.args.count 0 c.if-count-eq0.false in
-    rw more (c.told_after-done.ensures ▸ c.put_after.ensures.wrote)
+    rw more (c.returned_after-done.ensures ▸ c.put_after.ensures.wrote)

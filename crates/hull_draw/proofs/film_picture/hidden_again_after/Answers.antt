@@ -7,4 +7,4 @@ use Rattle.hull_draw.proofs.film_picture.hidden_again_after.Goals as goal
 pub returns : goal.returns
 returns g c =
     let more : (c.args.place + 1 == c.args.count) ≡ false = ne_eqb (c.args.place + 1) c.args.count c.if-next-count.false in
-    rw more (c.told_after-done.ensures ▸ c.put_after-2.ensures.wrote)
+    rw more (c.returned_after-done.ensures ▸ c.put_after-2.ensures.wrote)

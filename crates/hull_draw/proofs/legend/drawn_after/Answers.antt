@@ -8,4 +8,4 @@ returns g c =
     let lines : c.args.scene.now.lines ≡ c.scene.inside.lines = search rules in
     let wrong : c.args.scene.now.wrong ≡ c.scene.inside.wrong = search rules in
     let bridges : c.args.scene.now.bridges ≡ c.deref.result.now = search rules in
-    rw (lines, wrong, bridges) (c.lines_after-done.ensures ▸ c.bridges_told_after.ensures)
+    rw (lines, wrong, bridges) (c.lines_after-done.ensures ▸ c.bridges_returned_after.ensures)

@@ -3,5 +3,5 @@ use Rattle.text_io.proofs.Chains.{◌▸◌}
 use Rattle.hull_draw.proofs.picture.head_after.Goals as goal
 
 pub returns : goal.returns
-returns g c = c.told_after-done.ensures ▸ c.told_after-done-2.ensures ▸ c.put_after-done.ensures.wrote
+returns g c = c.returned_after-done.ensures ▸ c.returned_after-done-2.ensures ▸ c.put_after-done.ensures.wrote
     ▸ c.put_after.ensures.wrote

@@ -12,7 +12,7 @@ use Rattle.hull_plain.proofs.monotone.take_up.Goals as goal
 
 pub loop-i-init : goal.loop-i-init
 loop-i-init c =
-    let start : List Pair = drafted c.args.list.now.items c.args.draft.now in
+    let start : List Pair = drafted c.args.list.now.items c.args.scratch_chain.now in
     record {
       within = omega arith;
       passed = subst (λ (z : List Pair). IsPassed c.args.side z start) (append_none start)
@@ -20,23 +20,23 @@ loop-i-init c =
             ordered = set_left start (drop c.args.from c.args.list.now.items) c.requires.set;
             convex = c.requires.convex;
           }));
-      room = record { fresh = refl; rest = refl };
+      space = record { fresh = refl; rest = refl };
     }
 
 pub extend-requires-clause-set : goal.extend-requires-clause-set
 extend-requires-clause-set c =
     let at = in_rest c.args.list.now.items c.args.from c.loop-i.i c.get.result
     (omega (arith, c.loop-i-test.true, c.len.ensures)) c.get.ensures in
-    take_up_set c.args.side (drafted c.args.list.now.items c.args.draft.now) (drop c.args.from c.args.list.now.items)
-    (drafted c.args.list.now.items c.loop-i.draft) c.loop-i.i c.get.result at.within at.point c.requires.set
+    take_up_set c.args.side (drafted c.args.list.now.items c.args.scratch_chain.now) (drop c.args.from c.args.list.now.items)
+    (drafted c.args.list.now.items c.loop-i.scratch_chain) c.loop-i.i c.get.result at.within at.point c.requires.set
     c.loop-i.invariant.passed
 
 pub extend-requires-clause-convex : goal.extend-requires-clause-convex
 extend-requires-clause-convex c = c.loop-i.invariant.passed.strict.convex
 
-pub extend-requires-clause-room : goal.extend-requires-clause-room
-extend-requires-clause-room c =
-    let start : List Pair = drafted c.args.list.now.items c.args.draft.now in
+pub extend-requires-clause-space : goal.extend-requires-clause-space
+extend-requires-clause-space c =
+    let start : List Pair = drafted c.args.list.now.items c.args.scratch_chain.now in
     let rest : List Pair = drop c.args.from c.args.list.now.items in
     let n = length-append start (take c.loop-i.i rest) in
     let few = take_few c.loop-i.i rest in
@@ -47,8 +47,8 @@ extend-requires-clause-room c =
       few,
       d,
       c.loop-i.invariant.passed.short,
-      c.loop-i.invariant.room.fresh,
-      c.requires.room,
+      c.loop-i.invariant.space.fresh,
+      c.requires.space,
       c.loop-i-test.true,
       c.len.ensures,
     )
@@ -59,33 +59,33 @@ loop-i-preserved c =
     (omega (arith, c.loop-i-test.true, c.len.ensures)) c.get.ensures in
     record {
       within = omega (arith, c.extend.ensures.within, c.loop-i.invariant.within);
-      passed = take_up_step c.args.side (drafted c.args.list.now.items c.args.draft.now)
-          (drop c.args.from c.args.list.now.items) (drafted c.args.list.now.items c.loop-i.draft)
-          (drafted c.args.list.now.items c.extend.new.draft) c.loop-i.i c.get.result at.within at.point
+      passed = take_up_step c.args.side (drafted c.args.list.now.items c.args.scratch_chain.now)
+          (drop c.args.from c.args.list.now.items) (drafted c.args.list.now.items c.loop-i.scratch_chain)
+          (drafted c.args.list.now.items c.extend.new.scratch_chain) c.loop-i.i c.get.result at.within at.point
           c.loop-i.invariant.passed c.extend.ensures.passed;
-      room = as_roomy c.args.draft.now c.loop-i.draft c.extend.new.draft c.loop-i.invariant.room c.extend.ensures.room;
+      space = as_roomy c.args.scratch_chain.now c.loop-i.scratch_chain c.extend.new.scratch_chain c.loop-i.invariant.space c.extend.ensures.space;
     }
 
 pub returns-then-i-gt0-clause-passed : goal.returns-then-i-gt0-clause-passed
 returns-then-i-gt0-clause-passed c =
     let at = in_rest c.args.list.now.items c.args.from c.loop-i.i c.get.result
     (omega (arith, c.loop-i-test.true, c.len.ensures)) c.get.ensures in
-    let start : List Pair = drafted c.args.list.now.items c.args.draft.now in
-    let new : List Pair = drafted c.args.list.now.items c.extend.new.draft in
+    let start : List Pair = drafted c.args.list.now.items c.args.scratch_chain.now in
+    let new : List Pair = drafted c.args.list.now.items c.extend.new.scratch_chain in
     let behind : c.args.from + (c.loop-i.i + 1) ≡ c.args.from + c.loop-i.i + 1 = omega arith in
     subst (λ (z : List Pair). IsPassed c.args.side (start ++ drop c.args.from c.args.list.now.items) (new ++ z))
     (drop_rest c.args.from (c.loop-i.i + 1) c.args.list.now.items
     ∙ ap (λ (n : ℕ). drop n c.args.list.now.items) behind)
     (take_up_stop c.args.side start (drop c.args.from c.args.list.now.items)
-    (drafted c.args.list.now.items c.loop-i.draft) new c.loop-i.i c.get.result c.if-i-gt0.true at.within at.point
+    (drafted c.args.list.now.items c.loop-i.scratch_chain) new c.loop-i.i c.get.result c.if-i-gt0.true at.within at.point
     c.requires.set c.requires.rest_convex c.loop-i.invariant.passed c.extend.ensures.passed
     (c.extend.ensures.stays c.if-extend.true))
 
 pub returns-clause-passed : goal.returns-clause-passed
 returns-clause-passed c =
     let rest : List Pair = drop c.args.from c.args.list.now.items in
-    let start : List Pair = drafted c.args.list.now.items c.args.draft.now in
-    let new : List Pair = drafted c.args.list.now.items c.loop-i.draft in
+    let start : List Pair = drafted c.args.list.now.items c.args.scratch_chain.now in
+    let new : List Pair = drafted c.args.list.now.items c.loop-i.scratch_chain in
     let d = length-drop c.args.from c.args.list.now.items in
     let passed : IsPassed c.args.side (start ++ rest) new =
     subst (λ (z : List Pair). IsPassed c.args.side (start ++ z) new)

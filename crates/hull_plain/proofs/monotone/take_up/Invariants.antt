@@ -6,8 +6,8 @@ use Rattle.hull_plain.proofs.monotone.take_up.Given as goal
 
 abbrev pub invariant-loop-i : goal.invariant-loop-i
 invariant-loop-i l = record {
-  within : l.draft.kept ≤ l.initial.draft.kept;
-  passed : IsPassed l.side (drafted l.list.items l.initial.draft ++ take l.i (drop l.from l.list.items))
-      (drafted l.list.items l.draft);
-  room : IsAsRoomy l.initial.draft l.draft;
+  within : l.scratch_chain.kept ≤ l.initial.scratch_chain.kept;
+  passed : IsPassed l.side (drafted l.list.items l.initial.scratch_chain ++ take l.i (drop l.from l.list.items))
+      (drafted l.list.items l.scratch_chain);
+  space : IsAsRoomy l.initial.scratch_chain l.scratch_chain;
 }

@@ -7,9 +7,9 @@ use Rattle.hull_pool.proofs.call.make_call.Goals as goal
 
 pub serve_and_hand_on-requires-clause-may : goal.serve_and_hand_on-requires-clause-may
 serve_and_hand_on-requires-clause-may g c =
-    let law = g.met.B.Journalled in let finds = c.enter-guard.ensures.finds in
+    let law = g.met.B.JournaledBook in let finds = c.enter-guard.ensures.finds in
     let book = box_value (guard_book c.enter-guard.result) in
-    let ledger = found_ledger_of (g.B.Journalled.whole book) c.args.number _ _
+    let ledger = found_ledger_of (g.B.JournaledBook.whole book) c.args.number _ _
     (subst (λ (n : ℕ). c.args.number < n) (sym (law.same_workers _ _ finds.same_head)) c.requires.may.below)
     (ap (lines_of c.args.number) (law.has_lines book) ∙ same_own c.args.number _ _ _ c.requires.may.number
     (law.same_own (seat_number c.args.seat) _ _ finds.own_lines)) c.requires.may.ledger in
@@ -24,8 +24,8 @@ returns-clause-served g c =
       found = g.B.Chronicle.lines book;
       begins = finds.begins;
       own_lines = same_own c.args.number _ _ _ c.requires.may.number
-          (g.met.B.Journalled.same_own (seat_number c.args.seat) _ _ finds.own_lines);
-      is_so = subst (λ h. g.B.Journalled.served h c.args.then number c.args.number c.args.call
+          (g.met.B.JournaledBook.same_own (seat_number c.args.seat) _ _ finds.own_lines);
+      is_so = subst (λ h. g.B.JournaledBook.served h c.args.then number c.args.number c.args.call
           (g.B.Chronicle.lines book) (seat_seen c.serve_and_hand_on.result.0) c.serve_and_hand_on.result.1)
           finds.same_head c.serve_and_hand_on.ensures.served;
     }

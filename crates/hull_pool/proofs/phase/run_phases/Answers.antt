@@ -10,14 +10,14 @@ use Rattle.hull_pool.specs.Answers.{WorkersValue}
 use Rattle.hull_pool.specs.Runs.{MayRunAll}
 use Rattle.hull_pool.specs.Scripts.{HasRunPhases}
 use Rattle.hull_pool.proofs.Chained.{run_all, run_one_more, may_front, may_next}
-use Rattle.hull_pool.proofs.Fronts.{parted, of_ok}
+use Rattle.hull_pool.proofs.Fronts.{separated, of_ok}
 use Rattle.hull_pool.proofs.phase.run_phases.Goals as goal
 
 pub run_phase-end-requires-after_bounds : goal.run_phase-end-requires-after_bounds
 run_phase-end-requires-after_bounds g c κs within =
     let items : List PhaseValue = c.phases-phase-items.result.now in
     let i = c.loop-phase.phase-index in
-    let split = sym c.phases-phase-items.ensures.phases ∙ parted items i c.phase-item.result c.loop-phase-test.true in
+    let split = sym c.phases-phase-items.ensures.phases ∙ separated items i c.phase-item.result c.loop-phase-test.true in
     subst (λ (p : PhaseValue). MayRunAll g.S.HullSet c.loop-phase.book c.loop-phase.workers (p ∷ []))
     (sym c.phase-item.is)
     (may_next c.args.book c.args.workers (take i items) (slice_index_or items i c.phase-item.result)
@@ -32,7 +32,7 @@ returns-in-Err-clause-refused g c =
     let refused : PhaseValue = slice_index_or items i c.phase-item.result in
     let back : List PhaseValue = drop (suc i) items in
     let split : c.args.script.now.phases ≡ take i items ++ refused ∷ back =
-    sym c.phases-phase-items.ensures.phases ∙ parted items i c.phase-item.result c.loop-phase-test.true in
+    sym c.phases-phase-items.ensures.phases ∙ separated items i c.phase-item.result c.loop-phase-test.true in
     let chain : HasRunPhases g.S.HullSet c.args.book c.args.workers
     (take i items) c.run_phase-end.result.book c.run_phase-end.result.workers =
     subst (λ (v : WorkersValue). HasRunPhases g.S.HullSet c.args.book c.args.workers

@@ -24,14 +24,14 @@ loop-call-preserved g c =
           c.make_call-next.result.1 inv.worked c.loop-call-test.true (sym c.call-item.is)
           c.make_call-next.ensures.served c.push_reserved.ensures.items;
       index_is = ap (λ (n : ℕ). n + 1) inv.index_is;
-      room = omega (
+      space = omega (
         arith,
         c.push_reserved.ensures.len,
         c.push_reserved.ensures.capacity,
-        inv.room,
+        inv.space,
         c.loop-call-test.true,
       );
-      same_room = c.push_reserved.ensures.capacity ∙ inv.same_room;
+      same_space = c.push_reserved.ensures.capacity ∙ inv.same_space;
     }
 
 pub returns : goal.returns
@@ -48,5 +48,5 @@ returns g c =
         finished _ _ _ _ _ c.args.phase.now _ _ _ _ inv.number_is c.calls-call-items.ensures
             c.loop-call.auto.call-index-end c.loop-call-test.false inv.worked,
       );
-      room = inv.same_room;
+      space = inv.same_space;
     }

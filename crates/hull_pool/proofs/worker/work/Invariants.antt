@@ -20,6 +20,6 @@ invariant-loop-call g l = record {
   worked : HasWorked l.number (capacity_of (box_value (opening_book l.lock))) l.call-index l.call-items
       (box_value (opening_book l.lock)).lines (seat_seen l.seat) l.fn.worker.answers.items l.worker.answers.items;
   index_is : l.index ≡ l.call-index;
-  room : vec_len l.worker.answers + (length l.call-items - l.call-index) ≤ vec_capacity l.worker.answers;
-  same_room : vec_capacity l.worker.answers ≡ vec_capacity l.fn.worker.answers;
+  space : vec_len l.worker.answers + (length l.call-items - l.call-index) ≤ vec_capacity l.worker.answers;
+  same_space : vec_capacity l.worker.answers ≡ vec_capacity l.fn.worker.answers;
 }

@@ -12,7 +12,7 @@ pub work_each-requires-clause-ready : goal.work_each-requires-clause-ready
 work_each-requires-clause-ready g c κs within =
     rw c.as_mut_slice.ensures.value
     (all_unreverse (IsReady c.args.lock.now
-    (box_value (opening_book c.args.lock.now)) c.args.phase.now) c.args.crew.now.items c.requires.ready)
+    (box_value (opening_book c.args.lock.now)) c.args.phase.now) c.args.worker_set.now.items c.requires.ready)
 
 pub returns-clause-ran : goal.returns-clause-ran
 returns-clause-ran g c = grind (arith, common_steps, zip_reverse, take_at)

@@ -10,6 +10,6 @@ invariant-loop-worker l = record {
   many : length l.lists.items ≡ l.worker;
   reserved : l.workers ≤ vec_capacity l.lists;
   none : (k : ℕ) → k < l.worker → (slice_index_or (map (λ v. shown v) l.lists.items) k no_answers).answers ≡ [];
-  room : (k : ℕ) → k < l.worker
-      → length (calls_of k l.script.phases) ≤ (slice_index_or (map (λ v. shown v) l.lists.items) k no_answers).room;
+  space : (k : ℕ) → k < l.worker
+      → length (calls_of k l.script.phases) ≤ (slice_index_or (map (λ v. shown v) l.lists.items) k no_answers).space;
 }

@@ -1,7 +1,7 @@
 -- the call was served at the journal of the book found
 use Rattle.std.proofs.Common.{◌≡◌, refl, rules}
 use Rattle.ticket_lock.specs.Tokens.{guard_book, seat_seen}
-use Rattle.hull_shared.specs.DeskBooks.{HasServedAt}
+use Rattle.hull_shared.specs.SharedHullBooks.{HasServedAt}
 use Rattle.hull_shared.specs.Locks.{lock_of}
 use Rattle.hull_shared.proofs.Found.{found_ledger, has_found}
 use Rattle.hull_shared.proofs.looking.look_once.Goals as goal

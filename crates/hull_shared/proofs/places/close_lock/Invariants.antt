@@ -15,7 +15,7 @@ invariant-loop-place l = record {
   all_in : All IsSome l.list.items;
   all : length l.seats.items + length l.list.items ≡ seat_count l.lock;
   as_many : length l.ledgers.items ≡ length l.seats.items;
-  room : (seat_count l.lock ≤ vec_capacity l.seats) × (seat_count l.lock ≤ vec_capacity l.ledgers);
+  storage : (seat_count l.lock ≤ vec_capacity l.seats) × (seat_count l.lock ≤ vec_capacity l.ledgers);
   own : All (IsSeatOf boxed_head l.lock) l.seats.items;
   numbers : AreNumbered l.seats.items;
   counts : AllZip (λ s k. IsLedgerOf (seat_number s) (plain (seat_seen s)) k) l.seats.items l.ledgers.items;

@@ -58,7 +58,7 @@ loop-seat-preserved c =
       ledgers = λ k d at. inv.ledgers k d
           (subst (λ (z : List LedgerValue). slice_get z k ≡ Some d) (sym e2) (get_front ledgers l k d at));
       all = omega (arith, inv.all);
-      room = search rules;
+      storage = search rules;
       at_home = home_more lock n list c.push_reserved.new.self.items
           (record { seat = s; ledger = l }) more inv.at_home home;
       all_in = all_push IsSome list c.push_reserved.new.self.items

@@ -16,7 +16,7 @@ invariant-loop-seat l = record {
   as_many : length l.ledgers.items ≡ length l.seats.items;
   ledgers : (k : ℕ) (d : LedgerValue) → slice_get l.ledgers.items k ≡ Some d → IsLedger (whole (book_of l.lock).book) k d;
   all : length l.list.items + length l.seats.items ≡ seat_count l.lock;
-  room : (seat_count l.lock ≤ vec_capacity l.list) × (seat_count l.lock ≤ vec_capacity l.seats)
+  storage : (seat_count l.lock ≤ vec_capacity l.list) × (seat_count l.lock ≤ vec_capacity l.seats)
       × (seat_count l.lock ≤ vec_capacity l.ledgers);
   at_home : AreAtHome l.lock (seat_count l.lock) l.list.items;
   all_in : All IsSome l.list.items;

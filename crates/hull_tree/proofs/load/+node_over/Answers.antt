@@ -38,15 +38,15 @@ fit n m k a b e d l h g =
     let s : m + k ≡ n = omega arith in
     (f.0, subst (λ z. IsHalvings z (max a b + 1)) s f.1)
 
-pub join-requires-clause-parted : goal.join-requires-clause-parted
+pub join-requires-clause-separated : goal.join-requires-clause-separated
 unfolding halves.roll-Halves halves.out-Halves denote.Hole.Carrier.out denote.Hole.Carrier.roll
-join-requires-clause-parted t c =
+join-requires-clause-separated t c =
     let l = rw c.split_at.ensures.front at c.in_ok-left.ensures in
     let r = rw c.split_at.ensures.back at c.in_ok-right.ensures in
     record {
       row = row_over _ _ _ _ c.requires.entries l r;
       ends_left = rw c.in-Ok.ensures.ok c.last_of-last_left.ensures;
-      starts_right = rw c.in-Ok.ensures.ok c.first_of-first_right.ensures;
+      starts_right = rw c.in-Ok.ensures.ok c.first_of-right_first.ensures;
     }
 
 pub join-requires-clause-balanced : goal.join-requires-clause-balanced

@@ -5,21 +5,21 @@ use Rattle.hull_tree.proofs.Costs.{by_halves, looser, through}
 use Rattle.hull_tree.proofs.HalfRows.{row_with_left, row_with_right, regrouped}
 use Rattle.hull_tree.proofs.rotation.rotate_right.Goals as goal
 
-pub join-second-requires-clause-parted : goal.join-second-requires-clause-parted
-join-second-requires-clause-parted c = record {
-  row = row_with_right _ _ _ _ c.take_apart-outer.ensures.parted.row c.take_apart-outer.ensures.points
-      c.requires.parted.row;
-  ends_left = c.requires.parted.ends_left ∙ c.take_apart-outer.ensures.last;
-  starts_right = c.requires.parted.starts_right;
+pub join-second-requires-clause-separated : goal.join-second-requires-clause-separated
+join-second-requires-clause-separated c = record {
+  row = row_with_right _ _ _ _ c.take_apart-outer.ensures.separated.row c.take_apart-outer.ensures.points
+      c.requires.separated.row;
+  ends_left = c.requires.separated.ends_left ∙ c.take_apart-outer.ensures.last;
+  starts_right = c.requires.separated.starts_right;
 }
 
-pub join-whole-requires-clause-parted : goal.join-whole-requires-clause-parted
-join-whole-requires-clause-parted c = record {
-  row = regrouped _ _ _ _ c.requires.parted.row c.take_apart-outer.ensures.parted.row.left_built
+pub join-whole-requires-clause-separated : goal.join-whole-requires-clause-separated
+join-whole-requires-clause-separated c = record {
+  row = regrouped _ _ _ _ c.requires.separated.row c.take_apart-outer.ensures.separated.row.left_built
       c.join-second.ensures.built
       (rw (c.take_apart-outer.ensures.points, c.join-second.ensures.points) (simp append_assoc));
-  ends_left = c.take_apart-outer.ensures.parted.ends_left;
-  starts_right = c.take_apart-outer.ensures.parted.starts_right ∙ sym c.join-second.ensures.first;
+  ends_left = c.take_apart-outer.ensures.separated.ends_left;
+  starts_right = c.take_apart-outer.ensures.separated.starts_right ∙ sym c.join-second.ensures.first;
 }
 
 pub returns-then-height_of-clause-cost_left : goal.returns-then-height_of-clause-cost_left
@@ -28,34 +28,34 @@ returns-then-height_of-clause-cost_left c =
     (looser _ _ _ _ c.join-whole.ensures.cost_left (omega arith))
     (through _ _ _ _ _ _ c.join-second.ensures.cost_left c.join-whole.ensures.cost_right (omega arith))
 
-pub join-first-requires-clause-parted : goal.join-first-requires-clause-parted
-join-first-requires-clause-parted c = record {
-  row = row_with_left _ _ _ _ c.take_apart-middle_left.ensures.parted.row c.take_apart-middle_left.ensures.points
-      c.take_apart-outer.ensures.parted.row;
-  ends_left = c.take_apart-outer.ensures.parted.ends_left;
-  starts_right = c.take_apart-outer.ensures.parted.starts_right ∙ c.take_apart-middle_left.ensures.first;
+pub join-first-requires-clause-separated : goal.join-first-requires-clause-separated
+join-first-requires-clause-separated c = record {
+  row = row_with_left _ _ _ _ c.take_apart-middle_left.ensures.separated.row c.take_apart-middle_left.ensures.points
+      c.take_apart-outer.ensures.separated.row;
+  ends_left = c.take_apart-outer.ensures.separated.ends_left;
+  starts_right = c.take_apart-outer.ensures.separated.starts_right ∙ c.take_apart-middle_left.ensures.first;
 }
 
-pub join-second-requires-2-clause-parted : goal.join-second-requires-2-clause-parted
-join-second-requires-2-clause-parted c = record {
-  row = row_with_right _ _ _ _ c.take_apart-middle_left.ensures.parted.row c.take_apart-middle_left.ensures.points
-      (row_with_right _ _ _ _ c.take_apart-outer.ensures.parted.row c.take_apart-outer.ensures.points
-      c.requires.parted.row);
-  ends_left = c.requires.parted.ends_left ∙ c.take_apart-outer.ensures.last ∙ c.take_apart-middle_left.ensures.last;
-  starts_right = c.requires.parted.starts_right;
+pub join-second-requires-2-clause-separated : goal.join-second-requires-2-clause-separated
+join-second-requires-2-clause-separated c = record {
+  row = row_with_right _ _ _ _ c.take_apart-middle_left.ensures.separated.row c.take_apart-middle_left.ensures.points
+      (row_with_right _ _ _ _ c.take_apart-outer.ensures.separated.row c.take_apart-outer.ensures.points
+      c.requires.separated.row);
+  ends_left = c.requires.separated.ends_left ∙ c.take_apart-outer.ensures.last ∙ c.take_apart-middle_left.ensures.last;
+  starts_right = c.requires.separated.starts_right;
 }
 
-pub join-whole-requires-2-clause-parted : goal.join-whole-requires-2-clause-parted
-join-whole-requires-2-clause-parted c = record {
-  row = regrouped _ _ _ _ c.requires.parted.row c.join-first.ensures.built c.join-second-2.ensures.built
+pub join-whole-requires-2-clause-separated : goal.join-whole-requires-2-clause-separated
+join-whole-requires-2-clause-separated c = record {
+  row = regrouped _ _ _ _ c.requires.separated.row c.join-first.ensures.built c.join-second-2.ensures.built
       (rw (
         c.take_apart-outer.ensures.points,
         c.take_apart-middle_left.ensures.points,
         c.join-first.ensures.points,
         c.join-second-2.ensures.points,
       ) (simp append_assoc));
-  ends_left = c.take_apart-middle_left.ensures.parted.ends_left ∙ sym c.join-first.ensures.last;
-  starts_right = c.take_apart-middle_left.ensures.parted.starts_right ∙ sym c.join-second-2.ensures.first;
+  ends_left = c.take_apart-middle_left.ensures.separated.ends_left ∙ sym c.join-first.ensures.last;
+  starts_right = c.take_apart-middle_left.ensures.separated.starts_right ∙ sym c.join-second-2.ensures.first;
 }
 
 pub returns-clause-cost_left : goal.returns-clause-cost_left

@@ -13,7 +13,7 @@ run_phases-end-requires-after_bounds g c κs within = record {
   answers = search rules;
   jobs = search rules;
   few = λ k below. few_each c.args.script.now.phases k (c.workers.ensures.limits.calls);
-  room = search rules;
+  space = search rules;
 }
 
 pub counts_of-counts-requires-clause-few : goal.counts_of-counts-requires-clause-few
@@ -26,7 +26,7 @@ gather-lines-requires-clause-ledgers g c = all_in_order _ _ (search rules)
 
 pub returns-clause-ran : goal.returns-clause-ran
 returns-clause-ran g c = record {
-  before = c.in-Ok-new.crew;
+  before = c.in-Ok-new.worker_set;
   after = c.run_phases-end.result.workers;
   closed = c.run_phases-end.result.book;
   none = search rules;

@@ -41,5 +41,5 @@ loop-i-preserved c =
             (e ∙ at_place c.args.points.now c.loop-i.i c.index-points-i.result t c.index-points-i.is l) b)
       ];
       short = omega (arith, c.count_in.ensures.short, c.loop-i.invariant.short);
-      room = omega (arith, c.count_in.ensures.capacity, c.loop-i.invariant.room);
+      space = omega (arith, c.count_in.ensures.capacity, c.loop-i.invariant.space);
     }

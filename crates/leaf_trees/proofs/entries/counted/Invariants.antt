@@ -13,5 +13,5 @@ invariant-loop-i l = record {
   left : (t : Pair) → Contains (points_listed l.entries.items) t → (j : ℕ) → l.i ≤ j → j < length l.points
       → ¬ IsBefore (get_or l.points j t) t;
   short : vec_len l.entries ≤ l.i;
-  room : length l.points ≤ vec_capacity l.entries;
+  space : length l.points ≤ vec_capacity l.entries;
 }

@@ -43,7 +43,7 @@ loop-i-preserved-then-is_next c =
       first_in = omega (arith, s.there);
       second_in = c.loop-i.invariant.second_in;
       short = omega (arith, c.count_in.ensures.short, c.loop-i.invariant.short);
-      room = omega (arith, c.count_in.ensures.capacity, c.loop-i.invariant.room);
+      space = omega (arith, c.count_in.ensures.capacity, c.loop-i.invariant.space);
     }
 
 pub returns-then-not-count_in-2-clause-too_often : goal.returns-then-not-count_in-2-clause-too_often
@@ -83,5 +83,5 @@ loop-i-preserved c =
       first_in = c.loop-i.invariant.first_in;
       second_in = omega (arith, s.there);
       short = omega (arith, c.count_in-else-is_next.ensures.short, c.loop-i.invariant.short);
-      room = omega (arith, c.count_in-else-is_next.ensures.capacity, c.loop-i.invariant.room);
+      space = omega (arith, c.count_in-else-is_next.ensures.capacity, c.loop-i.invariant.space);
     }

@@ -15,7 +15,7 @@ invariant-loop-i l = record {
   first_in : l.i ≤ length l.first;
   second_in : l.j ≤ length l.second;
   short : vec_len l.entries ≤ l.i + l.j;
-  room : length l.first + length l.second ≤ vec_capacity l.entries;
+  space : length l.first + length l.second ≤ vec_capacity l.entries;
 }
 
 abbrev pub decreases-loop-i : goal.decreases-loop-i

@@ -20,7 +20,7 @@ loop-number-preserved g c = record {
   table = search rules;
   keeper = cut_keeper _ _ _ _ _ _ c.loop-number.invariant.keeper c.loop-number-test.true c.split_seat-keeper.ensures.4;
   long = search rules;
-  room = search rules;
+  space = search rules;
   own = all_push (λ (s : Seat g.row.B.Denot g.row.B-Head.Denot g.row.B-Line.Denot).
       (s.place.table_id ≡ c.args.board.now.shared.table_id)
       × IsIdle s.number s.place.me) _ _ _ c.push_reserved.ensures.items c.loop-number.invariant.own (

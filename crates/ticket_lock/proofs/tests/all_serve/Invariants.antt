@@ -9,7 +9,7 @@ invariant-loop-seat g l = record {
   left : All (λ s. IsSeatOf ghosts.head l.fn.lock s) l.seats.items;
   own : All (λ s. IsSeatOf ghosts.head l.fn.lock s) l.done.items;
   many : vec_len l.done + vec_len l.seats ≡ vec_len l.fn.seats;
-  room : vec_len l.fn.seats ≤ vec_capacity l.done;
+  space : vec_len l.fn.seats ≤ vec_capacity l.done;
 }
 
 abbrev pub decreases-loop-seat : goal.decreases-loop-seat

@@ -28,7 +28,7 @@ push_back_reserved-requires c =
     let b = still_hole c.loop-hole.hole (c.loop-hole.hole + 1) c.args.len c.loop-hole.blocks.items c.pop_front.new.self
     c.index_mut-in-loop-hole.result.now (omega arith) c.loop-hole.invariant.filled
     c.index_mut-in-loop-hole.ensures.value in
-    omega (arith, b.count, b.room)
+    omega (arith, b.count, b.space)
 
 pub loop-hole-preserved : goal.loop-hole-preserved
 loop-hole-preserved c =

@@ -22,7 +22,7 @@ pub unreachable-requires : goal.unreachable-requires
 unreachable-requires c =
     let b = in_hole c.args.at c.args.len c.args.blocks.now.items c.index_mut.result.now c.requires.filled
     c.index_mut.ensures.value in
-    omega (arith, b.count, b.room, c.in_default.ensures.full)
+    omega (arith, b.count, b.space, c.in_default.ensures.full)
 
 pub returns-clause-filled : goal.returns-clause-filled
 returns-clause-filled c =

@@ -36,7 +36,7 @@ push_front_reserved-requires c =
     let b = at_hole (c.loop-hole.hole - 1) c.loop-hole.hole (c.args.len + 1) c.loop-hole.blocks.items c.pop_back.new.self
     c.index_mut-in-loop-hole.result.now (omega arith) c.loop-hole.invariant.filled
     c.index_mut-in-loop-hole.ensures.value in
-    omega (arith, b.count, b.room)
+    omega (arith, b.count, b.space)
 
 pub loop-hole-preserved : goal.loop-hole-preserved
 loop-hole-preserved c =

@@ -5,18 +5,18 @@ use Rattle.hull_geometry.specs.Positions.{IsPositionOf, origin}
 use Rattle.hull_set.specs.Held.{once}
 use Rattle.std.specs.List.{remove}
 use Rattle.bucket_tree.specs.Counts.{counted}
-use Rattle.bucket_tree.specs.Changes.{IsClosedOver}
+use Rattle.bucket_tree.specs.Changes.{IsUnaffectedOver}
 use Rattle.bucket_tree.proofs.Lost.{count_at, count_none, held_without}
-use Rattle.bucket_tree.proofs.Kept.{closed_without}
+use Rattle.bucket_tree.proofs.Kept.{unaffected_without}
 use Rattle.bucket_tree.proofs.in_place.GoingInPlace.change.Goals as goal
 
-pub returns-in_default-clause-told : goal.returns-in_default-clause-told
-returns-in_default-clause-told c =
+pub returns-in_default-clause-returned : goal.returns-in_default-clause-returned
+returns-in_default-clause-returned c =
     sym (count_none c.args.bucket.now.points c.args.bucket.now.times c.in_default.field-0 c.args.p
     (subst (IsPositionOf c.args.bucket.now.points c.args.p) c.in_default.is c.place_of.ensures))
 
-pub returns-then-times-ne1-clause-told : goal.returns-then-times-ne1-clause-told
-returns-then-times-ne1-clause-told c =
+pub returns-then-times-ne1-clause-returned : goal.returns-then-times-ne1-clause-returned
+returns-then-times-ne1-clause-returned c =
     ap (λ z. get_or z c.in-Ok.place 0) c.times.ensures.times
     ∙ sym (count_at c.args.bucket.now.points c.args.bucket.now.times c.in-Ok.place c.args.p
     c.buckets_are_sound.ensures.ordered c.buckets_are_sound.ensures.counted
@@ -39,9 +39,9 @@ returns-clause-change c =
           ∙ ap (λ z. counted z (remove c.args.bucket.now.times c.in-Ok.place) q + once c.args.p q) (sym points)
           ∙ ap (λ z. counted c.remove.new.self.points z q + once c.args.p q) (sym c.remove.ensures.times);
       unsearched = record {
-        closed = subst (IsClosedOver c.args.p c.open_at-sides.result) (sym points)
-            (closed_without c.args.p c.args.bucket.now.points c.open_at-sides.result c.buckets_are_sound.ensures.ordered
-            c.open_at-sides.ensures);
+        unaffected = subst (IsUnaffectedOver c.args.p c.affected_at-sides.result) (sym points)
+            (unaffected_without c.args.p c.args.bucket.now.points c.affected_at-sides.result c.buckets_are_sound.ensures.ordered
+            c.affected_at-sides.ensures);
         turns = refl;
       };
     }

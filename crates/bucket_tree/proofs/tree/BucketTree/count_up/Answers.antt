@@ -1,7 +1,7 @@
 -- the multiplicity of the point and the number of points determine each reply
 use Rattle.std.proofs.Common.{arith}
 use Rattle.bucket_tree.specs.Roots.{held_by}
-use Rattle.leaf_trees.proofs.Told.{answers_full, answers_again, answers_many}
+use Rattle.leaf_trees.proofs.Returned.{answers_full, answers_again, answers_many}
 use Rattle.bucket_tree.proofs.Rooted.{root_held}
 use Rattle.bucket_tree.proofs.tree.BucketTree.count_up.Goals as goal
 use Rattle.bucket_tree.proofs.tree.BucketTree.count_up.Goals.{then-times-eq0-via-then-times-eq0}
@@ -11,16 +11,16 @@ pub returns-then-times-eq0-clause-reply : goal.returns-then-times-eq0-clause-rep
 returns-then-times-eq0-clause-reply c = elim c.then-times-eq0.branch [
   | then-times-eq0-via-then-times-eq0 w ↦
       answers_many (held_by c.args.self.now.root) c.args.self.now.limit c.args.p c.args.times
-      (root_held c.args.self.now.root c.bucket_trees_are_sound.ensures.built) c.requires.told w.if-times-eq0.true
-      (omega (arith, c.requires.room w.if-times-eq0.true)) (omega (arith, c.requires.room w.if-times-eq0.true))
+      (root_held c.args.self.now.root c.bucket_trees_are_sound.ensures.built) c.requires.returned w.if-times-eq0.true
+      (omega (arith, c.requires.space w.if-times-eq0.true)) (omega (arith, c.requires.space w.if-times-eq0.true))
   | then-times-eq0-via-else-times-eq0+then-times-eq-MULTIPLICITY_LIMIT w ↦
       answers_full (held_by c.args.self.now.root) c.args.self.now.limit c.args.p c.args.times
-      (root_held c.args.self.now.root c.bucket_trees_are_sound.ensures.built) c.requires.told
+      (root_held c.args.self.now.root c.bucket_trees_are_sound.ensures.built) c.requires.returned
       w.if-times-eq-MULTIPLICITY_LIMIT.true
 ]
 
 pub returns-clause-reply : goal.returns-clause-reply
 returns-clause-reply c =
     answers_again (held_by c.args.self.now.root) c.args.self.now.limit c.args.p c.args.times
-    (root_held c.args.self.now.root c.bucket_trees_are_sound.ensures.built) c.requires.told
+    (root_held c.args.self.now.root c.bucket_trees_are_sound.ensures.built) c.requires.returned
     (omega (arith, c.if-times-eq0.false)) (omega (arith, c.if-times-eq-MULTIPLICITY_LIMIT.false, c.requires.few))

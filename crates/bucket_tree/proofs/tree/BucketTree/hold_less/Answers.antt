@@ -1,7 +1,7 @@
 -- the multiplicity of the point determines each reply
 use Rattle.std.proofs.Common.{refl, sym, arith}
 use Rattle.bucket_tree.specs.Roots.{held_by}
-use Rattle.leaf_trees.proofs.Told.{answers_absent, answers_left, answers_removed}
+use Rattle.leaf_trees.proofs.Returned.{answers_absent, answers_left, answers_removed}
 use Rattle.bucket_tree.proofs.Rooted.{root_held}
 use Rattle.bucket_tree.proofs.tree.BucketTree.hold_less.Goals as goal
 
@@ -13,17 +13,17 @@ returns-in-Ok-clause-reply c =
 pub returns-then-times-eq0-clause-reply : goal.returns-then-times-eq0-clause-reply
 returns-then-times-eq0-clause-reply c =
     answers_absent (held_by c.args.self.now.root) c.args.self.now.limit c.args.p c.in-Err.times
-    (root_held c.args.self.now.root c.bucket_trees_are_sound.ensures.built) c.in-Err.ensures.told
+    (root_held c.args.self.now.root c.bucket_trees_are_sound.ensures.built) c.in-Err.ensures.returned
     c.if-times-eq0.true
 
 pub returns-then-times-gt1-clause-reply : goal.returns-then-times-gt1-clause-reply
 returns-then-times-gt1-clause-reply c =
     answers_left (held_by c.args.self.now.root) c.args.self.now.limit c.args.p c.in-Err.times
-    (root_held c.args.self.now.root c.bucket_trees_are_sound.ensures.built) c.in-Err.ensures.told
+    (root_held c.args.self.now.root c.bucket_trees_are_sound.ensures.built) c.in-Err.ensures.returned
     c.if-times-gt1.true
 
 pub returns-clause-reply : goal.returns-clause-reply
 returns-clause-reply c =
     answers_removed (held_by c.args.self.now.root) c.args.self.now.limit c.args.p c.in-Err.times
-    (root_held c.args.self.now.root c.bucket_trees_are_sound.ensures.built) c.in-Err.ensures.told
+    (root_held c.args.self.now.root c.bucket_trees_are_sound.ensures.built) c.in-Err.ensures.returned
     (omega (arith, c.if-times-eq0.false, c.if-times-gt1.false))

@@ -1,7 +1,7 @@
 -- the root is well built and low, the point is not below it, and there is capacity for one more
 use Rattle.std.proofs.Common.{◌≡◌, ◌∙◌, ap, arith, length, subst, sym, Some}
 use Rattle.bucket_tree.specs.Counts.{HasGained}
-use Rattle.bucket_tree.specs.Nodes.{forks_above}
+use Rattle.bucket_tree.specs.Nodes.{node_height}
 use Rattle.bucket_tree.specs.Roots.{points_of_root}
 use Rattle.bucket_tree.specs.Sets.{LimitedTree}
 use Rattle.bucket_tree.proofs.MostTurns.{few_turns}
@@ -21,7 +21,7 @@ insert-change-requires-clause-low c =
 pub returns-then-change-clause-few : goal.returns-then-change-clause-few
 returns-then-change-clause-few c =
     let h = low_root c.self.inside.root c.in-Some.root _ _ c.self.invariant cc in
-    omega (arith, few_turns (forks_above c.in-Some.root) h, c.insert-change.ensures.turns)
+    omega (arith, few_turns (node_height c.in-Some.root) h, c.insert-change.ensures.turns)
 
 pub invariant_of-self-2 : goal.invariant_of-self-2
 invariant_of-self-2 c =
@@ -35,7 +35,7 @@ invariant_of-self-2 c =
     (absent_below _ c.in-Some.root c.args.p v (built_root _ _ _ _ c.self.invariant r) c.requires.absent)
     (omega (
       arith,
-      c.requires.room,
+      c.requires.space,
       c.self.invariant.counted,
       ap (λ (z : LimitedTree). length (points_of_root z.root)) c.self.view_is,
       ap (λ (z : LimitedTree). z.limit) c.self.view_is,
@@ -44,4 +44,4 @@ invariant_of-self-2 c =
 pub returns-clause-few : goal.returns-clause-few
 returns-clause-few c =
     let h = low_root c.self.inside.root c.in-Some.root _ _ c.self.invariant cc in
-    omega (arith, few_turns (forks_above c.in-Some.root) h, c.insert-change.ensures.turns)
+    omega (arith, few_turns (node_height c.in-Some.root) h, c.insert-change.ensures.turns)

@@ -1,6 +1,6 @@
 -- the root is well built and low, and what is left is a tree of one point less
 use Rattle.std.proofs.Common.{◌≡◌, arith, Some}
-use Rattle.bucket_tree.specs.Nodes.{forks_above}
+use Rattle.bucket_tree.specs.Nodes.{node_height}
 use Rattle.bucket_tree.proofs.MostTurns.{few_turns}
 use Rattle.bucket_tree.proofs.Rooted.{limited_root, lost_limited, low_root}
 use Rattle.bucket_tree.proofs.tree.BucketTree.take_where_others.Goals as goal
@@ -19,4 +19,4 @@ invariant_of-self-in-Ok c =
 pub returns-in-Ok-clause-few : goal.returns-in-Ok-clause-few
 returns-in-Ok-clause-few c =
     let h = low_root c.self.inside.root c.in-Some.root _ _ c.self.invariant cc in
-    omega (arith, few_turns (forks_above c.in-Some.root) h, c.in-Ok.ensures.taken.in_place.turns)
+    omega (arith, few_turns (node_height c.in-Some.root) h, c.in-Ok.ensures.taken.in_place.turns)

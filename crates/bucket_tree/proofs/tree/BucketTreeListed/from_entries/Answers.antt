@@ -16,6 +16,6 @@ returns-clause-sound c =
       arith,
       ap (λ (z : List Pair). length z) c.in_ok-root.ensures.points,
       length-keys_of c.args.entries.now,
-      c.requires.room,
+      c.requires.space,
       c.requires.high,
     ))

@@ -6,18 +6,18 @@ use Rattle.explorer.proofs.tests.player.make_step.Goals as goal
 pub returns-in-Entered : goal.returns-in-Entered
 returns-in-Entered g c =
     let ticket = rw (← c.in-Some-take.ensures.value) at c.requires.waits in
-    let told = c.in-Entered.ensures in record {
+    let returned = c.in-Entered.ensures in record {
       below = c.requires.below;
       seated = search rules;
       waits = search rules;
       holds = rw (c.put-in-Entered.ensures, c.look_in-guard.ensures) record {
-        own = told.entered.0;
-        head = told.entered.3;
-        number = told.entered.1 ∙ ticket.number;
-        lawful = told.finds.lawful;
-        same_head = told.finds.same_head;
-        turn = told.finds.turn ∙ sym told.entered.2;
-        seen = told.seen;
-        counts = rw told.seen (counts_found _ _ _ _ _ ticket.number told.finds.own_lines ticket.counts);
+        own = returned.entered.0;
+        head = returned.entered.3;
+        number = returned.entered.1 ∙ ticket.number;
+        lawful = returned.finds.lawful;
+        same_head = returned.finds.same_head;
+        turn = returned.finds.turn ∙ sym returned.entered.2;
+        seen = returned.seen;
+        counts = rw returned.seen (counts_found _ _ _ _ _ ticket.number returned.finds.own_lines ticket.counts);
       };
     }

@@ -5,47 +5,47 @@ use Rattle.lattice.specs.Covers.{with_point}
 use Rattle.lattice.specs.declared.side.Side.TheVariants.{Lower, Upper}
 use Rattle.hull_geometry.specs.Positions.{IsPositionOf}
 use Rattle.hull_buckets.specs.Buckets.{BucketValue, seen}
-use Rattle.hull_buckets.specs.declared.TheConstants.{ROOM}
+use Rattle.hull_buckets.specs.declared.TheConstants.{BUCKET_SIZE}
 use Rattle.hull_buckets.proofs.Changed.{grown_points, grown_set, grown_mask, grown}
 use Rattle.hull_buckets.proofs.bucket.Bucket.insert.Goals as goal
 
-pub with_corner-self-inside-requires-clause-ordered : goal.with_corner-self-inside-requires-clause-ordered
-with_corner-self-inside-requires-clause-ordered c =
+pub with_vertex-self-inside-requires-clause-ordered : goal.with_vertex-self-inside-requires-clause-ordered
+with_vertex-self-inside-requires-clause-ordered c =
     grown_set (take c.self.inside.len c.self.inside.points) _ c.args.point c.args.place c.self.invariant.1.ordered
     (subst (λ (b : BucketValue). IsPositionOf b.points c.args.point (Err c.args.place)) (sym c.self.view_is)
     c.requires.position) c.put_in.ensures.items
 
-pub with_corner-self-inside-requires-clause-mask : goal.with_corner-self-inside-requires-clause-mask
-with_corner-self-inside-requires-clause-mask c =
+pub with_vertex-self-inside-requires-clause-mask : goal.with_vertex-self-inside-requires-clause-mask
+with_vertex-self-inside-requires-clause-mask c =
     grown_mask Lower (take c.self.inside.len c.self.inside.points) _ c.args.point c.args.place c.self.inside.lower
     (subst (λ (b : BucketValue). IsPositionOf b.points c.args.point (Err c.args.place)) (sym c.self.view_is)
-    c.requires.position) c.put_in.ensures.items (c.self.invariant.1.corners Lower)
+    c.requires.position) c.put_in.ensures.items (c.self.invariant.1.vertices Lower)
 
-pub with_corner-self-inside-requires-2-clause-ordered : goal.with_corner-self-inside-requires-2-clause-ordered
-with_corner-self-inside-requires-2-clause-ordered c =
+pub with_vertex-self-inside-requires-2-clause-ordered : goal.with_vertex-self-inside-requires-2-clause-ordered
+with_vertex-self-inside-requires-2-clause-ordered c =
     grown_set (take c.self.inside.len c.self.inside.points) _ c.args.point c.args.place c.self.invariant.1.ordered
     (subst (λ (b : BucketValue). IsPositionOf b.points c.args.point (Err c.args.place)) (sym c.self.view_is)
     c.requires.position) c.put_in.ensures.items
 
-pub with_corner-self-inside-requires-2-clause-mask : goal.with_corner-self-inside-requires-2-clause-mask
-with_corner-self-inside-requires-2-clause-mask c =
+pub with_vertex-self-inside-requires-2-clause-mask : goal.with_vertex-self-inside-requires-2-clause-mask
+with_vertex-self-inside-requires-2-clause-mask c =
     grown_mask Upper (take c.self.inside.len c.self.inside.points) _ c.args.point c.args.place c.self.inside.upper
     (subst (λ (b : BucketValue). IsPositionOf b.points c.args.point (Err c.args.place)) (sym c.self.view_is)
-    c.requires.position) c.put_in.ensures.items (c.self.invariant.1.corners Upper)
+    c.requires.position) c.put_in.ensures.items (c.self.invariant.1.vertices Upper)
 
 pub invariant_of-self : goal.invariant_of-self
 invariant_of-self c =
-    let room : length (take c.self.inside.len c.self.inside.points) < ROOM =
-    subst (λ (b : BucketValue). length b.points < ROOM) (sym c.self.view_is) c.requires.room in
-    let n = length-take-le c.self.inside.len c.self.inside.times (omega (arith, c.self.told, c.self.invariant.0)) in
+    let space : length (take c.self.inside.len c.self.inside.points) < BUCKET_SIZE =
+    subst (λ (b : BucketValue). length b.points < BUCKET_SIZE) (sym c.self.view_is) c.requires.space in
+    let n = length-take-le c.self.inside.len c.self.inside.times (omega (arith, c.self.returned, c.self.invariant.0)) in
     let m = c.self.invariant.1.counted in (
-      omega (arith, room, n, m),
+      omega (arith, space, n, m),
       grown (seen c.self.inside.len c.self.inside.points c.self.inside.times c.self.inside.lower c.self.inside.upper) _
           _
           c.args.point c.args.place c.args.times _ _ c.self.invariant.1
           (subst (λ (b : BucketValue). IsPositionOf b.points c.args.point (Err c.args.place)) (sym c.self.view_is)
-          c.requires.position) room c.requires.held c.put_in.ensures.items c.put_in-2.ensures.items
-          c.with_corner-self-inside.ensures c.with_corner-self-inside-2.ensures,
+          c.requires.position) space c.requires.held c.put_in.ensures.items c.put_in-2.ensures.items
+          c.with_vertex-self-inside.ensures c.with_vertex-self-inside-2.ensures,
     )
 
 pub returns-clause-points : goal.returns-clause-points

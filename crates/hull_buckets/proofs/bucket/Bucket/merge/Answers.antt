@@ -5,31 +5,31 @@ use Rattle.std.specs.List.{Contains}
 use Rattle.lattice.specs.Bridges.{IsAllBefore}
 use Rattle.lattice.specs.Plane.{Pair}
 use Rattle.hull_buckets.specs.Buckets.{BucketValue, seen}
-use Rattle.hull_buckets.specs.declared.TheConstants.{ROOM}
+use Rattle.hull_buckets.specs.declared.TheConstants.{BUCKET_SIZE}
 use Rattle.hull_buckets.proofs.Changed.{merged}
 use Rattle.hull_buckets.proofs.bucket.Bucket.merge.Goals as goal
 
 pub invariant_of-self : goal.invariant_of-self
 invariant_of-self c =
     let more : List Pair = c.points-more.result.now in
-    let room : length (take c.self.inside.len c.self.inside.points) + length more ≤ ROOM =
-    subst (λ (b : BucketValue). length b.points + length more ≤ ROOM) (sym c.self.view_is)
-    (subst (λ (z : List Pair). length c.args.self.now.points + length z ≤ ROOM) (sym c.points-more.ensures.points)
-    c.requires.room) in
+    let space : length (take c.self.inside.len c.self.inside.points) + length more ≤ BUCKET_SIZE =
+    subst (λ (b : BucketValue). length b.points + length more ≤ BUCKET_SIZE) (sym c.self.view_is)
+    (subst (λ (z : List Pair). length c.args.self.now.points + length z ≤ BUCKET_SIZE) (sym c.points-more.ensures.points)
+    c.requires.space) in
     let order : IsAllBefore (Contains (take c.self.inside.len c.self.inside.points)) (Contains more) =
     subst (λ (b : BucketValue). IsAllBefore (Contains b.points) (Contains more)) (sym c.self.view_is)
     (subst (λ (z : List Pair). IsAllBefore (Contains c.args.self.now.points) (Contains z))
     (sym c.points-more.ensures.points) c.requires.order) in
     let counted : length c.times-more_times.result.now ≡ length more =
     c.times-more_times.ensures.counted ∙ ap (λ (z : List Pair). length z) (sym c.points-more.ensures.points) in
-    let n = length-take-le c.self.inside.len c.self.inside.times (omega (arith, c.self.told, c.self.invariant.0)) in
+    let n = length-take-le c.self.inside.len c.self.inside.times (omega (arith, c.self.returned, c.self.invariant.0)) in
     let m = c.self.invariant.1.counted in (
-      omega (arith, room, n, m),
+      omega (arith, space, n, m),
       merged (seen c.self.inside.len c.self.inside.points c.self.inside.times c.self.inside.lower c.self.inside.upper)
           more _
           c.times-more_times.result.now _ _ _ c.self.invariant.1 c.points-more.ensures.ordered counted
-          c.times-more_times.ensures.held order room c.put_behind.ensures.items
+          c.times-more_times.ensures.held order space c.put_behind.ensures.items
           (ap (λ (k : ℕ). take (c.self.inside.len + k) c.put_behind-2.new.items) (sym counted)
           ∙ c.put_behind-2.ensures.items)
-          c.all_corners-self-inside.ensures c.all_corners-self-inside-2.ensures,
+          c.all_vertices-self-inside.ensures c.all_vertices-self-inside-2.ensures,
     )

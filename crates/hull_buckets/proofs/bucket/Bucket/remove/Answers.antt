@@ -7,21 +7,21 @@ use Rattle.hull_buckets.specs.Buckets.{BucketValue, seen}
 use Rattle.hull_buckets.proofs.Changed.{shrunk_points, was_mask, shrunk}
 use Rattle.hull_buckets.proofs.bucket.Bucket.remove.Goals as goal
 
-pub without_corner-self-inside-requires : goal.without_corner-self-inside-requires
-without_corner-self-inside-requires c =
+pub without_vertex-self-inside-requires : goal.without_vertex-self-inside-requires
+without_vertex-self-inside-requires c =
     was_mask Lower
     (seen c.self.inside.len c.self.inside.points c.self.inside.times c.self.inside.lower c.self.inside.upper) _
     c.args.place c.self.inside.lower c.self.invariant.1
     (subst (λ (b : BucketValue). c.args.place < length b.points) (sym c.self.view_is) c.requires.within)
-    c.take_out.ensures.items (c.self.invariant.1.corners Lower)
+    c.drain.ensures.items (c.self.invariant.1.vertices Lower)
 
-pub without_corner-self-inside-requires-2 : goal.without_corner-self-inside-requires-2
-without_corner-self-inside-requires-2 c =
+pub without_vertex-self-inside-requires-2 : goal.without_vertex-self-inside-requires-2
+without_vertex-self-inside-requires-2 c =
     was_mask Upper
     (seen c.self.inside.len c.self.inside.points c.self.inside.times c.self.inside.lower c.self.inside.upper) _
     c.args.place c.self.inside.upper c.self.invariant.1
     (subst (λ (b : BucketValue). c.args.place < length b.points) (sym c.self.view_is) c.requires.within)
-    c.take_out.ensures.items (c.self.invariant.1.corners Upper)
+    c.drain.ensures.items (c.self.invariant.1.vertices Upper)
 
 pub invariant_of-self : goal.invariant_of-self
 invariant_of-self c = (
@@ -30,13 +30,13 @@ invariant_of-self c = (
       c.args.place _ _ c.self.invariant.1
       (subst (λ (b : BucketValue). c.args.place < length b.points) (sym c.self.view_is) c.requires.within)
       (subst (λ (b : BucketValue). 1 < length b.points) (sym c.self.view_is) c.requires.others)
-      c.take_out.ensures.items c.take_out-2.ensures.items c.without_corner-self-inside.ensures
-      c.without_corner-self-inside-2.ensures,
+      c.drain.ensures.items c.drain-2.ensures.items c.without_vertex-self-inside.ensures
+      c.without_vertex-self-inside-2.ensures,
 )
 
 pub returns-clause-points : goal.returns-clause-points
 returns-clause-points c =
     shrunk_points (take c.self.inside.len c.self.inside.points) _ c.args.place c.self.invariant.1.ordered
     (subst (λ (b : BucketValue). c.args.place < length b.points) (sym c.self.view_is) c.requires.within)
-    c.take_out.ensures.items
+    c.drain.ensures.items
     ∙ ap (λ (b : BucketValue). without_point (point_at b.points c.args.place) b.points) c.self.view_is

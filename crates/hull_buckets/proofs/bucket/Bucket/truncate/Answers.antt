@@ -12,7 +12,7 @@ invariant_of-self c =
     let b = c.self.invariant.1 in
     let within : c.args.len < length (take c.self.inside.len c.self.inside.points) =
     subst (λ (b : BucketValue). c.args.len < length b.points) (sym c.self.view_is) c.requires.within in
-    let n = length-take-le c.self.inside.len c.self.inside.times (omega (arith, c.self.told, c.self.invariant.0)) in
+    let n = length-take-le c.self.inside.len c.self.inside.times (omega (arith, c.self.returned, c.self.invariant.0)) in
     let m = b.counted in
     let few = b.few in
     let short : c.args.len ≤ c.self.inside.len = omega (arith, within, n, m) in
@@ -23,14 +23,14 @@ invariant_of-self c =
           _ _ c.args.len _ _ b c.requires.some (omega (arith, within))
           (sym same)
           (sym (first_of_first c.args.len c.self.inside.len c.self.inside.times short))
-          (subst (λ (z : List Pair). IsMaskOf Lower z c.corners_before-self-inside.result) same
-          c.corners_before-self-inside.ensures)
-          (subst (λ (z : List Pair). IsMaskOf Upper z c.corners_before-self-inside-2.result) same
-          c.corners_before-self-inside-2.ensures),
+          (subst (λ (z : List Pair). IsMaskOf Lower z c.vertices_before-self-inside.result) same
+          c.vertices_before-self-inside.ensures)
+          (subst (λ (z : List Pair). IsMaskOf Upper z c.vertices_before-self-inside-2.result) same
+          c.vertices_before-self-inside-2.ensures),
     )
 
-pub corners_before-self-inside-requires-clause-mask : goal.corners_before-self-inside-requires-clause-mask
-corners_before-self-inside-requires-clause-mask c = c.self.invariant.1.corners Lower
+pub vertices_before-self-inside-requires-clause-mask : goal.vertices_before-self-inside-requires-clause-mask
+vertices_before-self-inside-requires-clause-mask c = c.self.invariant.1.vertices Lower
 
-pub corners_before-self-inside-requires-2-clause-mask : goal.corners_before-self-inside-requires-2-clause-mask
-corners_before-self-inside-requires-2-clause-mask c = c.self.invariant.1.corners Upper
+pub vertices_before-self-inside-requires-2-clause-mask : goal.vertices_before-self-inside-requires-2-clause-mask
+vertices_before-self-inside-requires-2-clause-mask c = c.self.invariant.1.vertices Upper

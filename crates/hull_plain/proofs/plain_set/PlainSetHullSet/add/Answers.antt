@@ -10,14 +10,14 @@ use Rattle.std.proofs.lemmas.Map.Steps.{set_value_same}
 use Rattle.lattice.specs.Covers.{IsPointSet}
 use Rattle.lattice.specs.Plane.{Pair}
 use Rattle.hull_set.specs.Held.{with_new, with_again}
-use Rattle.hull_plain.specs.Rims.{HasRoom, IsRimOf, IsPlainSet}
+use Rattle.hull_plain.specs.ChainPairs.{HasSpace, IsHullChainsOf, IsPlainSet}
 use Rattle.hull_plain.specs.Sets.{LimitedSet, held_in, times_in}
 use Rattle.hull_set.specs.declared.TheConstants.{MULTIPLICITY_LIMIT}
 use Rattle.hull_set.specs.declared.rules.Rules.TheVariants.{Counted}
 use Rattle.hull_plain.proofs.Multiplicities.{times_found, times_none, live, not_live, held_found, PutsAt, raised_is}
 use Rattle.hull_set.proofs.Times.{same_held}
 use Rattle.hull_set.proofs.OrderedMaps.{point_cmp, insert_is}
-use Rattle.hull_plain.proofs.PlainSets.{written, reserved, put_in, count_is, same_rim}
+use Rattle.hull_plain.proofs.PlainSets.{written, reserved, put_in, count_is, same_hull_chains}
 use Rattle.hull_geometry.proofs.SetLaws.{ordered_with}
 use Rattle.hull_plain.proofs.plain_set.PlainSetHullSet.add.Goals as goal
 
@@ -111,23 +111,23 @@ add-requires-clause-in_order c =
     subst IsPointSet (sym (ap keys_of entries ∙ insert_is _ c.args.p 1))
     (ordered_with c.args.p _ c.self.invariant.in_order)
 
-pub add-requires-clause-rim : goal.add-requires-clause-rim
-add-requires-clause-rim c =
+pub add-requires-clause-hull_chains : goal.add-requires-clause-hull_chains
+add-requires-clause-hull_chains c =
     let made : c.insert.new.self.entries ≡ insert_entry point_cmp c.get_mut.follows.lender-at-none.entries c.args.p 1 =
     search (rules, c.insert.ensures.entries, c.is_err-2.ensures, c.if-is_err-2.false) in
     let entries : c.insert.new.self.entries ≡ insert_entry point_cmp c.self.inside.points.entries c.args.p 1 =
     made
     ∙ ap (λ (z : BTreeMap Pair ℕ). insert_entry point_cmp z.entries c.args.p 1) c.get_mut.follows.holds-at-none in
-    let room : HasRoom c.reserve.new.self (c.len-count.result + 1) =
-    search (rules, c.reserve.ensures.room, c.is_err.ensures, c.if-is_err.false) in
+    let space : HasSpace c.reserve.new.self (c.len-count.result + 1) =
+    search (rules, c.reserve.ensures.space, c.is_err.ensures, c.if-is_err.false) in
     let count : c.len-count.result ≡ length (keys_of c.self.inside.points.entries) =
     count_is c.get_mut.follows.holds-at-none c.len-count.ensures.len in (
       keys_of c.self.inside.points.entries,
-      same_rim (keys_of c.self.inside.points.entries) c.self.inside.rim c.reserve.new.self
-          c.reserve.ensures.alike c.self.invariant.rim,
+      same_hull_chains (keys_of c.self.inside.points.entries) c.self.inside.hull_chains c.reserve.new.self
+          c.reserve.ensures.alike c.self.invariant.hull_chains,
       ap keys_of entries ∙ insert_is _ c.args.p 1,
       not_live _ c.args.p c.in_default.ensures.value,
-      subst (HasRoom c.reserve.new.self) (ap (λ n. n + 1) count) room,
+      subst (HasSpace c.reserve.new.self) (ap (λ n. n + 1) count) space,
     )
 
 pub invariant_of-self-2 : goal.invariant_of-self-2
@@ -137,15 +137,15 @@ invariant_of-self-2 c =
     let entries : c.insert.new.self.entries ≡ insert_entry point_cmp c.self.inside.points.entries c.args.p 1 =
     made
     ∙ ap (λ (z : BTreeMap Pair ℕ). insert_entry point_cmp z.entries c.args.p 1) c.get_mut.follows.holds-at-none in
-    let room : HasRoom c.reserve.new.self (c.len-count.result + 1) =
-    search (rules, c.reserve.ensures.room, c.is_err.ensures, c.if-is_err.false) in
+    let space : HasSpace c.reserve.new.self (c.len-count.result + 1) =
+    search (rules, c.reserve.ensures.space, c.is_err.ensures, c.if-is_err.false) in
     let count : c.len-count.result ≡ length (keys_of c.self.inside.points.entries) =
     count_is c.get_mut.follows.holds-at-none c.len-count.ensures.len in
     subst (λ (z : List (Pair × ℕ)). IsPlainSet c.self.inside.limit z c.add.new.self) (sym entries)
     (put_in c.self.invariant c.args.p c.add.new.self (omega (arith, count, c.if-count-self.false))
-    (subst (λ (z : List Pair). IsRimOf z c.add.new.self) (ap keys_of entries ∙ insert_is _ c.args.p 1)
-    c.add.ensures.rim)
-    (c.add.ensures.kept _ (subst (HasRoom c.reserve.new.self) (ap (λ n. n + 1) count) room)))
+    (subst (λ (z : List Pair). IsHullChainsOf z c.add.new.self) (ap keys_of entries ∙ insert_is _ c.args.p 1)
+    c.add.ensures.hull_chains)
+    (c.add.ensures.kept _ (subst (HasSpace c.reserve.new.self) (ap (λ n. n + 1) count) space)))
 
 pub returns-clause-reply : goal.returns-clause-reply
 returns-clause-reply c =

@@ -11,4 +11,4 @@ returns c =
     let v : keys_of c.self.inside.points.entries ≡ keys_of c.args.self.now.entries =
     ap (λ (z : LimitedSet). keys_of z.entries) c.self.view_is in
     subst (λ (z : List Pair). AnswersExtreme z c.args.d (reply_to_extreme c.extreme.result)) v
-    (c.extreme.ensures (keys_of c.self.inside.points.entries) c.self.invariant.rim)
+    (c.extreme.ensures (keys_of c.self.inside.points.entries) c.self.invariant.hull_chains)

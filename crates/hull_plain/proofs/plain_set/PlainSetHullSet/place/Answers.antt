@@ -11,4 +11,4 @@ returns c =
     let v : keys_of c.self.inside.points.entries ≡ keys_of c.args.self.now.entries =
     ap (λ (z : LimitedSet). keys_of z.entries) c.self.view_is in
     subst (λ (z : List Pair). LiesAt z c.args.q c.place.result) v
-    (c.place.ensures (keys_of c.self.inside.points.entries) c.self.invariant.rim)
+    (c.place.ensures (keys_of c.self.inside.points.entries) c.self.invariant.hull_chains)

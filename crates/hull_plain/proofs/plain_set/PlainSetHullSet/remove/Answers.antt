@@ -13,7 +13,7 @@ use Rattle.hull_set.specs.declared.rules.Rules.TheVariants.{Counted}
 use Rattle.hull_plain.proofs.Multiplicities.{times_found, live, not_live, held_found, PutsAt, lowered_is}
 use Rattle.hull_set.proofs.Times.{same_held}
 use Rattle.hull_set.proofs.OrderedMaps.{point_cmp, remove_is}
-use Rattle.hull_plain.proofs.PlainSets.{written, taken_out, left_entries, left_room}
+use Rattle.hull_plain.proofs.PlainSets.{written, taken_out, left_entries, left_space}
 use Rattle.hull_geometry.proofs.SetLaws.{ordered_without}
 use Rattle.hull_plain.proofs.plain_set.PlainSetHullSet.remove.Goals as goal
 
@@ -55,23 +55,23 @@ remove-requires-2-clause-left c =
     subst IsPointSet (sym (ap keys_of entries ∙ remove_is _ c.args.p c.self.invariant.in_order))
     (ordered_without c.args.p _ c.self.invariant.in_order)
 
-pub remove-requires-2-clause-rim : goal.remove-requires-2-clause-rim
-remove-requires-2-clause-rim c =
+pub remove-requires-2-clause-hull_chains : goal.remove-requires-2-clause-hull_chains
+remove-requires-2-clause-hull_chains c =
     let entries : c.remove.new.self.entries ≡ remove_entry (is_at (point_cmp c.args.p)) c.self.inside.points.entries =
     left_entries _ _ _ c.args.p c.in-Some.times.now c.in-Some.ensures.value
     (c.get_mut.follows.holds c.in-Some.times.now).0 c.remove.ensures.entries in (
       keys_of c.self.inside.points.entries,
       c.self.invariant.in_order,
-      c.self.invariant.rim,
+      c.self.invariant.hull_chains,
       ap keys_of entries ∙ remove_is _ c.args.p c.self.invariant.in_order,
     )
 
-pub remove-requires-2-clause-room : goal.remove-requires-2-clause-room
-remove-requires-2-clause-room c =
+pub remove-requires-2-clause-space : goal.remove-requires-2-clause-space
+remove-requires-2-clause-space c =
     let entries : c.remove.new.self.entries ≡ remove_entry (is_at (point_cmp c.args.p)) c.self.inside.points.entries =
     left_entries _ _ _ c.args.p c.in-Some.times.now c.in-Some.ensures.value
     (c.get_mut.follows.holds c.in-Some.times.now).0 c.remove.ensures.entries in
-    left_room c.self.invariant c.args.p _ entries
+    left_space c.self.invariant c.args.p _ entries
 
 pub invariant_of-self-2 : goal.invariant_of-self-2
 invariant_of-self-2 c =
@@ -79,7 +79,7 @@ invariant_of-self-2 c =
     left_entries _ _ _ c.args.p c.in-Some.times.now c.in-Some.ensures.value
     (c.get_mut.follows.holds c.in-Some.times.now).0 c.remove.ensures.entries in
     taken_out c.self.invariant c.args.p _ _ entries
-    c.remove-2.ensures.rim c.remove-2.ensures.kept
+    c.remove-2.ensures.hull_chains c.remove-2.ensures.kept
 
 pub returns-clause-reply : goal.returns-clause-reply
 returns-clause-reply c =

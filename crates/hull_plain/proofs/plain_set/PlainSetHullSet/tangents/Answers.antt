@@ -11,4 +11,4 @@ returns c =
     let v : keys_of c.self.inside.points.entries ≡ keys_of c.args.self.now.entries =
     ap (λ (z : LimitedSet). keys_of z.entries) c.self.view_is in
     subst (λ (z : List Pair). AnswersTangents z c.args.q (reply_to_tangents c.tangents.result)) v
-    (c.tangents.ensures (keys_of c.self.inside.points.entries) c.self.invariant.rim)
+    (c.tangents.ensures (keys_of c.self.inside.points.entries) c.self.invariant.hull_chains)

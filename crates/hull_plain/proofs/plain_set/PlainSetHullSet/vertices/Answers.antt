@@ -12,7 +12,7 @@ returns-in_err-vertices-clause-reply c =
     let v : keys_of c.self.inside.points.entries ≡ keys_of c.args.self.now.entries =
     ap (λ (z : LimitedSet). keys_of z.entries) c.self.view_is in
     let some : keys_of c.args.self.now.entries ≢ [] = subst (λ (z : List Pair). z ≢ []) v
-    (c.in_err-vertices.ensures.refused (keys_of c.self.inside.points.entries) c.self.invariant.rim) in
+    (c.in_err-vertices.ensures.refused (keys_of c.self.inside.points.entries) c.self.invariant.hull_chains) in
     search (rules, some)
 
 pub returns-clause-reply : goal.returns-clause-reply
@@ -21,7 +21,7 @@ returns-clause-reply c =
     ap (λ (z : LimitedSet). keys_of z.entries) c.self.view_is in
     subst (λ (z : List Pair). IsVertexList z c.in_ok-vertices.field-0.items) v
     (c.in_ok-vertices.ensures.vertices (keys_of c.self.inside.points.entries) c.self.invariant.in_order
-    c.self.invariant.rim)
+    c.self.invariant.hull_chains)
 
 pub returns-clause-few : goal.returns-clause-few
 returns-clause-few c =
@@ -29,5 +29,5 @@ returns-clause-few c =
     let few : length c.in_ok-vertices.field-0.items ≤ length (keys_of c.self.inside.points.entries) =
     vertices_few (keys_of c.self.inside.points.entries) c.in_ok-vertices.field-0.items
     (c.in_ok-vertices.ensures.vertices (keys_of c.self.inside.points.entries) c.self.invariant.in_order
-    c.self.invariant.rim) in
+    c.self.invariant.hull_chains) in
     omega (arith, c.self.invariant.few)

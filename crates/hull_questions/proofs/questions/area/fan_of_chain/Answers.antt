@@ -1,7 +1,7 @@
 -- the whole chain is a range
-use Rattle.hull_questions.proofs.Stretched.{whole_stretch}
+use Rattle.hull_questions.proofs.Stretched.{whole_chain_range}
 use Rattle.hull_questions.proofs.questions.area.fan_of_chain.Goals as goal
 
-pub fan_of_stretch-requires-clause-stretch : goal.fan_of_stretch-requires-clause-stretch
-fan_of_stretch-requires-clause-stretch g c =
-    rw (c.first.ensures, c.last.ensures) (whole_stretch (g.H.Half.tree c.args.half) (g.met.H.Half.bridged c.args.half))
+pub fan_of_chain_range-requires-clause-chain_range : goal.fan_of_chain_range-requires-clause-chain_range
+fan_of_chain_range-requires-clause-chain_range g c =
+    rw (c.first.ensures, c.last.ensures) (whole_chain_range (g.H.Half.tree c.args.half) (g.met.H.Half.bridged c.args.half))

@@ -3,7 +3,7 @@ use Rattle.lattice.specs.Plane.{Pair}
 use Rattle.bridge_search.specs.Trees.{height_of}
 use Rattle.bridge_search.specs.Leaves.{points_of}
 use Rattle.hull_geometry.specs.Hands.{IsOnHand}
-use Rattle.hull_geometry.specs.Sights.{IsBelow}
+use Rattle.hull_geometry.specs.Locations.{IsBelow}
 use Rattle.hull_geometry.specs.Tangents.{IsTangent}
 use Rattle.hull_questions.specs.Hands.{outermost}
 use Rattle.hull_questions.proofs.questions.tangents.tangent_from_below.Given as goal

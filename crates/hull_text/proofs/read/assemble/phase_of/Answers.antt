@@ -29,15 +29,15 @@ loop-item-preserved c =
     ap (λ v. length v.items) e ∙ c.loop-item.invariant.each in
     elim c.match-item.branch [
       | in-Some+in-Some-get_mut+in_ok-push w ↦
-          let room : w.from.result < length jobs = omega (arith, w.in-Some-get_mut.ensures.variant.0 refl, c.loop-item.jobs.ok.0) in record {
+          let space : w.from.result < length jobs = omega (arith, w.in-Some-get_mut.ensures.variant.0 refl, c.loop-item.jobs.ok.0) in record {
             each = ap (λ v. length v.items) w.jobs-is ∙ length-set jobs w.from.result w.push.new.self
                 ∙ c.loop-item.invariant.each;
             calls = λ k h. ap (λ v. get_or (lists_of v.items) k []) w.jobs-is
                 ∙ ap (λ (z : List (List Call)). get_or z k [])
-                (pushed_on jobs w.in-Some-get_mut.calls.now w.push.new.self w.from.result w.in-Some.call room
+                (pushed_on jobs w.in-Some-get_mut.calls.now w.push.new.self w.from.result w.in-Some.call space
                 w.in-Some-get_mut.ensures.value w.in_ok-push.ensures.items)
                 ∙ one_call_more (lists_of jobs) w.from.result k i w.in-Some.call items
-                (omega (arith, length-map jobs (λ (v : Vec Call Global). v.items), room)) l
+                (omega (arith, length-map jobs (λ (v : Vec Call Global). v.items), space)) l
                 (stands _ w.in-Some.is ∙ ap (λ (n : ℕ). Some (n, w.in-Some.call)) (sym w.from.ensures))
                 (c.loop-item.invariant.calls k h);
           }

@@ -25,7 +25,7 @@ returns-then-n-eq0-clause-line g c =
     (take c.in-Ok.n c.read_counted.new.buf) _ _ c.finish.result c.loop.invariant.known c.in-Ok.ensures.bytes.0
     (rw c.if-n-eq0.true refl)
     (c.in-Ok.ensures.bytes.1 c.if-n-eq0.true
-    (omega (arith, c.requires.room, c.loop.auto.block, c.read_counted.auto.buf))) c.loop.invariant.whole
+    (omega (arith, c.requires.space, c.loop.auto.block, c.read_counted.auto.buf))) c.loop.invariant.whole
     (rw c.deref.ensures.value at c.finish.ensures.place)
 
 pub returns-in_err-feed-clause-line : goal.returns-in_err-feed-clause-line

@@ -4,5 +4,5 @@ use Rattle.hull_text.proofs.read.reading.read_lines.Goals as goal
 
 pub returns-in-Ok-clause-stops : goal.returns-in-Ok-clause-stops
 returns-in-Ok-clause-stops g c =
-    let told = c.read_blocks.ensures in
-    reads_to_end _ c.read_blocks.result told.device told.others told.place told.line told.sound
+    let returned = c.read_blocks.ensures in
+    reads_to_end _ c.read_blocks.result returned.device returned.others returned.place returned.line returned.sound

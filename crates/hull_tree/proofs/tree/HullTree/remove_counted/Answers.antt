@@ -12,7 +12,7 @@ use Rattle.hull_tree.specs.Sets.{LimitedTree}
 use Rattle.hull_tree.proofs.LimitedTrees.{sound, limited_without}
 use Rattle.hull_tree.proofs.CountedTrees.{counted, limited_after, sound_after, live_after, some_points, answers_left}
 use Rattle.hull_tree.proofs.CountedTrees.{answers_removed, dead, held_none}
-use Rattle.hull_tree.proofs.PartingPoints.{fork_of}
+use Rattle.hull_tree.proofs.SplitPoints.{fork_of}
 use Rattle.bridge_search.proofs.Leaves.{on_of_contains}
 use Rattle.lattice.proofs.Tests.{failed}
 use Rattle.hull_tree.proofs.tree.HullTree.remove_counted.Goals as goal

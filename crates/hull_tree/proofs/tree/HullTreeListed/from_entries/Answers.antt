@@ -7,7 +7,7 @@ use Rattle.hull_tree.proofs.tree.HullTreeListed.from_entries.Goals as goal
 
 pub returns-clause-sound : goal.returns-clause-sound
 returns-clause-sound c =
-    sound _ _ _ (limited_over _ _ _ c.in_ok-root.ensures c.requires.room c.requires.low c.requires.high)
+    sound _ _ _ (limited_over _ _ _ c.in_ok-root.ensures c.requires.space c.requires.low c.requires.high)
 
 -- grind closes these at once; the tactics that are tried first take long
 pub invariant_of-tree : goal.invariant_of-tree

@@ -6,5 +6,5 @@ use Rattle.hullbook.proofs.options.parse.strings_of.Given as goal
 abbrev pub invariant-loop-word : goal.invariant-loop-word
 invariant-loop-word l = record {
   same : words_as_texts l.found.items ≡ texts_of (take l.word-index l.words);
-  room : length l.words ≤ vec_capacity l.found;
+  space : length l.words ≤ vec_capacity l.found;
 }

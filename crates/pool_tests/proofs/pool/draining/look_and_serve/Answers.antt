@@ -7,7 +7,7 @@ use Rattle.pool_tests.proofs.pool.draining.look_and_serve.Goals as goal
 
 pub serve_and_hand_on-requires-clause-may : goal.serve_and_hand_on-requires-clause-may
 serve_and_hand_on-requires-clause-may g c =
-    let law = g.met.B.Journalled in
+    let law = g.met.B.JournaledBook in
     let finds = rw (c.take.ensures.seat.0, c.take.ensures.seat.1) at c.in-Entered.ensures.finds in
     let enters = c.in-Entered.ensures.entered in
     let book = box_value (guard_book c.in-Entered.guard) in record {
@@ -17,7 +17,7 @@ serve_and_hand_on-requires-clause-may g c =
       lawful = finds.lawful;
       same_head = rw enters.0 finds.same_head;
       turn = finds.turn ∙ sym enters.2;
-      ledger = found_ledger_of (g.B.Journalled.whole book) c.args.number _ _
+      ledger = found_ledger_of (g.B.JournaledBook.whole book) c.args.number _ _
           (subst (λ (n : ℕ). c.args.number < n) (sym (law.same_workers _ _ finds.same_head)) c.requires.may.below)
           (ap (lines_of c.args.number) (law.has_lines book) ∙ same_own c.args.number _ _ _ c.requires.may.number
           (law.same_own (seat_number c.args.seat) _ _ finds.own_lines)) c.requires.may.ledger;

@@ -21,13 +21,13 @@ returns g c =
     let after = gave_from g.B.Chronicle partitioned_form partitioned_laws c.args.self.place.me
     c.exchange-left.new.seat.me c.store.new.seat.me c.args.self.book c.exchange-left.ensures.3 c.args.self.holding.3
     c.store.ensures.2 in
-    let told = given_is _ _ _ c.args.self.holding.0 (ap (λ m. m.0) after) in record {
+    let returned = given_is _ _ _ c.args.self.holding.0 (ap (λ m. m.0) after) in record {
       own = (
         search rules,
-        told.same.1 ∙ c.requires.head,
+        returned.same.1 ∙ c.requires.head,
         handed_is g.B.Chronicle partitioned_form partitioned_laws c.args.self.place.me c.store.new.seat.me
             (g.B.Chronicle.lines c.args.self.book) c.args.self.seat c.args.self.holding.0 c.args.self.holding.1 after,
       );
       seat = sym c.args.self.holding.1;
-      seen = told.seen;
+      seen = returned.seen;
     }

@@ -11,8 +11,8 @@ fetch_add-taken-requires g c =
 
 pub returns : goal.returns
 returns g c =
-    let told = took_is _ _ _ c.requires.own.2.0 (ap (λ m. m.0) c.fetch_add-taken.ensures.2) in record {
-      own = (search rules, told.same.1 ∙ c.requires.own.1);
-      seat = (told.same.0 ∙ c.requires.own.2.1, told.seen);
-      looks = told.looks;
+    let returned = took_is _ _ _ c.requires.own.2.0 (ap (λ m. m.0) c.fetch_add-taken.ensures.2) in record {
+      own = (search rules, returned.same.1 ∙ c.requires.own.1);
+      seat = (returned.same.0 ∙ c.requires.own.2.1, returned.seen);
+      looks = returned.looks;
     }

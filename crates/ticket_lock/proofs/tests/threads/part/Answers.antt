@@ -40,5 +40,5 @@ loop-worker-preserved c =
           c.loop-worker.invariant.counts
           (ap (λ z. length (own ghosts z (seat_seen c.unwrap.result))) mine.1 ∙ mine.2);
       many = search rules;
-      room = search rules;
+      space = search rules;
     }

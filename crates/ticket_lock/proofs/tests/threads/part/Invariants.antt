@@ -17,7 +17,7 @@ invariant-loop-worker l = record {
       ≡ map (λ t. t.signed) l.tallies.items;
   many : (vec_len l.seats + vec_len l.workers ≡ vec_len l.fn.workers)
       × (vec_len l.tallies + vec_len l.workers ≡ vec_len l.fn.workers);
-  room : (vec_len l.fn.workers ≤ vec_capacity l.seats) × (vec_len l.fn.workers ≤ vec_capacity l.tallies);
+  space : (vec_len l.fn.workers ≤ vec_capacity l.seats) × (vec_len l.fn.workers ≤ vec_capacity l.tallies);
 }
 
 abbrev pub decreases-loop-worker : goal.decreases-loop-worker

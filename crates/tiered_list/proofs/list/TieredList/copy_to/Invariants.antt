@@ -5,5 +5,5 @@ use Rattle.tiered_list.proofs.list.TieredList.copy_to.Given as goal
 abbrev pub invariant-loop-i : goal.invariant-loop-i
 invariant-loop-i l = record {
   items : l.out.items ≡ l.initial.out.items ++ take l.i l.self.items;
-  room : length l.initial.out.items + length l.self.items ≤ l.out.cap;
+  space : length l.initial.out.items + length l.self.items ≤ l.out.cap;
 }

@@ -3,8 +3,8 @@ use Rattle.std.proofs.Common.{arith}
 use Rattle.std.proofs.lemmas.Grind.{common_steps}
 use Rattle.tiered_list.proofs.list.TieredList.splice.Goals as goal
 
-pub put_in-requires-else-is_more_than_the_rest-clause-room : goal.put_in-requires-else-is_more_than_the_rest-clause-room
-put_in-requires-else-is_more_than_the_rest-clause-room c = grind (arith, common_steps)
+pub put_in-requires-else-is_more_than_the_rest-clause-space : goal.put_in-requires-else-is_more_than_the_rest-clause-space
+put_in-requires-else-is_more_than_the_rest-clause-space c = grind (arith, common_steps)
 
 pub returns-else-is_more_than_the_rest-clause-items : goal.returns-else-is_more_than_the_rest-clause-items
 returns-else-is_more_than_the_rest-clause-items c = grind (arith, common_steps)
@@ -15,5 +15,5 @@ put_in-requires-else-is_more_than_the_rest-clause-within c = grind (arith, commo
 pub returns-then-is_more_than_the_rest-clause-items : goal.returns-then-is_more_than_the_rest-clause-items
 returns-then-is_more_than_the_rest-clause-items c = grind (arith, common_steps)
 
-pub put_in-requires-then-is_more_than_the_rest-clause-room : goal.put_in-requires-then-is_more_than_the_rest-clause-room
-put_in-requires-then-is_more_than_the_rest-clause-room c = grind (arith, common_steps)
+pub put_in-requires-then-is_more_than_the_rest-clause-space : goal.put_in-requires-then-is_more_than_the_rest-clause-space
+put_in-requires-then-is_more_than_the_rest-clause-space c = grind (arith, common_steps)

@@ -5,7 +5,7 @@ use Rattle.tiered_list.proofs.list.TieredList.truncate.Given as goal
 abbrev pub invariant-loop-self : goal.invariant-loop-self
 invariant-loop-self l = record {
   items : l.self.items ≡ take (length l.self.items) l.initial.self.items;
-  room : l.self.room ≡ l.initial.self.room;
+  space : l.self.space ≡ l.initial.self.space;
   more : l.len ≤ length l.self.items;
 }
 

@@ -1,0 +1,110 @@
+//! The chain of a bucket's points after one was added or removed, or of all points.
+ghost use Rattle.std.specs.Prelude.{◌≡◌, ◌↔◌, ◌<◌, ◌≤◌, ◌+◌, ◌%◌, ◌^◌, ◌++◌, IsTrue, length, take, drop};
+ghost use Rattle.lattice.specs.Covers.{IsPointSet};
+ghost use Rattle.hull_geometry.specs.Mending.{IsOverEdge};
+ghost use Rattle.hull_geometry.specs.Positions.{point_at};
+ghost use Rattle.hull_buckets.specs.Buckets.{AreEnds, IsMaskOf, WasMaskOf};
+ghost use Rattle.hull_buckets.specs.Masks.{at_places, without_place};
+ghost use Rattle.hull_buckets.specs.declared.TheConstants.{BUCKET_SIZE};
+
+use super::chain::{is_convex_at, passed_over, pushed, taken_up};
+use super::mask::{below, between, first, has, highest, lowest, moved_down, moved_up};
+use lattice::{Point, Side};
+
+/// Whether the point at an index is between the last vertex before it and the first one after it, and not outwards of their segment.
+fn is_covered(side: Side, points: &[Point], low: u64, high: u64, place: usize) -> bool
+    requires few { length points.now ≤ BUCKET_SIZE }
+    requires within { place < length points.now }
+    requires low_before { low < 2 ^ place }
+    requires high_behind { high % 2 ^ (place + 1) ≡ 0 }
+    requires high_within { high < 2 ^ length points.now }
+    ensures { IsTrue result ↔ IsOverEdge side (at_places low points.now ++ at_places high points.now)
+        (length (at_places low points.now)) (point_at points.now place) }
+{
+    if low == 0 || high == 0 {
+        return false;
+    }
+    let ahead = points[highest(low)];
+    let behind = points[lowest(high)];
+    !is_convex_at(side, ahead, points[place], behind)
+}
+
+/// Returns the mask of the chain of points of which the one at `place` is new; `old` is that of the others.
+///
+/// If the point is between two vertices of the old chain and not outwards of their segment, nothing changes. Otherwise the vertices are removed, on
+/// either side, at which the chain to the point does not bend.
+pub(crate) fn with_vertex(side: Side, points: &[Point], old: u64, place: usize) -> u64
+    requires few { length points.now ≤ BUCKET_SIZE }
+    requires ordered { IsPointSet points.now }
+    requires within { place < length points.now }
+    requires mask { IsMaskOf side (without_place place points.now) old }
+    ensures { IsMaskOf side points.now result }
+{
+    let low = below(old, place);
+    let high = moved_up(old, place);
+    if is_covered(side, points, low, high, place) {
+        return low + high;
+    }
+    let front = pushed(side, points, low, place);
+    taken_up(side, points, front, high)
+}
+
+/// Returns the mask of the chain of points, given vertices at its two ends: one pass goes over the points between these, and on over the vertices
+/// after them until the chain bends as it did.
+fn joined(side: Side, points: &[Point], low: u64, high: u64) -> u64
+    requires few { length points.now ≤ BUCKET_SIZE }
+    requires ordered { IsPointSet points.now }
+    requires ends { AreEnds side points.now low high }
+    ensures { IsMaskOf side points.now result }
+{
+    let middle = between(low, high, points.len());
+    let front = passed_over(side, points, low, middle);
+    taken_up(side, points, front, high)
+}
+
+/// Returns the mask of the chain of points after the one at `place` was removed; `old` is that of all of them.
+///
+/// If the point was no vertex, nothing changes. Otherwise its neighbours stay, and one pass goes over the points between them.
+pub(crate) fn without_vertex(side: Side, points: &[Point], old: u64, place: usize) -> u64
+    requires { WasMaskOf side points.now place old }
+    ensures { IsMaskOf side points.now result }
+{
+    let low = below(old, place);
+    let high = moved_down(old, place);
+    if !has(old, place) {
+        return low + high;
+    }
+    joined(side, points, low, high)
+}
+
+/// Returns the mask of the chain of the first `count` points, if `old` is that of all of them: its vertices stay, and a pass goes over the points
+/// after the last of them.
+pub(crate) fn vertices_before(side: Side, points: &[Point], old: u64, count: usize) -> u64
+    requires few { length points.now ≤ BUCKET_SIZE }
+    requires ordered { IsPointSet points.now }
+    requires within { count < length points.now }
+    requires mask { IsMaskOf side points.now old }
+    ensures { IsMaskOf side (take count points.now) result }
+{
+    joined(side, &points[..count], below(old, count), 0)
+}
+
+/// Returns the mask of the chain of the points from an index on, if `old` is that of all of them.
+pub(crate) fn vertices_from(side: Side, points: &[Point], old: u64, place: usize) -> u64
+    requires few { length points.now ≤ BUCKET_SIZE }
+    requires ordered { IsPointSet points.now }
+    requires within { place < length points.now }
+    requires mask { IsMaskOf side points.now old }
+    ensures { IsMaskOf side (drop place points.now) result }
+{
+    joined(side, &points[place..], 0, old >> place)
+}
+
+/// Returns the mask of the chain of these points, in one pass.
+pub(crate) fn all_vertices(side: Side, points: &[Point]) -> u64
+    requires few { length points.now ≤ BUCKET_SIZE }
+    requires ordered { IsPointSet points.now }
+    ensures { IsMaskOf side points.now result }
+{
+    passed_over(side, points, 0, first(points.len()))
+}

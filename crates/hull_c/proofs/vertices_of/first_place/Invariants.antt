@@ -1,0 +1,11 @@
+-- none of the points so far is before the one at the index
+use Rattle.std.proofs.Common.{ℕ, ◌<◌, length}
+use Rattle.lattice.specs.Plane.{IsBefore}
+use Rattle.hull_geometry.specs.Positions.{point_at}
+use Rattle.hull_c.proofs.vertices_of.first_place.Given as goal
+
+abbrev pub invariant-loop-i : goal.invariant-loop-i
+invariant-loop-i l = record {
+  within : l.first < length l.points;
+  first : (k : ℕ) → k < l.i → ¬ IsBefore (point_at l.points k) (point_at l.points l.first);
+}

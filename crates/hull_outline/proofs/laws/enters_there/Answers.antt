@@ -1,6 +1,0 @@
--- the law is a lemma
-use Rattle.hull_outline.proofs.Casting.{enters_there}
-use Rattle.hull_outline.proofs.laws.enters_there.Goals as goal
-
-pub returns : goal.returns
-returns c = enters_there

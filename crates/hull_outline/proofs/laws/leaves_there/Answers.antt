@@ -1,6 +1,0 @@
--- the law is a lemma
-use Rattle.hull_outline.proofs.Leaving.{leaves_there}
-use Rattle.hull_outline.proofs.laws.leaves_there.Goals as goal
-
-pub returns : goal.returns
-returns c = leaves_there

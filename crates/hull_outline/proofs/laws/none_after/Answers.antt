@@ -1,6 +1,0 @@
--- the law is a lemma
-use Rattle.hull_outline.proofs.Leaving.{none_after}
-use Rattle.hull_outline.proofs.laws.none_after.Goals as goal
-
-pub returns : goal.returns
-returns c = none_after

@@ -1,6 +1,0 @@
--- the law is a lemma
-use Rattle.hull_outline.proofs.FarApart.{none_closer}
-use Rattle.hull_outline.proofs.laws.none_closer.Goals as goal
-
-pub returns : goal.returns
-returns c = none_closer

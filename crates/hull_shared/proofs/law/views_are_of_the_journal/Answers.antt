@@ -1,6 +1,0 @@
--- the lemma itself
-use Rattle.hull_shared.proofs.JournalViews.{of_the_journal}
-use Rattle.hull_shared.proofs.law.views_are_of_the_journal.Goals as goal
-
-pub returns : goal.returns
-returns c = of_the_journal

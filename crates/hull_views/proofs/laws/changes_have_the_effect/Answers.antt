@@ -1,6 +1,0 @@
--- the lemma itself
-use Rattle.hull_views.proofs.Effects.{effect}
-use Rattle.hull_views.proofs.laws.changes_have_the_effect.Goals as goal
-
-pub returns : goal.returns
-returns c = effect

@@ -1,7 +1,0 @@
-pub mod Changes
-pub mod Lists
-pub mod Shown
-pub mod Readers
-pub mod Silences
-pub mod Tellers
-pub mod Laws

@@ -1,0 +1,3 @@
+pub mod Histories
+pub mod Numbers
+pub mod Snapshots
