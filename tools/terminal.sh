@@ -1,7 +1,7 @@
 # What bin/hullbook adds on a terminal, after the words of the proved program, which is $program. Read by program.sh.
 # shellcheck shell=sh disable=SC2154 # $program and $top are set by the reader
 
-synopsis='usage: hullbook run SCRIPT [--capacity N] [--limit N] [--first N] [--sparing] [--journal] [--after JOURNAL]
+synopsis='usage: hullbook run SCRIPT [--capacity N] [--limit N] [--first N] [--buckets] [--journal] [--after JOURNAL]
        hullbook check [--explain] JOURNAL..
        hullbook compact JOURNAL
        hullbook upgrade JOURNAL

@@ -6,7 +6,7 @@
 # for `folder`, which is a folder. `status:` is the exit status. `output:` and `error:` are standard output and standard error, both empty
 # if the part is missing; `or:` is another possible output. A line of a part begins with `|`, or with `\` if no newline ends it.
 # `device: full` makes the output fail. A line that begins with `#` is a comment. Each run of a script is made with both trees, with
-# `--sparing` and without, and both outputs must be the same. A journal that a run or `compact` wrote must pass `check`.
+# `--buckets` and without, and both outputs must be the same. A journal that a run or `compact` wrote must pass `check`.
 # The last line is 'N passed, M failed'.
 set -uf
 here=$(cd "$(dirname "$0")" && pwd)
@@ -67,7 +67,7 @@ hullbook=$("$top/tools/program.sh" --path hullbook) || exit
 for case in $(find "$here/cases" -name '*.case' | sort); do
     why=$(outcome "$case" '')
     case $(head_of "$case" words) in
-        'run '*INPUT*) [ "$why" ] || why=$(outcome "$case" --sparing) ;;
+        'run '*INPUT*) [ "$why" ] || why=$(outcome "$case" --buckets) ;;
     esac
     if [ -z "$why" ]; then
         said "$(basename "$case" .case)" ok

@@ -109,7 +109,7 @@ try() {
     else
         said "$1, answers" "$(grep -v '^ledger\|^sum' "$room/report" | diff - "$room/answers" | head -n 4)"
     fi
-    "$hullbook" run "$room/script" --capacity "$2" --sparing >"$room/sparing"
+    "$hullbook" run "$room/script" --capacity "$2" --buckets >"$room/sparing"
     cmp -s "$room/report" "$room/sparing" && said "$1, by the sparing tree" ok || said "$1, by the sparing tree" 'another report'
     sum=$(tail -n 1 "$room/report")
     [ "$sum" = "sum $calls journal $calls capacity $2" ] && said "$1, sum" ok || said "$1, sum" "$sum"

@@ -2,7 +2,7 @@
 _hullbook() {
     local word=${COMP_WORDS[COMP_CWORD]} command=${COMP_WORDS[1]}
     local -A flags=(
-        [run]='--after --capacity --limit --first --journal --sparing'
+        [run]='--after --capacity --limit --first --journal --buckets'
         [check]='--explain' [compact]='' [upgrade]=''
     )
     if [ "$COMP_CWORD" -eq 1 ]; then

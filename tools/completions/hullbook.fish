@@ -5,7 +5,7 @@ complete -c hullbook -n '__fish_seen_subcommand_from run' -l capacity -x -d 'jou
 complete -c hullbook -n '__fish_seen_subcommand_from run' -l limit -x -d 'different points'
 complete -c hullbook -n '__fish_seen_subcommand_from run' -l first -x -d 'number of the first line'
 complete -c hullbook -n '__fish_seen_subcommand_from run' -l journal -d 'write the journal'
-complete -c hullbook -n '__fish_seen_subcommand_from run' -l sparing -d 'use the tree over buckets'
+complete -c hullbook -n '__fish_seen_subcommand_from run' -l buckets -d 'use the tree over buckets'
 complete -c hullbook -n '__fish_seen_subcommand_from check' -l explain -d 'say what an illegal line should have been'
 complete -c hulldraw -l line -x -d 'after so many calls'
 complete -c hulldraw -l bridges -d 'draw stored bridges'

@@ -331,7 +331,7 @@ fn words_that_are_taken(rt: HostRuntime) {
     let alloc = rt.alloc();
     let numbers = run_of(alloc, &words, "a b.txt");
     let plain = run_of(alloc, &["run", "x"], "x");
-    let bucketed = bucketed_run_of(alloc, &["run", "--sparing", "x"], "x");
+    let bucketed = bucketed_run_of(alloc, &["run", "--buckets", "x"], "x");
     let upgrade = is_upgrade_of(alloc, &["upgrade", "a b"], "a b");
     let compact = is_compact_of(alloc, &["compact", "a b"], "a b");
     assert_eq!(rt; numbers, Some(wanted));
@@ -353,7 +353,7 @@ fn words_of_a_check(rt: HostRuntime) {
 /// Numbers that are not stated for a run after a journal are taken from the journal.
 #[test]
 fn words_of_a_run_after_a_journal(rt: HostRuntime) {
-    let words = ["run", "--after", "j", "s", "--limit", "7", "--sparing"];
+    let words = ["run", "--after", "j", "s", "--limit", "7", "--buckets"];
     let wanted = Stated {
         capacity: None,
         limit: Some(7),

@@ -40,7 +40,7 @@ fn run_command<'a>(alloc: Global) -> Result<Command<'a>, AllocError> {
     let command = Command::new(alloc, "run").arg(script)?;
     with_numbers(alloc, command)?
         .arg(flag(alloc, "journal"))?
-        .arg(flag(alloc, "sparing"))?
+        .arg(flag(alloc, "buckets"))?
         .arg(valued(alloc, "after"))
 }
 
@@ -103,7 +103,7 @@ fn stated_of(matches: &ArgMatches<'_>) -> Option<Stated>
         None
     };
     let journal = matches.get_flag("journal");
-    let bucketed = matches.get_flag("sparing");
+    let bucketed = matches.get_flag("buckets");
     if !is_within(capacity, CAPACITY_LIMIT) || !is_within(limit, POINT_LIMIT) {
         return None;
     }

@@ -52,7 +52,7 @@ fn words_ask_for_tasks(rt: HostRuntime) {
         Err(OptionFault::Usage)
     );
     assert_eq!(rt;
-        asked(alloc, &["run", "S", "--sparing"], "S"),
+        asked(alloc, &["run", "S", "--buckets"], "S"),
         Err(OptionFault::Usage)
     );
     assert_eq!(rt; journal_task(alloc, &["check", "J"], "J"), (true, false));
