@@ -97,7 +97,7 @@ origin() {
         }'
 }
 
-# tries NAME with a journal of this CAPACITY: the answers of its report, that the sparing tree gives the same, its ledgers'
+# tries NAME with a journal of this CAPACITY: the answers of its report, that the tree over buckets gives the same, its ledgers'
 # sum, and that its journal is legal
 try() {
     "$1" 0 >"$room/script"
@@ -109,8 +109,8 @@ try() {
     else
         said "$1, answers" "$(grep -v '^ledger\|^sum' "$room/report" | diff - "$room/answers" | head -n 4)"
     fi
-    "$hullbook" run "$room/script" --capacity "$2" --buckets >"$room/sparing"
-    cmp -s "$room/report" "$room/sparing" && said "$1, by the sparing tree" ok || said "$1, by the sparing tree" 'another report'
+    "$hullbook" run "$room/script" --capacity "$2" --buckets >"$room/buckets"
+    cmp -s "$room/report" "$room/buckets" && said "$1, by the tree over buckets" ok || said "$1, by the tree over buckets" 'another report'
     sum=$(tail -n 1 "$room/report")
     [ "$sum" = "sum $calls journal $calls capacity $2" ] && said "$1, sum" ok || said "$1, sum" "$sum"
     "$hullbook" run "$room/script" --capacity "$2" --journal >"$room/journal"

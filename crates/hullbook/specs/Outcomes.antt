@@ -52,7 +52,7 @@ pub record IsRunOn {S : Type 0} (K : Ghosts S) (opened : BookValue S) (script : 
   pub journal_is : journal ≡ journal_of closed
 
 -- the run of a script on a book that was opened with these options: over the tree that searches each bridge, or over
--- buckets for a sparing run
+-- buckets for a run with `--buckets`
 abbrev pub IsRun : Bool → ScriptValue → Options → List (List Answer) → List ℕ → JournalValue → Type 0
 IsRun bucketed script o answers counts journal =
     (bucketed ≡ false
