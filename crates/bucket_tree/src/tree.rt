@@ -193,7 +193,7 @@ impl BucketTree {
     }
 
     /// Removes a point of multiplicity one, and returns how many turns the searches took.
-    fn drain(&mut self, p: Point) -> u32
+    fn remove_point(&mut self, p: Point) -> u32
         requires { times_of_root self.old.root p ≡ 1 }
         ensures without { held_by self.new.root ≡ with_none p (held_by self.old.root) }
         ensures same_limit { self.new.limit ≡ self.old.limit }
@@ -277,7 +277,7 @@ impl BucketTree {
             self.set_times(p, times - 1);
             return (RemoveReply::Left(times - 1), 0);
         }
-        (RemoveReply::Removed, self.drain(p))
+        (RemoveReply::Removed, self.remove_point(p))
     }
 
     /// Adds `p` once, as [`add`](HullSet::add), and also returns how many turns the searches of bridges took: at most 10,000, since no tree is higher

@@ -11,7 +11,7 @@ use Rattle.lattice.specs.declared.side.Side.{Side}
 use Rattle.lattice.proofs.Order.{before_trans}
 use Rattle.hull_geometry.specs.Monotone.{IsChainOf, IsInner, IsConvex}
 use Rattle.hull_geometry.specs.Positions.{point_at}
-use Rattle.hull_geometry.proofs.Mended.{drain_same}
+use Rattle.hull_geometry.proofs.Mended.{delete_same}
 use Rattle.hull_geometry.proofs.Passes.{convex_left, convex_right}
 use Rattle.hull_geometry.proofs.PointLists.{all_of, append_none}
 use Rattle.hull_geometry.proofs.PointSets.{set_right}
@@ -148,7 +148,7 @@ module _ (side : Side) (S : List Pair) (old k : ℕ) (ordered : IsPointSet S) (l
     within = sum_within (old % 2 ^ k) (old / 2 ^ (k + 1) * 2 ^ k) (length rest) are_apart low_within high_within;
     chain = subst (IsChainOf side rest)
         (sym (together rest (old % 2 ^ k) (old / 2 ^ (k + 1) * 2 ^ k) are_apart high_within low_within))
-        (drain_same side rest S (left ++ right) (point_at S k) (length left) ordered
+        (delete_same side rest S (left ++ right) (point_at S k) (length left) ordered
         (between_lists left right (point_at S k) before_it behind_it) (taken_away S k ordered l)
         (subst (λ (n : ℕ). IsChainOf side S (left ++ kept_before n (point_at S k) right)) none old_chain));
   }

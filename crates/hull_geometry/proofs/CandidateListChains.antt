@@ -145,12 +145,12 @@ chain_of_candidates side S candidates chain f c = record {
 
 -- the result of a pass over the vertices before p, the points of the candidate list between its neighbours, and the
 -- vertices after it, is the chain of the set without p
-pub drain_new : (side : Side) (S candidates chain middle new : List Pair) (p : Pair) (i : ℕ) → IsPointSet S
+pub delete_new : (side : Side) (S candidates chain middle new : List Pair) (p : Pair) (i : ℕ) → IsPointSet S
     → IsPositionOf chain p (Ok i) → ((t : Pair) → Contains chain t → (t ≡ p) ⊎ Contains candidates t)
     → IsBetween candidates (take i chain) (drop (i + 1) chain) middle
     → IsPassed side (take i chain ++ middle ++ drop (i + 1) chain) new → IsChainOf side S chain
     → IsCandidateListOf side (without_point p S) candidates → IsChainOf side (without_point p S) new
-drain_new side S candidates chain middle new p i s at among k h c f =
+delete_new side S candidates chain middle new p i s at among k h c f =
     chain_of_candidates side (without_point p S) candidates new f
     (chain_of side candidates new
     (take_off_new side candidates chain middle new p i c.strict.ordered at among

@@ -263,9 +263,9 @@ take_off_same side keys S chain p i s at e c =
     })
 
 -- a chain that does not have p is the chain of the set without p
-pub drain_same : (side : Side) (keys S chain : List Pair) (p : Pair) (i : ℕ) → IsPointSet S
+pub delete_same : (side : Side) (keys S chain : List Pair) (p : Pair) (i : ℕ) → IsPointSet S
     → IsPositionOf chain p (Err i) → keys ≡ without_point p S → IsChainOf side S chain → IsChainOf side keys chain
-drain_same side keys S chain p i s at e c =
+delete_same side keys S chain p i s at e c =
     chain_of side keys chain (take_off_same side keys S chain p i s at e (candidates_of side S chain c)) c.strict.convex
 
 -- a point of the set is in the rest, or is the one that was removed

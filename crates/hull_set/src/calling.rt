@@ -32,6 +32,7 @@ pub fn tangents_reply(reply: Option<(Point, Point)>) -> Reply
 fn listed<S: HullSet>(set: &S) -> Reply
     ensures { Answers Rules.Counted (S.held set.now) (S.bound set.now) Call.Vertices result }
 {
+    // (for the prover: what `limit` promises is that the set is sound)
     let _limit = set.limit();
     match set.vertices() {
         Ok(vertices) => Reply::VertexList(PointList::new(vertices)),

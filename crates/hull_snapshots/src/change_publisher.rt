@@ -57,6 +57,7 @@ pub struct ChangePublisher {
 fn gathered<S: HullSet>(alloc: Global, set: &S) -> Result<Arc<VertexList>, NoMemory>
     ensures { IfOk result (λ list. IsVertexList (S.held set.now).points (vertices_in (arc_value list))) }
 {
+    // (for the prover: what these two promise is that the set is sound)
     let _limit = set.limit();
     let _count = set.count();
     let list = set.vertices()?;

@@ -41,6 +41,7 @@ fn gathered<S: ListsVertices>(set: &S, most: usize, asked: u32) -> Vertices
     ensures vertices { AreVerticesOf (S.held set.now).points result }
     ensures unknown { (n : ℕ) → result ≡ Unknown n → n ≡ asked }
 {
+    // (for the prover: what these two promise is that the set is sound)
     let _count = set.count();
     let _limit = set.limit();
     match set.vertices_up_to(most) {

@@ -7,8 +7,8 @@ use Rattle.lattice.specs.Plane.{Pair}
 use Rattle.hull_plain.specs.Drafts.{drafted}
 use Rattle.hull_geometry.specs.Monotone.{IsConvex, IsPassed}
 use Rattle.hull_plain.proofs.Drafts.{started, as_roomy}
-use Rattle.hull_geometry.proofs.CandidateListChains.{drain_new}
-use Rattle.hull_geometry.proofs.Mended.{drain_same, around_set, around_among, around_few, between_few}
+use Rattle.hull_geometry.proofs.CandidateListChains.{delete_new}
+use Rattle.hull_geometry.proofs.Mended.{delete_same, around_set, around_among, around_few, between_few}
 use Rattle.hull_geometry.proofs.Passes.{convex_take, convex_drop, passed_set, passed_through}
 use Rattle.hull_geometry.proofs.PointSets.{set_left}
 use Rattle.hull_geometry.proofs.PointLists.{range_long}
@@ -16,7 +16,7 @@ use Rattle.hull_plain.proofs.repairing.drain.Goals as goal
 
 pub returns-in_default-clause-chain : goal.returns-in_default-clause-chain
 returns-in_default-clause-chain c = λ S s k f.
-    drain_same c.args.side _ S c.args.chain.now.items c.args.p c.in_default.field-0 s c.in_default.ensures.position refl
+    delete_same c.args.side _ S c.args.chain.now.items c.args.p c.in_default.field-0 s c.in_default.ensures.position refl
     k
 
 pub between-from-requires-clause-inside : goal.between-from-requires-clause-inside
@@ -158,7 +158,7 @@ returns-clause-chain c = λ S s k f.
     let L : List Pair = c.args.chain.now.items in
     let middle : List Pair = slice_range c.args.candidates.now.items c.between-from.result.0 c.between-from.result.1 in
     let new : List Pair = drafted L c.take_up-to.new.scratch_chain ++ drop c.take_up-to.result L in
-    drain_new c.args.side S c.args.candidates.now.items L middle c.write.new.list.items c.args.p c.in-Ok.i s
+    delete_new c.args.side S c.args.candidates.now.items L middle c.write.new.list.items c.args.p c.in-Ok.i s
     c.in-Ok.ensures.position c.requires.among c.between-from.ensures.between
     (subst (IsPassed c.args.side (take c.in-Ok.i L ++ middle ++ drop (c.in-Ok.i + 1) L)) (sym c.write.ensures.items)
     (passed_through c.args.side (take c.in-Ok.i L ++ middle) (drafted L c.pass_over.new.scratch_chain)

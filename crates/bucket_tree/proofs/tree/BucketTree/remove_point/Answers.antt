@@ -6,7 +6,7 @@ use Rattle.bucket_tree.specs.Roots.{times_of_root}
 use Rattle.bucket_tree.specs.Sets.{LimitedTree}
 use Rattle.bucket_tree.proofs.MostTurns.{few_turns}
 use Rattle.bucket_tree.proofs.Rooted.{limited_root, lost_limited, low_root}
-use Rattle.bucket_tree.proofs.tree.BucketTree.drain.Goals as goal
+use Rattle.bucket_tree.proofs.tree.BucketTree.remove_point.Goals as goal
 
 pub remove-removed-requires-clause-low : goal.remove-removed-requires-clause-low
 remove-removed-requires-clause-low c =
