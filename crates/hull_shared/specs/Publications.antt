@@ -16,9 +16,9 @@ abbrev pub changes_of : List Line → List Change
 changes_of lines = map (λ l. change_of l.call l.reply) lines
 
 -- the name of the snapshot slots in which a publisher publishes, if there is one
-abbrev pub slots_watermark : Option ChangePublisher → Option SnapshotSlotsName
-slots_watermark None = None
-slots_watermark (Some t) = Some (snapshot_slots_name t)
+abbrev pub published_slots : Option ChangePublisher → Option SnapshotSlotsName
+published_slots None = None
+published_slots (Some t) = Some (snapshot_slots_name t)
 
 -- a publisher that is not silent has recorded the changes of these lines, and no others
 abbrev pub ArePublished : Option ChangePublisher → List MarkedLine → Type 0

@@ -5,7 +5,7 @@ ghost use Rattle.hull_book.specs.History.{held_after};
 ghost use Rattle.hull_book.specs.LongBooks.{whole};
 ghost use Rattle.hull_book.specs.Marks.{as_segment};
 ghost use Rattle.bucket_tree.specs.Sets.{bucket_set};
-ghost use Rattle.hull_shared.specs.Publications.{ArePublished, IsOneCallBehind, slots_watermark};
+ghost use Rattle.hull_shared.specs.Publications.{ArePublished, IsOneCallBehind, published_slots};
 
 use bucket_tree::BucketTree;
 use hull_book::{Journal, LongBook};
@@ -23,7 +23,7 @@ pub(crate) fn announce(
     requires lawful { IsLawful bucket_set (whole book.now) }
     requires behind { IsOneCallBehind change_publisher.old book.now.lines call.now reply.now }
     ensures encoded { ArePublished change_publisher.new book.now.lines }
-    ensures snapshot_slots { slots_watermark change_publisher.new ≡ slots_watermark change_publisher.old }
+    ensures snapshot_slots { published_slots change_publisher.new ≡ published_slots change_publisher.old }
 {
     if let Some(change_publisher) = change_publisher {
         let _is_shown = change_publisher.announce(change_of(call, reply), book.set());
@@ -40,7 +40,7 @@ pub(crate) fn caught_up(
     requires encoded { ArePublished change_publisher [] }
     requires held { bucket_set.held set.now ≡ held_after journal.now.lines }
     ensures encoded { IfOk result (λ t. ArePublished t (as_segment journal.now.lines)) }
-    ensures snapshot_slots { IfOk result (λ t. slots_watermark t ≡ slots_watermark change_publisher) }
+    ensures snapshot_slots { IfOk result (λ t. published_slots t ≡ published_slots change_publisher) }
 {
     let Some(mut change_publisher) = change_publisher else {
         return Ok(None);
