@@ -1,3 +1,4 @@
+pub mod AddedLines
 pub mod OneMore
 pub mod Counts
 pub mod Vertices

@@ -2,6 +2,7 @@
 ghost use Rattle.std.specs.Prelude.{box_value};
 ghost use Rattle.ticket_lock.specs.Tokens.{guard_book, guard_lock, guard_number, guard_seen, opening_book, seat_seen};
 ghost use Rattle.hull_book.specs.Kinds.{kind_of};
+ghost use Rattle.hull_book.specs.Served.{AddsLine};
 ghost use Rattle.hull_pool.specs.Handing.{Found, HasCome, HoldsBook, MayCall};
 
 use hull_book::{Book, JournaledBook, Ledger, LongBook};
@@ -50,6 +51,8 @@ pub fn serve_and_hand_on<B: JournaledBook>(
         result.0 ledger.new }
     ensures served { let found = box_value (guard_book guard.entry) in
         B.served (B.head found) then (guard_number guard.entry) number call (B.lines found) (seat_seen result.0) result.1 }
+    ensures line { AddsLine number call (B.plain (B.lines (box_value (guard_book guard.entry)))) (B.plain (seat_seen result.0))
+        (B.line_reply result.1) }
 {
     let mut guard = guard;
     let book: &mut B = guard.book();
@@ -80,6 +83,8 @@ pub fn make_call<R: Wait, B: JournaledBook>(
     ensures back { HasCome (kind_of B.Chronicle B.whole B.plain) lock.now number (seat_seen seat) result.0 ledger.new }
     ensures served { Found B.plain number (seat_seen seat) (λ t found.
         B.served (B.head (box_value (opening_book lock.now))) then t number call found (seat_seen result.0) result.1) }
+    ensures line { Found B.plain number (seat_seen seat) (λ t found.
+        AddsLine number call (B.plain found) (B.plain (seat_seen result.0)) (B.line_reply result.1)) }
 {
     let guard = lock.enter(rt, seat);
     serve_and_hand_on(guard, number, call, ledger, then)

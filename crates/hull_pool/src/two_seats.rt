@@ -1,11 +1,11 @@
 //! The whole flow of a book that may be drained, for two seats: an example to copy.
 ghost use Rattle.std.specs.Prelude.{◌≡◌, ◌≤◌, [], length, vec_capacity};
-ghost use Rattle.ticket_lock.specs.Tokens.{opening_book, seat_count};
+ghost use Rattle.ticket_lock.specs.Tokens.{opening_book, seat_count, seat_seen};
 ghost use Rattle.hull_book.specs.Books.{IsLawful};
 ghost use Rattle.hull_book.specs.Kinds.{drained};
 ghost use Rattle.hull_book.specs.LongBooks.{whole};
 ghost use Rattle.hull_pool.specs.Handing.{MayCall};
-ghost use Rattle.hull_pool.specs.Long.{long_book_head, whole_of};
+ghost use Rattle.hull_pool.specs.Long.{HaveShared, long_book_head, whole_of};
 ghost use Rattle.hull_pool.specs.Work.{workers_of};
 
 use super::call::{LongLock, LongSeat, make_call};
@@ -41,6 +41,7 @@ pub fn two_seats_share<R: Wait, S: HullSet + Drop>(
     requires space { (long_book_head (opening_book lock)).journal.capacity ≤ space }
     requires empty { (seats.items ≡ []) × (ledgers.items ≡ []) }
     requires lists { (2 ≤ vec_capacity seats) × (2 ≤ vec_capacity ledgers) }
+    ensures shared { HaveShared lock (seat_seen zero.seat) (seat_seen one.seat) call space result.1 }
     ensures lawful { IsLawful S.HullSet (whole result.0) }
     ensures sum { result.2 ≡ length result.0.lines }
 {
@@ -54,7 +55,7 @@ pub fn two_seats_share<R: Wait, S: HullSet + Drop>(
     } = one;
     let (zero, _answer) = make_call(rt, &lock, zero, 0, call, &mut zeros, AfterCall::Keep);
     let take = AfterCall::Drain(space);
-    let (one, part) = make_call(rt, &lock, one, 1, Call::Count, &mut ones, take);
+    let (one, drained) = make_call(rt, &lock, one, 1, Call::Count, &mut ones, take);
     let (zero, _count) = make_call(
         rt,
         &lock,
@@ -69,5 +70,5 @@ pub fn two_seats_share<R: Wait, S: HullSet + Drop>(
     ledgers.push_reserved(zeros);
     ledgers.push_reserved(ones);
     let (book, sum) = close_book(lock, seats, ledgers);
-    (book, part, sum)
+    (book, drained, sum)
 }

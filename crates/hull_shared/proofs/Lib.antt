@@ -1,3 +1,4 @@
+pub mod AddedLines
 mod LendsBoth
 mod Makes
 mod SeatReplies

@@ -168,12 +168,13 @@ HasReturned old new was storage encoded = (new ≡ old) × (storage ≡ was) × 
 -- ---- closing
 
 -- The whole journal of the shared hull has the lines `whole`. It is legal, with the head at opening. What each seat
--- has seen is a prefix of it, and contains all lines in that seat's name. The lines still in the book are left as its
--- last segment, with its own first number; if lines are not kept there are none.
+-- has seen is a prefix of it, and contains all lines in that seat's name; there are no lines in other names. The lines
+-- still in the book are left as its last segment, with its own first number; if lines are not kept there are none.
 pub record IsJournalOf (d : OpenSharedHull) (c : ClosedSharedHull) : Type 0 where
   pub whole : List MarkedLine
   pub holds_none : HoldsNone (head_of (lock_of d.lock)).keeps whole
   pub legal : IsLegal (whole_head (head_of (lock_of d.lock)).book.journal whole) (plain whole)
+  pub seats : All (λ line. line.seat < (head_of (lock_of d.lock)).book.workers) (plain whole)
   pub seen : (j : ℕ) (p : SeatPlace) → HasAt d.places.list.items j p → IsPrefix (seat_seen p.seat) whole
   pub own_lines : (j : ℕ) (p : SeatPlace) → HasAt d.places.list.items j p → HasOwnLines whole p
   pub segment : c.segment ≡ last_segment (head_of (lock_of d.lock)).book.journal whole

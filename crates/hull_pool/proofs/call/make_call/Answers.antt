@@ -29,3 +29,14 @@ returns-clause-served g c =
           (g.B.Chronicle.lines book) (seat_seen c.serve_and_hand_on.result.0) c.serve_and_hand_on.result.1)
           finds.same_head c.serve_and_hand_on.ensures.served;
     }
+
+pub returns-clause-line : goal.returns-clause-line
+returns-clause-line g c =
+    let finds = c.enter-guard.ensures.finds in record {
+      number = guard_number c.enter-guard.result;
+      found = g.B.Chronicle.lines (box_value (guard_book c.enter-guard.result));
+      begins = finds.begins;
+      own_lines = same_own c.args.number _ _ _ c.requires.may.number
+          (g.met.B.JournaledBook.same_own (seat_number c.args.seat) _ _ finds.own_lines);
+      is_so = c.serve_and_hand_on.ensures.line;
+    }
