@@ -23,3 +23,12 @@ close_book-book-requires-clause-ledgers g c =
         tt,
       ),
     )
+
+pub returns-clause-shared : goal.returns-clause-shared
+returns-clause-shared g c = record {
+  first = c.make_call-zero.result.1;
+  zeros = seat_seen c.make_call-zero.result.0;
+  ones = seat_seen c.make_call-one.result.0;
+  called = c.make_call-zero.ensures.served;
+  drained = c.make_call-one.ensures.served;
+}
