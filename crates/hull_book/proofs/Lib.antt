@@ -1,4 +1,3 @@
-pub mod AddedLines
 pub mod OneMore
 pub mod Counts
 pub mod Vertices

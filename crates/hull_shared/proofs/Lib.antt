@@ -1,4 +1,3 @@
-pub mod AddedLines
 mod LendsBoth
 mod Makes
 mod SeatReplies
