@@ -58,7 +58,7 @@ fn close_always_in_use(rt: HostRuntime) {
 }
 
 #[test]
-fn a_text_with_no_header_is_encoded_as_no_journal(rt: HostRuntime) {
+fn a_text_with_no_header_is_reported_as_no_journal(rt: HostRuntime) {
     let mut shared_hull = SharedHull::Fresh(FreshSharedHull::of_none());
     let encoded = reopen(&mut shared_hull, rt.alloc(), b"end 0\n", 4, 2);
     let SharedHull::Fresh(_) = shared_hull else {
