@@ -1,7 +1,7 @@
 //! The set.
 mod few_vertices;
 
-ghost use Rattle.std.specs.Prelude.{◌≡◌, ◌≢◌, ◌≤◌, ◌<◌, ◌+◌, ◌↔◌, ℕ, None, IsTrue, true, false, length, IfOk, IfErr};
+ghost use Rattle.std.specs.Prelude.{◌≡◌, ◌≢◌, ◌≤◌, ◌<◌, ◌+◌, ◌↔◌, ℕ, None, IsTrue, true, false, length, IfOk, IfErr, MatchResult};
 ghost use Rattle.std.proofs.Common.{arith};
 ghost use Rattle.lattice.specs.Plane.{Pair};
 ghost use Rattle.hull_set.specs.Held.{with_new, with_none};
@@ -142,31 +142,31 @@ impl BucketTree {
         }
     }
 
-    /// Adds a new point, for which the set has capacity: the first one, or one whose bucket has to be split. Returns whether memory was refused,
-    /// which leaves all unchanged, and how many turns the searches took.
-    fn put_in(&mut self, p: Point) -> (bool, u32)
+    /// Adds a new point, for which the set has capacity: the first one, or one whose bucket has to be split. Returns how many turns the searches
+    /// took. Fails with that number if memory was refused, which leaves all unchanged.
+    fn put_in(&mut self, p: Point) -> Result<u32, u32>
         requires absent { times_of_root self.old.root p ≡ 0 }
         requires space { length (points_of_root self.old.root) < self.old.limit }
-        ensures new { result.0 ≡ false → held_by self.new.root ≡ with_new p (held_by self.old.root) }
-        ensures refused { result.0 ≡ true → held_by self.new.root ≡ held_by self.old.root }
+        ensures new { IfOk result (λ _. held_by self.new.root ≡ with_new p (held_by self.old.root)) }
+        ensures refused { IfErr result (λ _. held_by self.new.root ≡ held_by self.old.root) }
         ensures same_limit { self.new.limit ≡ self.old.limit }
-        ensures few { result.1 ≤ 10000 }
+        ensures few { MatchResult result (λ turns. turns ≤ 10000) (λ turns. turns ≤ 10000) }
     {
         let Some(root) = self.root.take() else {
             let Ok(leaf) = first_leaf(self.alloc, p) else {
-                return (true, 0);
+                return Err(0);
             };
             self.root = Some(leaf);
             self.count = 1;
-            return (false, 0);
+            return Ok(0);
         };
         let change = insert(self.alloc, root, p);
         self.root = Some(change.node);
         if change.refused {
-            return (true, change.turns);
+            return Err(change.turns);
         }
         self.count += 1;
-        (false, change.turns)
+        Ok(change.turns)
     }
 
     /// Removes a point of multiplicity one if no subtree has to move, and returns how many turns the searches took. Otherwise leaves all unchanged,
@@ -247,11 +247,9 @@ impl BucketTree {
         if times > 0 {
             return (self.count_up(p, times), 0);
         }
-        let (refused, turns) = self.put_in(p);
-        if refused {
-            (AddReply::NoMemory, turns)
-        } else {
-            (AddReply::Added, turns)
+        match self.put_in(p) {
+            Ok(turns) => (AddReply::Added, turns),
+            Err(turns) => (AddReply::NoMemory, turns),
         }
     }
 
