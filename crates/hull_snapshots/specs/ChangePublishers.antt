@@ -11,7 +11,7 @@ use Rattle.hull_snapshots.specs.declared.change_publisher.ChangePublisher.{Chang
 
 -- the changes that it recorded
 abbrev pub recorded : ChangePublisher → List Change
-recorded t = seen_lines t.front
+recorded t = seen_lines t.prefix
 
 -- whether it fell silent
 abbrev pub is_silent : ChangePublisher → Bool

@@ -6,7 +6,7 @@ ghost use Rattle.lattice.specs.Vertices.{IsVertexList};
 ghost use Rattle.lattice.specs.Covers.{IsPointSet};
 ghost use Rattle.published_snapshots.specs.Numbers.{IsLaterWatermark, watermark_number};
 ghost use Rattle.published_snapshots.specs.declared.TheConstants.{NUMBER_LIMIT};
-ghost use Rattle.published_snapshots.specs.Snapshots.{IsFrontOf, IsOfSnapshotSlots, IsWatermarkOf, snapshot_slots_of, number_of, published, seen_lines};
+ghost use Rattle.published_snapshots.specs.Snapshots.{IsPrefixOf, IsOfSnapshotSlots, IsWatermarkOf, snapshot_slots_of, number_of, published, seen_lines};
 ghost use Rattle.published_snapshots.specs.Snapshots.{slots_of};
 ghost use Rattle.hull_snapshots.specs.Changes.{changed, held_at, held_behind};
 ghost use Rattle.hull_snapshots.specs.Lists.{AreVerticesBehind, StayThrough, vertices_in};
@@ -20,7 +20,7 @@ use super::vertex_list::VertexList;
 use super::vertices::Vertices;
 use hull_set::{HullSet, NoMemory};
 use published_snapshots::{
-    Front, History, NUMBER_LIMIT, Newest, Publisher, Snapshot, SnapshotSlots, Watermark,
+    History, NUMBER_LIMIT, Newest, Prefix, Publisher, Snapshot, SnapshotSlots, Watermark,
 };
 use std::alloc::Global;
 use std::sync::Arc;
@@ -33,24 +33,24 @@ use std::sync::Arc;
 pub struct ChangePublisher {
     alloc: Global,
     history: History<Change>,
-    front: Front<Change>,
+    prefix: Prefix<Change>,
     publisher: Publisher<Vertices>,
     watermark: Watermark,
     known: Option<Arc<VertexList>>,
     is_behind: bool,
     is_silent: bool,
     why_silent: Option<Silence>,
-    ghost why: { is_silent ≡ true → IsWhySilent why_silent (length (seen_lines front)) },
-    ghost own_history: { IsFrontOf history front },
-    ghost own_snapshot_slots: { front.seen.book ≡ (snapshot_slots_of publisher).history.book },
+    ghost why: { is_silent ≡ true → IsWhySilent why_silent (length (seen_lines prefix)) },
+    ghost own_history: { IsPrefixOf history prefix },
+    ghost own_snapshot_slots: { prefix.seen.book ≡ (snapshot_slots_of publisher).history.book },
     ghost own_word: { IsWatermarkOf (snapshot_slots_of publisher) watermark },
-    ghost rising: { published publisher ≤ length (seen_lines front) },
-    ghost few: { is_silent ≡ false → length (seen_lines front) < NUMBER_LIMIT },
+    ghost rising: { published publisher ≤ length (seen_lines prefix) },
+    ghost few: { is_silent ≡ false → length (seen_lines prefix) < NUMBER_LIMIT },
     ghost watermark_is: { is_silent ≡ false → watermark_number watermark ≡ published publisher },
     ghost known_is: { ∥ (is_silent ≡ false
-        → IfSome known (λ l. IsVertexList (held_behind (seen_lines front)).points (vertices_in (arc_value l)))) ∥₁ },
+        → IfSome known (λ l. IsVertexList (held_behind (seen_lines prefix)).points (vertices_in (arc_value l)))) ∥₁ },
     ghost shown: { ∥ (is_silent ≡ false → is_behind ≡ false
-        → held_at (published publisher) (seen_lines front) ≡ held_behind (seen_lines front)) ∥₁ },
+        → held_at (published publisher) (seen_lines prefix) ≡ held_behind (seen_lines prefix)) ∥₁ },
 }
 
 /// Gathers the vertices of a set.
@@ -92,21 +92,21 @@ fn keep(known: &mut Option<Arc<VertexList>>, change: &Change)
 /// Adds a line for a change after all that was seen. Returns whether it did and one more line can have a number.
 fn add_line(
     history: &History<Change>,
-    front: &mut Front<Change>,
+    prefix: &mut Prefix<Change>,
     change: Change,
     why_silent: &mut Option<Silence>,
 ) -> bool
-    requires room { length (seen_lines front.old) < NUMBER_LIMIT }
-    requires history { IsFrontOf history.now front.old }
-    ensures history { IsFrontOf history.now front.new }
-    ensures longer { length (seen_lines front.old) ≤ length (seen_lines front.new) }
-    ensures added { IsTrue result → (seen_lines front.new ≡ seen_lines front.old ++ change ∷ [])
-        × (length (seen_lines front.new) < NUMBER_LIMIT) }
-    ensures why { result ≡ false → IsWhySilent why_silent.new (length (seen_lines front.new)) }
+    requires room { length (seen_lines prefix.old) < NUMBER_LIMIT }
+    requires history { IsPrefixOf history.now prefix.old }
+    ensures history { IsPrefixOf history.now prefix.new }
+    ensures longer { length (seen_lines prefix.old) ≤ length (seen_lines prefix.new) }
+    ensures added { IsTrue result → (seen_lines prefix.new ≡ seen_lines prefix.old ++ change ∷ [])
+        × (length (seen_lines prefix.new) < NUMBER_LIMIT) }
+    ensures why { result ≡ false → IsWhySilent why_silent.new (length (seen_lines prefix.new)) }
 {
-    match front.add_unless_overtaken(history, change) {
+    match prefix.add_unless_overtaken(history, change) {
         Ok(()) => {
-            if front.count() < NUMBER_LIMIT {
+            if prefix.count() < NUMBER_LIMIT {
                 return true;
             }
             *why_silent = Some(Silence::AtLimit);
@@ -155,9 +155,9 @@ impl ChangePublisher {
         requires { readers ≤ READER_LIMIT }
         ensures { IfOk result (λ r. IsOpened readers r.0 r.1) }
     {
-        let (history, front) = History::open();
+        let (history, prefix) = History::open();
         let (newest, watermark) = Newest::open();
-        let snapshot_slots = SnapshotSlots::new(alloc, newest, &front, usize::from(readers) + 2)?;
+        let snapshot_slots = SnapshotSlots::new(alloc, newest, &prefix, usize::from(readers) + 2)?;
         let Ok(snapshot_slots) = Arc::new(alloc, snapshot_slots) else {
             return Err(NoMemory);
         };
@@ -167,7 +167,7 @@ impl ChangePublisher {
         let change_publisher = ChangePublisher {
             alloc,
             history,
-            front,
+            prefix,
             publisher: Publisher::new(other),
             watermark: watermark.again(),
             known: None,
@@ -194,14 +194,19 @@ impl ChangePublisher {
             return;
         }
         keep(&mut self.known, &change);
-        self.is_silent = !add_line(&self.history, &mut self.front, change, &mut self.why_silent);
+        self.is_silent = !add_line(
+            &self.history,
+            &mut self.prefix,
+            change,
+            &mut self.why_silent,
+        );
         self.is_behind |= change.matters();
     }
 
     /// Gathers the vertices after the recorded changes from the set, if they are not known.
     fn fill<S: HullSet>(&mut self, set: &S)
         requires held { is_silent self.old ≡ false → S.held set.now ≡ held_behind (recorded self.old) }
-        ensures front { (self.new.front ≡ self.old.front) × (self.new.is_silent ≡ self.old.is_silent) }
+        ensures prefix { (self.new.prefix ≡ self.old.prefix) × (self.new.is_silent ≡ self.old.is_silent) }
         ensures publisher { self.new.publisher ≡ self.old.publisher }
     {
         if self.known.is_none() {
@@ -217,7 +222,7 @@ impl ChangePublisher {
         ensures same { HasKept self.old self.new }
         ensures published { IsTrue result → IsPublic self.new }
     {
-        let snapshot = Snapshot::new(list, self.front.again());
+        let snapshot = Snapshot::new(list, self.prefix.again());
         match put_out(
             &mut self.publisher,
             &mut self.watermark,
@@ -246,7 +251,7 @@ impl ChangePublisher {
         if self.is_silent {
             return false;
         }
-        if self.publisher.last() == self.front.count() {
+        if self.publisher.last() == self.prefix.count() {
             return true;
         }
         self.fill(set);

@@ -7,23 +7,23 @@ use Rattle.published_snapshots.specs.declared.TheConstants.{SLOT_LIMIT}
 use Rattle.published_snapshots.specs.declared.snapshot.Snapshot.{Snapshot}
 use Rattle.published_snapshots.specs.declared.snapshot.Truth.{Ghosts}
 use Rattle.published_snapshots.specs.declared.snapshot_slots.SnapshotSlots.{SnapshotSlots}
-use Rattle.published_snapshots.specs.declared.history.Front.{Front}
+use Rattle.published_snapshots.specs.declared.history.Prefix.{Prefix}
 use Rattle.published_snapshots.specs.declared.history.History.{History}
 use Rattle.published_snapshots.specs.declared.newest.Newest.{Newest}
 use Rattle.published_snapshots.specs.declared.newest.Watermark.{Watermark}
 use Rattle.published_snapshots.specs.declared.publisher.Publisher.{Publisher}
 
 -- the lines that were seen
-abbrev pub seen_lines : {L : Type 0} → Front L → List L
-seen_lines front = front.seen.log
+abbrev pub seen_lines : {L : Type 0} → Prefix L → List L
+seen_lines prefix = prefix.seen.log
 
 -- these lines are a prefix of this history
-abbrev pub IsFrontOf : {L : Type 0} → History L → Front L → Type 0
-IsFrontOf history front = front.seen.book ≡ history.length.book
+abbrev pub IsPrefixOf : {L : Type 0} → History L → Prefix L → Type 0
+IsPrefixOf history prefix = prefix.seen.book ≡ history.length.book
 
 -- two prefixes of one history
-abbrev pub AreOfOneHistory : {L : Type 0} → Front L → Front L → Type 0
-AreOfOneHistory front other = front.seen.book ≡ other.seen.book
+abbrev pub AreOfOneHistory : {L : Type 0} → Prefix L → Prefix L → Type 0
+AreOfOneHistory prefix other = prefix.seen.book ≡ other.seen.book
 
 -- the watermark is of this word
 abbrev pub IsWatermarkOfWord : Newest → Watermark → Type 0
@@ -45,7 +45,7 @@ module _ {T L V : Type 0} {K : Ghosts T L V} where
 
   -- the lines as of which the value of a snapshot is true
   abbrev pub lines_of : Snapshot T L V K → List L
-  lines_of snapshot = seen_lines snapshot.front
+  lines_of snapshot = seen_lines snapshot.prefix
 
   -- the value of a snapshot
   abbrev pub value_of : Snapshot T L V K → V
@@ -57,7 +57,7 @@ module _ {T L V : Type 0} {K : Ghosts T L V} where
 
   -- the lines of the snapshot are a prefix of the slots' history
   abbrev pub IsOfSnapshotSlots : SnapshotSlots T L V K → Snapshot T L V K → Type 0
-  IsOfSnapshotSlots snapshot_slots snapshot = snapshot.front.seen.book ≡ snapshot_slots.history.book
+  IsOfSnapshotSlots snapshot_slots snapshot = snapshot.prefix.seen.book ≡ snapshot_slots.history.book
 
   -- how many slots there are
   abbrev pub slots_of : SnapshotSlots T L V K → ℕ

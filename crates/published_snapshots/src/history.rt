@@ -59,7 +59,7 @@ pub struct History<L> {
 
 /// The prefix of the history that was seen. It has no bytes but its length, and can be sent to any thread.
 #[derive(Drop)]
-pub struct Front<L> {
+pub struct Prefix<L> {
     pub(crate) count: u64,
     pub(crate) seen: Seen<L, u64, Lines>,
     ghost counted: { count ≡ length seen.log },
@@ -80,11 +80,11 @@ impl Overtaken {
 }
 
 impl<L> History<L> {
-    ghost use Rattle.published_snapshots.specs.Snapshots.{IsFrontOf, seen_lines};
+    ghost use Rattle.published_snapshots.specs.Snapshots.{IsPrefixOf, seen_lines};
 
     /// Opens a history of no lines; the prefix that it returns has seen none of it.
-    pub fn open() -> (History<L>, Front<L>)
-        ensures history { IsFrontOf result.0 result.1 }
+    pub fn open() -> (History<L>, Prefix<L>)
+        ensures history { IsPrefixOf result.0 result.1 }
         ensures none { seen_lines result.1 ≡ [] }
     {
         let (seen, mut first, _second) = Seen::open(Start::alone(), 0, 0);
@@ -92,12 +92,12 @@ impl<L> History<L> {
             History {
                 length: Word::tracked(0, &mut first),
             },
-            Front { count: 0, seen },
+            Prefix { count: 0, seen },
         )
     }
 }
 
-impl<L> Front<L> {
+impl<L> Prefix<L> {
     ghost use mathlib.Core.List.{IsPrefix};
     ghost use Rattle.published_snapshots.specs.Snapshots.{AreOfOneHistory, seen_lines};
 
@@ -109,17 +109,17 @@ impl<L> Front<L> {
     }
 
     /// Returns a copy.
-    pub fn again(&self) -> Front<L>
+    pub fn again(&self) -> Prefix<L>
         ensures { result ≡ self.now }
     {
-        Front {
+        Prefix {
             count: self.count,
             seen: self.seen.again(),
         }
     }
 
     /// Whether it is a prefix of `other`. If not, `other` is a prefix of it.
-    pub fn begins(&self, other: &Front<L>) -> bool
+    pub fn begins(&self, other: &Prefix<L>) -> bool
         requires { AreOfOneHistory self.now other.now }
         ensures { MatchBool result (IsPrefix (seen_lines self.now) (seen_lines other.now)) (IsPrefix (seen_lines other.now) (seen_lines self.now)) }
     {
@@ -129,16 +129,16 @@ impl<L> Front<L> {
     }
 }
 
-impl<L: Copy> Front<L> {
+impl<L: Copy> Prefix<L> {
     ghost use Rattle.published_snapshots.specs.Histories.{IsLonger};
-    ghost use Rattle.published_snapshots.specs.Snapshots.{IsFrontOf, seen_lines};
+    ghost use Rattle.published_snapshots.specs.Snapshots.{IsPrefixOf, seen_lines};
 
     /// Adds a line after all that was seen, and returns whether it did. It did not if the history has more lines:
     /// they are seen now.
     pub fn add(&mut self, history: &History<L>, line: L) -> bool
         requires room { length (seen_lines self.old) < 2 ^ 62 }
-        requires history { IsFrontOf history.now self.old }
-        ensures history { IsFrontOf history.now self.new }
+        requires history { IsPrefixOf history.now self.old }
+        ensures history { IsPrefixOf history.now self.new }
         ensures added { MatchBool result (seen_lines self.new ≡ seen_lines self.old ++ line ∷ []) (IsLonger (seen_lines self.old) (seen_lines self.new)) }
     {
         let mut offer: Offer<L, u64, Lines, Nothing> = self.seen.plain::<Nothing, L, Add>(&line);
@@ -157,15 +157,15 @@ impl<L: Copy> Front<L> {
         found == count
     }
 
-    /// Does what [`add`](Front::add) does.
+    /// Does what [`add`](Prefix::add) does.
     ///
     /// # Errors
     ///
     /// Fails with the evidence that another thread added lines, if the history had more lines; they are seen now.
     pub fn add_unless_overtaken(&mut self, history: &History<L>, line: L) -> Result<(), Overtaken>
         requires room { length (seen_lines self.old) < 2 ^ 62 }
-        requires history { IsFrontOf history.now self.old }
-        ensures history { IsFrontOf history.now self.new }
+        requires history { IsPrefixOf history.now self.old }
+        ensures history { IsPrefixOf history.now self.new }
         ensures added { IfOk result (λ _. seen_lines self.new ≡ seen_lines self.old ++ line ∷ []) }
         ensures overtaken { IfErr result (λ _. IsLonger (seen_lines self.old) (seen_lines self.new)) }
     {

@@ -12,18 +12,18 @@
 //! promises that a try succeeds, since `counted_slot` does not promise that a step wins.
 #![tactic(auto)]
 
-mod fronts;
 mod history;
 mod newest;
+mod prefixes;
 mod publisher;
 mod snapshot;
 mod snapshot_slots;
 #[cfg(test)]
 mod tests;
 
-pub use fronts::is_front;
-pub use history::{Front, History, Lines, Overtaken};
+pub use history::{History, Lines, Overtaken, Prefix};
 pub use newest::{Newest, Rise, Rises, Watermark};
+pub use prefixes::is_prefix;
 pub use publisher::Publisher;
 pub use snapshot::{Snapshot, Truth};
 pub use snapshot_slots::SnapshotSlots;

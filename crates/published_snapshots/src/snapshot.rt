@@ -2,7 +2,7 @@
 ghost use Rattle.std.specs.Prelude.{◌≡◌, IfSome};
 ghost use Rattle.std.specs.Arc.{arc_value};
 
-use super::history::{Front, Lines};
+use super::history::{Lines, Prefix};
 use counted_slot::Fits;
 use logbook::Seen;
 use std::marker::PhantomData;
@@ -26,23 +26,23 @@ pub trait Truth {
 #[derive(Drop)]
 pub struct Snapshot<T: Truth> {
     pub(crate) value: Arc<T::Value>,
-    pub(crate) front: Front<T::Line>,
+    pub(crate) prefix: Prefix<T::Line>,
     of: PhantomData<T>,
-    ghost is_true: { ∥ T.holds front.seen.log (arc_value value) ∥₁ },
+    ghost is_true: { ∥ T.holds prefix.seen.log (arc_value value) ∥₁ },
 }
 
 impl<T: Truth> Snapshot<T> {
     ghost use Rattle.published_snapshots.specs.Snapshots.{lines_of, number_of, seen_lines, value_of};
 
     /// Makes a snapshot of a value that is true as of these lines.
-    pub fn new(value: Arc<T::Value>, front: Front<T::Line>) -> Snapshot<T>
-        requires { T.holds (seen_lines front) (arc_value value) }
+    pub fn new(value: Arc<T::Value>, prefix: Prefix<T::Line>) -> Snapshot<T>
+        requires { T.holds (seen_lines prefix) (arc_value value) }
         ensures value { result.value ≡ value }
-        ensures front { result.front ≡ front }
+        ensures prefix { result.prefix ≡ prefix }
     {
         Snapshot {
             value,
-            front,
+            prefix,
             of: PhantomData,
         }
     }
@@ -50,11 +50,11 @@ impl<T: Truth> Snapshot<T> {
     /// Returns another snapshot of the value, as of the same lines, or `None` if the value has too many owners.
     pub fn again(&self) -> Option<Snapshot<T>>
         ensures value { IfSome result (λ snapshot. value_of snapshot ≡ value_of self.now) }
-        ensures front { IfSome result (λ snapshot. snapshot.front ≡ self.now.front) }
+        ensures prefix { IfSome result (λ snapshot. snapshot.prefix ≡ self.now.prefix) }
     {
         Some(Snapshot {
             value: Arc::try_clone(&self.value).ok()?,
-            front: self.front.again(),
+            prefix: self.prefix.again(),
             of: PhantomData,
         })
     }
@@ -63,7 +63,7 @@ impl<T: Truth> Snapshot<T> {
     pub fn number(&self) -> u64
         ensures { result ≡ number_of self.now }
     {
-        self.front.count()
+        self.prefix.count()
     }
 
     /// Returns the value, which is true as of those lines.
@@ -78,5 +78,5 @@ impl<T: Truth> Snapshot<T> {
 impl<T: Truth> Fits for Snapshot<T> {
     type Tag = Seen<T::Line, u64, Lines>;
 
-    ghost fits = { λ seen snapshot. snapshot.front.seen.book ≡ seen.book };
+    ghost fits = { λ seen snapshot. snapshot.prefix.seen.book ≡ seen.book };
 }

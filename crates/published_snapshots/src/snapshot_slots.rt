@@ -3,7 +3,7 @@ ghost use Rattle.std.specs.Prelude.{◌≡◌, ◌≢◌, ◌%◌, IfSome, IfOk,
 ghost use Rattle.counted_slot.specs.Counting.{readers};
 
 use super::SLOT_LIMIT;
-use super::history::{Front, Lines};
+use super::history::{Lines, Prefix};
 use super::newest::{Newest, Watermark};
 use super::snapshot::{Snapshot, Truth};
 use counted_slot::{Counted, MOST_READERS, ONE_READER, PRESENT};
@@ -44,14 +44,14 @@ impl<T: Truth> SnapshotSlots<T> {
     pub fn new(
         alloc: Global,
         newest: Newest,
-        front: &Front<T::Line>,
+        prefix: &Prefix<T::Line>,
         count: usize,
     ) -> Result<SnapshotSlots<T>, AllocError>
-        ensures history { IfOk result (λ snapshot_slots. snapshot_slots.history.book ≡ front.now.seen.book) }
+        ensures history { IfOk result (λ snapshot_slots. snapshot_slots.history.book ≡ prefix.now.seen.book) }
         ensures newest { IfOk result (λ snapshot_slots. snapshot_slots.newest ≡ newest) }
         ensures slots { IfOk result (λ snapshot_slots. slots_of snapshot_slots ≡ count) }
     {
-        let history = front.seen.again();
+        let history = prefix.seen.again();
         let mut slots = Vec::with_capacity(alloc, count)?;
         for _ in 0..count {
             slots.push(Counted::new(None, &history))?;

@@ -1,10 +1,10 @@
 //! Here the published value is the number of lines.
 ghost use Rattle.std.specs.Prelude.{◌≡◌, ◌+◌, ◌≤◌, length};
 ghost use Rattle.std.specs.Arc.{arc_value};
-ghost use Rattle.published_snapshots.specs.Snapshots.{IsFrontOf, IsOfSnapshotSlots, IsWatermarkOf, snapshot_slots_of, published, seen_lines};
+ghost use Rattle.published_snapshots.specs.Snapshots.{IsPrefixOf, IsOfSnapshotSlots, IsWatermarkOf, snapshot_slots_of, published, seen_lines};
 
 use crate::{
-    Front, History, Newest, Publisher, Snapshot, SnapshotSlots, Truth, Watermark, is_front,
+    History, Newest, Prefix, Publisher, Snapshot, SnapshotSlots, Truth, Watermark, is_prefix,
 };
 use std::alloc::Global;
 use std::process::Abort;
@@ -33,22 +33,22 @@ impl Truth for Counts {
 #[derive(Drop)]
 struct Stage {
     history: History<u64>,
-    front: Front<u64>,
+    prefix: Prefix<u64>,
     snapshot_slots: Arc<SnapshotSlots<Counts>>,
     publisher: Publisher<Counts>,
     watermark: Watermark,
-    ghost of_history: { IsFrontOf history front },
-    ghost same_history: { (arc_value snapshot_slots).history.book ≡ front.seen.book },
+    ghost of_history: { IsPrefixOf history prefix },
+    ghost same_history: { (arc_value snapshot_slots).history.book ≡ prefix.seen.book },
     ghost of_snapshot_slots: { IsWatermarkOf (arc_value snapshot_slots) watermark },
     ghost publishes: { snapshot_slots_of publisher ≡ arc_value snapshot_slots },
-    ghost rising: { published publisher ≤ length (seen_lines front) },
+    ghost rising: { published publisher ≤ length (seen_lines prefix) },
 }
 
 // Makes so many slots, in which nothing was published.
 fn opened(rt: &impl Abort, alloc: Global, slots: usize) -> Stage {
-    let (history, front) = History::open();
+    let (history, prefix) = History::open();
     let (newest, watermark) = Newest::open();
-    let Ok(snapshot_slots) = SnapshotSlots::new(alloc, newest, &front, slots) else {
+    let Ok(snapshot_slots) = SnapshotSlots::new(alloc, newest, &prefix, slots) else {
         panic!(rt; "there is memory for the slots")
     };
     let Ok(snapshot_slots) = Arc::new(alloc, snapshot_slots) else {
@@ -57,7 +57,7 @@ fn opened(rt: &impl Abort, alloc: Global, slots: usize) -> Stage {
     let other = shared(rt, &snapshot_slots);
     Stage {
         history,
-        front,
+        prefix,
         snapshot_slots,
         publisher: Publisher::new(other),
         watermark,
@@ -65,32 +65,32 @@ fn opened(rt: &impl Abort, alloc: Global, slots: usize) -> Stage {
 }
 
 // Adds a line.
-fn add_line(rt: &impl Abort, history: &History<u64>, front: &mut Front<u64>)
-    requires { IsFrontOf history.now front.old }
-    ensures history { IsFrontOf history.now front.new }
-    ensures longer { length (seen_lines front.new) ≡ length (seen_lines front.old) + 1 }
-    ensures few { length (seen_lines front.new) ≤ 1000000 }
+fn add_line(rt: &impl Abort, history: &History<u64>, prefix: &mut Prefix<u64>)
+    requires { IsPrefixOf history.now prefix.old }
+    ensures history { IsPrefixOf history.now prefix.new }
+    ensures longer { length (seen_lines prefix.new) ≡ length (seen_lines prefix.old) + 1 }
+    ensures few { length (seen_lines prefix.new) ≤ 1000000 }
 {
-    let line = front.count();
+    let line = prefix.count();
     assert!(rt; line < 1000000);
-    let is_added = front.add(history, line);
+    let is_added = prefix.add(history, line);
     assert!(rt; is_added);
 }
 
 // Returns a snapshot whose value is the number of lines.
-fn snapshot_of(rt: &impl Abort, alloc: Global, front: &Front<u64>) -> Snapshot<Counts>
-    ensures { result.front ≡ front.now }
+fn snapshot_of(rt: &impl Abort, alloc: Global, prefix: &Prefix<u64>) -> Snapshot<Counts>
+    ensures { result.prefix ≡ prefix.now }
 {
-    let Ok(value) = Arc::new(alloc, front.count()) else {
+    let Ok(value) = Arc::new(alloc, prefix.count()) else {
         panic!(rt; "there is memory for the value")
     };
-    Snapshot::new(value, front.again())
+    Snapshot::new(value, prefix.again())
 }
 
 // Adds a line, and publishes the number of lines; returns whether the word was raised.
 fn publish(rt: &impl Abort, alloc: Global, stage: &mut Stage) -> bool {
-    add_line(rt, &stage.history, &mut stage.front);
-    let snapshot = snapshot_of(rt, alloc, &stage.front);
+    add_line(rt, &stage.history, &mut stage.prefix);
+    let snapshot = snapshot_of(rt, alloc, &stage.prefix);
     match stage.publisher.publish(&mut stage.watermark, snapshot) {
         Ok(is_raised) => is_raised,
         Err(_) => false,
@@ -154,7 +154,7 @@ fn snapshots_show_what_was_published(rt: HostRuntime) -> Result<(), Fail> {
     let last = newest(&rt, &snapshot_slots, &mut watermark);
     assert_eq!(rt; (last.number(), *last.value()), (301, 301));
     assert_eq!(rt; (first.number(), *first.value()), (1, 1));
-    assert!(rt; is_front(&first, &last) && !is_front(&last, &first));
+    assert!(rt; is_prefix(&first, &last) && !is_prefix(&last, &first));
     Ok(())
 }
 

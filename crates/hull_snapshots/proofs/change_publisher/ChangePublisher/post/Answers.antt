@@ -9,10 +9,10 @@ use Rattle.hull_snapshots.proofs.change_publisher.ChangePublisher.post.Goals as 
 pub invariant_of-self : goal.invariant_of-self
 invariant_of-self c =
     let t = c.args.self.now in let p = c.in-Ok.ensures in
-    let number : number_of c.new-snapshot.result ≡ length (seen_lines t.front) =
-    ap (λ f. length (seen_lines f)) (c.new-snapshot.ensures.front ∙ c.again.ensures) in
+    let number : number_of c.new-snapshot.result ≡ length (seen_lines t.prefix) =
+    ap (λ f. length (seen_lines f)) (c.new-snapshot.ensures.prefix ∙ c.again.ensures) in
     record {
-      why = λ e. p.why (fallen _ e) (length (seen_lines t.front));
+      why = λ e. p.why (fallen _ e) (length (seen_lines t.prefix));
       own_history = t.own_history;
       own_snapshot_slots = t.own_snapshot_slots ∙ ap (λ h. h.history.book) (sym p.same);
       own_word = p.more.book ∙ t.own_word ∙ ap (λ h. h.newest.word.book) (sym p.same);

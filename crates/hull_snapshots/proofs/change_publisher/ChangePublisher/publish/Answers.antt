@@ -7,4 +7,4 @@ use Rattle.hull_snapshots.proofs.change_publisher.ChangePublisher.publish.Goals 
 
 pub post-requires-clause-vertices : goal.post-requires-clause-vertices
 post-requires-clause-vertices g c = known_here arc_value vertices_in _ _ c.fill.new.self.known c.in-Some.list
-    c.fill.new.self.known_is (c.fill.ensures.front.1 ∙ c.if-self.false) c.in-Some.ensures
+    c.fill.new.self.known_is (c.fill.ensures.prefix.1 ∙ c.if-self.false) c.in-Some.ensures

@@ -1,7 +1,7 @@
 -- the exchange preserves the rule
 use Rattle.std.proofs.Common.{sym, ◌∙◌}
 use Rattle.published_snapshots.proofs.AddedLines.{adds_moves}
-use Rattle.published_snapshots.proofs.history.Front.add.Goals as goal
+use Rattle.published_snapshots.proofs.history.Prefix.add.Goals as goal
 
 pub compare_exchange-found-requires : goal.compare_exchange-found-requires
 compare_exchange-found-requires g c =

@@ -2,7 +2,7 @@
 use Rattle.std.proofs.Common.{ap, refl, subst}
 use mathlib.Core.List.{IsPrefix}
 use Rattle.published_snapshots.proofs.Beginnings.{begins_by_count}
-use Rattle.published_snapshots.proofs.history.Front.begins.Goals as goal
+use Rattle.published_snapshots.proofs.history.Prefix.begins.Goals as goal
 
 pub returns : goal.returns
 returns g c =
