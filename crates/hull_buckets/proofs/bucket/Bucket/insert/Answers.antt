@@ -37,7 +37,7 @@ pub invariant_of-self : goal.invariant_of-self
 invariant_of-self c =
     let space : length (take c.self.inside.len c.self.inside.points) < BUCKET_SIZE =
     subst (λ (b : BucketValue). length b.points < BUCKET_SIZE) (sym c.self.view_is) c.requires.space in
-    let n = length-take-le c.self.inside.len c.self.inside.times (omega (arith, c.self.returned, c.self.invariant.0)) in
+    let n = length-take-le c.self.inside.len c.self.inside.times (omega (arith, c.self.told, c.self.invariant.0)) in
     let m = c.self.invariant.1.counted in (
       omega (arith, space, n, m),
       grown (seen c.self.inside.len c.self.inside.points c.self.inside.times c.self.inside.lower c.self.inside.upper) _

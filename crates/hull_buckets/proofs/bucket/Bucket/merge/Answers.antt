@@ -22,7 +22,7 @@ invariant_of-self c =
     (sym c.points-more.ensures.points) c.requires.order) in
     let counted : length c.times-more_times.result.now ≡ length more =
     c.times-more_times.ensures.counted ∙ ap (λ (z : List Pair). length z) (sym c.points-more.ensures.points) in
-    let n = length-take-le c.self.inside.len c.self.inside.times (omega (arith, c.self.returned, c.self.invariant.0)) in
+    let n = length-take-le c.self.inside.len c.self.inside.times (omega (arith, c.self.told, c.self.invariant.0)) in
     let m = c.self.invariant.1.counted in (
       omega (arith, space, n, m),
       merged (seen c.self.inside.len c.self.inside.points c.self.inside.times c.self.inside.lower c.self.inside.upper)
