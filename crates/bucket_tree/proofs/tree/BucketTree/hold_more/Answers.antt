@@ -14,16 +14,16 @@ returns-in-Ok-clause-reply c =
     (root_held c.args.self.now.root c.bucket_trees_are_sound.ensures.built) (sym c.in-Ok.ensures.absent) refl
     (omega (arith, n))
 
-pub returns-then-refused-clause-reply : goal.returns-then-refused-clause-reply
-returns-then-refused-clause-reply c =
+pub returns-in-Err-put_in-clause-reply : goal.returns-in-Err-put_in-clause-reply
+returns-in-Err-put_in-clause-reply c =
     let n : ¬ (c.args.self.now.limit ≤ length (points_of_root c.args.self.now.root)) =
     failed c.is_full.result c.is_full.ensures.full.1 c.if-is_full.false in
     answers_refused (held_by c.args.self.now.root) c.args.self.now.limit c.args.p c.in-Err.times
     (root_held c.args.self.now.root c.bucket_trees_are_sound.ensures.built) c.in-Err.ensures.returned
     (omega (arith, c.if-times-gt0.false)) (omega (arith, n))
 
-pub returns-else-refused-clause-reply : goal.returns-else-refused-clause-reply
-returns-else-refused-clause-reply c =
+pub returns-in-Ok-put_in-clause-reply : goal.returns-in-Ok-put_in-clause-reply
+returns-in-Ok-put_in-clause-reply c =
     let n : ¬ (c.args.self.now.limit ≤ length (points_of_root c.args.self.now.root)) =
     failed c.is_full.result c.is_full.ensures.full.1 c.if-is_full.false in
     answers_new (held_by c.args.self.now.root) c.args.self.now.limit c.args.p c.in-Err.times
