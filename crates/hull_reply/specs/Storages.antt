@@ -5,9 +5,9 @@ use denote.RattleType.{RattleType}
 use prog.Memory.{align, size}
 
 -- its size in bytes
-abbrev pub room_size : RattleType → ℕ
-room_size R = size (layout R)
+abbrev pub storage_size : RattleType → ℕ
+storage_size R = size (layout R)
 
 -- its alignment in bytes
-abbrev pub room_alignment : RattleType → ℕ
-room_alignment R = align (layout R)
+abbrev pub storage_alignment : RattleType → ℕ
+storage_alignment R = align (layout R)

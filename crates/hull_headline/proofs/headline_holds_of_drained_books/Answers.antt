@@ -16,5 +16,5 @@ returns c = let law = c.partitioned_schedules_hold.ensures in record {
   in_order = in_order hull_tree drained (λ b lawful. lawful) law;
   tickets = tickets drained;
   ledgers = ledgers hull_tree drained (λ b lawful. lawful) law;
-  parts = λ seats book opening now steps led free. c.parts_are_the_journal.ensures.journal _;
+  segments = λ seats book opening now steps led free. c.segments_are_the_journal.ensures.journal _;
 }
