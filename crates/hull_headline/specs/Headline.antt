@@ -127,7 +127,7 @@ LedgersSumToLength book = (ledgers : List LedgerValue) → AreAllLedgers book le
 
 -- The segments that were taken out, in their order, and then the lines that the book has are the journal of the book that the lock protects, whenever
 -- the lock is free: for a kind of books whose lines are marked.
-abbrev pub PartsAndHeldAreTheJournal : {S B H : Type 0} → Kind S B H MarkedLine → Type 0
-PartsAndHeldAreTheJournal kind = Always kind (λ now. now.home ≡ true
+abbrev pub SegmentsAndHeldAreTheJournal : {S B H : Type 0} → Kind S B H MarkedLine → Type 0
+SegmentsAndHeldAreTheJournal kind = Always kind (λ now. now.home ≡ true
     → joined (segments_of (kind.says.lines now.current)) ++ held_of (kind.says.lines now.current)
     ≡ (kind.whole now.current).lines)

@@ -15,7 +15,7 @@
 
 ghost use Rattle.hull_headline.specs.Headline.{Always, WheneverFree, AtMostOneHolds, StoresBridgesOfLivePoints};
 ghost use Rattle.hull_headline.specs.Headline.{HoldsEachPointAsOften, HasLegalJournal, IsInOrderOfNumbers};
-ghost use Rattle.hull_headline.specs.Headline.{FirstComeFirstServed, LedgersSumToLength, PartsAndHeldAreTheJournal};
+ghost use Rattle.hull_headline.specs.Headline.{FirstComeFirstServed, LedgersSumToLength, SegmentsAndHeldAreTheJournal};
 ghost use Rattle.hull_headline.specs.Headline.{IsOfSoundSet, StoresBridgesInBuckets, StoresThatOfLivePoints};
 ghost use Rattle.hull_headline.specs.Headline.{TicketsCountTheCalls, drained, kept, bucketed};
 ghost use Rattle.hull_book.specs.Kinds.{kept as kept_over};
@@ -81,7 +81,7 @@ pub fn headline_holds_of_drained_books()
     ensures in_order { WheneverFree drained IsInOrderOfNumbers }
     ensures tickets { TicketsCountTheCalls drained }
     ensures ledgers { WheneverFree drained LedgersSumToLength }
-    ensures parts { PartsAndHeldAreTheJournal drained }
+    ensures segments { SegmentsAndHeldAreTheJournal drained }
 {
     partitioned_schedules_hold::<Box<LongBook<HullTree>>>();
     segments_are_the_journal();

@@ -1,7 +1,7 @@
 //! The laws of the lock, for a shared hull, over every list of single steps of its seats.
 ghost use Rattle.hull_headline.specs.Headline.{Always, AtMostOneHolds, FirstComeFirstServed, HasLegalJournal};
 ghost use Rattle.hull_headline.specs.Headline.{HoldsEachPointAsOften, IsInOrderOfNumbers, LedgersSumToLength};
-ghost use Rattle.hull_headline.specs.Headline.{PartsAndHeldAreTheJournal, StoresThatOfLivePoints};
+ghost use Rattle.hull_headline.specs.Headline.{SegmentsAndHeldAreTheJournal, StoresThatOfLivePoints};
 ghost use Rattle.hull_headline.specs.Headline.{TicketsCountTheCalls, WheneverFree};
 ghost use Rattle.bucket_tree.specs.Sets.{bucket_set};
 ghost use Rattle.hull_shared.specs.JournalSnapshots.{SnapshotsAreOfTheJournal};
@@ -22,7 +22,7 @@ pub fn headline_holds_of_shared_hulls()
     ensures in_order { WheneverFree shared_hull IsInOrderOfNumbers }
     ensures tickets { TicketsCountTheCalls shared_hull }
     ensures ledgers { WheneverFree shared_hull LedgersSumToLength }
-    ensures segments { PartsAndHeldAreTheJournal shared_hull }
+    ensures segments { SegmentsAndHeldAreTheJournal shared_hull }
 {
     partitioned_schedules_hold::<Box<SharedHullBook>>();
     segments_are_the_journal();
