@@ -5,7 +5,7 @@ use Rattle.hull_reply.proofs.Steps.{raw, ◌⊛◌, some, later, prop, ◌$◌, 
 use Rattle.hull_reply.proofs.Steps.{fjoin, fpack, pick, await, suffices, frame, lft_new, lft_end, yes, Is, mem, lends_ref, ref_back, RawPtr}
 use Rattle.hull_reply.proofs.Steps.{block_ptr, lies_at, rawptr_vals, rawptr_Tells, MutRef, Body, plain, nothing, heard, peeks, framed}
 use Rattle.hull_reply.proofs.Steps.{shows}
-use Rattle.hull_reply.proofs.Lends.{Argument, Each, Result, all_encoded, each, exported, slots, spelled, stored}
+use Rattle.hull_reply.proofs.Lends.{Argument, Each, Result, all_told, each, exported, slots, spelled, stored}
 use Rattle.hull_shared.specs.Left.{leaves_both}
 use mathlib.Core.Option.{Option, none, some as wanted}
 use lib.Dec.{T}
@@ -235,5 +235,5 @@ module _ {M : Type 1} (𝓤 : Ura M) (𝓛 : Logic 𝓤) (𝓜 : Model 𝓤 𝓛
 
         pub lends_both : Meets 𝓛 S (𝓣.C k) spec
         lends_both = exported 𝓤 𝓛 𝓜 𝓡 S spec e closed (λ κs. (rawptr_vals, (rawptr_vals, spelled tt As)))
-            (λ κs. (rawptr_Tells, (rawptr_Tells, all_encoded tt As))) (λ κs qs a t are.
+            (λ κs. (rawptr_Tells, (rawptr_Tells, all_told tt As))) (λ κs qs a t are.
             asked_for 𝓤 (wants t.0 t.1) (Passed a.0 a.1.0 a.1.1) (Lie a.0 a.1.0 t) _ (served a.0 a.1.0 a.1.1 t are.1.1))

@@ -5,5 +5,5 @@ use Rattle.hull_shared.proofs.reading.SnapshotReply.TheLaws.{lowers, the_row_law
 use seplogic.Ra.Ura.{Ura}
 use types.Logic.{Logic}
 
-abbrev pub view_reply : {M : Type 1} {𝓤 : Ura M} → Logic 𝓤 → Result
-view_reply 𝓛 = record { row = the_row; ty = lowers.mir; typed = λ u v is. ((the_row_laws.lawful 𝓛).typed u _ is).0 }
+abbrev pub snapshot_reply : {M : Type 1} {𝓤 : Ura M} → Logic 𝓤 → Result
+snapshot_reply 𝓛 = record { row = the_row; ty = lowers.mir; typed = λ u v is. ((the_row_laws.lawful 𝓛).typed u _ is).0 }
