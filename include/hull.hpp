@@ -189,7 +189,7 @@ struct Strip {
 // overlapping; within the other; covering it; or equal to it.
 enum class Relation : std::uint32_t {
     // written by tools/table.py: relations
-    apart = HULL_RELATION_DISJOINT,
+    disjoint = HULL_RELATION_DISJOINT,
     touching = HULL_RELATION_TOUCHING,
     overlapping = HULL_RELATION_OVERLAPPING,
     within = HULL_RELATION_WITHIN,

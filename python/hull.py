@@ -148,15 +148,15 @@ class _Code(enum.IntEnum):
     TANGENTS = 15
     NO_TANGENT = 16
     NUMBER = 17
-    CORNERS = 18
+    VERTICES = 18
     TOO_SMALL = 19
     CLEARED = 20
     OUT_OF_ORDER = 21
     UNKNOWN_KIND = 22
-    MEETING = 23
-    APART = 24
+    INTERSECTING = 23
+    DISJOINT = 24
     COVERED = 25
-    CORNER = 26
+    VERTEX = 26
     EDGE = 27
     BOX = 28
     WITHIN = 29
@@ -165,14 +165,14 @@ class _Code(enum.IntEnum):
     OPEN = 32
     OUT_OF_LIMITS = 33
     WAS_OPENED = 34
-    LENT = 35
+    ACQUIRED = 35
     NO_SEAT = 36
-    ROOM_IN_USE = 37
+    STORAGE_IN_USE = 37
     NOT_OPEN = 38
-    RETURNED = 39
+    RELEASED = 39
     VACANT = 40
     WAITING = 41
-    PLACE_IN_USE = 42
+    SLOT_IN_USE = 42
     TAKEN = 43
     NOT_YET = 44
     NO_NUMBER = 45
@@ -184,21 +184,21 @@ class _Code(enum.IntEnum):
     ENDED = 51
     IN_USE = 52
     RESERVED = 53
-    PART_IN_USE = 54
-    NO_ROOM = 55
+    SEGMENT_IN_USE = 54
+    NO_SPACE = 55
     NO_LINES = 56
     NO_JOURNAL = 57
     OLD_RULES = 58
     ILLEGAL = 59
     TOO_FEW_SEATS = 60
-    NO_OUTLINE = 61
+    NO_POLYGON = 61
     BUSY = 62
-    OTHER_LINE = 63
+    OTHER_GATE = 63
     NO_FILE = 64
     DAMAGED = 65
-    SAFE = 66
-    ADMITTED = 67
-    VIEWED = 68
+    DURABLE = 66
+    READERS_SET = 67
+    SNAPSHOT_TAKEN = 68
     OLD = 69
     # end of what tools/table.py writes
 
@@ -549,7 +549,7 @@ class Relation(enum.IntEnum):
 
     # written by tools/table.py: relations
     #: They are disjoint.
-    APART = 0
+    DISJOINT = 0
     #: They intersect, and a line has them on its two sides: nothing inside the one is covered by the other.
     TOUCHING = 1
     #: They intersect, and no line has them on its two sides.
