@@ -1,4 +1,4 @@
-"""Outlines of coordinates to 2^40 that move straight to others, by chance, beside the ray from the origin at all differences of their corners,
+"""Polygons of coordinates to 2^40 that move straight to others, by chance, beside the ray from the origin at all differences of their vertices,
 in fractions: random_motions.py MOTIONS SEED. And pairs of them that are near one another, beside each two alone. Prints what came of how many.
 """
 import collections
@@ -6,7 +6,7 @@ import random
 import sys
 from fractions import Fraction
 
-from hull import Outline, pairs_within
+from hull import Polygon, pairs_within_distance
 
 LIMIT = 1 << 40
 
@@ -16,7 +16,7 @@ def side(a, b, c):
 
 
 def hull_of(points):
-    """The corners of any points, in their order (Andrew, 1979)."""
+    """The vertices of any points, in their order (Andrew, 1979)."""
     chains = []
     for there in (sorted(set(points)), sorted(set(points), reverse=True)):
         chain = []
@@ -55,11 +55,11 @@ def check(standing, moving, way):
     assert (told and told.part) == wanted, (standing.vertices(), moving.vertices(), way, wanted, told)
     if told is None:
         return "missed"
-    assert (told.corner is None) == (told.at == ()) == standing.meets(moving)
-    if told.corner is None:
+    assert (told.vertex is None) == (told.at == ()) == standing.intersects(moving)
+    if told.vertex is None:
         return "met before"
-    assert told.corner in (moving if told.moves else standing).vertices()
-    return "met at a corner that moves" if told.moves else "met at a corner that stands"
+    assert told.vertex in (moving if told.moves else standing).vertices()
+    return "met at a vertex that moves" if told.moves else "met at a vertex that stands"
 
 
 def main(motions, seed):
@@ -71,17 +71,17 @@ def main(motions, seed):
         def near(far):
             return tuple(c + numbers.randint(-far, far) for c in at)
 
-        standing, moving = (Outline.of([near(reach // part) for _ in range(numbers.randint(1, 7))]) for part in (2, 1))
+        standing, moving = (Polygon.of([near(reach // part) for _ in range(numbers.randint(1, 7))]) for part in (2, 1))
         shift = [numbers.choice((-1, 0, 1)) * numbers.randint(0, reach) for _ in "xy"]
-        moving = moving.moved(*(s if max(map(abs, (c + s for c in at))) < LIMIT - 2 * reach else 0 for s in shift))
+        moving = moving.translate(*(s if max(map(abs, (c + s for c in at))) < LIMIT - 2 * reach else 0 for s in shift))
         a, b = numbers.choice(standing.vertices()), numbers.choice(moving.vertices())
         way = (a[0] - b[0], a[1] - b[1]) if motion % 2 else tuple(numbers.randint(-reach, reach) for _ in "xy")
         counts[check(standing, moving, way)] += 1
         if motion % 20 == 0:
-            all = [Outline.of([near(reach) for _ in range(numbers.randint(0, 4))]) for _ in range(12)]
+            all = [Polygon.of([near(reach) for _ in range(numbers.randint(0, 4))]) for _ in range(12)]
             distance = Fraction(numbers.randint(0, reach), numbers.randint(1, 9))
-            pairs = [(i, j) for i in range(12) for j in range(i + 1, 12) if all[i].within(all[j], distance)]
-            assert pairs_within(all, distance) == pairs
+            pairs = [(i, j) for i in range(12) for j in range(i + 1, 12) if all[i].within_distance(all[j], distance)]
+            assert pairs_within_distance(all, distance) == pairs
             counts["pairs"] += len(pairs)
     print(", ".join(f"{times} {word}" for word, times in sorted(counts.items())))
     assert motions < 1000 or len(counts) == 5, counts

@@ -1,6 +1,6 @@
-"""Outlines by chance, of coordinates to 2^40, beside answers by all corners and edges in fractions: random_outlines.py PAIRS SEED.
+"""Polygons by chance, of coordinates to 2^40, beside answers by all vertices and edges in fractions: random_outlines.py PAIRS SEED.
 
-Nothing of the library takes part in those answers. Half of the pairs are drawn so that they touch, or nearly: corners of the second on
+Nothing of the library takes part in those answers. Half of the pairs are drawn so that they touch, or nearly: vertices of the second on
 edges of the first, or a step beside. Prints how many pairs stood how.
 """
 import collections
@@ -8,7 +8,7 @@ import random
 import sys
 from fractions import Fraction
 
-from hull import Outline, Relation
+from hull import Polygon, Relation
 
 LIMIT = 1 << 40
 
@@ -30,7 +30,7 @@ def half(points):
     return chain[:-1]
 
 
-def corners(points):
+def vertices(points):
     points = sorted(set(points))
     return points if len(points) < 2 else half(points) + half(points[::-1])
 
@@ -78,13 +78,13 @@ def relation(one, other, squared):
     covers, within = all(place(one, p) >= 0 for p in other), all(place(other, p) >= 0 for p in one)
     if covers or within:
         return Relation.EQUAL if covers and within else Relation.COVERS if covers else Relation.WITHIN
-    return Relation.APART if squared else Relation.TOUCHING if divided(one, other) else Relation.OVERLAPPING
+    return Relation.DISJOINT if squared else Relation.TOUCHING if divided(one, other) else Relation.OVERLAPPING
 
 
 def drawn(numbers, reach):
-    """The corners of a few points, and a point far from which no coordinate lies."""
+    """The vertices of a few points, and a point far from which no coordinate lies."""
     at = [numbers.randint(reach - LIMIT, LIMIT - reach) for _ in "xy"]
-    return corners(tuple(a + numbers.randint(-reach, reach) for a in at) for _ in range(numbers.randint(1, 7))), at
+    return vertices(tuple(a + numbers.randint(-reach, reach) for a in at) for _ in range(numbers.randint(1, 7))), at
 
 
 def beside(numbers, ring, at, reach):
@@ -94,7 +94,7 @@ def beside(numbers, ring, at, reach):
         (a, b), cut = numbers.choice(edges(ring)), numbers.random()
         points.append(tuple(p + int((q - p) * cut) + numbers.randint(-1, 1) for p, q in zip(a, b)))
         points.append(numbers.choice((a, b)))
-    return corners(tuple(max(-LIMIT, min(LIMIT, c)) for c in p) for p in points)
+    return vertices(tuple(max(-LIMIT, min(LIMIT, c)) for c in p) for p in points)
 
 
 def is_rounded(bounds, squared):
@@ -106,21 +106,21 @@ def is_rounded(bounds, squared):
 def check(one, other, numbers):
     squared = squared_distance(one, other)
     how = relation(one, other, squared)
-    ours, theirs = Outline(one), Outline(other)
+    ours, theirs = Polygon(one), Polygon(other)
     assert ours.relation(theirs) is how, (one, other)
-    assert ours.contains(theirs) == (how >= Relation.COVERS) and ours.meets(theirs) == (not squared), (one, other)
+    assert ours.contains(theirs) == (how >= Relation.COVERS) and ours.intersects(theirs) == (not squared), (one, other)
     assert ours.contains_inside(theirs) == all(place(one, p) > 0 for p in other), (one, other)
     assert ours.squared_distance(theirs) == squared and is_rounded(ours.distance_bounds(theirs), squared), (one, other)
     near = ours.distance_bounds(theirs)[0]
     length = Fraction(near).limit_denominator(numbers.choice((1, 9, 1 << 20, (1 << 32) - 1)))
     for length in (length, length + 1, max(0, length - Fraction(1, 7)), near):
-        assert ours.within(theirs, length) == (squared <= Fraction(length) ** 2), (one, other, length)
+        assert ours.within_distance(theirs, length) == (squared <= Fraction(length) ** 2), (one, other, length)
     if len(other) <= 2:
         a, b = other[0], other[-1]
         assert ours.relation_to_segment(*b, *a) is how, (one, other)
         assert ours.squared_distance_to_segment(*b, *a) == squared, (one, other)
         assert ours.distance_bounds_to_segment(*a, *b) == ours.distance_bounds(theirs), (one, other)
-        assert ours.within_segment(*b, *a, length) == (squared <= Fraction(length) ** 2), (one, other)
+        assert ours.within_distance_of_segment(*b, *a, length) == (squared <= Fraction(length) ** 2), (one, other)
     return how
 
 
