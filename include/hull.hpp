@@ -180,7 +180,7 @@ struct Witness {
 };
 
 // A strip that contains a polygon: the polygon is left of the line of the edge from `from` to `to`, and `farthest` is a vertex farthest
-// from it. Its width is the side of that vertex, up to 84 bits, divided by the length of the edge.
+// from it. Its width is twice the area of the triangle of these three, up to 84 bits, divided by the length of the edge.
 struct Strip {
     Point from, to, farthest;
 };
@@ -199,7 +199,7 @@ enum class Relation : std::uint32_t {
 };
 
 // Where two polygons are nearest to one another. Between two vertices the squared distance is that of the two; between a vertex and an
-// edge it is the square of the side of the vertex at the edge, up to 84 bits, divided by the squared length of the edge.
+// edge it is the square of twice the area of their triangle, which is up to 84 bits, divided by the squared length of the edge.
 struct Distance {
     enum class Where : std::uint32_t {
         zero = HULL_INTERSECTING,      // they intersect
@@ -211,7 +211,7 @@ struct Distance {
     Point a, b, c;
 };
 
-// A distance of two polygons, or of a polygon and a segment. Distances are compared exactly, without rounding.
+// A distance of two polygons, or of a polygon and a segment, and the doubles next to it. Distances are compared exactly, without rounding.
 class DistanceBounds {
 public:
     explicit DistanceBounds(const hull_distance_bounds &words) noexcept : words_(words) {}
@@ -255,7 +255,7 @@ struct Motion {
     bool moves;             // one of the polygon that moves; else of the other, at the moving one as it was before
 };
 
-// The values of replies; a reply of a call that failed throws.
+// Functions that return the value of a reply, or throw if the call failed.
 namespace detail {
 
 [[noreturn]] inline void fail(std::uint32_t code, std::uint64_t number = 0) {

@@ -327,7 +327,7 @@ def _raise_code(code: int) -> NoReturn:
 
 
 def _load(file: str, variable: str, functions: Sequence[Tuple[str, List[Any], Any]]) -> ctypes.CDLL:
-    """The shared object, with the types of its functions: NAME, ARGUMENTS and RESULT of each."""
+    """Loads the shared object, and gives its functions their types: NAME, ARGUMENTS and RESULT of each."""
     beside = os.path.join(os.path.dirname(os.path.abspath(__file__)), file)
     library = ctypes.CDLL(os.environ.get(variable, beside))
     for name, arguments, result in functions:
@@ -401,7 +401,7 @@ _LIBRARY = _library()
 
 
 def _kind(free: Any) -> Any:
-    """A class of addresses, integers, at each of which something is that a function of the library frees.
+    """Returns a class of addresses, integers, at each of which something is that a function of the library frees.
 
     It is freed with the last object that refers to the address. The garbage collector does not know the address (`_at`), so that in a cycle
     it goes after every `__del__` of the cycle. No step of Python's is between the last reference and the function, so that no signal
@@ -537,7 +537,7 @@ class Motion(NamedTuple):
 
     #: How much of its way it has gone; 0 if they intersect before it moves.
     part: Fraction
-    #: Where the vertex arrives, as `Polygon.raycast` returns it; of none if they intersect before.
+    #: Where the vertex arrives, as `Polygon.raycast` returns it: one pair or two; none if they intersect before.
     at: Tuple[Pair, ...]
     #: A vertex that arrives first; None if they intersect before.
     vertex: Optional[Pair]
@@ -1146,7 +1146,7 @@ class Polygon(_Questions):
         return self._found(_LIBRARY.hull_polygon_intersects_segment, _whole(ax), _whole(ay), _whole(bx), _whole(by)).number == 1
 
     def separation_from_segment(self, ax: SupportsIndex, ay: SupportsIndex, bx: SupportsIndex,
-                           by: SupportsIndex) -> Optional[Tuple[Pair, Pair]]:
+                                by: SupportsIndex) -> Optional[Tuple[Pair, Pair]]:
         """Returns a vertex and a direction that separates the polygon from the segment; None if they intersect, or there is no vertex.
 
         No vertex has a greater product with the direction than that one, and both ends of the segment have.
@@ -1300,7 +1300,7 @@ class Polygon(_Questions):
         return reply.number == 1
 
     def within_distance_of_segment(self, ax: SupportsIndex, ay: SupportsIndex, bx: SupportsIndex, by: SupportsIndex,
-                       distance: Union[int, float, Fraction]) -> bool:
+                                   distance: Union[int, float, Fraction]) -> bool:
         """Returns whether the distance of the segment from (ax, ay) to (bx, by), which may be one point, is at most that, exactly, as
         `within_distance`."""
         length, short = _length(distance)
@@ -1336,7 +1336,7 @@ class Polygon(_Questions):
         return self._hit(_LIBRARY.hull_polygon_raycast_exit, x, y, dx, dy)
 
     def raycast_segment(self, ax: SupportsIndex, ay: SupportsIndex, bx: SupportsIndex,
-                     by: SupportsIndex) -> Optional[Tuple[Fraction, Tuple[Pair, ...]]]:
+                        by: SupportsIndex) -> Optional[Tuple[Fraction, Tuple[Pair, ...]]]:
         """The same for the segment from (ax, ay) to (bx, by), in its lengths; its last point is where that from (bx, by) enters."""
         return self._hit(_LIBRARY.hull_polygon_raycast_segment, ax, ay, bx, by)
 
@@ -1705,7 +1705,7 @@ class SharedHull:
 
     @classmethod
     def open_journal(cls, path: "Union[str, bytes, os.PathLike[str]]", capacity: SupportsIndex, seats: SupportsIndex,
-             limit: SupportsIndex = POINT_LIMIT, every: Optional[float] = None, readers: SupportsIndex = 0) -> SharedHull:
+                     limit: SupportsIndex = POINT_LIMIT, every: Optional[float] = None, readers: SupportsIndex = 0) -> SharedHull:
         """Opens a hull with a journal file, which is made, or read: then the hull has the points that it left, and its limit.
 
         A thread of the library writes the lines to the file when a thread waits for one (`sync`, `Seat.wait_durable`), each `every` seconds if
@@ -1724,7 +1724,7 @@ class SharedHull:
         time = 0 if every is None else max(1, int(min(every, 1e9) * 1e9))
         reply = _shared_library().hull_python_open_journal(hull._shared, _file(path), words[0], words[2], words[3], time)
         if reply.code != _Code.OPEN:
-            _no_file(reply, reply.number)
+            _check_journal_file(reply, reply.number)
             _raise_code(reply.code)
         return hull
 
@@ -1737,7 +1737,7 @@ class SharedHull:
         synced after the new file took its name.
         """
         reply = _shared_library().hull_python_compact(_file(path))
-        _no_file(reply, reply.number)
+        _check_journal_file(reply, reply.number)
         _check_code(reply.code)
         return int(reply.number)
 
@@ -1754,7 +1754,7 @@ class SharedHull:
 
     def _durable(self, waits: int) -> int:
         reply = _shared_library().hull_python_durable(self._shared, waits)
-        _no_file(reply, reply.high)
+        _check_journal_file(reply, reply.high)
         _check_code(reply.code)
         return int(reply.number)
 
@@ -1807,7 +1807,7 @@ class SharedHull:
         if reply.code == _Code.SEATS_OUT:
             seats = ", ".join(map(str, self._acquired()))
             raise SeatsOut(f"seats of the hull are acquired: {seats}" if seats else "a reader of the hull is acquired")
-        _no_file(reply, reply.high)
+        _check_journal_file(reply, reply.high)
         if reply.code == _Code.IN_USE:
             raise ValueError("a thread waits for durable lines of the hull's file")
         if reply.code != _Code.NOT_OPEN:
@@ -1839,8 +1839,8 @@ def _file(path: "Union[str, bytes, os.PathLike[str]]") -> bytes:
     return file
 
 
-def _no_file(reply: _Reply, errno: int) -> None:
-    """Raises the exception of a journal file."""
+def _check_journal_file(reply: _Reply, errno: int) -> None:
+    """Raises the exception of a journal file, if the reply has one."""
     if reply.code == _Code.NO_FILE:
         raise OSError(errno, os.strerror(errno))
     if reply.code == _Code.DAMAGED:
@@ -2030,7 +2030,7 @@ class Seat:
         Busy if they are not by then; else what `SharedHull.durable` raises.
         """
         reply = _shared_library().hull_python_wait_durable(self._at)
-        _no_file(reply, reply.high)
+        _check_journal_file(reply, reply.high)
         _check_code(reply.code)
 
     def turn(self) -> Optional[int]:
@@ -2067,7 +2067,7 @@ class Seat:
         """
         capacity = _shared_library().hull_python_capacity(self._at)
         if capacity == 0:
-            self._ask(_Kind.COUNT)  # which tells why
+            self._ask(_Kind.COUNT)  # which raises, and says why
         segment = JournalSegment(capacity)
         before, self._segment = self._segment, segment
         reply = _shared_library().hull_python_drain(self._at, segment._at)

@@ -49,8 +49,8 @@ size_t hull_python_calls(hull_python *h, const hull_request *requests, hull_repl
     return made;
 }
 
-hull_reply hull_python_vertices(hull_python *h, hull_point *out, size_t space) {
-    HULL_REPLY_OF(h, hull_vertices(h->hull, out, space));
+hull_reply hull_python_vertices(hull_python *h, hull_point *out, size_t capacity) {
+    HULL_REPLY_OF(h, hull_vertices(h->hull, out, capacity));
 }
 
 hull_reply hull_python_load(hull_python *h, const hull_point *points, size_t count) {
@@ -61,8 +61,8 @@ hull_reply hull_python_load_held(hull_python *h, const hull_held *held, size_t c
     HULL_REPLY_OF(h, hull_load_held(h->hull, held, count));
 }
 
-hull_reply hull_python_held_from(hull_python *h, int64_t x, int64_t y, hull_held *out, size_t space) {
-    HULL_REPLY_OF(h, hull_held_from(h->hull, x, y, out, space));
+hull_reply hull_python_held_from(hull_python *h, int64_t x, int64_t y, hull_held *out, size_t capacity) {
+    HULL_REPLY_OF(h, hull_held_from(h->hull, x, y, out, capacity));
 }
 
 hull_reply hull_python_nearest_held(hull_python *h, int64_t x, int64_t y) {

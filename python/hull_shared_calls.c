@@ -305,8 +305,8 @@ hull_reply hull_python_ask(hull_python_seat *s, uint32_t kind, int64_t x, int64_
     HULL_REPLY_OF(s, ask(s, kind, x, y, nowhere));
 }
 
-hull_reply hull_python_ask_vertices(hull_python_seat *s, hull_point *out, size_t space) {
-    hull_shared_target to = {out, space, NULL};
+hull_reply hull_python_ask_vertices(hull_python_seat *s, hull_point *out, size_t capacity) {
+    hull_shared_target to = {out, capacity, NULL};
     HULL_REPLY_OF(s, ask(s, HULL_KIND_VERTICES, 0, 0, to));
 }
 
@@ -435,21 +435,21 @@ uint32_t hull_python_is_newest(hull_python_reader *r) {
 
 /* Copies the newest snapshot into the array, if it fits: VERTICES, with how many; x is whether it has a line, and `high`
  * which. */
-static hull_reply read_into(hull_python_reader *r, hull_point *out, size_t space) {
+static hull_reply read_into(hull_python_reader *r, hull_point *out, size_t capacity) {
     hull_reply reply;
     memset(&reply, 0, sizeof reply);
     reply.code = HULL_VACANT;
     if (r->shared != NULL) {
         const hull_shared_view snapshot = hull_shared_read(r->reader);
-        reply = hull_shared_snapshot_vertices(r->reader, out, space);
+        reply = hull_shared_snapshot_vertices(r->reader, out, capacity);
         reply.x = snapshot.has_line;
         reply.high = snapshot.line;
     }
     return reply;
 }
 
-hull_reply hull_python_read(hull_python_reader *r, hull_point *out, size_t space) {
-    HULL_REPLY_OF(r, read_into(r, out, space));
+hull_reply hull_python_read(hull_python_reader *r, hull_point *out, size_t capacity) {
+    HULL_REPLY_OF(r, read_into(r, out, capacity));
 }
 
 /* Makes a segment with space for so many lines. */

@@ -234,6 +234,9 @@ class Calls(unittest.TestCase):
         self.assertTrue(polygon == twin and hash(polygon) == hash(twin) and polygon != Hull().polygon() and polygon != 4)
         for other in (copy.copy(polygon), copy.deepcopy(polygon), pickle.loads(pickle.dumps(polygon))):
             self.assertEqual(other, polygon)
+        of_version_2 = (b"\x80\x02chull\n_outline_again\nq\x00carray\narray\nq\x01X\x01\x00\x00\x00qq\x02]q\x03(K\x00K\x00K\x03K\x00K\x00K\x04e"
+                        b"\x86q\x04Rq\x05\x85q\x06Rq\x07.")
+        self.assertEqual(pickle.loads(of_version_2), hull_module.Polygon([(0, 0), (3, 0), (0, 4)]))
 
     def test_distances(self):
         polygon = hull_module.Polygon([(0, 0), (8, 0), (0, 6)])

@@ -1,7 +1,7 @@
-"""Polygons by chance, of coordinates to 2^40, beside answers by all vertices and edges in fractions: random_outlines.py PAIRS SEED.
+"""Compares random polygons, of coordinates to 2^40, with answers from all vertices and edges in fractions: random_polygons.py PAIRS SEED.
 
 Nothing of the library takes part in those answers. Half of the pairs are drawn so that they touch, or nearly: vertices of the second on
-edges of the first, or a step beside. Prints how many pairs stood how.
+edges of the first, or a step beside. Prints how many pairs have each relation.
 """
 import collections
 import random
@@ -13,7 +13,7 @@ from hull import Polygon, Relation
 LIMIT = 1 << 40
 
 
-def side(a, b, c):
+def orientation(a, b, c):
     return (b[0] - a[0]) * (c[1] - a[1]) - (b[1] - a[1]) * (c[0] - a[0])
 
 
@@ -24,7 +24,7 @@ def square(a, b):
 def half(points):
     chain = []
     for point in points:
-        while len(chain) > 1 and side(chain[-2], chain[-1], point) <= 0:
+        while len(chain) > 1 and orientation(chain[-2], chain[-1], point) <= 0:
             chain.pop()
         chain.append(point)
     return chain[:-1]
@@ -42,29 +42,29 @@ def edges(ring):
 def to_segment(a, b, p):
     """The squared distance of p and the segment from a to b."""
     far, whole = (b[0] - a[0]) * (p[0] - a[0]) + (b[1] - a[1]) * (p[1] - a[1]), square(a, b)
-    return Fraction(side(a, b, p) ** 2, whole) if 0 < far < whole else Fraction(square(a, p) if far <= 0 else square(b, p))
+    return Fraction(orientation(a, b, p) ** 2, whole) if 0 < far < whole else Fraction(square(a, p) if far <= 0 else square(b, p))
 
 
 def place(ring, p):
     """1 inside, 0 on the boundary, -1 outside."""
     if any(to_segment(a, b, p) == 0 for a, b in edges(ring)):
         return 0
-    return 1 if len(ring) > 2 and all(side(a, b, p) > 0 for a, b in edges(ring)) else -1
+    return 1 if len(ring) > 2 and all(orientation(a, b, p) > 0 for a, b in edges(ring)) else -1
 
 
 def cross(a, b, c, d):
-    return side(a, b, c) * side(a, b, d) < 0 and side(c, d, a) * side(c, d, b) < 0
+    return orientation(a, b, c) * orientation(a, b, d) < 0 and orientation(c, d, a) * orientation(c, d, b) < 0
 
 
 def squared_distance(one, other):
-    apart = all(place(one, p) < 0 for p in other) and all(place(other, p) < 0 for p in one)
-    if not apart or any(cross(*e, *f) for e in edges(one) for f in edges(other)):
+    disjoint = all(place(one, p) < 0 for p in other) and all(place(other, p) < 0 for p in one)
+    if not disjoint or any(cross(*e, *f) for e in edges(one) for f in edges(other)):
         return Fraction(0)
     ways = [(e, p) for e in edges(one) for p in other] + [(e, p) for e in edges(other) for p in one]
     return min(to_segment(*e, p) for e, p in ways)
 
 
-def divided(one, other):
+def is_divided(one, other):
     for s in one:
         for t in other:
             x, y = s[1] - t[1], t[0] - s[0]
@@ -78,7 +78,7 @@ def relation(one, other, squared):
     covers, within = all(place(one, p) >= 0 for p in other), all(place(other, p) >= 0 for p in one)
     if covers or within:
         return Relation.EQUAL if covers and within else Relation.COVERS if covers else Relation.WITHIN
-    return Relation.DISJOINT if squared else Relation.TOUCHING if divided(one, other) else Relation.OVERLAPPING
+    return Relation.DISJOINT if squared else Relation.TOUCHING if is_divided(one, other) else Relation.OVERLAPPING
 
 
 def drawn(numbers, reach):
@@ -88,7 +88,7 @@ def drawn(numbers, reach):
 
 
 def beside(numbers, ring, at, reach):
-    """Corners of a few points, some of them on an edge of others, or a step beside."""
+    """Vertices of a few points, some of them on an edge of others, or a step beside."""
     points = [tuple(a + numbers.randint(-reach, reach) for a in at) for _ in range(numbers.randint(0, 3))]
     for _ in range(numbers.randint(1, 2)):
         (a, b), cut = numbers.choice(edges(ring)), numbers.random()

@@ -1,25 +1,25 @@
-"""Rays and segments by chance at polygons of coordinates to 2^40, beside where they cross the line of each edge, in fractions:
-random_casts.py WAYS SEED. Half of the ways go to a vertex, or nearly. Prints how many came in where.
+"""Compares random rays and segments at polygons of coordinates to 2^40 with their crossings of the line of each edge, in fractions:
+random_raycasts.py WAYS SEED. Half of the ways go to a vertex, or nearly. Prints how many enter at each kind of place.
 """
 import collections
 import random
 import sys
 from fractions import Fraction
 
-from hull import Polygon, Place
+from hull import Place, Polygon
 
 LIMIT = 1 << 40
 
 
-def side(a, b, c):
+def orientation(a, b, c):
     return (b[0] - a[0]) * (c[1] - a[1]) - (b[1] - a[1]) * (c[0] - a[0])
 
 
 def crossings(ring, a, way):
-    """How far on the way the line through a is on the boundary: all of it where it runs along an edge, by its ends."""
+    """Yields how far along the way the line through a is on the boundary: both ends of an edge that is on the line."""
     b = a[0] + way[0], a[1] + way[1]
     for p, q in zip(ring, ring[1:] + ring[:1]):
-        s, t = side(a, b, p), side(a, b, q)
+        s, t = orientation(a, b, p), orientation(a, b, q)
         if s != t and min(s, t) <= 0 <= max(s, t):
             cut = Fraction(s, s - t)
             at = p[0] + (q[0] - p[0]) * cut, p[1] + (q[1] - p[1]) * cut
@@ -30,12 +30,12 @@ def crossings(ring, a, way):
 
 
 def is_there(ring, hit, a, way):
-    """Whether the point of the way that is told lies between the vertices that are told."""
+    """Returns whether the point of a hit is on the way, and between its vertices."""
     part, vertices = hit
     at = a[0] + way[0] * part, a[1] + way[1] * part
     if len(vertices) == 2:
         p, q = vertices
-        return (p, q) in zip(ring, ring[1:] + ring[:1]) and side(p, q, at) == 0 and all(
+        return (p, q) in zip(ring, ring[1:] + ring[:1]) and orientation(p, q, at) == 0 and all(
             min(p[i], q[i]) <= at[i] <= max(p[i], q[i]) for i in (0, 1))
     return not vertices or vertices[0] == at and vertices[0] in ring
 
