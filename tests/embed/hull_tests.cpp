@@ -98,7 +98,8 @@ static void polygons() {
 
 static void encounters() {
     const hull::Polygon polygon(square), none;
-    CHECK(polygon.intersects_segment({-5, 5}, {5, 15}) && !polygon.intersects_segment({-5, 6}, {5, 16}) && polygon.intersects_segment({10, 10}, {11, 11}));
+    CHECK(polygon.intersects_segment({-5, 5}, {5, 15}) && !polygon.intersects_segment({-5, 6}, {5, 16}));
+    CHECK(polygon.intersects_segment({10, 10}, {11, 11}));
     CHECK(!polygon.separation_from_segment({-5, 5}, {5, 15}));
     const auto found = polygon.separation_from_segment({-5, 6}, {5, 16});
     CHECK(found && found->farthest == (Point{0, 10}) && found->direction == (Point{-10, 10}));
@@ -126,33 +127,43 @@ static void two_polygons() {
     const hull::Polygon flush({{10, 3}, {14, 3}, {14, 5}});
     using hull::Relation;
     CHECK(polygon.relation(small) == Relation::covers && small.relation(polygon) == Relation::within && polygon.relation(polygon) == Relation::equal);
-    CHECK(polygon.relation(beside) == Relation::disjoint && polygon.relation(flush) == Relation::touching && polygon.relation(across) == Relation::overlapping);
+    CHECK(polygon.relation(beside) == Relation::disjoint && polygon.relation(flush) == Relation::touching);
+    CHECK(polygon.relation(across) == Relation::overlapping);
     CHECK(polygon.contains_inside(small) && !polygon.contains_inside(polygon) && !polygon.contains_inside(flush));
     CHECK(polygon.within_distance(beside, 2) && !polygon.within_distance(beside, 1999, 1000) && !polygon.within_distance(none, 1, 0));
-    CHECK(polygon.relations({small, beside, none, polygon}) == (std::vector<Relation>{Relation::covers, Relation::disjoint, Relation::covers, Relation::equal}));
+    CHECK(polygon.relations({small, beside, none, polygon}) ==
+          (std::vector<Relation>{Relation::covers, Relation::disjoint, Relation::covers, Relation::equal}));
     using Pairs = std::vector<std::pair<std::size_t, std::size_t>>;
-    CHECK(hull::pairs_within_distance({beside, polygon, none, small, across}) == (Pairs{{0, 4}, {1, 3}, {1, 4}}) && hull::pairs_within_distance({}).empty());
+    CHECK(hull::pairs_within_distance({beside, polygon, none, small, across}) == (Pairs{{0, 4}, {1, 3}, {1, 4}}));
+    CHECK(hull::pairs_within_distance({}).empty());
     CHECK(hull::pairs_within_distance({beside, polygon}, 2).size() == 1 && hull::pairs_within_distance({beside, polygon}, 1999, 1000).empty());
     CHECK(hull::pairs_within_distance({small, small, small, small}) == (Pairs{{0, 1}, {0, 2}, {0, 3}, {1, 2}, {1, 3}, {2, 3}}));
-    CHECK(polygon.intersects_segments({{{-1, 1}, {20, 1}}, {{11, 0}, {11, 9}}}) == (std::vector<bool>{true, false}) && polygon.intersects_segments({}).empty());
+    CHECK(polygon.intersects_segments({{{-1, 1}, {20, 1}}, {{11, 0}, {11, 9}}}) == (std::vector<bool>{true, false}));
+    CHECK(polygon.intersects_segments({}).empty());
     CHECK(refuses(Refusal::out_of_range, [&] { polygon.intersects_segments({{{0, 0}, {far + 1, 0}}}); }));
-    const hull::Motion slides = polygon.first_meeting(beside, {-8, 4}), falls = polygon.first_meeting(beside, {0, 9}), stays = polygon.first_meeting(small, {1, 1});
+    const hull::Motion slides = polygon.first_meeting(beside, {-8, 4}), falls = polygon.first_meeting(beside, {0, 9});
+    const hull::Motion stays = polygon.first_meeting(small, {1, 1});
     CHECK(slides.hit && slides.moves && slides.vertex == Point(12, 0) && slides.hit->part * 4 == slides.hit->whole && slides.hit->from == Point(10, 0));
     CHECK(!falls.hit && stays.hit && stays.hit->where == hull::Hit::Where::start && !polygon.first_meeting(none, {1, 1}).hit);
     CHECK(refuses(Refusal::out_of_range, [&] { polygon.first_meeting(beside, {far + 1, 0}); }));
-    CHECK(beside.translate({-8, 4}).vertices() == (std::vector<Point>{{4, 4}, {7, 7}, {4, 10}}) && refuses(Refusal::out_of_range, [&] { beside.translate({far, 0}); }));
-    CHECK(small.rotate({0, 1}).vertices() == (std::vector<Point>{{-4, 3}, {-2, 2}, {-2, 4}}) && refuses(Refusal::zero_direction, [&] { small.rotate({0, 0}); }));
+    CHECK(beside.translate({-8, 4}).vertices() == (std::vector<Point>{{4, 4}, {7, 7}, {4, 10}}));
+    CHECK(refuses(Refusal::out_of_range, [&] { beside.translate({far, 0}); }));
+    CHECK(small.rotate({0, 1}).vertices() == (std::vector<Point>{{-4, 3}, {-2, 2}, {-2, 4}}));
+    CHECK(refuses(Refusal::zero_direction, [&] { small.rotate({0, 0}); }));
     hull::Hull held(5);
     CHECK(!held.nearest_held({0, 0}) && held.add({9, 9}) == 1 && held.add({-9, 9}) == 1);
     CHECK(held.nearest_held({0, 5}) == (std::pair<Point, hull::Area>{{-9, 9}, 97}) && held.nearest_held({1, 9})->second == 64);
     CHECK(refuses(Refusal::out_of_range, [&] { held.nearest_held({far + 1, 0}); }));
     CHECK(small.indices({{3, 4}, {9, 9}, {2, 2}, {3, 4}}) == (std::vector<std::size_t>{2, 4, 0}));
-    const auto gap = polygon.distance_bounds(beside), to_vertex = polygon.distance_bounds_to_point({13, 14}), to_way = polygon.distance_bounds_to_segment({13, 14}, {16, 10});
+    const auto gap = polygon.distance_bounds(beside), to_vertex = polygon.distance_bounds_to_point({13, 14});
+    const auto to_way = polygon.distance_bounds_to_segment({13, 14}, {16, 10});
     CHECK(gap && gap->down() == 2 && gap->up() == 2 && to_vertex && to_vertex->down() == 5 && to_way && *to_way <= *to_vertex && *to_way > *gap);
     CHECK(*gap <= *gap && !(*gap < *gap) && !(*gap > *gap) && !(*to_vertex <= *gap));
     CHECK(*gap < *to_vertex && *gap != *to_vertex && *gap == *polygon.distance_bounds_to_point({12, 5}) && *gap >= *gap);
-    CHECK(to_vertex->words().low == 25 && polygon.distance_bounds(small)->up() == 0 && !none.distance_bounds(polygon) && !none.distance_bounds_to_point({0, 0}));
-    CHECK(polygon.within_distance_of_segment({13, 14}, {13, 20}, 5) && !polygon.within_distance_of_point({13, 14}, 4999, 1000) && polygon.within_distance_of_point({13, 14}, 5));
+    CHECK(to_vertex->words().low == 25 && polygon.distance_bounds(small)->up() == 0);
+    CHECK(!none.distance_bounds(polygon) && !none.distance_bounds_to_point({0, 0}));
+    CHECK(polygon.within_distance_of_segment({13, 14}, {13, 20}, 5));
+    CHECK(!polygon.within_distance_of_point({13, 14}, 4999, 1000) && polygon.within_distance_of_point({13, 14}, 5));
     CHECK(polygon.relation_to_segment({10, 3}, {10, 12}) == Relation::touching && polygon.relation_to_segment({2, 2}, {9, 9}) == Relation::covers);
     CHECK(refuses(Refusal::out_of_range, [&] { polygon.distance_bounds_to_point({far + 1, 0}); }));
     CHECK(refuses(Refusal::out_of_range, [&] { polygon.relation_to_segment({0, 0}, {0, far + 1}); }));
@@ -545,7 +556,8 @@ static void readers() {
     const hull::Polygon before(std::vector<Point>(one.snapshot().begin(), one.snapshot().end()));
     seat.remove({8, 0});
     CHECK(two.read() && two.snapshot().size() == 2 && two.line() == 10);
-    CHECK(before.vertices()[1] == Point(8, 0) && one.snapshot().relation(before) == hull::Relation::equal && before.contains(two.snapshot()) && !two.snapshot().contains(before));
+    CHECK(before.vertices()[1] == Point(8, 0) && one.snapshot().relation(before) == hull::Relation::equal);
+    CHECK(before.contains(two.snapshot()) && !two.snapshot().contains(before));
     CHECK(*(two.snapshot().end() - 1) == Point(0, 8) && *two.snapshot().begin() == Point(0, 0));
     for (std::int64_t y : {9, 10, 11}) { // as many vertices, at other places
         seat.remove({0, y - 1});

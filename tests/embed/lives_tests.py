@@ -296,7 +296,8 @@ class Forks(unittest.TestCase):
         for thread in threads:
             thread.start()
         faults = [in_child(call) for _ in range(8) for call in (
-            lambda: asked.add(1, 2), shared.close, lambda: shared.acquire_seat(2), asked.drain, lambda: SharedHull(4, 1).acquire_seat(0).count())]
+            lambda: asked.add(1, 2), shared.close, lambda: shared.acquire_seat(2), asked.drain,
+            lambda: SharedHull(4, 1).acquire_seat(0).count())]
         stop.set()
         for thread in threads:
             thread.join()

@@ -1,9 +1,10 @@
 """Writes random calls on a hull with their answers, with which each language is tested: random_calls.py CALLS SEED.
 
 The answers are computed from all points for each call anew (the chain of Andrew, 1979), with nothing of the library. A line is a call's
-word, its coordinates and its answer: of `add` and `multiplicity` the multiplicity (0 if there are too many); of `remove` the multiplicity that
-is left (-1 if the point was not there); of `place` `inside`, `on` or `outside`; of `tangents` and `extreme` points, or nothing; of `vertices`
-all vertices; of `area` twice the area. A line `move S X Y` begins anew with the hull of no points, on a grid of steps S from (X, Y).
+word, its coordinates and its answer: of `add` and `multiplicity` the multiplicity (0 if there are too many); of `remove` the multiplicity
+that is left (-1 if the point was not there); of `place` `inside`, `on` or `outside`; of `tangents` and `extreme` points, or nothing; of
+`vertices` all vertices; of `area` twice the area. A line `move S X Y` begins anew with the hull of no points, on a grid of steps S from
+(X, Y).
 """
 import random
 import sys
