@@ -268,13 +268,13 @@ in_python() {
     for interpreter in $(pythons); do
         numbered=$("$interpreter" -c 'import sys; print("%d.%d" % sys.version_info[:2])')
         attempt "the tests of python/hull.py by $interpreter ($numbered)" python "$here/hull_tests.py"
-        attempt "hulls end after their last use by $interpreter ($numbered)" python -W ignore "$here/lives_tests.py"
+        attempt "hulls end after their last user by $interpreter ($numbered)" python -W ignore "$here/lives_tests.py"
     done
     interpreter=python3
     replays Python python "$here/replay.py"
-    attempt "2000 random pairs of polygons, by all vertices and edges" python "$here/random_polygons.py" 2000 1
-    attempt "2000 random rays and segments, by all edges" python "$here/random_raycasts.py" 2000 1
-    attempt "2000 random motions, by all differences of vertices" python "$here/random_motions.py" 2000 1
+    attempt "2000 pairs of polygons by chance, by all vertices and edges" python "$here/random_polygons.py" 2000 1
+    attempt "2000 rays and segments by chance, by all edges" python "$here/random_raycasts.py" 2000 1
+    attempt "2000 motions by chance, by all differences of vertices" python "$here/random_motions.py" 2000 1
     attempt "libhull.so slowed down compiles" slowed hull
     attempt "libhull_shared.so slowed down compiles" slowed hull_shared -DSHARED
     attempt "calls on one hull from several threads wait for each other" python_slowed "$here/hull_tests.py" Locks
@@ -317,8 +317,8 @@ in_many_processes() {
     if with "numpy, distributed"; then
         attempt "examples/large/blocks.py by one process" by_dask square 2000000 --block 65536 --workers 0
         attempt "examples/large/blocks.py by three workers" by_dask square 2000000 --block 65536 --workers 3
-        attempt "examples/large/blocks.py if a worker is killed in the middle" by_dask square 2000000 --block 65536 --workers 3 --kill
-        attempt "examples/large/blocks.py if all are vertices" by_dask parabola 262144 --shape parabola --block 16384 --workers 3 --kill
+        attempt "examples/large/blocks.py with a worker that is killed in the middle" by_dask square 2000000 --block 65536 --workers 3 --kill
+        attempt "examples/large/blocks.py with points that are all vertices" by_dask parabola 262144 --shape parabola --block 16384 --workers 3 --kill
     else
         skip "polygons by Dask's workers" "python3 with numpy and distributed (python3-distributed)"
     fi
