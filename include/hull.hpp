@@ -6,7 +6,7 @@
 //     for (hull::Point vertex : zone.vertices()) ..
 //
 //     hull::SharedHull shared({1000, 0, 4096, 2});      // points, first number, calls, seats
-//     hull::Seat seat = shared.lend(0);                 // one for each thread
+//     hull::Seat seat = shared.acquire_seat(0);         // one for each thread
 //     seat.add({3, 4});
 //
 // A call returns its value: std::optional if there may be none. A call that fails throws hull::Fault, whose code() says why, and changes
@@ -73,7 +73,7 @@ enum class Refusal : std::uint32_t {
     too_many = HULL_TOO_MANY,               // there are as many points as the limit, or the multiplicity is the greatest
     no_memory = HULL_NO_MEMORY,             // memory was refused
     out_of_order = HULL_OUT_OF_ORDER,       // a point does not follow the one before it, by x and then y
-    no_outline = HULL_NO_POLYGON,           // the points are not a convex polygon
+    no_polygon = HULL_NO_POLYGON,           // the points are not a convex polygon
     out_of_limits = HULL_OUT_OF_LIMITS,     // a limit, a capacity or a number of seats is 0 or too great
     no_seat = HULL_NO_SEAT,                 // the seat is acquired, or there is none of this number
     not_open = HULL_NOT_OPEN,               // the shared hull is closed
@@ -108,7 +108,7 @@ private:
         case Refusal::too_many: return "there are as many points as the limit, or the multiplicity is the greatest";
         case Refusal::no_memory: return "memory was refused";
         case Refusal::out_of_order: return "the points are not in order";
-        case Refusal::no_outline: return "the points are not a convex polygon";
+        case Refusal::no_polygon: return "the points are not a convex polygon";
         case Refusal::out_of_limits: return "a limit of a hull is out of range";
         case Refusal::no_seat: return "there is no such seat at the hull";
         case Refusal::not_open: return "the hull is closed";
@@ -154,7 +154,7 @@ struct Separation {
 struct Nearest {
     enum class Where : std::uint32_t {
         covered = HULL_COVERED, // the polygon covers the point, which is its own nearest
-        corner = HULL_VERTEX,   // at the vertex `from`, which is also `to`
+        vertex = HULL_VERTEX,   // at the vertex `from`, which is also `to`
         edge = HULL_EDGE        // at its foot on the edge from `from` to the next vertex, `to`, strictly between them
     };
     Where where;
@@ -172,7 +172,7 @@ struct Witness {
         covered = HULL_COVERED,   // the first polygon covers `a`, a vertex of the second
         within = HULL_WITHIN,     // the second covers `a`, a vertex of the first
         crossing = HULL_CROSSING, // the segment from `a` to `b`, vertices of the first, crosses the one from `c` to `d`, of the second
-        apart = HULL_DISJOINT        // no vertex of the first has a greater product with the direction `b` than `a`, a vertex of it, and
+        disjoint = HULL_DISJOINT  // no vertex of the first has a greater product with the direction `b` than `a`, a vertex of it, and
                                   // each vertex of the second has; a product takes 128 bits
     };
     Shows shows;
@@ -180,16 +180,16 @@ struct Witness {
 };
 
 // A strip that contains a polygon: the polygon is left of the line of the edge from `from` to `to`, and `farthest` is a vertex farthest
-// from it. Its width is the side of that vertex, up to 84 bits, divided by the length of the edge.
+// from it. Its width is twice the area of the triangle of these three, up to 84 bits, divided by the length of the edge.
 struct Strip {
     Point from, to, farthest;
 };
 
-// How one polygon is related to another: apart (disjoint); touching, with a point in common and a line that has them on its two sides;
+// How one polygon is related to another: disjoint; touching, with a point in common and a line that has them on its two sides;
 // overlapping; within the other; covering it; or equal to it.
 enum class Relation : std::uint32_t {
     // written by tools/table.py: relations
-    apart = HULL_RELATION_DISJOINT,
+    disjoint = HULL_RELATION_DISJOINT,
     touching = HULL_RELATION_TOUCHING,
     overlapping = HULL_RELATION_OVERLAPPING,
     within = HULL_RELATION_WITHIN,
@@ -199,41 +199,41 @@ enum class Relation : std::uint32_t {
 };
 
 // Where two polygons are nearest to one another. Between two vertices the squared distance is that of the two; between a vertex and an
-// edge it is the square of the side of the vertex at the edge, up to 84 bits, divided by the squared length of the edge.
+// edge it is the square of twice the area of their triangle, which is up to 84 bits, divided by the squared length of the edge.
 struct Distance {
     enum class Where : std::uint32_t {
-        zero = HULL_INTERSECTING,           // they intersect
-        corners = HULL_POINTS,         // at the vertex `a` of the first and the vertex `b` of the second
-        corner_and_edge = HULL_VERTEX, // at the vertex `a` of the first and its foot on the edge from `b` to `c` of the second
-        edge_and_corner = HULL_EDGE    // at the foot on the edge from `a` to `b` of the first, and the vertex `c` of the second
+        zero = HULL_INTERSECTING,      // they intersect
+        vertices = HULL_POINTS,        // at the vertex `a` of the first and the vertex `b` of the second
+        vertex_and_edge = HULL_VERTEX, // at the vertex `a` of the first and its foot on the edge from `b` to `c` of the second
+        edge_and_vertex = HULL_EDGE    // at the foot on the edge from `a` to `b` of the first, and the vertex `c` of the second
     };
     Where where;
     Point a, b, c;
 };
 
-// A distance of two polygons, or of a polygon and a segment. Distances are compared exactly, without rounding.
-class Clearance {
+// A distance of two polygons, or of a polygon and a segment, and the doubles next to it. Distances are compared exactly, without rounding.
+class DistanceBounds {
 public:
-    explicit Clearance(const hull_distance_bounds &told) noexcept : told_(told) {}
+    explicit DistanceBounds(const hull_distance_bounds &words) noexcept : words_(words) {}
 
     // The greatest double that is not above it, and the least that is not below it: equal if it is a double.
-    double down() const noexcept { return hull_distance_bounds_down(&told_); }
-    double up() const noexcept { return hull_distance_bounds_up(&told_); }
+    double down() const noexcept { return hull_distance_bounds_down(&words_); }
+    double up() const noexcept { return hull_distance_bounds_up(&words_); }
 
     // The words of its square, which is a fraction, and of those two doubles.
-    const hull_distance_bounds &words() const noexcept { return told_; }
+    const hull_distance_bounds &words() const noexcept { return words_; }
 
-    friend bool operator==(const Clearance &a, const Clearance &b) noexcept { return a.compared(b) == 0; }
-    friend bool operator!=(const Clearance &a, const Clearance &b) noexcept { return a.compared(b) != 0; }
-    friend bool operator<(const Clearance &a, const Clearance &b) noexcept { return a.compared(b) < 0; }
-    friend bool operator>(const Clearance &a, const Clearance &b) noexcept { return a.compared(b) > 0; }
-    friend bool operator<=(const Clearance &a, const Clearance &b) noexcept { return a.compared(b) <= 0; }
-    friend bool operator>=(const Clearance &a, const Clearance &b) noexcept { return a.compared(b) >= 0; }
+    friend bool operator==(const DistanceBounds &a, const DistanceBounds &b) noexcept { return a.compare(b) == 0; }
+    friend bool operator!=(const DistanceBounds &a, const DistanceBounds &b) noexcept { return a.compare(b) != 0; }
+    friend bool operator<(const DistanceBounds &a, const DistanceBounds &b) noexcept { return a.compare(b) < 0; }
+    friend bool operator>(const DistanceBounds &a, const DistanceBounds &b) noexcept { return a.compare(b) > 0; }
+    friend bool operator<=(const DistanceBounds &a, const DistanceBounds &b) noexcept { return a.compare(b) <= 0; }
+    friend bool operator>=(const DistanceBounds &a, const DistanceBounds &b) noexcept { return a.compare(b) >= 0; }
 
 private:
-    std::int32_t compared(const Clearance &other) const noexcept { return hull_distance_bounds_compare(&told_, &other.told_); }
+    std::int32_t compare(const DistanceBounds &other) const noexcept { return hull_distance_bounds_compare(&words_, &other.words_); }
 
-    hull_distance_bounds told_;
+    hull_distance_bounds words_;
 };
 
 // Where a ray or a segment enters a polygon, or a ray leaves it.
@@ -241,7 +241,7 @@ struct Hit {
     enum class Where : std::uint32_t {
         start = HULL_COVERED, // at its start, which the polygon covers
         edge = HULL_EDGE,     // across the edge from `from` to the next vertex, `to`, or at one of these
-        corner = HULL_VERTEX  // at the vertex `from`, of a polygon that is on its line
+        vertex = HULL_VERTEX  // at the vertex `from`, of a polygon that is on its line
     };
     Where where;
     Point from, to;
@@ -251,14 +251,14 @@ struct Hit {
 // When a polygon that moves straight first intersects one that does not move.
 struct Motion {
     std::optional<Hit> hit; // where the vertex arrives, and how far along; Hit::Where::start if they intersect before; none if they never do
-    Point corner;           // a vertex that arrives first:
+    Point vertex;           // a vertex that arrives first:
     bool moves;             // one of the polygon that moves; else of the other, at the moving one as it was before
 };
 
-// The value of a reply; throws if the call failed.
-namespace told {
+// Functions that return the value of a reply, or throw if the call failed.
+namespace detail {
 
-[[noreturn]] inline void fault(std::uint32_t code, std::uint64_t number = 0) {
+[[noreturn]] inline void fail(std::uint32_t code, std::uint64_t number = 0) {
     const Fault refused(static_cast<Refusal>(code), number);
 #if defined(__cpp_exceptions)
     throw refused;
@@ -274,9 +274,9 @@ template <class Make> auto with_memory(Make make) -> decltype(make()) {
     try {
         return make();
     } catch (const std::bad_alloc &) {
-        fault(HULL_NO_MEMORY);
+        fail(HULL_NO_MEMORY);
     } catch (const std::length_error &) { // more than there ever is
-        fault(HULL_NO_MEMORY);
+        fail(HULL_NO_MEMORY);
     }
 #else
     return make();
@@ -298,7 +298,7 @@ template <class Write> std::string text(Write write) {
             return out;
         }
         if (r.code != HULL_TOO_SMALL) {
-            fault(r.code);
+            fail(r.code);
         }
         resize(out, r.number);
     }
@@ -316,7 +316,7 @@ template <class Write> void pieces(std::ostream &out, Write write) {
             continue;
         }
         if (r.code != HULL_TEXT) {
-            fault(r.code);
+            fail(r.code);
         }
         if (r.number == 0) {
             return;
@@ -326,20 +326,20 @@ template <class Write> void pieces(std::ostream &out, Write write) {
     }
 }
 
-inline std::uint32_t times_added(const hull_reply &r) {
+inline std::uint32_t multiplicity_after_add(const hull_reply &r) {
     switch (r.code) {
     case HULL_ADDED: return 1;
     case HULL_AGAIN: return static_cast<std::uint32_t>(r.number);
-    default: fault(r.code);
+    default: fail(r.code);
     }
 }
 
-inline std::optional<std::uint32_t> times_left(const hull_reply &r) {
+inline std::optional<std::uint32_t> multiplicity_after_remove(const hull_reply &r) {
     switch (r.code) {
     case HULL_REMOVED: return 0;
     case HULL_LEFT: return static_cast<std::uint32_t>(r.number);
     case HULL_ABSENT: return std::nullopt;
-    default: fault(r.code);
+    default: fail(r.code);
     }
 }
 
@@ -348,7 +348,7 @@ inline Place place(const hull_reply &r) {
     case HULL_INSIDE:
     case HULL_ON:
     case HULL_OUTSIDE: return static_cast<Place>(r.code);
-    default: fault(r.code);
+    default: fail(r.code);
     }
 }
 
@@ -356,7 +356,7 @@ inline std::optional<Tangents> tangents(const hull_reply &r) {
     switch (r.code) {
     case HULL_TANGENTS: return Tangents{{r.x, r.y}, {r.other_x, r.other_y}};
     case HULL_NO_TANGENT: return std::nullopt;
-    default: fault(r.code);
+    default: fail(r.code);
     }
 }
 
@@ -364,13 +364,13 @@ inline std::optional<Point> extreme(const hull_reply &r) {
     switch (r.code) {
     case HULL_POINT: return Point{r.x, r.y};
     case HULL_EMPTY: return std::nullopt;
-    default: fault(r.code);
+    default: fail(r.code);
     }
 }
 
 inline Area number(const hull_reply &r) {
     if (r.code != HULL_NUMBER && r.code != HULL_VERTICES) {
-        fault(r.code);
+        fail(r.code);
     }
     return static_cast<Area>(r.high) << 64 | r.number;
 }
@@ -380,17 +380,17 @@ inline std::optional<Separation> separation(const hull_reply &r) {
     case HULL_DISJOINT: return Separation{{r.x, r.y}, {r.other_x, r.other_y}};
     case HULL_INTERSECTING:
     case HULL_EMPTY: return std::nullopt;
-    default: fault(r.code);
+    default: fail(r.code);
     }
 }
 
 inline std::optional<Nearest> nearest(const hull_reply &r, Point asked) {
     switch (r.code) {
     case HULL_COVERED: return Nearest{Nearest::Where::covered, asked, asked};
-    case HULL_VERTEX: return Nearest{Nearest::Where::corner, {r.x, r.y}, {r.x, r.y}};
+    case HULL_VERTEX: return Nearest{Nearest::Where::vertex, {r.x, r.y}, {r.x, r.y}};
     case HULL_EDGE: return Nearest{Nearest::Where::edge, {r.x, r.y}, {r.other_x, r.other_y}};
     case HULL_EMPTY: return std::nullopt;
-    default: fault(r.code);
+    default: fail(r.code);
     }
 }
 
@@ -398,7 +398,7 @@ inline std::optional<Box> box(const hull_reply &r) {
     switch (r.code) {
     case HULL_BOX: return Box{{r.x, r.y}, {r.other_x, r.other_y}};
     case HULL_EMPTY: return std::nullopt;
-    default: fault(r.code);
+    default: fail(r.code);
     }
 }
 
@@ -406,7 +406,7 @@ inline std::optional<std::pair<Point, Point>> points(const hull_reply &r) {
     switch (r.code) {
     case HULL_POINTS: return std::make_pair(Point{r.x, r.y}, Point{r.other_x, r.other_y});
     case HULL_EMPTY: return std::nullopt;
-    default: fault(r.code);
+    default: fail(r.code);
     }
 }
 
@@ -417,11 +417,11 @@ inline std::optional<Witness> witness(const hull_witness &w) {
     return Witness{static_cast<Witness::Shows>(w.code), w.a, w.b, w.c, w.d};
 }
 
-inline std::optional<Clearance> clearance(const hull_distance_bounds &c) {
-    switch (c.code) {
-    case HULL_NUMBER: return Clearance(c);
+inline std::optional<DistanceBounds> distance_bounds(const hull_distance_bounds &b) {
+    switch (b.code) {
+    case HULL_NUMBER: return DistanceBounds(b);
     case HULL_EMPTY: return std::nullopt;
-    default: fault(c.code);
+    default: fail(b.code);
     }
 }
 
@@ -434,7 +434,7 @@ inline std::optional<Hit> hit(const hull_hit &h) {
         return Hit{static_cast<Hit::Where>(h.code), h.a, h.b, number(h.high, h.low), number(h.divisor_high, h.divisor_low)};
     case HULL_DISJOINT:
     case HULL_EMPTY: return std::nullopt;
-    default: fault(h.code);
+    default: fail(h.code);
     }
 }
 
@@ -446,9 +446,9 @@ inline std::optional<Distance> distance(const hull_witness &w) {
 }
 
 // Returns the vertices that `ask` writes, a call with an array and its length; asks again with space for all if there are more.
-template <class Ask> std::vector<Point> corners(std::size_t room, Ask ask) {
+template <class Ask> std::vector<Point> vertices(std::size_t space, Ask ask) {
     std::vector<Point> out;
-    resize(out, room > 0 ? room : 1);
+    resize(out, space > 0 ? space : 1);
     for (;;) {
         const hull_reply r = ask(out.data(), out.size());
         if (r.code != HULL_TOO_SMALL) {
@@ -461,7 +461,7 @@ template <class Ask> std::vector<Point> corners(std::size_t room, Ask ask) {
 
 // Makes one kind of call at each of the points, in order: `serve` makes some of them, and returns how many; `each` takes a reply.
 template <class Serve, class Each>
-void at_each(std::uint32_t kind, const std::vector<Point> &points, Serve serve, Each each) {
+void call_each(std::uint32_t kind, const std::vector<Point> &points, Serve serve, Each each) {
     constexpr std::size_t at_once = 256;
     hull_request requests[at_once] = {};
     hull_reply replies[at_once] = {};
@@ -475,16 +475,16 @@ void at_each(std::uint32_t kind, const std::vector<Point> &points, Serve serve, 
     }
 }
 
-// Returns what `tell` makes of each of the replies.
-template <class Answer, class Serve, class Tell>
-std::vector<Answer> all(std::uint32_t kind, const std::vector<Point> &points, Serve serve, Tell tell) {
+// Returns what `convert` makes of each of the replies.
+template <class Answer, class Serve, class Convert>
+std::vector<Answer> answers(std::uint32_t kind, const std::vector<Point> &points, Serve serve, Convert convert) {
     std::vector<Answer> answers;
     with_memory([&] { answers.reserve(points.size()); });
-    at_each(kind, points, serve, [&](const hull_reply &r) { answers.push_back(tell(r)); });
+    call_each(kind, points, serve, [&](const hull_reply &r) { answers.push_back(convert(r)); });
     return answers;
 }
 
-} // namespace told
+} // namespace detail
 
 // A segment from one point to another, which may be equal.
 struct Segment {
@@ -492,11 +492,11 @@ struct Segment {
 };
 static_assert(sizeof(Segment) == sizeof(hull_segment), "an array of the one is an array of the other");
 
-class Outline;
+class Polygon;
 
 // The questions of a polygon, the vertices of a hull: the answers are those of that hull when they were taken. Self has data() and
 // size(), the vertices and their number. A question writes nothing: any number of threads query one polygon at once.
-template <class Self> class OutlineQuestions {
+template <class Self> class PolygonQuestions {
     auto serve() const {
         return [this](const hull_request *requests, hull_reply *replies, std::size_t count) {
             return hull_polygon_calls(data(), size(), requests, count, replies, count);
@@ -504,64 +504,64 @@ template <class Self> class OutlineQuestions {
     }
 
 public:
-    Place place(Point p) const { return told::place(hull_polygon_place(data(), size(), p.x, p.y)); }
+    Place place(Point p) const { return detail::place(hull_polygon_place(data(), size(), p.x, p.y)); }
 
     std::optional<Tangents> tangents(Point p) const {
-        return told::tangents(hull_polygon_tangents(data(), size(), p.x, p.y));
+        return detail::tangents(hull_polygon_tangents(data(), size(), p.x, p.y));
     }
 
     std::optional<Point> extreme(Point direction) const {
-        return told::extreme(hull_polygon_extreme(data(), size(), direction.x, direction.y));
+        return detail::extreme(hull_polygon_extreme(data(), size(), direction.x, direction.y));
     }
 
     // Returns the farthest point in a direction of two doubles, scaled to integers as hull_direction_from_doubles; for the direction (0,
     // 0) the first point. Fails with Refusal::out_of_range if one is not finite.
     std::optional<Point> extreme_d(double dx, double dy) const {
-        return told::extreme(hull_polygon_extreme_d(data(), size(), dx, dy));
+        return detail::extreme(hull_polygon_extreme_d(data(), size(), dx, dy));
     }
 
     // Returns twice the area, 0 for a point and a segment.
-    Area doubled_area() const { return told::number(hull_polygon_area(data(), size())); }
+    Area doubled_area() const { return detail::number(hull_polygon_area(data(), size())); }
 
     // The same for each of many points, or directions, in order.
     std::vector<Place> place_all(const std::vector<Point> &points) const {
-        return told::all<Place>(HULL_KIND_PLACE, points, serve(), told::place);
+        return detail::answers<Place>(HULL_KIND_PLACE, points, serve(), detail::place);
     }
     std::vector<std::optional<Tangents>> tangents_all(const std::vector<Point> &points) const {
-        return told::all<std::optional<Tangents>>(HULL_KIND_TANGENTS, points, serve(), told::tangents);
+        return detail::answers<std::optional<Tangents>>(HULL_KIND_TANGENTS, points, serve(), detail::tangents);
     }
     std::vector<std::optional<Point>> extreme_all(const std::vector<Point> &directions) const {
-        return told::all<std::optional<Point>>(HULL_KIND_EXTREME, directions, serve(), told::extreme);
+        return detail::answers<std::optional<Point>>(HULL_KIND_EXTREME, directions, serve(), detail::extreme);
     }
 
     // Returns whether the polygon intersects the segment from `a` to `b`, which may be one point.
-    bool meets_segment(Point a, Point b) const {
-        return told::number(hull_polygon_intersects_segment(data(), size(), a.x, a.y, b.x, b.y)) == 1;
+    bool intersects_segment(Point a, Point b) const {
+        return detail::number(hull_polygon_intersects_segment(data(), size(), a.x, a.y, b.x, b.y)) == 1;
     }
 
     // Returns what separates the polygon from the segment; none if they intersect, and for a polygon without vertices.
-    std::optional<Separation> apart_from_segment(Point a, Point b) const {
-        return told::separation(hull_polygon_separation(data(), size(), a.x, a.y, b.x, b.y));
+    std::optional<Separation> separation_from_segment(Point a, Point b) const {
+        return detail::separation(hull_polygon_separation(data(), size(), a.x, a.y, b.x, b.y));
     }
 
     // Returns where the nearest point is; none for a polygon without vertices.
     std::optional<Nearest> nearest(Point p) const {
-        return told::nearest(hull_polygon_nearest(data(), size(), p.x, p.y), p);
+        return detail::nearest(hull_polygon_nearest(data(), size(), p.x, p.y), p);
     }
 
     // Returns the bounding box; none for a polygon without vertices.
-    std::optional<Box> bounding_box() const { return told::box(hull_polygon_box(data(), size())); }
+    std::optional<Box> bounding_box() const { return detail::box(hull_polygon_box(data(), size())); }
 
     // Returns the extent of the polygon in a direction: the greatest product of a vertex with it less the least; none for a polygon
     // without vertices. Divide it by the length of the direction for the width along it.
     std::optional<Area> width_along(Point direction) const {
         const hull_reply r = hull_polygon_width(data(), size(), direction.x, direction.y);
-        return r.code == HULL_EMPTY ? std::nullopt : std::optional<Area>(told::number(r));
+        return r.code == HULL_EMPTY ? std::nullopt : std::optional<Area>(detail::number(r));
     }
 
     // Returns the two vertices that are farthest from one another; none for a polygon without vertices.
     std::optional<std::pair<Point, Point>> diameter() const {
-        return told::points(hull_polygon_diameter(data(), size()));
+        return detail::points(hull_polygon_diameter(data(), size()));
     }
 
     // Returns where the polygon is least wide: no direction has a narrower strip; none if there are fewer than two vertices.
@@ -571,199 +571,200 @@ public:
     }
 
     // Returns whether the two polygons intersect, boundaries included.
-    template <class Other> bool meets(const OutlineQuestions<Other> &other) const {
-        return told::number(hull_polygon_intersects(data(), size(), other.data(), other.size())) == 1;
+    template <class Other> bool intersects(const PolygonQuestions<Other> &other) const {
+        return detail::number(hull_polygon_intersects(data(), size(), other.data(), other.size())) == 1;
     }
 
     // Returns whether this polygon contains the other one.
-    template <class Other> bool contains(const OutlineQuestions<Other> &other) const {
-        return told::number(hull_polygon_contains(data(), size(), other.data(), other.size())) == 1;
+    template <class Other> bool contains(const PolygonQuestions<Other> &other) const {
+        return detail::number(hull_polygon_contains(data(), size(), other.data(), other.size())) == 1;
     }
 
     // Returns how this polygon is related to the other one.
-    template <class Other> Relation relation(const OutlineQuestions<Other> &other) const {
-        return static_cast<Relation>(told::number(hull_polygon_relation(data(), size(), other.data(), other.size())));
+    template <class Other> Relation relation(const PolygonQuestions<Other> &other) const {
+        return static_cast<Relation>(detail::number(hull_polygon_relation(data(), size(), other.data(), other.size())));
     }
 
     // Returns whether this polygon contains the other one with no point of it on the boundary.
-    template <class Other> bool contains_inside(const OutlineQuestions<Other> &other) const {
-        return told::number(hull_polygon_contains_inside(data(), size(), other.data(), other.size())) == 1;
+    template <class Other> bool contains_inside(const PolygonQuestions<Other> &other) const {
+        return detail::number(hull_polygon_contains_inside(data(), size(), other.data(), other.size())) == 1;
     }
 
     // Returns whether their distance is at most numerator / denominator, exactly; false if one of them has no vertices.
-    template <class Other> bool within(const OutlineQuestions<Other> &other, std::uint64_t numerator, std::uint32_t denominator = 1) const {
-        return told::number(hull_polygon_within_distance(data(), size(), other.data(), other.size(), numerator, denominator)) == 1;
+    template <class Other>
+    bool within_distance(const PolygonQuestions<Other> &other, std::uint64_t numerator, std::uint32_t denominator = 1) const {
+        return detail::number(hull_polygon_within_distance(data(), size(), other.data(), other.size(), numerator, denominator)) == 1;
     }
 
     // The same for the segment from `a` to `b`, which may be one point, and for a point.
-    bool within_segment(Point a, Point b, std::uint64_t numerator, std::uint32_t denominator = 1) const {
-        return told::number(hull_polygon_within_distance_of_segment(data(), size(), a.x, a.y, b.x, b.y, numerator, denominator)) == 1;
+    bool within_distance_of_segment(Point a, Point b, std::uint64_t numerator, std::uint32_t denominator = 1) const {
+        return detail::number(hull_polygon_within_distance_of_segment(data(), size(), a.x, a.y, b.x, b.y, numerator, denominator)) == 1;
     }
-    bool within_point(Point p, std::uint64_t numerator, std::uint32_t denominator = 1) const {
-        return within_segment(p, p, numerator, denominator);
+    bool within_distance_of_point(Point p, std::uint64_t numerator, std::uint32_t denominator = 1) const {
+        return within_distance_of_segment(p, p, numerator, denominator);
     }
 
     // Returns how this polygon is related to the segment from `a` to `b`, which may be one point.
     Relation relation_to_segment(Point a, Point b) const {
-        return static_cast<Relation>(told::number(hull_polygon_relation_to_segment(data(), size(), a.x, a.y, b.x, b.y)));
+        return static_cast<Relation>(detail::number(hull_polygon_relation_to_segment(data(), size(), a.x, a.y, b.x, b.y)));
     }
 
     // Returns the distance of the other polygon, the segment from `a` to `b`, or a point; none if there are no vertices.
-    template <class Other> std::optional<Clearance> clearance(const OutlineQuestions<Other> &other) const {
-        return told::clearance(hull_polygon_distance_bounds(data(), size(), other.data(), other.size()));
+    template <class Other> std::optional<DistanceBounds> distance_bounds(const PolygonQuestions<Other> &other) const {
+        return detail::distance_bounds(hull_polygon_distance_bounds(data(), size(), other.data(), other.size()));
     }
-    std::optional<Clearance> clearance_to_segment(Point a, Point b) const {
-        return told::clearance(hull_polygon_distance_bounds_to_segment(data(), size(), a.x, a.y, b.x, b.y));
+    std::optional<DistanceBounds> distance_bounds_to_segment(Point a, Point b) const {
+        return detail::distance_bounds(hull_polygon_distance_bounds_to_segment(data(), size(), a.x, a.y, b.x, b.y));
     }
-    std::optional<Clearance> clearance_to_point(Point p) const { return clearance_to_segment(p, p); }
+    std::optional<DistanceBounds> distance_bounds_to_point(Point p) const { return distance_bounds_to_segment(p, p); }
 
     // Returns where the ray from a point in a direction enters; none if it misses.
-    std::optional<Hit> cast_ray(Point from, Point direction) const {
-        return told::hit(hull_polygon_raycast(data(), size(), from.x, from.y, direction.x, direction.y));
+    std::optional<Hit> raycast(Point from, Point direction) const {
+        return detail::hit(hull_polygon_raycast(data(), size(), from.x, from.y, direction.x, direction.y));
     }
 
     // Returns the last point of that ray in the polygon; none if it misses.
-    std::optional<Hit> last_on_ray(Point from, Point direction) const {
-        return told::hit(hull_polygon_raycast_exit(data(), size(), from.x, from.y, direction.x, direction.y));
+    std::optional<Hit> raycast_exit(Point from, Point direction) const {
+        return detail::hit(hull_polygon_raycast_exit(data(), size(), from.x, from.y, direction.x, direction.y));
     }
 
     // Returns where the segment from `a` to `b` enters; none if it misses. Its last point in the polygon is where that from `b` to `a`
     // enters.
-    std::optional<Hit> cast_segment(Point a, Point b) const {
-        return told::hit(hull_polygon_raycast_segment(data(), size(), a.x, a.y, b.x, b.y));
+    std::optional<Hit> raycast_segment(Point a, Point b) const {
+        return detail::hit(hull_polygon_raycast_segment(data(), size(), a.x, a.y, b.x, b.y));
     }
 
     // Returns when the other polygon, which moves straight by `way`, each component at most HULL_COORDINATE_MAX in size, first
     // intersects this one.
-    template <class Other> Motion first_meeting(const OutlineQuestions<Other> &other, Point way) const {
-        const hull_motion m = hull_polygon_first_meeting(data(), size(), other.data(), other.size(), way.x, way.y);
-        return {told::hit(m.hit), m.corner, m.moves == 1};
+    template <class Other> Motion first_meeting(const PolygonQuestions<Other> &other, Point way) const {
+        const auto [hit, vertex, moves] = hull_polygon_first_meeting(data(), size(), other.data(), other.size(), way.x, way.y);
+        return {detail::hit(hit), vertex, moves == 1};
     }
 
     // Returns whether the polygon intersects each of many segments, and how it is related to each of many polygons, in order.
-    std::vector<bool> meets_segments(const std::vector<Segment> &segments) const {
-        std::vector<std::uint8_t> told;
-        told::with_memory([&] { told.resize(segments.size()); });
+    std::vector<bool> intersects_segments(const std::vector<Segment> &segments) const {
+        std::vector<std::uint8_t> answers;
+        detail::resize(answers, segments.size());
         const auto *at = reinterpret_cast<const hull_segment *>(segments.data());
-        if (hull_polygon_intersects_segments(data(), size(), at, segments.size(), told.data()) != segments.size()) {
-            told::fault(HULL_OUT_OF_RANGE);
+        if (hull_polygon_intersects_segments(data(), size(), at, segments.size(), answers.data()) != segments.size()) {
+            detail::fail(HULL_OUT_OF_RANGE);
         }
-        return told::with_memory([&] { return std::vector<bool>(told.begin(), told.end()); });
+        return detail::with_memory([&] { return std::vector<bool>(answers.begin(), answers.end()); });
     }
-    std::vector<Relation> relations(const std::vector<Outline> &others) const;
+    std::vector<Relation> relations(const std::vector<Polygon> &others) const;
 
     // Returns for each vertex the index of the first of the points that is equal to it; the number of points if none is.
     std::vector<std::size_t> indices(const std::vector<Point> &points) const {
         std::vector<std::size_t> places;
-        told::with_memory([&] { places.resize(size()); });
+        detail::with_memory([&] { places.resize(size()); });
         hull_polygon_indices(data(), size(), points.data(), points.size(), places.data());
         return places;
     }
 
     // Returns where the two intersect, or what separates them; none if one of them has no vertices.
-    template <class Other> std::optional<Witness> witness(const OutlineQuestions<Other> &other) const {
-        return told::witness(hull_polygon_witness(data(), size(), other.data(), other.size()));
+    template <class Other> std::optional<Witness> witness(const PolygonQuestions<Other> &other) const {
+        return detail::witness(hull_polygon_witness(data(), size(), other.data(), other.size()));
     }
 
     // Returns where the two are nearest to one another; none if one of them has no vertices.
-    template <class Other> std::optional<Distance> distance(const OutlineQuestions<Other> &other) const {
-        return told::distance(hull_polygon_distance(data(), size(), other.data(), other.size()));
+    template <class Other> std::optional<Distance> distance(const PolygonQuestions<Other> &other) const {
+        return detail::distance(hull_polygon_distance(data(), size(), other.data(), other.size()));
     }
 
 protected:
-    OutlineQuestions() = default;
+    PolygonQuestions() = default;
 
 private:
-    template <class Other> friend class OutlineQuestions;
+    template <class Other> friend class PolygonQuestions;
     const Point *data() const noexcept { return static_cast<const Self *>(this)->data(); }
     std::size_t size() const noexcept { return static_cast<const Self *>(this)->size(); }
 };
 
 // A convex polygon that owns its vertices, as Hull::vertices returns them.
-class Outline : public OutlineQuestions<Outline> {
+class Polygon : public PolygonQuestions<Polygon> {
 public:
     // The polygon without vertices.
-    Outline() = default;
+    Polygon() = default;
 
     // The polygon of these vertices: counterclockwise from the first by x and then by y, none inside an edge, at most HULL_LIMIT_MAX.
-    // Fails with Refusal::no_outline if they are not.
-    explicit Outline(std::vector<Point> corners) : corners_(std::move(corners)) {
-        if (told::number(hull_is_polygon(data(), size())) != 1) {
-            told::fault(HULL_NO_POLYGON);
+    // Fails with Refusal::no_polygon if they are not.
+    explicit Polygon(std::vector<Point> vertices) : vertices_(std::move(vertices)) {
+        if (detail::number(hull_is_polygon(data(), size())) != 1) {
+            detail::fail(HULL_NO_POLYGON);
         }
     }
 
     // Returns the convex polygon of any points. Fails with Refusal::out_of_range, and too_many (as Hull::load).
-    static Outline of(const std::vector<Point> &points) {
-        Outline made;
-        made.corners_ = told::corners(64, [&](Point *out, std::size_t room) {
-            return hull_polygon_of(points.data(), points.size(), out, room);
+    static Polygon of(const std::vector<Point> &points) {
+        Polygon made;
+        made.vertices_ = detail::vertices(64, [&](Point *out, std::size_t space) {
+            return hull_polygon_of(points.data(), points.size(), out, space);
         });
         return made;
     }
 
-    const std::vector<Point> &corners() const noexcept { return corners_; }
+    const std::vector<Point> &vertices() const noexcept { return vertices_; }
 
     // Returns the polygon translated by a vector. Fails with Refusal::out_of_range if a coordinate would be.
-    Outline moved(Point by) const {
-        Outline other;
-        told::with_memory([&] { other.corners_ = corners_; });
-        other.move(by);
+    Polygon translate(Point by) const {
+        Polygon other;
+        detail::with_memory([&] { other.vertices_ = vertices_; });
+        other.translate_in_place(by);
         return other;
     }
 
     // The same in place, without allocating.
-    void move(Point by) {
-        const hull_reply r = hull_polygon_translate(data(), size(), by.x, by.y, corners_.data());
+    void translate_in_place(Point by) {
+        const hull_reply r = hull_polygon_translate(data(), size(), by.x, by.y, vertices_.data());
         if (r.code != HULL_VERTICES) {
-            told::fault(r.code);
+            detail::fail(r.code);
         }
     }
 
     // Returns the polygon rotated about the origin by the angle of `by`, and scaled by its length: for a rational angle, as of (3, 4),
     // scale all others alike, which (5, 0) does. Fails with Refusal::out_of_range, zero_direction.
-    Outline turned(Point by) const {
-        Outline other;
-        told::with_memory([&] { other.corners_.resize(size()); });
-        const hull_reply r = hull_polygon_rotate(data(), size(), by.x, by.y, other.corners_.data());
+    Polygon rotate(Point by) const {
+        Polygon other;
+        detail::with_memory([&] { other.vertices_.resize(size()); });
+        const hull_reply r = hull_polygon_rotate(data(), size(), by.x, by.y, other.vertices_.data());
         if (r.code != HULL_VERTICES) {
-            told::fault(r.code);
+            detail::fail(r.code);
         }
         return other;
     }
 
     // The vertices, and their number.
-    const Point *data() const noexcept { return corners_.data(); }
-    std::size_t size() const noexcept { return corners_.size(); }
+    const Point *data() const noexcept { return vertices_.data(); }
+    std::size_t size() const noexcept { return vertices_.size(); }
 
-    friend bool operator==(const Outline &a, const Outline &b) noexcept { return a.corners_ == b.corners_; }
-    friend bool operator!=(const Outline &a, const Outline &b) noexcept { return !(a == b); }
+    friend bool operator==(const Polygon &a, const Polygon &b) noexcept { return a.vertices_ == b.vertices_; }
+    friend bool operator!=(const Polygon &a, const Polygon &b) noexcept { return !(a == b); }
 
 private:
-    std::vector<Point> corners_;
+    std::vector<Point> vertices_;
 };
 
-namespace told {
+namespace detail {
 
-// The vertices of polygons.
-inline std::vector<hull_corners> all_corners(const std::vector<Outline> &outlines) {
+// Returns the vertices of polygons.
+inline std::vector<hull_corners> all_vertices(const std::vector<Polygon> &polygons) {
     std::vector<hull_corners> all;
-    with_memory([&] { all.reserve(outlines.size()); });
-    for (const Outline &outline : outlines) {
-        all.push_back({outline.data(), outline.size()});
+    with_memory([&] { all.reserve(polygons.size()); });
+    for (const Polygon &polygon : polygons) {
+        all.push_back({polygon.data(), polygon.size()});
     }
     return all;
 }
 
-} // namespace told
+} // namespace detail
 
-template <class Self> std::vector<Relation> OutlineQuestions<Self>::relations(const std::vector<Outline> &others) const {
-    const std::vector<hull_corners> all = told::all_corners(others);
-    std::vector<std::uint8_t> told;
+template <class Self> std::vector<Relation> PolygonQuestions<Self>::relations(const std::vector<Polygon> &others) const {
+    const std::vector<hull_corners> all = detail::all_vertices(others);
+    std::vector<std::uint8_t> numbers;
     std::vector<Relation> relations;
-    told::with_memory([&] { told.resize(all.size()), relations.reserve(all.size()); });
-    hull_polygon_relations(data(), size(), all.data(), all.size(), told.data());
-    for (const std::uint8_t relation : told) {
+    detail::with_memory([&] { numbers.resize(all.size()), relations.reserve(all.size()); });
+    hull_polygon_relations(data(), size(), all.data(), all.size(), numbers.data());
+    for (const std::uint8_t relation : numbers) {
         relations.push_back(static_cast<Relation>(relation));
     }
     return relations;
@@ -771,20 +772,21 @@ template <class Self> std::vector<Relation> OutlineQuestions<Self>::relations(co
 
 // Returns which polygons have a distance of at most numerator / denominator, exactly; with 0, which intersect: the pairs of their
 // indices, the lesser first, in order.
-inline std::vector<std::pair<std::size_t, std::size_t>> pairs_within(const std::vector<Outline> &outlines, std::uint64_t numerator = 0,
-                                                                     std::uint32_t denominator = 1) {
-    const std::vector<hull_corners> all = told::all_corners(outlines);
+inline std::vector<std::pair<std::size_t, std::size_t>> pairs_within_distance(const std::vector<Polygon> &polygons,
+                                                                              std::uint64_t numerator = 0,
+                                                                              std::uint32_t denominator = 1) {
+    const std::vector<hull_corners> all = detail::all_vertices(polygons);
     std::vector<hull_pair> pairs;
     hull_reply r = {};
     for (r.number = all.size(); r.code != HULL_NUMBER;) {
-        told::resize(pairs, r.number);
+        detail::resize(pairs, r.number);
         r = hull_pairs_within_distance(all.data(), all.size(), numerator, denominator, pairs.data(), pairs.size());
         if (r.code != HULL_NUMBER && r.code != HULL_TOO_SMALL) {
-            told::fault(r.code);
+            detail::fail(r.code);
         }
     }
     pairs.resize(static_cast<std::size_t>(r.number));
-    return told::with_memory([&] {
+    return detail::with_memory([&] {
         std::vector<std::pair<std::size_t, std::size_t>> found;
         for (const hull_pair &pair : pairs) {
             found.emplace_back(pair.first, pair.second);
@@ -794,9 +796,9 @@ inline std::vector<std::pair<std::size_t, std::size_t>> pairs_within(const std::
 }
 
 // A convex polygon that borrows its vertices, such as those of a Reader's snapshot; use it only as long as they are there.
-class OutlineView : public OutlineQuestions<OutlineView> {
+class PolygonView : public PolygonQuestions<PolygonView> {
 public:
-    OutlineView() = default;
+    PolygonView() = default;
 
     const Point *data() const noexcept { return at_; }
     std::size_t size() const noexcept { return count_; }
@@ -805,7 +807,7 @@ public:
 
 private:
     friend class Reader;
-    OutlineView(const Point *at, std::size_t count) : at_(at), count_(count) {}
+    PolygonView(const Point *at, std::size_t count) : at_(at), count_(count) {}
     const Point *at_ = nullptr;
     std::size_t count_ = 0;
 };
@@ -824,7 +826,7 @@ public:
     explicit Hull(std::uint32_t limit = HULL_LIMIT_MAX) : at_(hull_new(limit)) {
         if (!at_) {
             const bool is_limit = limit >= 1 && limit <= HULL_LIMIT_MAX;
-            told::fault(is_limit ? HULL_NO_MEMORY : HULL_OUT_OF_LIMITS);
+            detail::fail(is_limit ? HULL_NO_MEMORY : HULL_OUT_OF_LIMITS);
         }
     }
 
@@ -835,32 +837,32 @@ public:
     }
 
     // Adds a point; returns its multiplicity now: 1 if it is new.
-    std::uint32_t add(Point p) { return told::times_added(hull_add(alive(), p.x, p.y)); }
+    std::uint32_t add(Point p) { return detail::multiplicity_after_add(hull_add(alive(), p.x, p.y)); }
 
     // Removes a point once; returns the multiplicity that is left, none if it was not there.
-    std::optional<std::uint32_t> remove(Point p) { return told::times_left(hull_remove(alive(), p.x, p.y)); }
+    std::optional<std::uint32_t> remove(Point p) { return detail::multiplicity_after_remove(hull_remove(alive(), p.x, p.y)); }
 
     // Replaces all points by these, with their multiplicities, in a small part of the time that adding them takes; returns how many
     // different points there are.
     std::size_t load(const std::vector<Point> &points) {
-        return static_cast<std::size_t>(told::number(hull_load(alive(), points.data(), points.size())));
+        return static_cast<std::size_t>(detail::number(hull_load(alive(), points.data(), points.size())));
     }
     template <class Iterator> std::size_t load(Iterator first, Iterator last) {
-        return load(told::with_memory([&] { return std::vector<Point>(first, last); }));
+        return load(detail::with_memory([&] { return std::vector<Point>(first, last); }));
     }
 
     // Replaces all points by these, which are in order by x and then y, each with its multiplicity, as `held` returned them, of this set
     // or another.
     void load_held(const std::vector<Held> &points) {
-        told::number(hull_load_held(alive(), points.data(), points.size()));
+        detail::number(hull_load_held(alive(), points.data(), points.size()));
     }
 
     // Returns the points, in order by x and then y, each with its multiplicity.
     std::vector<Held> held() const {
         std::vector<Held> all;
-        told::resize(all, size());
+        detail::resize(all, size());
         all.resize(static_cast<std::size_t>(
-            told::number(hull_held_from(alive(), -HULL_COORDINATE_MAX, -HULL_COORDINATE_MAX, all.data(), all.size()))));
+            detail::number(hull_held_from(alive(), -HULL_COORDINATE_MAX, -HULL_COORDINATE_MAX, all.data(), all.size()))));
         return all;
     }
 
@@ -868,14 +870,14 @@ public:
     // is none. It reads all points that are not much farther along x.
     std::optional<std::pair<Point, Area>> nearest_held(Point p) const {
         const hull_reply r = hull_nearest_held(alive(), p.x, p.y);
-        const std::optional<Point> nearest = told::extreme(r);
+        const std::optional<Point> nearest = detail::extreme(r);
         return nearest ? std::optional(std::pair<Point, Area>(*nearest, static_cast<Area>(r.high) << 64 | r.number)) : std::nullopt;
     }
 
     // Returns another set with the same points, multiplicities and limit.
     Hull copy() const {
         Hull other(limit());
-        told::number(hull_copy(other.alive(), alive()));
+        detail::number(hull_copy(other.alive(), alive()));
         return other;
     }
 
@@ -886,8 +888,8 @@ public:
     // memory: those after it are still added. Refusal::out_of_range for any of them changes nothing.
     std::vector<std::uint32_t> add_all(const std::vector<Point> &points) {
         check(points);
-        return told::all<std::uint32_t>(HULL_KIND_ADD, points, serve(), [](const hull_reply &r) {
-            return r.code == HULL_TOO_MANY || r.code == HULL_NO_MEMORY ? 0 : told::times_added(r);
+        return detail::answers<std::uint32_t>(HULL_KIND_ADD, points, serve(), [](const hull_reply &r) {
+            return r.code == HULL_TOO_MANY || r.code == HULL_NO_MEMORY ? 0 : detail::multiplicity_after_add(r);
         });
     }
 
@@ -895,50 +897,52 @@ public:
     std::size_t remove_all(const std::vector<Point> &points) {
         check(points);
         std::size_t there = 0;
-        told::at_each(HULL_KIND_REMOVE, points, serve(), [&](const hull_reply &r) { there += told::times_left(r).has_value(); });
+        detail::call_each(HULL_KIND_REMOVE, points, serve(), [&](const hull_reply &r) {
+            there += detail::multiplicity_after_remove(r).has_value();
+        });
         return there;
     }
 
     // The same for each of many points, or directions, in order.
     std::vector<Place> place_all(const std::vector<Point> &points) const {
-        return told::all<Place>(HULL_KIND_PLACE, points, serve(), told::place);
+        return detail::answers<Place>(HULL_KIND_PLACE, points, serve(), detail::place);
     }
     std::vector<std::optional<Tangents>> tangents_all(const std::vector<Point> &points) const {
-        return told::all<std::optional<Tangents>>(HULL_KIND_TANGENTS, points, serve(), told::tangents);
+        return detail::answers<std::optional<Tangents>>(HULL_KIND_TANGENTS, points, serve(), detail::tangents);
     }
     std::vector<std::optional<Point>> extreme_all(const std::vector<Point> &directions) const {
-        return told::all<std::optional<Point>>(HULL_KIND_EXTREME, directions, serve(), told::extreme);
+        return detail::answers<std::optional<Point>>(HULL_KIND_EXTREME, directions, serve(), detail::extreme);
     }
 
-    Place place(Point p) const { return told::place(hull_place(counted(), p.x, p.y)); }
+    Place place(Point p) const { return detail::place(hull_place(prepared(), p.x, p.y)); }
 
     // Returns the tangent points seen from a point, of several on one line the farthest; none if there is no point, or the hull covers
     // the one asked about.
-    std::optional<Tangents> tangents(Point p) const { return told::tangents(hull_tangents(counted(), p.x, p.y)); }
+    std::optional<Tangents> tangents(Point p) const { return detail::tangents(hull_tangents(prepared(), p.x, p.y)); }
 
     // Returns the farthest point in a direction, of several the first by x and then by y; none if there is none.
     std::optional<Point> extreme(Point direction) const {
-        return told::extreme(hull_extreme(counted(), direction.x, direction.y));
+        return detail::extreme(hull_extreme(prepared(), direction.x, direction.y));
     }
 
-    // The same for a direction of two doubles, as Outline::extreme_d.
-    std::optional<Point> extreme_d(double dx, double dy) const { return told::extreme(hull_extreme_d(counted(), dx, dy)); }
+    // The same for a direction of two doubles, as Polygon::extreme_d.
+    std::optional<Point> extreme_d(double dx, double dy) const { return detail::extreme(hull_extreme_d(prepared(), dx, dy)); }
 
     // Returns the multiplicity of a point: 0 if it is not there.
     std::uint32_t multiplicity(Point p) const {
-        return static_cast<std::uint32_t>(told::number(hull_multiplicity(alive(), p.x, p.y)));
+        return static_cast<std::uint32_t>(detail::number(hull_multiplicity(alive(), p.x, p.y)));
     }
 
     // Returns the vertices, counterclockwise from the first by x and then by y, each once and none inside an edge.
     std::vector<Point> vertices() const {
-        return told::corners(64, [this](Point *out, std::size_t room) { return hull_vertices(alive(), out, room); });
+        return detail::vertices(64, [this](Point *out, std::size_t space) { return hull_vertices(alive(), out, space); });
     }
 
-    // Returns the convex polygon of the hull now.
-    Outline outline() const { return Outline(vertices()); }
+    // Returns the vertices of the hull now as a convex polygon.
+    Polygon polygon() const { return Polygon(vertices()); }
 
     // Returns twice the area, 0 for a point and a segment.
-    Area doubled_area() const { return told::number(hull_area(counted())); }
+    Area doubled_area() const { return detail::number(hull_area(prepared())); }
 
     // Returns how many different points there are.
     std::size_t size() const { return static_cast<std::size_t>(hull_count(alive()).number); }
@@ -954,12 +958,12 @@ public:
 private:
     hull_set *alive() const {
         if (!at_) {
-            told::fault(HULL_ENDED);
+            detail::fail(HULL_ENDED);
         }
         return at_.get();
     }
     // The set, after a hint that a question follows: see hull_prepare.
-    hull_set *counted() const {
+    hull_set *prepared() const {
         hull_set *const h = alive();
         hull_prepare(h);
         return h;
@@ -967,7 +971,7 @@ private:
     static void check(const std::vector<Point> &points) {
         for (const Point &p : points) {
             if (std::max(p.x, p.y) > HULL_COORDINATE_MAX || std::min(p.x, p.y) < -HULL_COORDINATE_MAX) {
-                told::fault(HULL_OUT_OF_RANGE);
+                detail::fail(HULL_OUT_OF_RANGE);
             }
         }
     }
@@ -986,66 +990,75 @@ struct Limits {
     std::uint32_t readers = 0; // how many readers it may have, 0 to HULL_SHARED_READERS_MAX
 };
 
-// A shared hull with its gate: it ends when the hull and all seats have dropped it.
-class Desk {
+class SharedHull;
+class Seat;
+class Reader;
+
+namespace detail {
+
+// A shared hull with its gate and its journal file: they end when the hull and all seats and readers have dropped them.
+class SharedResources {
 public:
-    Desk() : at_(hull_shared_new()) {
+    SharedResources() : at_(hull_shared_new()) {
         if (at_ == nullptr) {
-            told::fault(HULL_NO_MEMORY);
+            fail(HULL_NO_MEMORY);
         }
-        hull_shared_gate_init(&line_, 1);
+        hull_shared_gate_init(&gate_, 1);
     }
-    ~Desk() {
+    ~SharedResources() {
         if (journal_ != nullptr) {
             hull_shared_journal_close(journal_);
         }
         hull_shared_close(at_);
         hull_shared_end(at_);
         hull_shared_free(at_);
-        hull_shared_gate_end(&line_);
+        hull_shared_gate_end(&gate_);
     }
-    Desk(const Desk &) = delete;
-    Desk &operator=(const Desk &) = delete;
+    SharedResources(const SharedResources &) = delete;
+    SharedResources &operator=(const SharedResources &) = delete;
 
 private:
-    friend class SharedHull;
-    friend class Seat;
-    friend class Reader;
-    std::mutex lock_; // one call at a time on the shared hull; calls of seats don't take it
-    // The result of a call of hull_shared_journal: which lines of the journal file are durable.
-    template <class Ask> std::uint64_t safe(const Ask &ask) {
+    friend class hull::SharedHull;
+    friend class hull::Seat;
+    friend class hull::Reader;
+
+    // Returns the number of the first line that is not durable, of which `ask` asks the journal file.
+    template <class Ask> std::uint64_t durable(const Ask &ask) {
         std::unique_lock<std::mutex> first(before_journal_lock_);
-        const std::shared_lock<std::shared_mutex> kept(journal_lock_);
+        const std::shared_lock<std::shared_mutex> journal_lock(journal_lock_);
         first.unlock();
         if (journal_ == nullptr) {
-            told::fault(HULL_NOT_OPEN);
+            fail(HULL_NOT_OPEN);
         }
         const hull_reply r = ask(journal_);
         if (r.code != HULL_DURABLE) {
-            told::fault(r.code, r.code == HULL_NO_FILE ? r.high : 0);
+            fail(r.code, r.code == HULL_NO_FILE ? r.high : 0);
         }
         return r.number;
     }
 
+    std::mutex lock_; // one call at a time on the shared hull; calls of seats don't take it
     hull_shared *at_;
-    hull_shared_gate line_;
+    hull_shared_gate gate_;
     std::mutex before_journal_lock_; // taken first, so that a close waits for threads that asked before, and for no later ones
     std::shared_mutex journal_lock_; // taken by close; shared by threads that ask what is durable
     hull_shared_journal *journal_ = nullptr;
 };
 
-// A segment of a journal: lines that a drain took. They are kept until the part is destroyed.
-class JournalPart {
+} // namespace detail
+
+// A segment of a journal: lines that a drain took. They are kept until it is destroyed.
+class JournalSegment {
 public:
     // Returns the text of the lines, with the number of the first as its own first number.
     std::string text() const {
-        return told::text([at = alive()](std::uint8_t *out, std::size_t room) { return hull_shared_segment_text(at, out, room); });
+        return detail::text([at = alive()](std::uint8_t *out, std::size_t space) { return hull_shared_segment_text(at, out, space); });
     }
 
     // Writes that text to a stream, some thousand bytes at a time: no more than those and the longest line are in memory.
     void write_to(std::ostream &out) const {
-        told::pieces(out, [at = alive()](std::uint64_t line, std::uint8_t *piece, std::size_t room) {
-            return hull_shared_segment_text_from(at, line, piece, room);
+        detail::pieces(out, [at = alive()](std::uint64_t line, std::uint8_t *piece, std::size_t space) {
+            return hull_shared_segment_text_from(at, line, piece, space);
         });
     }
 
@@ -1057,14 +1070,14 @@ private:
             hull_shared_segment_free(at);
         }
     };
-    explicit JournalPart(std::uint32_t lines) : at_(hull_shared_segment_new()) {
+    explicit JournalSegment(std::uint32_t lines) : at_(hull_shared_segment_new()) {
         if (!at_ || hull_shared_segment_reserve(at_.get(), lines) != HULL_RESERVED) {
-            told::fault(HULL_NO_MEMORY);
+            detail::fail(HULL_NO_MEMORY);
         }
     }
     hull_shared_segment *alive() const {
         if (!at_) {
-            told::fault(HULL_ENDED);
+            detail::fail(HULL_ENDED);
         }
         return at_.get();
     }
@@ -1077,23 +1090,23 @@ public:
     Seat(Seat &&) noexcept = default;
     Seat &operator=(Seat &&other) noexcept {
         if (this != &other) {
-            give_back();
-            desk_ = std::move(other.desk_);
+            release();
+            shared_ = std::move(other.shared_);
             at_ = std::move(other.at_);
-            number_ = other.number_, turn_ = other.turn_, corners_ = other.corners_, patience_ = other.patience_;
+            number_ = other.number_, turn_ = other.turn_, space_ = other.space_, patience_ = other.patience_;
         }
         return *this;
     }
-    ~Seat() { give_back(); }
+    ~Seat() { release(); }
 
     // Releases the seat, as its destructor does; calls throw from then on.
-    void give_back() noexcept {
-        if (desk_ && at_) {
-            const std::lock_guard<std::mutex> lock(desk_->lock_);
-            hull_shared_release_seat(desk_->at_, at_.get());
+    void release() noexcept {
+        if (shared_ && at_) {
+            const std::lock_guard<std::mutex> lock(shared_->lock_);
+            hull_shared_release_seat(shared_->at_, at_.get());
         }
         at_.reset();
-        desk_.reset();
+        shared_.reset();
     }
 
     std::uint32_t number() const noexcept { return number_; }
@@ -1105,32 +1118,32 @@ public:
     // with no time. If they were not admitted by then, they fail with Refusal::busy, and no call was made.
     void wait_at_most(std::optional<std::chrono::nanoseconds> time) noexcept { patience_ = time; }
 
-    std::uint32_t add(Point p) { return told::times_added(call(HULL_KIND_ADD, p)); }
-    std::optional<std::uint32_t> remove(Point p) { return told::times_left(call(HULL_KIND_REMOVE, p)); }
-    Place place(Point p) { return told::place(call(HULL_KIND_PLACE, p)); }
-    std::optional<Tangents> tangents(Point p) { return told::tangents(call(HULL_KIND_TANGENTS, p)); }
-    std::optional<Point> extreme(Point direction) { return told::extreme(call(HULL_KIND_EXTREME, direction)); }
-    Area doubled_area() { return told::number(call(HULL_KIND_AREA, {0, 0})); }
-    std::size_t count() { return static_cast<std::size_t>(told::number(call(HULL_KIND_COUNT, {0, 0}))); }
+    std::uint32_t add(Point p) { return detail::multiplicity_after_add(call(HULL_KIND_ADD, p)); }
+    std::optional<std::uint32_t> remove(Point p) { return detail::multiplicity_after_remove(call(HULL_KIND_REMOVE, p)); }
+    Place place(Point p) { return detail::place(call(HULL_KIND_PLACE, p)); }
+    std::optional<Tangents> tangents(Point p) { return detail::tangents(call(HULL_KIND_TANGENTS, p)); }
+    std::optional<Point> extreme(Point direction) { return detail::extreme(call(HULL_KIND_EXTREME, direction)); }
+    Area doubled_area() { return detail::number(call(HULL_KIND_AREA, {0, 0})); }
+    std::size_t count() { return static_cast<std::size_t>(detail::number(call(HULL_KIND_COUNT, {0, 0}))); }
 
     // Asks how many points there are, and drains all lines of the journal: that of this call is the last. Space for them is allocated
     // before: with Refusal::no_memory no call is made.
-    JournalPart drain() {
+    JournalSegment drain() {
         if (!at_) {
-            told::fault(HULL_VACANT);
+            detail::fail(HULL_VACANT);
         }
-        JournalPart part(hull_shared_capacity(at_.get()));
-        told_of(hull_shared_call_into(&desk_->line_, at_.get(), HULL_KIND_COUNT, 0, 0, {nullptr, 0, part.at_.get()}, until()));
-        return part;
+        JournalSegment segment(hull_shared_capacity(at_.get()));
+        reply_of(hull_shared_call_into(&shared_->gate_, at_.get(), HULL_KIND_COUNT, 0, 0, {nullptr, 0, segment.at_.get()}, until()));
+        return segment;
     }
 
-    // Waits until the lines of all calls of the seat are durable in a journal file (SharedHull::keep), for as long as calls of the seat
-    // wait. Fails with Refusal::busy, no_file; not_open if there is no file.
-    void wait_safe() {
+    // Waits until the lines of all calls of the seat are durable in a journal file (SharedHull::open_journal), for as long as calls of
+    // the seat wait. Fails with Refusal::busy, no_file; not_open if there is no file.
+    void wait_durable() {
         if (!at_) {
-            told::fault(HULL_VACANT);
+            detail::fail(HULL_VACANT);
         }
-        desk_->safe([this](hull_shared_journal *at) {
+        shared_->durable([this](hull_shared_journal *at) {
             return turn_ ? hull_shared_journal_wait(at, *turn_, until()) : hull_shared_journal_durable(at);
         });
     }
@@ -1138,9 +1151,9 @@ public:
     // Returns the vertices. It asks with space for as many as there were before, and again if there are more: each question has its line
     // in the journal.
     std::vector<Point> vertices() {
-        std::vector<Point> all = told::corners(corners_, [this](Point *out, std::size_t room) {
-            corners_ = room;
-            return call(HULL_KIND_VERTICES, {0, 0}, out, room);
+        std::vector<Point> all = detail::vertices(space_, [this](Point *out, std::size_t space) {
+            space_ = space;
+            return call(HULL_KIND_VERTICES, {0, 0}, out, space);
         });
         return all;
     }
@@ -1151,25 +1164,25 @@ private:
         void operator()(hull_shared_seat *at) const noexcept { hull_shared_seat_free(at); }
     };
 
-    Seat(std::shared_ptr<Desk> desk, std::uint32_t number) : desk_(std::move(desk)), number_(number) {
+    Seat(std::shared_ptr<detail::SharedResources> shared, std::uint32_t number) : shared_(std::move(shared)), number_(number) {
         std::unique_ptr<hull_shared_seat, Free> at(hull_shared_seat_new());
         if (!at) {
-            told::fault(HULL_NO_MEMORY);
+            detail::fail(HULL_NO_MEMORY);
         }
-        const std::lock_guard<std::mutex> lock(desk_->lock_);
-        const std::uint32_t code = hull_shared_acquire_seat(desk_->at_, &desk_->line_, at.get(), number);
+        const std::lock_guard<std::mutex> lock(shared_->lock_);
+        const std::uint32_t code = hull_shared_acquire_seat(shared_->at_, &shared_->gate_, at.get(), number);
         if (code != HULL_ACQUIRED) {
-            told::fault(code);
+            detail::fail(code);
         }
         at_ = std::move(at);
     }
 
-    hull_reply call(std::uint32_t kind, Point p, Point *out = nullptr, std::size_t room = 0) {
+    hull_reply call(std::uint32_t kind, Point p, Point *out = nullptr, std::size_t space = 0) {
         if (!at_) {
-            told::fault(HULL_VACANT);
+            detail::fail(HULL_VACANT);
         }
-        const hull_shared_target to = {out, room, nullptr};
-        return told_of(hull_shared_call_into(&desk_->line_, at_.get(), kind, p.x, p.y, to, until()));
+        const hull_shared_target to = {out, space, nullptr};
+        return reply_of(hull_shared_call_into(&shared_->gate_, at_.get(), kind, p.x, p.y, to, until()));
     }
 
     // Until when a call that begins now waits.
@@ -1181,12 +1194,12 @@ private:
         return patience_->count() <= 0 ? 0 : time < HULL_SHARED_NEVER - now ? now + time : HULL_SHARED_NEVER;
     }
 
-    hull_reply told_of(const hull_shared_reply &r) {
+    hull_reply reply_of(const hull_shared_reply &r) {
         switch (r.told.code) {
         case HULL_FULL:
         case HULL_BUSY:
         case HULL_OUT_OF_RANGE:
-        case HULL_ZERO_DIRECTION: told::fault(r.told.code);
+        case HULL_ZERO_DIRECTION: detail::fail(r.told.code);
         default:
             if (r.has_line != 0) {
                 turn_ = r.line;
@@ -1195,50 +1208,50 @@ private:
         }
     }
 
-    std::shared_ptr<Desk> desk_;
+    std::shared_ptr<detail::SharedResources> shared_;
     std::unique_ptr<hull_shared_seat, Free> at_;
     std::uint32_t number_;
     std::optional<std::uint64_t> turn_;
-    std::size_t corners_ = 64;
+    std::size_t space_ = 64; // for so many vertices
     std::optional<std::chrono::nanoseconds> patience_;
 };
 
-// A reader of a shared hull (SharedHull::lend_reader), which has a snapshot: the vertices as of one line of the journal. It takes no
-// lock, no turn and no line, and waits for no call. One thread at a time uses it; it may go to another one, and is released when it is
-// destroyed.
+// A reader of a shared hull (SharedHull::acquire_reader), which has a snapshot: the vertices as of one line of the journal. It takes no
+// lock, no turn and no line, and waits for no call. One thread at a time uses it; it may go to another one, and is released when it
+// is destroyed.
 class Reader {
 public:
     Reader(Reader &&) noexcept = default;
     Reader &operator=(Reader &&other) noexcept {
         if (this != &other) {
-            give_back();
-            desk_ = std::move(other.desk_), at_ = std::move(other.at_), corners_ = std::move(other.corners_);
+            release();
+            shared_ = std::move(other.shared_), at_ = std::move(other.at_), vertices_ = std::move(other.vertices_);
             count_ = other.count_, lines_ = other.lines_, is_copied_ = other.is_copied_, line_ = other.line_;
         }
         return *this;
     }
-    ~Reader() { give_back(); }
+    ~Reader() { release(); }
 
     // Releases the reader, as its destructor does; calls throw from then on.
-    void give_back() noexcept {
-        if (desk_ && at_) {
-            const std::lock_guard<std::mutex> lock(desk_->lock_);
-            hull_shared_release_reader(desk_->at_, at_.get());
+    void release() noexcept {
+        if (shared_ && at_) {
+            const std::lock_guard<std::mutex> lock(shared_->lock_);
+            hull_shared_release_reader(shared_->at_, at_.get());
         }
         at_.reset();
-        desk_.reset();
+        shared_.reset();
     }
 
     // Takes the newest snapshot, if this is not it: it shows what each call did that had returned before. Vertices of the snapshot
-    // before are no longer valid. If others were in the way a thousand times, the snapshot is the one from before, and this is false.
+    // before are no longer valid. If others were in the way a thousand times, the snapshot is the one before, and this is false.
     bool read() {
         const hull_shared_view v = hull_shared_read(alive());
         if (!is_copied_ || v.lines != lines_) {
             is_copied_ = false;
-            if (corners_.size() < v.count) {
-                told::resize(corners_, v.count);
+            if (vertices_.size() < v.count) {
+                detail::resize(vertices_, v.count);
             }
-            hull_shared_snapshot_vertices(at_.get(), corners_.data(), corners_.size());
+            hull_shared_snapshot_vertices(at_.get(), vertices_.data(), vertices_.size());
             count_ = v.count, lines_ = v.lines, is_copied_ = true;
             line_ = v.has_line != 0 ? std::optional<std::uint64_t>(v.line) : std::nullopt;
         }
@@ -1249,15 +1262,15 @@ public:
     bool is_newest() const { return is_copied_ && hull_shared_is_newest(alive()) == 1; }
 
     // Returns the snapshot, and the number of its line; none if it is that of a hull with no line.
-    OutlineView view() const noexcept { return OutlineView(corners_.data(), count_); }
+    PolygonView snapshot() const noexcept { return PolygonView(vertices_.data(), count_); }
     std::optional<std::uint64_t> line() const noexcept { return line_; }
 
     // Returns the newest snapshot: this one, or another that is taken.
-    OutlineView newest() {
+    PolygonView newest() {
         if (!is_newest()) {
             read();
         }
-        return view();
+        return snapshot();
     }
 
 private:
@@ -1266,16 +1279,16 @@ private:
         void operator()(hull_shared_reader *at) const noexcept { hull_shared_reader_free(at); }
     };
 
-    explicit Reader(std::shared_ptr<Desk> desk) : desk_(std::move(desk)) {
+    explicit Reader(std::shared_ptr<detail::SharedResources> shared) : shared_(std::move(shared)) {
         std::unique_ptr<hull_shared_reader, Free> at(hull_shared_reader_new());
         if (!at) {
-            told::fault(HULL_NO_MEMORY);
+            detail::fail(HULL_NO_MEMORY);
         }
         {
-            const std::lock_guard<std::mutex> lock(desk_->lock_);
-            const std::uint32_t code = hull_shared_acquire_reader(desk_->at_, at.get());
+            const std::lock_guard<std::mutex> lock(shared_->lock_);
+            const std::uint32_t code = hull_shared_acquire_reader(shared_->at_, at.get());
             if (code != HULL_ACQUIRED) {
-                told::fault(code);
+                detail::fail(code);
             }
         }
         at_ = std::move(at);
@@ -1284,14 +1297,14 @@ private:
 
     hull_shared_reader *alive() const {
         if (!at_) {
-            told::fault(HULL_VACANT);
+            detail::fail(HULL_VACANT);
         }
         return at_.get();
     }
 
-    std::shared_ptr<Desk> desk_;
+    std::shared_ptr<detail::SharedResources> shared_;
     std::unique_ptr<hull_shared_reader, Free> at_;
-    std::vector<Point> corners_; // those of the snapshot at its front
+    std::vector<Point> vertices_; // those of the snapshot at its front
     std::size_t count_ = 0;
     std::uint64_t lines_ = 0;
     bool is_copied_ = false; // they are those of the current snapshot
@@ -1303,44 +1316,45 @@ private:
 // and used by several threads at once.
 class SharedHull {
 public:
-    explicit SharedHull(Limits limits) : SharedHull(new_desk(limits.readers)) {
-        opened(hull_shared_open(desk_->at_, limits.points, limits.first, limits.capacity, limits.seats));
+    explicit SharedHull(Limits limits) : SharedHull(new_resources(limits.readers)) {
+        check_open(hull_shared_open(shared_->at_, limits.points, limits.first, limits.capacity, limits.seats));
     }
     SharedHull(SharedHull &&) noexcept = default;
     SharedHull &operator=(SharedHull &&) noexcept = default;
 
     // The same, but each line is discarded after its reply is returned: the text of the journal has none. limits.capacity is not read.
     static SharedHull open_without_journal(Limits limits) {
-        SharedHull hull(new_desk(limits.readers));
-        opened(hull_shared_open_without_journal(hull.desk_->at_, limits.points, limits.first, limits.seats));
+        SharedHull hull(new_resources(limits.readers));
+        check_open(hull_shared_open_without_journal(hull.shared_->at_, limits.points, limits.first, limits.seats));
         return hull;
     }
 
     // The same, but questions are answered also when the journal is full, with no line.
     static SharedHull open_answering(Limits limits) {
-        SharedHull hull(new_desk(limits.readers));
-        opened(hull_shared_open_answering(hull.desk_->at_, limits.points, limits.first, limits.capacity, limits.seats));
+        SharedHull hull(new_resources(limits.readers));
+        check_open(hull_shared_open_answering(hull.shared_->at_, limits.points, limits.first, limits.capacity, limits.seats));
         return hull;
     }
 
-    // Opens a hull whose journal is kept in a file, which is made, or read: then the hull has the points that it left, and its limit.
-    // Its thread writes the lines to the file when a thread waits for one (sync, Seat::wait_safe), each `every` unless that is 0, and
+    // Opens a hull with a journal file, which is made, or read: then the hull has the points that it left, and its limit. A thread of
+    // the library writes the lines to the file when a thread waits for one (sync, Seat::wait_durable), each `every` unless that is 0, and
     // when half of limits.capacity are used; calls wait for space. limits.first is not read, and limits.seats is at most
     // HULL_SHARED_SEATS_MAX - 1. Fails with Refusal::no_file, damaged, illegal, and those of opening. Do not drain a seat of such a
     // hull.
-    static SharedHull keep(const std::string &path, Limits limits, std::chrono::nanoseconds every = std::chrono::nanoseconds(0)) {
-        SharedHull hull(new_desk(limits.readers));
-        Desk &desk = *hull.desk_;
+    static SharedHull open_journal(const std::string &path, Limits limits,
+                                   std::chrono::nanoseconds every = std::chrono::nanoseconds(0)) {
+        SharedHull hull(new_resources(limits.readers));
+        detail::SharedResources &shared = *hull.shared_;
         hull_shared_journal *journal = nullptr;
         hull_reply r = hull_shared_journal_open(path.c_str(), &journal);
-        opened(r.code, r.number);
-        r = hull_shared_journal_start(journal, desk.at_, &desk.line_, limits.points, limits.capacity, limits.seats,
+        check_open(r.code, r.number);
+        r = hull_shared_journal_start(journal, shared.at_, &shared.gate_, limits.points, limits.capacity, limits.seats,
                                       static_cast<std::uint64_t>(every.count()));
         if (r.code != HULL_OPEN) {
             hull_shared_journal_close(journal);
         }
-        opened(r.code, r.number);
-        desk.journal_ = journal;
+        check_open(r.code, r.number);
+        shared.journal_ = journal;
         return hull;
     }
 
@@ -1350,117 +1364,117 @@ public:
     static std::uint64_t compact(const std::string &path) {
         const hull_reply r = hull_shared_journal_compact(path.c_str());
         if (r.code != HULL_DURABLE) {
-            told::fault(r.code, r.number);
+            detail::fail(r.code, r.number);
         }
         return r.number;
     }
 
     // Returns the number of the first line that is not durable. Fails with Refusal::no_file if a write failed: no later line will be
     // durable; not_open if the hull has no file, or is closed.
-    std::uint64_t safe() const { return desk()->safe(hull_shared_journal_durable); }
+    std::uint64_t durable() const { return shared()->durable(hull_shared_journal_durable); }
 
     // Waits until the lines of all calls that have returned are durable; returns the number of the first line that is not.
     std::uint64_t sync() const {
-        return desk()->safe([](hull_shared_journal *at) { return hull_shared_journal_sync(at, HULL_SHARED_NEVER); });
+        return shared()->durable([](hull_shared_journal *at) { return hull_shared_journal_sync(at, HULL_SHARED_NEVER); });
     }
 
     // Decides whether a call that finds the journal full waits until a drain has made space. Call it before a seat is acquired.
-    void wait_for_room(bool waits) { hull_shared_gate_wait_for_space(&desk()->line_, waits ? 1 : 0); }
+    void wait_for_space(bool waits) { hull_shared_gate_wait_for_space(&shared()->gate_, waits ? 1 : 0); }
 
     // Has the hull drain itself, as hull_shared_gate_on_half_full; the hook throws nothing. Call it before a seat is acquired.
     void on_half_full(hull_shared_hook *hook, void *context) {
-        if (desk()->journal_ != nullptr) {
-            told::fault(HULL_SEATS_OUT); // that of its file
+        if (shared()->journal_ != nullptr) {
+            detail::fail(HULL_SEATS_OUT); // that of its file
         }
-        if (hull_shared_gate_on_half_full(&desk()->line_, hook, context) == 0) {
-            told::fault(HULL_NO_MEMORY);
+        if (hull_shared_gate_on_half_full(&shared()->gate_, hook, context) == 0) {
+            detail::fail(HULL_NO_MEMORY);
         }
     }
 
     // Returns the state of the hull's calls, as hull_shared_stats. It waits for nothing.
-    hull_shared_state stats() const { return hull_shared_stats(&desk()->line_); }
+    hull_shared_state stats() const { return hull_shared_stats(&shared()->gate_); }
 
     // Opens a hull that continues a journal, with the points that it left: `text` is the whole journal, whose lines count as drained.
     // Fails with Refusal::no_journal, old_rules, too_few_seats, illegal, and those of opening.
     static SharedHull reopen(const std::string &text, std::uint32_t capacity, std::uint32_t seats, std::uint32_t readers = 0) {
-        SharedHull hull(new_desk(readers));
-        const hull_reply r = hull_shared_reopen(hull.desk_->at_, reinterpret_cast<const std::uint8_t *>(text.data()),
+        SharedHull hull(new_resources(readers));
+        const hull_reply r = hull_shared_reopen(hull.shared_->at_, reinterpret_cast<const std::uint8_t *>(text.data()),
                                                 text.size(), capacity, seats);
-        opened(r.code, r.number);
+        check_open(r.code, r.number);
         return hull;
     }
 
     // Acquires the seat of a number, 0 and up.
-    Seat lend(std::uint32_t number) { return Seat(desk(), number); }
+    Seat acquire_seat(std::uint32_t number) { return Seat(shared(), number); }
 
     // Acquires a reader, of those that the hull was opened for (Limits::readers). Fails with Refusal::no_seat if as many are acquired.
-    Reader lend_reader() { return Reader(desk()); }
+    Reader acquire_reader() { return Reader(shared()); }
 
     // Closes the hull, unless it is closed; returns the text of its journal, which `hullbook check` judges, and which is the last
     // segment of its file, if it has one (Refusal::no_file if it could not be written). Fails with Refusal::seats_out if a seat or a
-    // reader is acquired: the hull stays open, and keeps its file. Threads that wait for the file (sync, Seat::wait_safe) return first.
+    // reader is acquired: the hull stays open, and keeps its file. Threads that wait for the file (sync, Seat::wait_durable) return first.
     // After Refusal::no_memory, which says that there is none for the text, you may call it again.
     std::string close() {
-        const std::lock_guard<std::mutex> lock(desk()->lock_);
+        const std::lock_guard<std::mutex> lock(shared()->lock_);
         end();
-        return told::text([this](std::uint8_t *out, std::size_t room) { return hull_shared_text(desk_->at_, out, room); });
+        return detail::text([this](std::uint8_t *out, std::size_t space) { return hull_shared_text(shared_->at_, out, space); });
     }
 
     // The same, and writes that text to a stream, some thousand bytes at a time.
     void close_to(std::ostream &out) {
-        const std::lock_guard<std::mutex> lock(desk()->lock_);
+        const std::lock_guard<std::mutex> lock(shared()->lock_);
         end();
-        told::pieces(out, [this](std::uint64_t line, std::uint8_t *piece, std::size_t room) {
-            return hull_shared_text_from(desk_->at_, line, piece, room);
+        detail::pieces(out, [this](std::uint64_t line, std::uint8_t *piece, std::size_t space) {
+            return hull_shared_text_from(shared_->at_, line, piece, space);
         });
     }
 
 private:
     // Closes the shared hull, whose lock is taken, and its file, unless they are closed.
     void end() {
-        const std::lock_guard<std::mutex> first(desk_->before_journal_lock_);
-        const std::lock_guard<std::shared_mutex> kept(desk_->journal_lock_);
-        if (desk_->journal_ != nullptr) {
-            const hull_reply r = hull_shared_journal_close(desk_->journal_);
+        const std::lock_guard<std::mutex> first(shared_->before_journal_lock_);
+        const std::lock_guard<std::shared_mutex> journal_lock(shared_->journal_lock_);
+        if (shared_->journal_ != nullptr) {
+            const hull_reply r = hull_shared_journal_close(shared_->journal_);
             if (r.code != HULL_SEATS_OUT && r.code != HULL_IN_USE) {
-                desk_->journal_ = nullptr;
+                shared_->journal_ = nullptr;
             }
             if (r.code != HULL_CLOSED) {
-                told::fault(r.code, r.high);
+                detail::fail(r.code, r.high);
             }
         }
-        const std::uint32_t code = hull_shared_close(desk_->at_);
+        const std::uint32_t code = hull_shared_close(shared_->at_);
         if (code != HULL_CLOSED && code != HULL_NOT_OPEN) {
-            told::fault(code);
+            detail::fail(code);
         }
     }
 
-    explicit SharedHull(std::shared_ptr<Desk> desk) : desk_(std::move(desk)) {}
+    explicit SharedHull(std::shared_ptr<detail::SharedResources> shared) : shared_(std::move(shared)) {}
 
-    // A shared hull that is not open, for so many readers.
-    static std::shared_ptr<Desk> new_desk(std::uint32_t readers) {
-        std::shared_ptr<Desk> desk = told::with_memory([] { return std::make_shared<Desk>(); });
+    // Returns a shared hull that is not open, for so many readers.
+    static std::shared_ptr<detail::SharedResources> new_resources(std::uint32_t readers) {
+        auto shared = detail::with_memory([] { return std::make_shared<detail::SharedResources>(); });
         if (readers != 0) {
-            const std::uint32_t code = hull_shared_set_max_readers(desk->at_, readers);
+            const std::uint32_t code = hull_shared_set_max_readers(shared->at_, readers);
             if (code != HULL_READERS_SET) {
-                told::fault(code);
+                detail::fail(code);
             }
         }
-        return desk;
+        return shared;
     }
-    static void opened(std::uint32_t code, std::uint64_t number = 0) {
+    static void check_open(std::uint32_t code, std::uint64_t number = 0) {
         if (code != HULL_OPEN) {
-            told::fault(code, number);
+            detail::fail(code, number);
         }
     }
-    const std::shared_ptr<Desk> &desk() const {
-        if (!desk_) {
-            told::fault(HULL_ENDED);
+    const std::shared_ptr<detail::SharedResources> &shared() const {
+        if (!shared_) {
+            detail::fail(HULL_ENDED);
         }
-        return desk_;
+        return shared_;
     }
 
-    std::shared_ptr<Desk> desk_;
+    std::shared_ptr<detail::SharedResources> shared_;
 };
 
 // The lattice of steps of 2^-power: a double v becomes the coordinate v * 2^power.
@@ -1473,7 +1487,7 @@ struct Lattice {
         Point p{0, 0};
         const hull_rounding at_x = hull_from_double(x, power, &p.x), at_y = hull_from_double(y, power, &p.y);
         if (at_x == HULL_NO_COORDINATE || at_y == HULL_NO_COORDINATE) {
-            told::fault(HULL_OUT_OF_RANGE);
+            detail::fail(HULL_OUT_OF_RANGE);
         }
         if (rounded != nullptr && (at_x == HULL_ROUNDED || at_y == HULL_ROUNDED)) {
             *rounded = true;
@@ -1491,21 +1505,21 @@ struct Lattice {
 // is not the same direction, and else unchanged. Fails with Refusal::out_of_range if one is not finite.
 inline Point direction_of(double dx, double dy, bool *rounded = nullptr) {
     Point d{0, 0};
-    const hull_rounding told = hull_direction_from_doubles(dx, dy, &d.x, &d.y);
-    if (told == HULL_NO_COORDINATE) {
-        told::fault(HULL_OUT_OF_RANGE);
+    const hull_rounding rounding = hull_direction_from_doubles(dx, dy, &d.x, &d.y);
+    if (rounding == HULL_NO_COORDINATE) {
+        detail::fail(HULL_OUT_OF_RANGE);
     }
-    if (rounded != nullptr && told == HULL_ROUNDED) {
+    if (rounded != nullptr && rounding == HULL_ROUNDED) {
         *rounded = true;
     }
     return d;
 }
 
 // Returns vertices as well-known text, their coordinates divided by 2^power: as hull_wkt.
-inline std::string wkt(const std::vector<Point> &corners, int power = 0) {
+inline std::string wkt(const std::vector<Point> &vertices, int power = 0) {
     std::string text;
-    told::resize(text, hull_wkt(corners.data(), corners.size(), power, nullptr, 0));
-    hull_wkt(corners.data(), corners.size(), power, &text[0], text.size() + 1);
+    detail::resize(text, hull_wkt(vertices.data(), vertices.size(), power, nullptr, 0));
+    hull_wkt(vertices.data(), vertices.size(), power, &text[0], text.size() + 1);
     return text;
 }
 

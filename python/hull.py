@@ -13,7 +13,7 @@ each other; a signal handler and a `__del__` may make calls on any hull.
 
     from hull import SharedHull
     with SharedHull(capacity=1000, seats=2) as shared:
-        with shared.lend(0) as seat:               # one for each thread
+        with shared.acquire_seat(0) as seat:       # one for each thread
             seat.add(3, 4)
         text = shared.close()                      # the journal of all calls, which `hullbook check` judges
 
@@ -54,12 +54,12 @@ if sys.version_info < (3, 8):
 __version__ = "2.4.0"
 __all__ = [
     "CAPACITY_LIMIT", "COORDINATE_LIMIT", "MULTIPLICITY_LIMIT", "POINT_LIMIT", "READER_LIMIT", "SEAT_LIMIT", "Busy", "Ended",
-    "FloatHull", "Hull", "JournalFault", "JournalFull", "JournalPart", "Lattice", "Motion", "NoSeat", "OutOfRange", "Outline", "Place",
-    "Reader", "Relation", "Seat", "SeatsOut", "SharedHull", "Shows", "Stats", "TooMany", "View", "Witness", "ZeroDirection",
-    "direction_of", "from_floats", "merge", "pairs_within", "to_floats", "wkt",
+    "FloatHull", "Hull", "JournalFault", "JournalFull", "JournalSegment", "Lattice", "Motion", "NoSeat", "OutOfRange", "Place", "Polygon",
+    "Reader", "Relation", "Seat", "SeatsOut", "SharedHull", "Shows", "Snapshot", "Stats", "TooMany", "Witness", "ZeroDirection",
+    "direction_of", "from_floats", "merge", "pairs_within_distance", "to_floats", "wkt",
 ]
 
-#: A point, and one that is held with how often it is.
+#: A point, and a point with its multiplicity.
 Pair = Tuple[int, int]
 Item = Tuple[Pair, int]
 #: Points that a caller hands over.
@@ -77,11 +77,11 @@ class _Array(Protocol):
 
 #: The greatest size of a coordinate, of a point and of a direction: 2^40.
 COORDINATE_LIMIT = 1 << 40
-#: The greatest limit of a hull: how many different points one may hold.
+#: The greatest limit of a hull: how many different points it may have.
 POINT_LIMIT = 1 << 20
-#: How often a point may be held.
+#: The greatest multiplicity of a point.
 MULTIPLICITY_LIMIT = 65535
-#: The greatest capacity of a shared hull: how many calls its journal may have room for.
+#: The greatest capacity of a shared hull: how many lines its journal may have.
 CAPACITY_LIMIT = (1 << 24) - 1
 #: The greatest number of seats of a shared hull.
 SEAT_LIMIT = 64
@@ -148,15 +148,15 @@ class _Code(enum.IntEnum):
     TANGENTS = 15
     NO_TANGENT = 16
     NUMBER = 17
-    CORNERS = 18
+    VERTICES = 18
     TOO_SMALL = 19
     CLEARED = 20
     OUT_OF_ORDER = 21
     UNKNOWN_KIND = 22
-    MEETING = 23
-    APART = 24
+    INTERSECTING = 23
+    DISJOINT = 24
     COVERED = 25
-    CORNER = 26
+    VERTEX = 26
     EDGE = 27
     BOX = 28
     WITHIN = 29
@@ -165,14 +165,14 @@ class _Code(enum.IntEnum):
     OPEN = 32
     OUT_OF_LIMITS = 33
     WAS_OPENED = 34
-    LENT = 35
+    ACQUIRED = 35
     NO_SEAT = 36
-    ROOM_IN_USE = 37
+    STORAGE_IN_USE = 37
     NOT_OPEN = 38
-    RETURNED = 39
+    RELEASED = 39
     VACANT = 40
     WAITING = 41
-    PLACE_IN_USE = 42
+    SLOT_IN_USE = 42
     TAKEN = 43
     NOT_YET = 44
     NO_NUMBER = 45
@@ -184,21 +184,21 @@ class _Code(enum.IntEnum):
     ENDED = 51
     IN_USE = 52
     RESERVED = 53
-    PART_IN_USE = 54
-    NO_ROOM = 55
+    SEGMENT_IN_USE = 54
+    NO_SPACE = 55
     NO_LINES = 56
     NO_JOURNAL = 57
     OLD_RULES = 58
     ILLEGAL = 59
     TOO_FEW_SEATS = 60
-    NO_OUTLINE = 61
+    NO_POLYGON = 61
     BUSY = 62
-    OTHER_LINE = 63
+    OTHER_GATE = 63
     NO_FILE = 64
     DAMAGED = 65
-    SAFE = 66
-    ADMITTED = 67
-    VIEWED = 68
+    DURABLE = 66
+    READERS_SET = 67
+    SNAPSHOT_TAKEN = 68
     OLD = 69
     # end of what tools/table.py writes
 
@@ -208,7 +208,7 @@ class Place(enum.IntEnum):
 
     #: The hull covers the point, which is not on its boundary.
     INSIDE = _Code.INSIDE
-    #: The point is on the boundary: a corner, on an edge, or on a hull of one point or one line.
+    #: The point is on the boundary: a vertex, on an edge, or on a hull of one point or one line.
     ON = _Code.ON
     #: The hull does not cover the point.
     OUTSIDE = _Code.OUTSIDE
@@ -243,10 +243,10 @@ class _Reply(ctypes.Structure):
 
 
 class _Held(ctypes.Structure):
-    _fields_ = [("x", ctypes.c_int64), ("y", ctypes.c_int64), ("times", ctypes.c_uint32)]
+    _fields_ = [("x", ctypes.c_int64), ("y", ctypes.c_int64), ("multiplicity", ctypes.c_uint32)]
     x: int
     y: int
-    times: int
+    multiplicity: int
 
 
 class _Witness(ctypes.Structure):
@@ -260,7 +260,7 @@ class _Witness(ctypes.Structure):
         return x, y
 
 
-class _Clearance(ctypes.Structure):
+class _DistanceBounds(ctypes.Structure):
     _fields_ = [("code", ctypes.c_uint32), ("shift", ctypes.c_uint32), ("lower", ctypes.c_uint64), ("upper", ctypes.c_uint64),
                 ("numerator", ctypes.c_uint64 * 3), ("denominator", ctypes.c_uint64 * 2)]
     code: int
@@ -285,9 +285,9 @@ class _Hit(ctypes.Structure):
 
 
 class _Motion(ctypes.Structure):
-    _fields_ = [("hit", _Hit), ("corner", ctypes.c_int64 * 2), ("moves", ctypes.c_uint32)]
+    _fields_ = [("hit", _Hit), ("vertex", ctypes.c_int64 * 2), ("moves", ctypes.c_uint32)]
     hit: _Hit
-    corner: Any
+    vertex: Any
     moves: int
 
 
@@ -313,21 +313,21 @@ def _out_of_range() -> Exception:
     return _FAULTS[_Code.OUT_OF_RANGE]()
 
 
-def _told(code: int) -> None:
+def _check_code(code: int) -> None:
     """Raises the exception of a code, if it has one."""
     fault = _FAULTS.get(code)
     if fault is not None:
         raise fault()
 
 
-def _refused(code: int) -> NoReturn:
+def _raise_code(code: int) -> NoReturn:
     """Raises the exception of a code that is no reply of a call."""
-    _told(code)
+    _check_code(code)
     raise RuntimeError(f"the library answered {code}")
 
 
 def _load(file: str, variable: str, functions: Sequence[Tuple[str, List[Any], Any]]) -> ctypes.CDLL:
-    """The shared object, with the types of its functions: NAME, ARGUMENTS and RESULT of each."""
+    """Loads the shared object, and gives its functions their types: NAME, ARGUMENTS and RESULT of each."""
     beside = os.path.join(os.path.dirname(os.path.abspath(__file__)), file)
     library = ctypes.CDLL(os.environ.get(variable, beside))
     for name, arguments, result in functions:
@@ -342,31 +342,31 @@ def _library() -> ctypes.CDLL:
         ("python_new", [number], at), ("python_free", [at], None), ("python_call", [at, number, whole, whole], _Reply),
         ("python_calls", [at, at, at, size], size), ("python_vertices", [at, at, size], _Reply),
         ("python_load", [at, at, size], _Reply), ("python_load_held", [at, at, size], _Reply),
-        ("python_held_from", [at, whole, whole, at, size], _Reply), ("python_nearest_held", [at, whole, whole], _Reply), ("python_copy", [at, at], _Reply),
-        ("python_limit", [at], _Reply), ("python_clear", [at], _Reply),
-        ("is_outline", [at, size], _Reply), ("outline_of", [at, size, at, size], _Reply),
-        ("outline_call", [at, size, number, whole, whole], _Reply),
-        ("outline_meets_segment", [at, size, whole, whole, whole, whole], _Reply),
-        ("outline_apart", [at, size, whole, whole, whole, whole], _Reply),
-        ("outline_nearest", [at, size, whole, whole], _Reply), ("outline_box", [at, size], _Reply),
-        ("outline_width", [at, size, whole, whole], _Reply), ("outline_diameter", [at, size], _Reply),
-        ("outline_meets", [at, size, at, size], _Reply), ("outline_contains", [at, size, at, size], _Reply),
-        ("outline_relation", [at, size, at, size], _Reply), ("outline_contains_inside", [at, size, at, size], _Reply),
-        ("outline_within", [at, size, at, size, long, number], _Reply),
-        ("outline_within_segment", [at, size, whole, whole, whole, whole, long, number], _Reply),
-        ("outline_relation_to_segment", [at, size, whole, whole, whole, whole], _Reply),
-        ("outline_clearance", [at, size, at, size], _Clearance),
-        ("outline_clearance_to_segment", [at, size, whole, whole, whole, whole], _Clearance),
-        ("outline_cast_ray", [at, size, whole, whole, whole, whole], _Hit),
-        ("outline_last_on_ray", [at, size, whole, whole, whole, whole], _Hit),
-        ("outline_cast_segment", [at, size, whole, whole, whole, whole], _Hit),
-        ("outline_least_width", [at, size], _Witness), ("outline_witness", [at, size, at, size], _Witness),
-        ("outline_distance", [at, size, at, size], _Witness),
-        ("outline_calls", [at, size, at, size, at, size], size),
-        ("outline_first_meeting", [at, size, at, size, whole, whole], _Motion), ("outline_moved", [at, size, whole, whole, at], _Reply),
-        ("outline_turned", [at, size, whole, whole, at], _Reply),
-        ("pairs_within", [at, size, long, number, at, size], _Reply), ("outline_relations", [at, size, at, size, at], None),
-        ("outline_meets_segments", [at, size, at, size, at], size), ("outline_indices", [at, size, at, size, at], size),
+        ("python_held_from", [at, whole, whole, at, size], _Reply), ("python_nearest_held", [at, whole, whole], _Reply),
+        ("python_copy", [at, at], _Reply), ("python_limit", [at], _Reply), ("python_clear", [at], _Reply),
+        ("is_polygon", [at, size], _Reply), ("polygon_of", [at, size, at, size], _Reply),
+        ("polygon_call", [at, size, number, whole, whole], _Reply),
+        ("polygon_intersects_segment", [at, size, whole, whole, whole, whole], _Reply),
+        ("polygon_separation", [at, size, whole, whole, whole, whole], _Reply),
+        ("polygon_nearest", [at, size, whole, whole], _Reply), ("polygon_box", [at, size], _Reply),
+        ("polygon_width", [at, size, whole, whole], _Reply), ("polygon_diameter", [at, size], _Reply),
+        ("polygon_intersects", [at, size, at, size], _Reply), ("polygon_contains", [at, size, at, size], _Reply),
+        ("polygon_relation", [at, size, at, size], _Reply), ("polygon_contains_inside", [at, size, at, size], _Reply),
+        ("polygon_within_distance", [at, size, at, size, long, number], _Reply),
+        ("polygon_within_distance_of_segment", [at, size, whole, whole, whole, whole, long, number], _Reply),
+        ("polygon_relation_to_segment", [at, size, whole, whole, whole, whole], _Reply),
+        ("polygon_distance_bounds", [at, size, at, size], _DistanceBounds),
+        ("polygon_distance_bounds_to_segment", [at, size, whole, whole, whole, whole], _DistanceBounds),
+        ("polygon_raycast", [at, size, whole, whole, whole, whole], _Hit),
+        ("polygon_raycast_exit", [at, size, whole, whole, whole, whole], _Hit),
+        ("polygon_raycast_segment", [at, size, whole, whole, whole, whole], _Hit),
+        ("polygon_least_width", [at, size], _Witness), ("polygon_witness", [at, size, at, size], _Witness),
+        ("polygon_distance", [at, size, at, size], _Witness),
+        ("polygon_calls", [at, size, at, size, at, size], size),
+        ("polygon_first_meeting", [at, size, at, size, whole, whole], _Motion), ("polygon_translate", [at, size, whole, whole, at], _Reply),
+        ("polygon_rotate", [at, size, whole, whole, at], _Reply),
+        ("pairs_within_distance", [at, size, long, number, at, size], _Reply), ("polygon_relations", [at, size, at, size, at], None),
+        ("polygon_intersects_segments", [at, size, at, size, at], size), ("polygon_indices", [at, size, at, size, at], size),
     ])
 
 
@@ -374,25 +374,26 @@ def _library() -> ctypes.CDLL:
 def _shared_library() -> ctypes.CDLL:
     at, whole, size, number, long = ctypes.c_void_p, ctypes.c_int64, ctypes.c_size_t, ctypes.c_uint32, ctypes.c_uint64
     return _load("libhull_shared.so", "HULL_SHARED_LIBRARY", [
-        ("python_desk_new", [], at), ("python_desk_free", [at], None),
+        ("python_shared_new", [], at), ("python_shared_free", [at], None),
         ("python_open", [at, number, long, number, number], number),
         ("python_open_without_journal", [at, number, long, number], number),
         ("python_open_answering", [at, number, long, number, number], number),
-        ("python_wait_for_room", [at, number], number), ("python_wait_at_most", [at, long], number), ("python_stats", [at, at], number),
+        ("python_wait_for_space", [at, number], number), ("python_wait_at_most", [at, long], number), ("python_stats", [at, at], number),
         ("python_reopen", [at, at, size, number, number], _Reply),
         ("python_compact", [ctypes.c_char_p], _Reply),
-        ("python_keep", [at, ctypes.c_char_p, number, number, number, long], _Reply), ("python_safe", [at, number], _Reply),
-        ("python_wait_safe", [at], _Reply), ("python_close", [at], _Reply), ("python_text", [at, at, size], _Reply), ("python_out", [at], long),
-        ("python_seat_new", [], at), ("python_seat_free", [at], None), ("python_lend", [at, at, number], number),
-        ("python_give_back", [at], None), ("python_ask", [at, number, whole, whole], _Reply),
+        ("python_open_journal", [at, ctypes.c_char_p, number, number, number, long], _Reply), ("python_durable", [at, number], _Reply),
+        ("python_wait_durable", [at], _Reply), ("python_close", [at], _Reply), ("python_text", [at, at, size], _Reply),
+        ("python_acquired_seats", [at], long), ("python_seat_new", [], at), ("python_seat_free", [at], None),
+        ("python_acquire_seat", [at, at, number], number),
+        ("python_release_seat", [at], None), ("python_ask", [at, number, whole, whole], _Reply),
         ("python_ask_vertices", [at, at, size], _Reply), ("python_drain", [at, at], _Reply),
         ("python_capacity", [at], number), ("python_turn", [at, at], number),
-        ("python_admit", [at, number], number), ("python_reader_new", [], at), ("python_reader_free", [at], None),
-        ("python_lend_reader", [at, at], number), ("python_return_reader", [at], None), ("python_is_newest", [at], number),
+        ("python_set_max_readers", [at, number], number), ("python_reader_new", [], at), ("python_reader_free", [at], None),
+        ("python_acquire_reader", [at, at], number), ("python_release_reader", [at], None), ("python_is_newest", [at], number),
         ("python_read", [at, at, size], _Reply),
-        ("python_part_new", [number], at), ("python_part_free", [at], None),
-        ("python_text_from", [at, long, at, size], _Reply), ("python_part_text", [at, at, size], _Reply),
-        ("python_part_text_from", [at, long, at, size], _Reply),
+        ("python_segment_new", [number], at), ("python_segment_free", [at], None),
+        ("python_text_from", [at, long, at, size], _Reply), ("python_segment_text", [at, at, size], _Reply),
+        ("python_segment_text_from", [at, long, at, size], _Reply),
     ])
 
 
@@ -400,7 +401,7 @@ _LIBRARY = _library()
 
 
 def _kind(free: Any) -> Any:
-    """A class of addresses, integers, at each of which something is that a function of the library frees.
+    """Returns a class of addresses, integers, at each of which something is that a function of the library frees.
 
     It is freed with the last object that refers to the address. The garbage collector does not know the address (`_at`), so that in a cycle
     it goes after every `__del__` of the cycle. No step of Python's is between the last reference and the function, so that no signal
@@ -415,16 +416,16 @@ _HullAt = _kind(_LIBRARY.hull_python_free)
 
 @functools.lru_cache(maxsize=None)
 def _shared_kinds() -> Tuple[Any, Any, Any, Any]:
-    """The classes of addresses of a desk, a seat, a part and a reader."""
+    """Returns the classes of addresses of a shared hull, a seat, a segment and a reader."""
     library = _shared_library()
-    return (_kind(library.hull_python_desk_free), _kind(library.hull_python_seat_free), _kind(library.hull_python_part_free),
+    return (_kind(library.hull_python_shared_free), _kind(library.hull_python_seat_free), _kind(library.hull_python_segment_free),
             _kind(library.hull_python_reader_free))
 
 
 def _at(kind: Any, place: Optional[int]) -> Any:
     """Returns the address of what was made there, if memory was not refused; it refers to nothing that the collector looks for."""
     if place is None:
-        _told(_Code.NO_MEMORY)
+        _check_code(_Code.NO_MEMORY)
     at = kind(place)
     ctypes.PYFUNCTYPE(None, ctypes.py_object)(("PyObject_GC_UnTrack", ctypes.pythonapi))(at)
     return at
@@ -534,13 +535,13 @@ def _like(points: object, numbers: Any) -> Any:
 class Motion(NamedTuple):
     """When a polygon that moves straight first intersects one that does not move."""
 
-    #: How much of its way it has gone; 0 where they meet before it moves.
+    #: How much of its way it has gone; 0 if they intersect before it moves.
     part: Fraction
-    #: Where the corner arrives, as `Outline.cast_ray` tells it; of none, where they meet before.
+    #: Where the vertex arrives, as `Polygon.raycast` returns it: one pair or two; none if they intersect before.
     at: Tuple[Pair, ...]
-    #: A corner that arrives first; None where they meet before.
-    corner: Optional[Pair]
-    #: Whether it is of the outline that moves; else of the one that stands, at the other as it lay before it moved.
+    #: A vertex that arrives first; None if they intersect before.
+    vertex: Optional[Pair]
+    #: Whether it is of the polygon that moves; else it is of the other one, at the moving one as it was before.
     moves: bool
 
 
@@ -549,7 +550,7 @@ class Relation(enum.IntEnum):
 
     # written by tools/table.py: relations
     #: They are disjoint.
-    APART = 0
+    DISJOINT = 0
     #: They intersect, and a line has them on its two sides: nothing inside the one is covered by the other.
     TOUCHING = 1
     #: They intersect, and no line has them on its two sides.
@@ -566,19 +567,19 @@ class Relation(enum.IntEnum):
 class Shows(enum.IntEnum):
     """Why two polygons intersect, or what separates them."""
 
-    #: No corner of the first has a greater product with the direction points[1] than its corner points[0]; those of the
+    #: No vertex of the first has a greater product with the direction points[1] than its vertex points[0]; those of the
     #: second have.
-    APART = _Code.APART
-    #: The first covers points[0], a corner of the second.
+    DISJOINT = _Code.DISJOINT
+    #: The first covers points[0], a vertex of the second.
     COVERED = _Code.COVERED
-    #: The second covers points[0], a corner of the first.
+    #: The second covers points[0], a vertex of the first.
     WITHIN = _Code.WITHIN
-    #: The segment of points[0:2], corners of the first, crosses that of points[2:4], corners of the second.
+    #: The segment of points[0:2], vertices of the first, crosses that of points[2:4], vertices of the second.
     CROSSING = _Code.CROSSING
 
 
 class Witness(NamedTuple):
-    """The result of `Outline.witness`: what is shown, and its points, as a tuple of pairs."""
+    """The result of `Polygon.witness`: what is shown, and its points, as a tuple of pairs."""
 
     shows: Shows
     points: Tuple[Pair, ...]
@@ -674,13 +675,13 @@ def _floats(point: Tuple[SupportsIndex, SupportsIndex], power: int) -> Floats:
     return math.ldexp(_whole(x), -power), math.ldexp(_whole(y), -power)
 
 
-def wkt(corners: Points, power: SupportsIndex = 0) -> str:
+def wkt(vertices: Points, power: SupportsIndex = 0) -> str:
     """Returns vertices as well-known text (OGC 06-103r4), which GEOS, PostGIS and QGIS read.
 
     POLYGON EMPTY, a POINT, a LINESTRING, or a POLYGON whose ring is closed and runs counterclockwise. Coordinates are integers (TypeError
     for floats), divided by 2**power, and are written with the fewest digits that give that float again.
     """
-    whole = [(_index(x), _index(y)) for x, y in corners]
+    whole = [(_index(x), _index(y)) for x, y in vertices]
     pairs = whole if operator.index(power) == 0 else to_floats(whole, power)
     texts = [f"{x!r} {y!r}" for x, y in pairs]
     if not texts:
@@ -690,12 +691,12 @@ def wkt(corners: Points, power: SupportsIndex = 0) -> str:
     return f"POLYGON (({', '.join(texts + texts[:1])}))"
 
 
-def _times_added(reply: _Reply) -> int:
+def _multiplicity_after_add(reply: _Reply) -> int:
     """Returns the multiplicity of a point that was added."""
     return 1 if reply.code == _Code.ADDED else reply.number
 
 
-def _times_left(reply: _Reply) -> Optional[int]:
+def _multiplicity_after_remove(reply: _Reply) -> Optional[int]:
     """Returns the multiplicity that is left of a point that was removed; None if it was not there."""
     return None if reply.code == _Code.ABSENT else reply.number
 
@@ -729,8 +730,8 @@ def _squared_distance(places: Sequence[Tuple[Pair, ...]]) -> Fraction:
     if len(ends) == 1:
         return Fraction((ends[0][0] - ax) ** 2 + (ends[0][1] - ay) ** 2)
     (bx, by), (cx, cy) = ends
-    side = (cx - bx) * (ay - by) - (cy - by) * (ax - bx)
-    return Fraction(side * side, (cx - bx) ** 2 + (cy - by) ** 2)
+    doubled_area = (cx - bx) * (ay - by) - (cy - by) * (ax - bx)
+    return Fraction(doubled_area * doubled_area, (cx - bx) ** 2 + (cy - by) ** 2)
 
 
 class _Questions:
@@ -746,8 +747,8 @@ class _Questions:
         """Makes so many calls, whose requests and replies are at these addresses."""
         raise NotImplementedError
 
-    def _corner_array(self) -> "array[int]":
-        """Returns the coordinates of the vertices, those of each as neighbours."""
+    def _flat_vertices(self) -> "array[int]":
+        """Returns the coordinates of the vertices, those of each vertex as neighbours."""
         raise NotImplementedError
 
     def place(self, x: SupportsIndex, y: SupportsIndex) -> Place:
@@ -776,12 +777,12 @@ class _Questions:
 
     def vertices(self) -> List[Pair]:
         """Returns the vertices as pairs, counterclockwise from the first by x and then y, each once and none inside an edge."""
-        return _pairs(self._corner_array())
+        return _pairs(self._flat_vertices())
 
     def vertex_array(self) -> Any:
         """Returns the vertices as an array of numpy of shape (n, 2)."""
         numpy: Any = importlib.import_module("numpy")  # so that the module needs none
-        return numpy.array(self._corner_array(), dtype=numpy.int64).reshape(-1, 2)
+        return numpy.array(self._flat_vertices(), dtype=numpy.int64).reshape(-1, 2)
 
     def wkt(self, power: SupportsIndex = 0) -> str:
         """Returns the hull as well-known text, its coordinates divided by 2**power: see the function `wkt`."""
@@ -822,13 +823,13 @@ class _Questions:
         """
         flat = _flat(directions)
         if (0, 0) in zip(flat[0::2], flat[1::2]):
-            _told(_Code.ZERO_DIRECTION)
+            _check_code(_Code.ZERO_DIRECTION)
         memory = self._replies(_Kind.EXTREME, flat)
         numpy = _of_numpy(directions)
         found = memory.cast("I")[0:1].tolist() != [_Code.EMPTY]
         if numpy is not None:
             if not found:
-                raise ValueError("the hull holds no point: none is the farthest")
+                raise ValueError("the hull has no point: none is the farthest")
             return numpy.frombuffer(memory, dtype=numpy.int64).reshape(-1, 7)[:, 1:3].copy()
         words = memory.cast("q")
         return list(zip(words[1::7].tolist(), words[2::7].tolist())) if found else [None] * (len(flat) // 2)
@@ -870,7 +871,7 @@ class Hull(_Questions):
         self.load(points)
 
     def __reduce__(self) -> Any:
-        """Copies and pickles hold the same points, each as often, with the same limit."""
+        """Copies and pickles have the same points, multiplicities and limit."""
         return _hull_of, (list(self.items()), self.limit())
 
     def __eq__(self, other: object) -> bool:
@@ -879,7 +880,7 @@ class Hull(_Questions):
         return len(self) == len(other) and list(self.items()) == list(other.items())
 
     def copy(self) -> Hull:
-        """Another hull that holds the same points, each as often, with the same limit."""
+        """Returns another hull with the same points, multiplicities and limit."""
         other = Hull(limit=self.limit())
         self._ask(lambda at: _LIBRARY.hull_python_copy(other._at, at))
         return other
@@ -892,7 +893,7 @@ class Hull(_Questions):
     def _ask(self, function: Callable[..., Any], *words: int) -> _Reply:
         """Returns the reply of a function of the library, or raises its exception."""
         reply: _Reply = function(self._at, *words)
-        _told(reply.code)
+        _check_code(reply.code)
         return reply
 
     def _call(self, kind: int, x: int = 0, y: int = 0) -> _Reply:
@@ -900,11 +901,11 @@ class Hull(_Questions):
 
     def add(self, x: SupportsIndex, y: SupportsIndex) -> int:
         """Adds the point, and returns its multiplicity now: 1 if it is new."""
-        return _times_added(self._call(_Kind.ADD, _whole(x), _whole(y)))
+        return _multiplicity_after_add(self._call(_Kind.ADD, _whole(x), _whole(y)))
 
     def remove(self, x: SupportsIndex, y: SupportsIndex) -> Optional[int]:
         """Removes the point once, and returns the multiplicity that is left; None if it was not there."""
-        return _times_left(self._call(_Kind.REMOVE, _whole(x), _whole(y)))
+        return _multiplicity_after_remove(self._call(_Kind.REMOVE, _whole(x), _whole(y)))
 
     def multiplicity(self, x: SupportsIndex, y: SupportsIndex) -> int:
         """Returns the multiplicity of the point: 0 if it is not there."""
@@ -925,7 +926,7 @@ class Hull(_Questions):
         small part of the time. TooMany if there are more than the limit, or a multiplicity is too great.
         """
         if isinstance(points, Mapping):
-            return self.load_items(sorted(((_whole(x), _whole(y)), times) for (x, y), times in points.items()))
+            return self.load_items(sorted(((_whole(x), _whole(y)), multiplicity) for (x, y), multiplicity in points.items()))
         flat = _flat(points)
         count = len(flat) // 2
         return self._ask(_LIBRARY.hull_python_load, flat.buffer_info()[0], count).number
@@ -933,27 +934,27 @@ class Hull(_Questions):
     def load_items(self, items: Iterable[Tuple[Tuple[SupportsIndex, SupportsIndex], SupportsIndex]]) -> int:
         """Replaces all points by these; returns how many they are.
 
-        An item is a point and its multiplicity, as `items` gives them: ((x, y), times). They are in order by x and then y, each point once,
-        or it is a ValueError.
+        An item is a point and its multiplicity, as `items` gives them: ((x, y), multiplicity). They are in order by x and then y, each point
+        once, or it is a ValueError.
         """
-        held: List[Any] = [(_whole(x), _whole(y), _index(times)) for (x, y), times in items]
-        if any(not 1 <= times <= MULTIPLICITY_LIMIT for _, _, times in held):
-            raise ValueError("how often a point is held is out of range")
-        room = (_Held * len(held))(*held)
-        return self._ask(_LIBRARY.hull_python_load_held, ctypes.addressof(room), len(held)).number
+        held: List[Any] = [(_whole(x), _whole(y), _index(multiplicity)) for (x, y), multiplicity in items]
+        if any(not 1 <= multiplicity <= MULTIPLICITY_LIMIT for _, _, multiplicity in held):
+            raise ValueError("a multiplicity is out of range")
+        space = (_Held * len(held))(*held)
+        return self._ask(_LIBRARY.hull_python_load_held, ctypes.addressof(space), len(held)).number
 
     def items(self) -> Iterator[Item]:
-        """Yields the points, in order by x and then y, each with its multiplicity: ((x, y), times).
+        """Yields the points, in order by x and then y, each with its multiplicity: ((x, y), multiplicity).
 
         They are taken a block at a time: if the hull changes meanwhile, what comes after the block is as it is then.
         """
-        room = (_Held * 1024)()
+        space = (_Held * 1024)()
         x = y = -COORDINATE_LIMIT
         while x <= COORDINATE_LIMIT:
-            count = self._ask(_LIBRARY.hull_python_held_from, x, y, ctypes.addressof(room), len(room)).number
-            piece = [((held.x, held.y), held.times) for held in room[:count]]
+            count = self._ask(_LIBRARY.hull_python_held_from, x, y, ctypes.addressof(space), len(space)).number
+            piece = [((held.x, held.y), held.multiplicity) for held in space[:count]]
             yield from piece
-            if count < len(room):
+            if count < len(space):
                 return
             x, y = piece[-1][0]
             x, y = (x, y + 1) if y < COORDINATE_LIMIT else (x + 1, -COORDINATE_LIMIT)
@@ -971,13 +972,13 @@ class Hull(_Questions):
         """Yields the points, in order by x and then y, each once."""
         return (point for point, _ in self.items())
 
-    def outline(self) -> Outline:
-        """Returns the convex polygon of the hull now."""
-        flat = self._corner_array()
-        return Outline(memoryview(flat).cast("B").cast("q", (len(flat) // 2, 2)) if flat else ())
+    def polygon(self) -> Polygon:
+        """Returns the vertices of the hull now as a convex polygon."""
+        vertices = self._flat_vertices()
+        return Polygon(memoryview(vertices).cast("B").cast("q", (len(vertices) // 2, 2)) if vertices else ())
 
-    def _corner_array(self) -> "array[int]":
-        return _written_corners(lambda out, room: self._ask(_LIBRARY.hull_python_vertices, out, room))
+    def _flat_vertices(self) -> "array[int]":
+        return _written_vertices(lambda out, space: self._ask(_LIBRARY.hull_python_vertices, out, space))
 
     def __len__(self) -> int:
         """Returns how many different points there are."""
@@ -993,7 +994,7 @@ class Hull(_Questions):
 
     def _serve(self, requests: int, replies: int, count: int) -> None:
         if _LIBRARY.hull_python_calls(self._at, requests, replies, count) > count:
-            _told(_Code.ENDED)
+            _check_code(_Code.ENDED)
 
     @overload
     def add_all(self, points: _Array) -> Any: ...
@@ -1006,9 +1007,9 @@ class Hull(_Questions):
         That is 0 if it failed, since there are too many or for want of memory: those after it are still added.
         """
         words = self._ask_all(_Kind.ADD, points)
-        times: Dict[int, int] = {_Code.ADDED: 1, _Code.TOO_MANY: 0, _Code.NO_MEMORY: 0}
-        held = (times.get(code, number) for code, number in zip(words[0::14].tolist(), words[10::14].tolist()))
-        return _like(points, array("I", held))
+        multiplicities: Dict[int, int] = {_Code.ADDED: 1, _Code.TOO_MANY: 0, _Code.NO_MEMORY: 0}
+        counted = (multiplicities.get(code, number) for code, number in zip(words[0::14].tolist(), words[10::14].tolist()))
+        return _like(points, array("I", counted))
 
     def remove_all(self, points: Any) -> int:
         """Removes each of the points once, in order; returns how many of them were there."""
@@ -1016,24 +1017,24 @@ class Hull(_Questions):
         return len(codes) - codes.count(_Code.ABSENT)
 
 
-def _written_corners(write: Callable[[int, int], _Reply]) -> "array[int]":
+def _written_vertices(write: Callable[[int, int], _Reply]) -> "array[int]":
     """Returns the coordinates of the vertices that a call writes to an array, which may be too short for them."""
     count = 64
     while True:
-        room = array("q", (0, 0)) * count
-        told = write(room.buffer_info()[0], count)
-        _told(told.code)
-        if told.code != _Code.TOO_SMALL:
-            return room[:2 * told.number]
-        count = told.number + told.number // 8  # there may be more by then
+        space = array("q", (0, 0)) * count
+        reply = write(space.buffer_info()[0], count)
+        _check_code(reply.code)
+        if reply.code != _Code.TOO_SMALL:
+            return space[:2 * reply.number]
+        count = reply.number + reply.number // 8  # there may be more by then
 
 
-def _corners_of(flat: "array[int]") -> "array[int]":
+def _vertices_of(flat: "array[int]") -> "array[int]":
     """Returns the coordinates of the vertices of any points."""
     count = len(flat) // 2
     flat.extend((0, 0))  # so that no points have a place in memory, too
     write: Any = _LIBRARY.hull_polygon_of
-    return _written_corners(functools.partial(write, flat.buffer_info()[0], count))
+    return _written_vertices(functools.partial(write, flat.buffer_info()[0], count))
 
 
 def _hull_of(items: Iterable[Item], limit: int) -> Hull:
@@ -1043,23 +1044,23 @@ def _hull_of(items: Iterable[Item], limit: int) -> Hull:
     return hull
 
 
-class _Corners(ctypes.c_void_p):
+class _Vertices(ctypes.c_void_p):
     """Vertices in memory, for the library. The array stays as long as this does, which a call has to its end."""
 
     array: "array[int]"
 
 
-_NO_CORNERS = (ctypes.c_int64 * 2)()
+_NO_VERTICES = (ctypes.c_int64 * 2)()
 
 
-def _held_at(corners: "array[int]") -> Tuple[_Corners, int]:
+def _span_of(vertices: "array[int]") -> Tuple[_Vertices, int]:
     """Returns the address of the vertices of an array, and their number; if there are none, an address that has memory."""
-    at = _Corners(corners.buffer_info()[0] if corners else ctypes.addressof(_NO_CORNERS))
-    at.array = corners
-    return at, len(corners) // 2
+    at = _Vertices(vertices.buffer_info()[0] if vertices else ctypes.addressof(_NO_VERTICES))
+    at.array = vertices
+    return at, len(vertices) // 2
 
 
-class Outline(_Questions):
+class Polygon(_Questions):
     """A convex polygon: the vertices of a hull, as `vertices` returns them, which answers as that hull did then.
 
     Nothing of it is ever written: any number of threads query one at once, without a lock. ValueError if the points are not a convex
@@ -1067,45 +1068,45 @@ class Outline(_Questions):
     its vertices.
     """
 
-    __slots__ = ("_held", "__weakref__")
+    __slots__ = ("_vertices", "__weakref__")
 
-    def __init__(self, corners: Any) -> None:
-        held = _held_at(_flat(corners))
-        told = _LIBRARY.hull_is_polygon(*held)
-        _told(told.code)
-        if told.number != 1:
+    def __init__(self, vertices: Any) -> None:
+        span = _span_of(_flat(vertices))
+        reply = _LIBRARY.hull_is_polygon(*span)
+        _check_code(reply.code)
+        if reply.number != 1:
             raise ValueError("the points are not a convex polygon")
-        self._held = held
+        self._vertices = span
 
     @classmethod
-    def of(cls, points: Any) -> Outline:
+    def of(cls, points: Any) -> Polygon:
         """Returns the convex polygon of any points, in any order; TooMany as `Hull.load`.
 
         If they are the vertices of a convex polygon in order, from any vertex on and in either sense, that takes a few passes over them;
         else they are sorted.
         """
         made = cls(())
-        made._hold(_corners_of(_flat(points)))
+        made._set_vertices(_vertices_of(_flat(points)))
         return made
 
-    def _hold(self, corners: "array[int]") -> None:
-        """Keeps the coordinates of vertices."""
-        self._held = _held_at(corners)
+    def _set_vertices(self, vertices: "array[int]") -> None:
+        """Makes these the vertices, by their coordinates."""
+        self._vertices = _span_of(vertices)
 
-    def _as_it_is(self) -> Outline:
+    def _twin(self) -> Polygon:
         """Returns another polygon of the same vertices, which no other object has."""
-        made = Outline.__new__(Outline)
-        made._held = self._held
+        made = Polygon.__new__(Polygon)
+        made._vertices = self._vertices
         return made
 
     def __reduce__(self) -> Any:
-        return _outline_again, (self._corner_array(),)
+        return _polygon_again, (self._flat_vertices(),)
 
     def __repr__(self) -> str:
-        return f"<Outline of {len(self)} corners>"
+        return f"<Polygon of {len(self)} vertices>"
 
     def __len__(self) -> int:
-        return self._held[1]
+        return self._vertices[1]
 
     def __iter__(self) -> Iterator[Pair]:
         return iter(self.vertices())
@@ -1114,44 +1115,44 @@ class Outline(_Questions):
         return point in self.vertices()
 
     def __eq__(self, other: object) -> bool:
-        if not isinstance(other, Outline):
+        if not isinstance(other, Polygon):
             return NotImplemented
-        return bool(self._corner_array() == other._corner_array())
+        return bool(self._flat_vertices() == other._flat_vertices())
 
     def __hash__(self) -> int:
-        return hash(self._corner_array().tobytes())
+        return hash(self._flat_vertices().tobytes())
 
-    def _there(self) -> Tuple[_Corners, int]:
+    def _span(self) -> Tuple[_Vertices, int]:
         """Returns the address of the vertices, and their number. They stay there as long as the caller has what is returned."""
-        return self._held
+        return self._vertices
 
-    def _corner_array(self) -> "array[int]":
-        return self._held[0].array
+    def _flat_vertices(self) -> "array[int]":
+        return self._vertices[0].array
 
     def _found(self, ask: Callable[..., Any], *words: int) -> _Reply:
         """Returns the reply of a call, or raises its exception."""
-        reply: _Reply = ask(*self._there(), *words)
-        _told(reply.code)
+        reply: _Reply = ask(*self._span(), *words)
+        _check_code(reply.code)
         return reply
 
     def _call(self, kind: int, x: int = 0, y: int = 0) -> _Reply:
         return self._found(_LIBRARY.hull_polygon_call, kind, x, y)
 
     def _serve(self, requests: int, replies: int, count: int) -> None:
-        _LIBRARY.hull_polygon_calls(*self._there(), requests, count, replies, count)
+        _LIBRARY.hull_polygon_calls(*self._span(), requests, count, replies, count)
 
-    def meets_segment(self, ax: SupportsIndex, ay: SupportsIndex, bx: SupportsIndex, by: SupportsIndex) -> bool:
+    def intersects_segment(self, ax: SupportsIndex, ay: SupportsIndex, bx: SupportsIndex, by: SupportsIndex) -> bool:
         """Returns whether the polygon intersects the segment from (ax, ay) to (bx, by), which may be one point."""
         return self._found(_LIBRARY.hull_polygon_intersects_segment, _whole(ax), _whole(ay), _whole(bx), _whole(by)).number == 1
 
-    def apart_from_segment(self, ax: SupportsIndex, ay: SupportsIndex, bx: SupportsIndex,
-                           by: SupportsIndex) -> Optional[Tuple[Pair, Pair]]:
+    def separation_from_segment(self, ax: SupportsIndex, ay: SupportsIndex, bx: SupportsIndex,
+                                by: SupportsIndex) -> Optional[Tuple[Pair, Pair]]:
         """Returns a vertex and a direction that separates the polygon from the segment; None if they intersect, or there is no vertex.
 
         No vertex has a greater product with the direction than that one, and both ends of the segment have.
         """
         reply = self._found(_LIBRARY.hull_polygon_separation, _whole(ax), _whole(ay), _whole(bx), _whole(by))
-        return _two_pairs(reply) if reply.code == _Code.APART else None
+        return _two_pairs(reply) if reply.code == _Code.DISJOINT else None
 
     def nearest(self, x: SupportsIndex, y: SupportsIndex) -> Optional[Tuple[Pair, ...]]:
         """Returns where the point is that is nearest to (x, y): None if there is no vertex.
@@ -1163,9 +1164,9 @@ class Outline(_Questions):
             return None
         if reply.code == _Code.EDGE:
             return _two_pairs(reply)
-        return ((reply.x, reply.y),) if reply.code == _Code.CORNER else ()
+        return ((reply.x, reply.y),) if reply.code == _Code.VERTEX else ()
 
-    def squared_distance_to(self, x: SupportsIndex, y: SupportsIndex) -> Optional[Fraction]:
+    def squared_distance_to_point(self, x: SupportsIndex, y: SupportsIndex) -> Optional[Fraction]:
         """Returns the squared distance to (x, y), 0 if the polygon covers it; None if there is no vertex."""
         place = self.nearest(x, y)
         return None if place is None else _squared_distance((place, ((_whole(x), _whole(y)),) if place else ()))
@@ -1191,102 +1192,102 @@ class Outline(_Questions):
     def least_width(self) -> Optional[Tuple[Pair, Pair, Pair]]:
         """Returns where the polygon is least wide: the ends of an edge and a vertex farthest from it; None if there is no edge.
 
-        No direction has a narrower strip. The width is the side of that vertex at the edge by the edge's length.
+        No direction has a narrower strip. The width is twice the area of the triangle of the three points, divided by the length of the edge.
         """
-        told: _Witness = _LIBRARY.hull_polygon_least_width(*self._there())
-        return (told.point("a"), told.point("b"), told.point("c")) if told.code == _Code.EDGE else None
+        witness: _Witness = _LIBRARY.hull_polygon_least_width(*self._span())
+        return (witness.point("a"), witness.point("b"), witness.point("c")) if witness.code == _Code.EDGE else None
 
-    def _beside(self, ask: Callable[..., Any], other: Outline) -> Any:
+    def _beside(self, ask: Callable[..., Any], other: Polygon) -> Any:
         """Returns what a call with another polygon returns."""
-        if not isinstance(other, Outline):
-            raise TypeError(f"the other one is an Outline, and not {type(other).__name__}")
-        return ask(*self._there(), *other._there())
+        if not isinstance(other, Polygon):
+            raise TypeError(f"the other one is a Polygon, and not {type(other).__name__}")
+        return ask(*self._span(), *other._span())
 
-    def meets(self, other: Outline) -> bool:
+    def intersects(self, other: Polygon) -> bool:
         """Returns whether the two polygons intersect, boundaries included."""
         reply: _Reply = self._beside(_LIBRARY.hull_polygon_intersects, other)
         return reply.number == 1
 
-    def contains(self, other: Outline) -> bool:
+    def contains(self, other: Polygon) -> bool:
         """Returns whether this polygon contains the other one."""
         reply: _Reply = self._beside(_LIBRARY.hull_polygon_contains, other)
         return reply.number == 1
 
-    def relation(self, other: Outline) -> Relation:
+    def relation(self, other: Polygon) -> Relation:
         """Returns how this polygon is related to the other one."""
         reply: _Reply = self._beside(_LIBRARY.hull_polygon_relation, other)
         return Relation(reply.number)
 
-    def turned(self, a: SupportsIndex, b: SupportsIndex) -> Outline:
+    def rotate(self, a: SupportsIndex, b: SupportsIndex) -> Polygon:
         """Returns the polygon rotated about (0, 0) by the angle of (a, b), and scaled by its length; OutOfRange if a coordinate would be.
 
         For a rational angle, such as (3, 4), scale all others alike, which (5, 0) does.
         """
-        made, (at, count) = Outline(()), self._there()
-        corners = array("q", at.array)
-        corners.extend((0, 0))
-        _told(_LIBRARY.hull_polygon_rotate(at, count, _whole(a), _whole(b), corners.buffer_info()[0]).code)
-        made._hold(corners[:2 * count])
+        made, (at, count) = Polygon(()), self._span()
+        vertices = array("q", at.array)
+        vertices.extend((0, 0))
+        _check_code(_LIBRARY.hull_polygon_rotate(at, count, _whole(a), _whole(b), vertices.buffer_info()[0]).code)
+        made._set_vertices(vertices[:2 * count])
         return made
 
-    def moved(self, dx: SupportsIndex, dy: SupportsIndex) -> Outline:
+    def translate(self, dx: SupportsIndex, dy: SupportsIndex) -> Polygon:
         """Returns the polygon translated by (dx, dy); OutOfRange if a coordinate would be."""
-        x, y, made = _index(dx), _index(dy), Outline(())
+        x, y, made = _index(dx), _index(dy), Polygon(())
         if max(abs(x), abs(y)) > 2 * COORDINATE_LIMIT:
             raise _out_of_range()
-        at, count = self._there()
-        corners = array("q", at.array)
-        _told(_LIBRARY.hull_polygon_translate(at, count, x, y, corners.buffer_info()[0] if corners else 0).code)
-        made._hold(corners)
+        at, count = self._span()
+        vertices = array("q", at.array)
+        _check_code(_LIBRARY.hull_polygon_translate(at, count, x, y, vertices.buffer_info()[0] if vertices else 0).code)
+        made._set_vertices(vertices)
         return made
 
-    def first_meeting(self, other: Outline, dx: SupportsIndex, dy: SupportsIndex) -> Optional[Motion]:
+    def first_meeting(self, other: Polygon, dx: SupportsIndex, dy: SupportsIndex) -> Optional[Motion]:
         """Returns when the other polygon, which moves straight by (dx, dy), first intersects this one; None if it never does."""
-        told: _Motion = self._beside(lambda *there: _LIBRARY.hull_polygon_first_meeting(*there, _whole(dx), _whole(dy)), other)
-        hit = self._hit_of(told.hit)
+        motion: _Motion = self._beside(lambda *there: _LIBRARY.hull_polygon_first_meeting(*there, _whole(dx), _whole(dy)), other)
+        hit = self._hit_of(motion.hit)
         if hit is None:
             return None
-        return Motion(hit[0], hit[1], (told.corner[0], told.corner[1]) if hit[1] else None, told.moves == 1)
+        return Motion(hit[0], hit[1], (motion.vertex[0], motion.vertex[1]) if hit[1] else None, motion.moves == 1)
 
-    def relations(self, others: Sequence[Outline]) -> List[Relation]:
+    def relations(self, others: Sequence[Polygon]) -> List[Relation]:
         """Returns how this polygon is related to each of the others, in order."""
-        kept = _as_they_are(others)
-        there, told = _there_of(kept), bytearray(len(kept) + 1)
-        room = (ctypes.c_uint8 * len(told)).from_buffer(told)
-        _LIBRARY.hull_polygon_relations(*self._there(), there.buffer_info()[0], len(kept), ctypes.addressof(room))
-        return [Relation(relation) for relation in told[:-1]]
+        twins = _twins(others)
+        spans, numbers = _spans_of(twins), bytearray(len(twins) + 1)
+        out = (ctypes.c_uint8 * len(numbers)).from_buffer(numbers)
+        _LIBRARY.hull_polygon_relations(*self._span(), spans.buffer_info()[0], len(twins), ctypes.addressof(out))
+        return [Relation(relation) for relation in numbers[:-1]]
 
     @overload
-    def meets_segments(self, segments: _Array) -> Any: ...
+    def intersects_segments(self, segments: _Array) -> Any: ...
     @overload
-    def meets_segments(self, segments: Iterable[Tuple[Tuple[SupportsIndex, SupportsIndex], Tuple[SupportsIndex, SupportsIndex]]]) -> bytes: ...
+    def intersects_segments(self, segments: Iterable[Tuple[Tuple[SupportsIndex, SupportsIndex], Tuple[SupportsIndex, SupportsIndex]]]) -> bytes: ...
 
-    def meets_segments(self, segments: Any) -> Any:
+    def intersects_segments(self, segments: Any) -> Any:
         """Returns whether the polygon intersects each of the segments, as bytes of 1 and 0.
 
         A segment is a pair of points; an array of numpy has shape (n, 4) or (n, 2, 2), and then the result is an array. ValueError for any
         other shape.
         """
         flat = _flat(_ends_of(segments))
-        count, room = len(flat) // 4, ctypes.create_string_buffer(max(len(flat) // 4, 1))
+        count, out = len(flat) // 4, ctypes.create_string_buffer(max(len(flat) // 4, 1))
         flat.append(0)  # so that no segments have a place in memory, too
-        _LIBRARY.hull_polygon_intersects_segments(*self._there(), flat.buffer_info()[0], count, ctypes.addressof(room))
-        return _like(segments, room.raw[:count])
+        _LIBRARY.hull_polygon_intersects_segments(*self._span(), flat.buffer_info()[0], count, ctypes.addressof(out))
+        return _like(segments, out.raw[:count])
 
     def indices(self, points: Any) -> List[Optional[int]]:
         """Returns for each vertex the index of the first of the points that is equal to it; None if none is."""
-        flat, (at, corners) = _flat(points), self._there()
-        count, room = len(flat) // 2, array("Q", (0,)) * (corners + 1)
+        flat, (at, size) = _flat(points), self._span()
+        count, places = len(flat) // 2, array("Q", (0,)) * (size + 1)
         flat.append(0)
-        _LIBRARY.hull_polygon_indices(at, corners, flat.buffer_info()[0], count, room.buffer_info()[0])
-        return [place if place < count else None for place in room[:corners]]
+        _LIBRARY.hull_polygon_indices(at, size, flat.buffer_info()[0], count, places.buffer_info()[0])
+        return [place if place < count else None for place in places[:size]]
 
-    def contains_inside(self, other: Outline) -> bool:
+    def contains_inside(self, other: Polygon) -> bool:
         """Returns whether this polygon contains the other one with no point of it on the boundary."""
         reply: _Reply = self._beside(_LIBRARY.hull_polygon_contains_inside, other)
         return reply.number == 1
 
-    def within(self, other: Outline, distance: Union[int, float, Fraction]) -> bool:
+    def within_distance(self, other: Polygon, distance: Union[int, float, Fraction]) -> bool:
         """Returns whether their distance is at most that, exactly; False if one of them has no vertex.
 
         A float is taken as the fraction that it is. OutOfRange if the distance is below 0, or is not finite.
@@ -1298,10 +1299,10 @@ class Outline(_Questions):
         reply: _Reply = self._beside(lambda *there: _LIBRARY.hull_polygon_within_distance(*there, length.numerator, length.denominator), other)
         return reply.number == 1
 
-    def within_segment(self, ax: SupportsIndex, ay: SupportsIndex, bx: SupportsIndex, by: SupportsIndex,
-                       distance: Union[int, float, Fraction]) -> bool:
+    def within_distance_of_segment(self, ax: SupportsIndex, ay: SupportsIndex, bx: SupportsIndex, by: SupportsIndex,
+                                   distance: Union[int, float, Fraction]) -> bool:
         """Returns whether the distance of the segment from (ax, ay) to (bx, by), which may be one point, is at most that, exactly, as
-        `within`."""
+        `within_distance`."""
         length, short = _length(distance)
         if not short:
             squared = self.squared_distance_to_segment(ax, ay, bx, by)
@@ -1309,9 +1310,9 @@ class Outline(_Questions):
         ends = _whole(ax), _whole(ay), _whole(bx), _whole(by)
         return self._found(_LIBRARY.hull_polygon_within_distance_of_segment, *ends, length.numerator, length.denominator).number == 1
 
-    def within_point(self, x: SupportsIndex, y: SupportsIndex, distance: Union[int, float, Fraction]) -> bool:
-        """Returns whether the distance of the point (x, y) is at most that, exactly, as `within`."""
-        return self.within_segment(x, y, x, y, distance)
+    def within_distance_of_point(self, x: SupportsIndex, y: SupportsIndex, distance: Union[int, float, Fraction]) -> bool:
+        """Returns whether the distance of the point (x, y) is at most that, exactly, as `within_distance`."""
+        return self.within_distance_of_segment(x, y, x, y, distance)
 
     def relation_to_segment(self, ax: SupportsIndex, ay: SupportsIndex, bx: SupportsIndex, by: SupportsIndex) -> Relation:
         """Returns how this polygon is related to the segment from (ax, ay) to (bx, by), which may be one point.
@@ -1322,7 +1323,7 @@ class Outline(_Questions):
         ends = _whole(ax), _whole(ay), _whole(bx), _whole(by)
         return Relation(self._found(_LIBRARY.hull_polygon_relation_to_segment, *ends).number)
 
-    def cast_ray(self, x: SupportsIndex, y: SupportsIndex, dx: SupportsIndex, dy: SupportsIndex) -> Optional[Tuple[Fraction, Tuple[Pair, ...]]]:
+    def raycast(self, x: SupportsIndex, y: SupportsIndex, dx: SupportsIndex, dy: SupportsIndex) -> Optional[Tuple[Fraction, Tuple[Pair, ...]]]:
         """Returns where the ray from (x, y) in the direction (dx, dy) enters; None if it misses.
 
         That is how far along, in lengths of the direction, and where: of two pairs across the edge between them, or at one of them; of one
@@ -1330,57 +1331,57 @@ class Outline(_Questions):
         """
         return self._hit(_LIBRARY.hull_polygon_raycast, x, y, dx, dy)
 
-    def last_on_ray(self, x: SupportsIndex, y: SupportsIndex, dx: SupportsIndex, dy: SupportsIndex) -> Optional[Tuple[Fraction, Tuple[Pair, ...]]]:
+    def raycast_exit(self, x: SupportsIndex, y: SupportsIndex, dx: SupportsIndex, dy: SupportsIndex) -> Optional[Tuple[Fraction, Tuple[Pair, ...]]]:
         """Returns the last point of that ray in the polygon, in the same way; None if it misses."""
         return self._hit(_LIBRARY.hull_polygon_raycast_exit, x, y, dx, dy)
 
-    def cast_segment(self, ax: SupportsIndex, ay: SupportsIndex, bx: SupportsIndex,
-                     by: SupportsIndex) -> Optional[Tuple[Fraction, Tuple[Pair, ...]]]:
+    def raycast_segment(self, ax: SupportsIndex, ay: SupportsIndex, bx: SupportsIndex,
+                        by: SupportsIndex) -> Optional[Tuple[Fraction, Tuple[Pair, ...]]]:
         """The same for the segment from (ax, ay) to (bx, by), in its lengths; its last point is where that from (bx, by) enters."""
         return self._hit(_LIBRARY.hull_polygon_raycast_segment, ax, ay, bx, by)
 
     def _hit(self, ask: Callable[..., Any], *numbers: SupportsIndex) -> Optional[Tuple[Fraction, Tuple[Pair, ...]]]:
         """Returns where and how far along a segment or a ray enters."""
-        return self._hit_of(ask(*self._there(), *map(_whole, numbers)))
+        return self._hit_of(ask(*self._span(), *map(_whole, numbers)))
 
     @staticmethod
-    def _hit_of(told: _Hit) -> Optional[Tuple[Fraction, Tuple[Pair, ...]]]:
+    def _hit_of(hit: _Hit) -> Optional[Tuple[Fraction, Tuple[Pair, ...]]]:
         """The same, of a reply."""
-        _told(told.code)
-        if told.code in (_Code.APART, _Code.EMPTY):
+        _check_code(hit.code)
+        if hit.code in (_Code.DISJOINT, _Code.EMPTY):
             return None
-        part = Fraction(told.high << 64 | told.low, told.divisor_high << 64 | told.divisor_low)
-        points: Tuple[Pair, ...] = ((told.a[0], told.a[1]), (told.b[0], told.b[1]))
-        return part, points[:{int(_Code.EDGE): 2, int(_Code.CORNER): 1}.get(told.code, 0)]
+        part = Fraction(hit.high << 64 | hit.low, hit.divisor_high << 64 | hit.divisor_low)
+        points: Tuple[Pair, ...] = ((hit.a[0], hit.a[1]), (hit.b[0], hit.b[1]))
+        return part, points[:{int(_Code.EDGE): 2, int(_Code.VERTEX): 1}.get(hit.code, 0)]
 
-    def witness(self, other: Outline) -> Optional[Witness]:
+    def witness(self, other: Polygon) -> Optional[Witness]:
         """Returns where the two polygons intersect, or what separates them: a `Witness`; None if one of them has no vertex."""
-        told: _Witness = self._beside(_LIBRARY.hull_polygon_witness, other)
-        if told.code == _Code.EMPTY:
+        witness: _Witness = self._beside(_LIBRARY.hull_polygon_witness, other)
+        if witness.code == _Code.EMPTY:
             return None
-        shows = Shows(told.code)
-        count = {Shows.APART: 2, Shows.CROSSING: 4}.get(shows, 1)
-        return Witness(shows, tuple(map(told.point, "abcd"[:count])))
+        shows = Shows(witness.code)
+        count = {Shows.DISJOINT: 2, Shows.CROSSING: 4}.get(shows, 1)
+        return Witness(shows, tuple(map(witness.point, "abcd"[:count])))
 
-    def distance(self, other: Outline) -> Optional[Tuple[Tuple[Pair, ...], Tuple[Pair, ...]]]:
+    def distance(self, other: Polygon) -> Optional[Tuple[Tuple[Pair, ...], Tuple[Pair, ...]]]:
         """Returns where the two polygons are nearest to one another: a feature of this one and one of the other; None if one has no vertex.
 
         Of one pair a feature is that vertex; of two it is a foot on the edge between them; of none the polygons intersect.
         `squared_distance` has the number.
         """
-        told: _Witness = self._beside(_LIBRARY.hull_polygon_distance, other)
-        if told.code == _Code.EMPTY:
+        witness: _Witness = self._beside(_LIBRARY.hull_polygon_distance, other)
+        if witness.code == _Code.EMPTY:
             return None
-        ours, theirs = {int(_Code.POINTS): (1, 1), int(_Code.CORNER): (1, 2), int(_Code.EDGE): (2, 1)}.get(told.code, (0, 0))
-        points = tuple(map(told.point, "abc"))
+        ours, theirs = {int(_Code.POINTS): (1, 1), int(_Code.VERTEX): (1, 2), int(_Code.EDGE): (2, 1)}.get(witness.code, (0, 0))
+        points = tuple(map(witness.point, "abc"))
         return points[:ours], points[ours:ours + theirs]
 
-    def squared_distance(self, other: Outline) -> Optional[Fraction]:
+    def squared_distance(self, other: Polygon) -> Optional[Fraction]:
         """Returns the squared distance of the two polygons, 0 if they intersect; None if one has no vertex."""
         places = self.distance(other)
         return None if places is None else _squared_distance(places)
 
-    def distance_bounds(self, other: Outline) -> Optional[Floats]:
+    def distance_bounds(self, other: Polygon) -> Optional[Floats]:
         """Returns the greatest float that is not above the distance of the two polygons, and the least that is not below it.
 
         They are equal if the distance is a float, else neighbours. None if one has no vertex.
@@ -1390,23 +1391,23 @@ class Outline(_Questions):
     def squared_distance_to_segment(self, ax: SupportsIndex, ay: SupportsIndex, bx: SupportsIndex,
                                     by: SupportsIndex) -> Optional[Fraction]:
         """Returns the squared distance of the segment from (ax, ay) to (bx, by), which may be one point; None if there is no vertex."""
-        told = self._clearance_to_segment(ax, ay, bx, by)
-        return None if told.code == _Code.EMPTY else Fraction(told.number("numerator"), told.number("denominator"))
+        bounds = self._distance_bounds_of_segment(ax, ay, bx, by)
+        return None if bounds.code == _Code.EMPTY else Fraction(bounds.number("numerator"), bounds.number("denominator"))
 
     def distance_bounds_to_segment(self, ax: SupportsIndex, ay: SupportsIndex, bx: SupportsIndex, by: SupportsIndex) -> Optional[Floats]:
         """Returns the same two floats for a segment, which may be one point."""
-        return _bounds(self._clearance_to_segment(ax, ay, bx, by))
+        return _bounds(self._distance_bounds_of_segment(ax, ay, bx, by))
 
-    def distance_bounds_to(self, x: SupportsIndex, y: SupportsIndex) -> Optional[Floats]:
+    def distance_bounds_to_point(self, x: SupportsIndex, y: SupportsIndex) -> Optional[Floats]:
         """Returns the same two floats for the point (x, y)."""
         return self.distance_bounds_to_segment(x, y, x, y)
 
-    def _clearance_to_segment(self, ax: SupportsIndex, ay: SupportsIndex, bx: SupportsIndex, by: SupportsIndex) -> _Clearance:
+    def _distance_bounds_of_segment(self, ax: SupportsIndex, ay: SupportsIndex, bx: SupportsIndex, by: SupportsIndex) -> _DistanceBounds:
         """Returns the distance of a segment."""
         ends = _whole(ax), _whole(ay), _whole(bx), _whole(by)
-        told: _Clearance = _LIBRARY.hull_polygon_distance_bounds_to_segment(*self._there(), *ends)
-        _told(told.code)
-        return told
+        bounds: _DistanceBounds = _LIBRARY.hull_polygon_distance_bounds_to_segment(*self._span(), *ends)
+        _check_code(bounds.code)
+        return bounds
 
 
 def _length(distance: Union[int, float, Fraction]) -> Tuple[Fraction, bool]:
@@ -1422,21 +1423,22 @@ def _length(distance: Union[int, float, Fraction]) -> Tuple[Fraction, bool]:
     return length, length.numerator < 2 ** 64 and length.denominator < 2 ** 32
 
 
-def _bounds(told: _Clearance) -> Optional[Floats]:
+def _bounds(bounds: _DistanceBounds) -> Optional[Floats]:
     """Returns the floats below and above a distance; None if there is none."""
-    if told.code == _Code.EMPTY:
+    if bounds.code == _Code.EMPTY:
         return None
-    return math.ldexp(told.lower, -told.shift), math.ldexp(told.upper, -told.shift)
+    return math.ldexp(bounds.lower, -bounds.shift), math.ldexp(bounds.upper, -bounds.shift)
 
 
-
-
-def _outline_again(corners: "array[int]") -> Outline:
+def _polygon_again(vertices: "array[int]") -> Polygon:
     """Returns the polygon of a pickle, which is tested like any other."""
-    return Outline(memoryview(corners).cast("B").cast("q", (len(corners) // 2, 2)) if corners else ())
+    return Polygon(memoryview(vertices).cast("B").cast("q", (len(vertices) // 2, 2)) if vertices else ())
 
 
-def merge(outlines: Iterable[Outline]) -> Outline:
+_outline_again = _polygon_again  # by its name in pickles of version 2
+
+
+def merge(polygons: Iterable[Polygon]) -> Polygon:
     """Returns the convex polygon of the union of polygons: its vertices are among theirs.
 
     So you never have to bring points together that are in many blocks, files or machines: make a polygon of each block and pass it on (it
@@ -1444,15 +1446,15 @@ def merge(outlines: Iterable[Outline]) -> Outline:
     one polygon and those of all before it.
     """
     flat, gathered = array("q"), 0
-    for outline in outlines:
-        if not isinstance(outline, Outline):
-            raise TypeError(f"what is merged is an Outline, and not {type(outline).__name__}")
-        if gathered == MULTIPLICITY_LIMIT or len(flat) // 2 + len(outline) > POINT_LIMIT:
-            flat, gathered = _corners_of(flat), 1
-        flat.extend(outline._corner_array())
+    for polygon in polygons:
+        if not isinstance(polygon, Polygon):
+            raise TypeError(f"what is merged is a Polygon, and not {type(polygon).__name__}")
+        if gathered == MULTIPLICITY_LIMIT or len(flat) // 2 + len(polygon) > POINT_LIMIT:
+            flat, gathered = _vertices_of(flat), 1
+        flat.extend(polygon._flat_vertices())
         gathered += 1
-    made = Outline(())
-    made._hold(_corners_of(flat))
+    made = Polygon(())
+    made._set_vertices(_vertices_of(flat))
     return made
 
 
@@ -1465,45 +1467,45 @@ def _ends_of(segments: Any) -> Any:
     return segments.reshape(-1, 2)
 
 
-def _as_they_are(outlines: Iterable[Outline]) -> List[Outline]:
+def _twins(polygons: Iterable[Polygon]) -> List[Polygon]:
     """Returns the polygons that a sequence has now, as they are now, whatever the caller does to both meanwhile."""
-    kept = []
-    for outline in outlines:
-        if not isinstance(outline, Outline):
-            raise TypeError(f"an Outline was wanted, and not {type(outline).__name__}")
-        kept.append(outline._as_it_is())
-    return kept
+    twins = []
+    for polygon in polygons:
+        if not isinstance(polygon, Polygon):
+            raise TypeError(f"a Polygon was wanted, and not {type(polygon).__name__}")
+        twins.append(polygon._twin())
+    return twins
 
 
-def _there_of(outlines: List[Outline]) -> "array[int]":
+def _spans_of(polygons: List[Polygon]) -> "array[int]":
     """Returns the addresses of the vertices of polygons, and their numbers, one after the other; the caller keeps the polygons."""
-    there = array("Q")
-    for outline in outlines:
-        at, count = outline._there()
-        there.extend((at.value or 0, count))
-    there.append(0)  # so that no outlines have a place in memory, too
-    return there
+    spans = array("Q")
+    for polygon in polygons:
+        at, count = polygon._span()
+        spans.extend((at.value or 0, count))
+    spans.append(0)  # so that no polygons have a place in memory, too
+    return spans
 
 
-def pairs_within(outlines: Sequence[Outline], distance: Union[int, float, Fraction] = 0) -> List[Tuple[int, int]]:
+def pairs_within_distance(polygons: Sequence[Polygon], distance: Union[int, float, Fraction] = 0) -> List[Tuple[int, int]]:
     """Returns the pairs of polygons whose distance is at most that, exactly; with 0, those that intersect.
 
-    The pairs (i, j) of their indices, i < j, in order: found by a sweep over their boxes. OutOfRange as `Outline.within`.
+    The pairs (i, j) of their indices, i < j, in order: found by a sweep over their boxes. OutOfRange as `Polygon.within_distance`.
     """
     length, short = _length(distance)
     asked = length if short else Fraction(min(math.ceil(length), 2 ** 64 - 1))
-    kept = _as_they_are(outlines)
-    there, room = _there_of(kept), len(kept) + 1
+    twins = _twins(polygons)
+    spans, space = _spans_of(twins), len(twins) + 1
     while True:
-        pairs = array("Q", (0, 0)) * room
-        told = _LIBRARY.hull_pairs_within_distance(there.buffer_info()[0], len(kept), asked.numerator, asked.denominator,
-                                          pairs.buffer_info()[0], room)
-        if told.code != _Code.TOO_SMALL:
+        pairs = array("Q", (0, 0)) * space
+        reply = _LIBRARY.hull_pairs_within_distance(spans.buffer_info()[0], len(twins), asked.numerator, asked.denominator,
+                                                    pairs.buffer_info()[0], space)
+        if reply.code != _Code.TOO_SMALL:
             break
-        room = told.number
-    _told(told.code)
-    found = list(zip(pairs[0:2 * told.number:2], pairs[1:2 * told.number:2]))
-    return found if short else [(i, j) for i, j in found if kept[i].within(kept[j], distance)]
+        space = reply.number
+    _check_code(reply.code)
+    found = list(zip(pairs[0:2 * reply.number:2], pairs[1:2 * reply.number:2]))
+    return found if short else [(i, j) for i, j in found if twins[i].within_distance(twins[j], distance)]
 
 
 class FloatHull:
@@ -1542,16 +1544,16 @@ class FloatHull:
         """Returns the point of the lattice nearest to two floats."""
         return _from_float(x, self.power)[0], _from_float(y, self.power)[0]
 
-    def _told(self, points: Optional[Sequence[Pair]]) -> Any:
+    def _in_floats(self, points: Optional[Sequence[Pair]]) -> Any:
         """Returns points in floats; None of none."""
         return None if points is None else tuple(_floats(point, self.power) for point in points)
 
     def add(self, x: float, y: float) -> int:
         """Adds the point, and returns its multiplicity now: 1 if it is new."""
         ((point,), rounded) = from_floats([(x, y)], self.power)
-        times = self.hull.add(*point)
+        multiplicity = self.hull.add(*point)
         self.rounded += rounded
-        return times
+        return multiplicity
 
     def remove(self, x: float, y: float) -> Optional[int]:
         """Removes the point once, and returns the multiplicity that is left; None if it was not there."""
@@ -1563,8 +1565,8 @@ class FloatHull:
 
     def tangents(self, x: float, y: float) -> Optional[Tuple[Floats, Floats]]:
         """Returns the left and the right tangent point seen from (x, y); None if there are none."""
-        told: Optional[Tuple[Floats, Floats]] = self._told(self.hull.tangents(*self._near(x, y)))
-        return told
+        tangents: Optional[Tuple[Floats, Floats]] = self._in_floats(self.hull.tangents(*self._near(x, y)))
+        return tangents
 
     def extreme(self, dx: float, dy: float) -> Optional[Floats]:
         """Returns the farthest point in a direction of two floats, as `Hull.extreme_d`; None if there is none."""
@@ -1573,21 +1575,21 @@ class FloatHull:
 
     def vertices(self) -> List[Floats]:
         """Returns the vertices, counterclockwise from the first by x and then y, each once and none inside an edge."""
-        return [_floats(corner, self.power) for corner in self.hull.vertices()]
+        return [_floats(vertex, self.power) for vertex in self.hull.vertices()]
 
     def area(self) -> float:
         """Returns the area, 0 for a point and a segment."""
         return math.ldexp(self.hull.doubled_area(), -2 * self.power - 1)
 
-    def distance_to(self, x: float, y: float) -> Optional[float]:
+    def distance_to_point(self, x: float, y: float) -> Optional[float]:
         """Returns the distance of (x, y), 0 if the hull covers it; None if there is no point."""
-        return self._root(self.hull.outline().squared_distance_to(*self._near(x, y)))
+        return self._root(self.hull.polygon().squared_distance_to_point(*self._near(x, y)))
 
     def distance(self, other: FloatHull) -> Optional[float]:
         """Returns the distance of another hull with the same steps, 0 if they intersect; None if one has no point."""
         if other.power != self.power:
             raise ValueError(f"the hulls have steps of 2**{-self.power} and of 2**{-other.power}")
-        return self._root(self.hull.outline().squared_distance(other.hull.outline()))
+        return self._root(self.hull.polygon().squared_distance(other.hull.polygon()))
 
     def _root(self, squared: Optional[Fraction]) -> Optional[float]:
         """Returns the root of a squared distance in steps."""
@@ -1602,8 +1604,8 @@ class _State(ctypes.Structure):
     """hull_shared_state of the header."""
 
     _fields_ = [
-        ("out", ctypes.c_uint32), ("inside", ctypes.c_uint32), ("sleepers", ctypes.c_uint32), ("for_room", ctypes.c_uint32),
-        ("held", ctypes.c_uint32), ("turn", ctypes.c_uint64), ("seat", ctypes.c_uint32), ("named", ctypes.c_uint32),
+        ("out", ctypes.c_uint32), ("inside", ctypes.c_uint32), ("sleepers", ctypes.c_uint32), ("for_space", ctypes.c_uint32),
+        ("held", ctypes.c_uint32), ("turn", ctypes.c_uint64), ("seat", ctypes.c_uint32), ("designated", ctypes.c_uint32),
         ("drainer", ctypes.c_uint32), ("seat_for", ctypes.c_uint64), ("drains_for", ctypes.c_uint64),
     ]
 
@@ -1611,34 +1613,34 @@ class _State(ctypes.Structure):
 class Stats(NamedTuple):
     """The state of the calls of a shared hull at one moment."""
 
-    #: How many seats are out.
+    #: How many seats are acquired.
     out: int
-    #: How many calls are inside, how many sleep until they may come in, and how many until there is room in the journal.
+    #: How many calls are admitted, how many sleep and wait for admission, and how many for space in the journal.
     inside: int
     sleepers: int
-    for_room: int
-    #: How many lines are held behind the call that was served last.
+    for_space: int
+    #: How many lines the journal had after the call that was served last.
     held: int
-    #: The number that is served now, the one behind that call's; 0 before the first.
+    #: The number that is served now, the one after that call's; 0 before the first.
     turn: int
-    #: The seat whose call has that number, if one is inside, and for how many seconds, to some milliseconds.
+    #: The seat whose admitted call has that number, if there is one, and for how many seconds, to some milliseconds.
     seat: Optional[int]
     seat_for: float
-    #: The seat that slept and is to come in next, if one is.
-    named: Optional[int]
-    #: The seat that takes lines out for the hull's file, if one does, and for how many seconds.
+    #: The seat that is designated to enter next, if there is one.
+    designated: Optional[int]
+    #: The seat that drains for the hull's file, if one does, and for how many seconds.
     drainer: Optional[int]
     drains_for: float
 
 
-def _new_desk(readers: SupportsIndex) -> Any:
-    """Returns the address of a desk that is not open, for so many readers."""
-    readers, desk = operator.index(readers), _at(_shared_kinds()[0], _shared_library().hull_python_desk_new())
+def _new_shared(readers: SupportsIndex) -> Any:
+    """Returns the address of a shared hull that is not open, for so many readers."""
+    readers, shared = operator.index(readers), _at(_shared_kinds()[0], _shared_library().hull_python_shared_new())
     if readers != 0:
-        code = _shared_library().hull_python_admit(desk, readers if 0 < readers <= READER_LIMIT else READER_LIMIT + 1)
-        if code != _Code.ADMITTED:
-            _refused(code)
-    return desk
+        code = _shared_library().hull_python_set_max_readers(shared, readers if 0 < readers <= READER_LIMIT else READER_LIMIT + 1)
+        if code != _Code.READERS_SET:
+            _raise_code(code)
+    return shared
 
 
 class SharedHull:
@@ -1651,26 +1653,26 @@ class SharedHull:
     have up to so many `readers`, at most READER_LIMIT.
     """
 
-    __slots__ = ("_desk", "_words", "__weakref__")
+    __slots__ = ("_shared", "_words", "__weakref__")
 
     def __init__(self, capacity: Optional[SupportsIndex], seats: SupportsIndex, limit: SupportsIndex = POINT_LIMIT,
                  first: SupportsIndex = 0, *, answers: bool = False, waits: bool = False, readers: SupportsIndex = 0) -> None:
         library = _shared_library()
-        room = 1 if capacity is None else operator.index(capacity)
-        words = operator.index(limit), operator.index(first), room, operator.index(seats)
+        lines = 1 if capacity is None else operator.index(capacity)
+        words = operator.index(limit), operator.index(first), lines, operator.index(seats)
         if not all(0 <= word < 1 << bits for word, bits in zip(words, (32, 64, 32, 32))):
-            _told(_Code.OUT_OF_LIMITS)
-        self._desk = _new_desk(readers)
+            _check_code(_Code.OUT_OF_LIMITS)
+        self._shared = _new_shared(readers)
         self._words: Tuple[Any, ...] = words
         if capacity is None:
-            code = library.hull_python_open_without_journal(self._desk, words[0], words[1], words[3])
+            code = library.hull_python_open_without_journal(self._shared, words[0], words[1], words[3])
         elif answers:
-            code = library.hull_python_open_answering(self._desk, *words)
+            code = library.hull_python_open_answering(self._shared, *words)
         else:
-            code = library.hull_python_open(self._desk, *words)
+            code = library.hull_python_open(self._shared, *words)
         if code != _Code.OPEN:
-            _refused(code)
-        library.hull_python_wait_for_room(self._desk, 1 if waits else 0)
+            _raise_code(code)
+        library.hull_python_wait_for_space(self._shared, 1 if waits else 0)
 
     @classmethod
     def reopen(cls, text: Union[str, bytes], capacity: SupportsIndex, seats: SupportsIndex, readers: SupportsIndex = 0) -> SharedHull:
@@ -1683,47 +1685,47 @@ class SharedHull:
         text = text.encode() if isinstance(text, str) else bytes(text)
         capacity, seats = operator.index(capacity), operator.index(seats)
         if not (0 <= capacity < 1 << 32 and 0 <= seats < 1 << 32):
-            _told(_Code.OUT_OF_LIMITS)
+            _check_code(_Code.OUT_OF_LIMITS)
         hull = cls.__new__(cls)
-        hull._desk = _new_desk(readers)
-        room = ctypes.create_string_buffer(text, max(len(text), 1))
-        told = _shared_library().hull_python_reopen(hull._desk, ctypes.addressof(room), len(text), capacity, seats)
+        hull._shared = _new_shared(readers)
+        buffer = ctypes.create_string_buffer(text, max(len(text), 1))
+        reply = _shared_library().hull_python_reopen(hull._shared, ctypes.addressof(buffer), len(text), capacity, seats)
         words = {
-            _Code.NO_JOURNAL: f"line {told.number}: fault {told.high}: the text is not a journal",
+            _Code.NO_JOURNAL: f"line {reply.number}: fault {reply.high}: the text is not a journal",
             _Code.OLD_RULES: "journals before version 3 do not count points",
-            _Code.ILLEGAL: f"line {told.number}: the journal is not a legal history",
-            _Code.TOO_FEW_SEATS: f"the journal has lines by {told.number} seats",
-        }.get(told.code)
+            _Code.ILLEGAL: f"line {reply.number}: the journal is not a legal history",
+            _Code.TOO_FEW_SEATS: f"the journal has lines by {reply.number} seats",
+        }.get(reply.code)
         if words is not None:
             raise JournalFault(words)
-        if told.code != _Code.OPEN:
-            _refused(told.code)
+        if reply.code != _Code.OPEN:
+            _raise_code(reply.code)
         hull._words = None, None, capacity, seats
         return hull
 
     @classmethod
-    def keep(cls, path: "Union[str, bytes, os.PathLike[str]]", capacity: SupportsIndex, seats: SupportsIndex,
-             limit: SupportsIndex = POINT_LIMIT, every: Optional[float] = None, readers: SupportsIndex = 0) -> SharedHull:
-        """Opens a hull whose journal is kept in a file, which is made, or read: then the hull has the points that it left, and its limit.
+    def open_journal(cls, path: "Union[str, bytes, os.PathLike[str]]", capacity: SupportsIndex, seats: SupportsIndex,
+                     limit: SupportsIndex = POINT_LIMIT, every: Optional[float] = None, readers: SupportsIndex = 0) -> SharedHull:
+        """Opens a hull with a journal file, which is made, or read: then the hull has the points that it left, and its limit.
 
-        A thread of the library writes the lines to the file when a thread waits for one (`sync`, `Seat.wait_safe`), each `every` seconds if
+        A thread of the library writes the lines to the file when a thread waits for one (`sync`, `Seat.wait_durable`), each `every` seconds if
         that is given, and when half of `capacity` are used; calls wait for space. There are SEAT_LIMIT - 1 seats at most, none of which
         drains. It may have so many `readers`. OSError if the system refuses a call on the file; JournalFault if the file is damaged, or not
         a journal.
         """
         words = operator.index(limit), 0, operator.index(capacity), operator.index(seats)
         if not all(0 <= word < 1 << 32 for word in words):
-            _told(_Code.OUT_OF_LIMITS)
+            _check_code(_Code.OUT_OF_LIMITS)
         if every is not None and not every >= 0:
             raise ValueError(f"a time is no less than 0, and not {every!r}")
         hull = cls.__new__(cls)
-        hull._desk = _new_desk(readers)
+        hull._shared = _new_shared(readers)
         hull._words = words
         time = 0 if every is None else max(1, int(min(every, 1e9) * 1e9))
-        told = _shared_library().hull_python_keep(hull._desk, _file(path), words[0], words[2], words[3], time)
-        if told.code != _Code.OPEN:
-            _no_file(told, told.number)
-            _refused(told.code)
+        reply = _shared_library().hull_python_open_journal(hull._shared, _file(path), words[0], words[2], words[3], time)
+        if reply.code != _Code.OPEN:
+            _check_journal_file(reply, reply.number)
+            _raise_code(reply.code)
         return hull
 
     @staticmethod
@@ -1731,43 +1733,43 @@ class SharedHull:
         """Compacts such a file, of a hull that is not open: to the additions that leave the same points, up to the same number, which is
         returned.
 
-        Raises what `keep` raises if the file is refused, which is as it was then, or leaves the same points, if its folder could not be
+        Raises what `open_journal` raises if the file is refused, which is as it was then, or leaves the same points, if its folder could not be
         synced after the new file took its name.
         """
-        told = _shared_library().hull_python_compact(_file(path))
-        _no_file(told, told.number)
-        _told(told.code)
-        return int(told.number)
+        reply = _shared_library().hull_python_compact(_file(path))
+        _check_journal_file(reply, reply.number)
+        _check_code(reply.code)
+        return int(reply.number)
 
-    def safe(self) -> int:
+    def durable(self) -> int:
         """Returns the number of the first line that is not durable.
 
         ValueError if the hull has no file, or is closed; OSError if a write failed: no later line will be durable.
         """
-        return self._safe(0)
+        return self._durable(0)
 
     def sync(self) -> int:
         """Waits until the lines of all calls that have returned are durable; returns the number of the first line that is not."""
-        return self._safe(1)
+        return self._durable(1)
 
-    def _safe(self, waits: int) -> int:
-        told = _shared_library().hull_python_safe(self._desk, waits)
-        _no_file(told, told.high)
-        _told(told.code)
-        return int(told.number)
+    def _durable(self, waits: int) -> int:
+        reply = _shared_library().hull_python_durable(self._shared, waits)
+        _check_journal_file(reply, reply.high)
+        _check_code(reply.code)
+        return int(reply.number)
 
     def __reduce__(self) -> Any:
-        raise TypeError("a hull lies in one place: it can't be copied")
+        raise TypeError("a shared hull can't be copied")
 
-    def _out(self) -> List[int]:
+    def _acquired(self) -> List[int]:
         """Returns the numbers of the acquired seats."""
-        out = _shared_library().hull_python_out(self._desk)
-        return [number for number in range(SEAT_LIMIT) if out >> number & 1]
+        acquired = _shared_library().hull_python_acquired_seats(self._shared)
+        return [number for number in range(SEAT_LIMIT) if acquired >> number & 1]
 
     def __repr__(self) -> str:
         limit, first, capacity, seats = self._words
-        where = "behind a journal" if first is None else f"from {first}, limit {limit}"
-        return f"<SharedHull for {capacity} calls {where}, {len(self._out())} of {seats} seats out>"
+        numbers = "after a journal" if first is None else f"from {first}, limit {limit}"
+        return f"<SharedHull for {capacity} calls {numbers}, {len(self._acquired())} of {seats} seats acquired>"
 
     def __enter__(self) -> SharedHull:
         return self
@@ -1783,33 +1785,33 @@ class SharedHull:
     def stats(self) -> Stats:
         """Returns the state of the hull's calls at one moment; while calls go on, its numbers may be of different moments."""
         state = _State()
-        _shared_library().hull_python_stats(self._desk, ctypes.addressof(state))
-        seat, named, drainer = (number if number < SEAT_LIMIT else None for number in (state.seat, state.named, state.drainer))
-        return Stats(state.out, state.inside, state.sleepers, state.for_room, state.held, state.turn, seat, state.seat_for / 1e9,
-                     named, drainer, state.drains_for / 1e9)
+        _shared_library().hull_python_stats(self._shared, ctypes.addressof(state))
+        seat, designated, drainer = (number if number < SEAT_LIMIT else None for number in (state.seat, state.designated, state.drainer))
+        return Stats(state.out, state.inside, state.sleepers, state.for_space, state.held, state.turn, seat, state.seat_for / 1e9,
+                     designated, drainer, state.drains_for / 1e9)
 
-    def lend(self, number: SupportsIndex) -> Seat:
+    def acquire_seat(self, number: SupportsIndex) -> Seat:
         """Acquires the seat of a number, 0 and up, for one thread; NoSeat if it is acquired or there is none."""
         number = operator.index(number)
         if not 0 <= number < SEAT_LIMIT:
-            _told(_Code.NO_SEAT)
-        return Seat(self._desk, number)
+            _check_code(_Code.NO_SEAT)
+        return Seat(self._shared, number)
 
-    def lend_reader(self) -> Reader:
+    def acquire_reader(self) -> Reader:
         """Acquires a reader, for one thread, of those that the hull was opened for; NoSeat if as many are acquired."""
-        return Reader(self._desk)
+        return Reader(self._shared)
 
     def _close(self) -> None:
         """Closes the hull, unless it is closed."""
-        told = _shared_library().hull_python_close(self._desk)
-        if told.code == _Code.SEATS_OUT:
-            seats = ", ".join(map(str, self._out()))
-            raise SeatsOut(f"seats of the hull are out: {seats}" if seats else "a reader of the hull is out")
-        _no_file(told, told.high)
-        if told.code == _Code.IN_USE:
-            raise ValueError("a thread waits for what is safe in the hull's file")
-        if told.code != _Code.NOT_OPEN:
-            _told(told.code)
+        reply = _shared_library().hull_python_close(self._shared)
+        if reply.code == _Code.SEATS_OUT:
+            seats = ", ".join(map(str, self._acquired()))
+            raise SeatsOut(f"seats of the hull are acquired: {seats}" if seats else "a reader of the hull is acquired")
+        _check_journal_file(reply, reply.high)
+        if reply.code == _Code.IN_USE:
+            raise ValueError("a thread waits for durable lines of the hull's file")
+        if reply.code != _Code.NOT_OPEN:
+            _check_code(reply.code)
 
     def close(self) -> str:
         """Closes the hull, unless it is closed, and returns the text of its journal; SeatsOut if a seat or a reader is acquired.
@@ -1818,7 +1820,7 @@ class SharedHull:
         last segment, or OSError says that it could not be written: the hull is closed.
         """
         self._close()
-        return _text(_shared_library().hull_python_text, self._desk)
+        return _text(_shared_library().hull_python_text, self._shared)
 
     def close_in_pieces(self, size: SupportsIndex = 1 << 16) -> Iterator[str]:
         """The same, and returns that text in blocks of whole lines, each of at most `size` bytes, or one line that is longer.
@@ -1826,7 +1828,7 @@ class SharedHull:
         One block is in memory at a time: `file.writelines(hull.close_in_pieces())`.
         """
         self._close()
-        return _pieces(_shared_library().hull_python_text_from, self._desk, size)
+        return _pieces(_shared_library().hull_python_text_from, self._shared, size)
 
 
 def _file(path: "Union[str, bytes, os.PathLike[str]]") -> bytes:
@@ -1837,171 +1839,171 @@ def _file(path: "Union[str, bytes, os.PathLike[str]]") -> bytes:
     return file
 
 
-def _no_file(told: _Reply, errno: int) -> None:
-    """Raises the exception of a journal file."""
-    if told.code == _Code.NO_FILE:
+def _check_journal_file(reply: _Reply, errno: int) -> None:
+    """Raises the exception of a journal file, if the reply has one."""
+    if reply.code == _Code.NO_FILE:
         raise OSError(errno, os.strerror(errno))
-    if told.code == _Code.DAMAGED:
-        raise JournalFault(f"line {told.number}: the file is damaged, or not a journal")
-    if told.code == _Code.ILLEGAL:
-        raise JournalFault(f"line {told.number}: the journal is not a legal history, or a seat of its hull drained")
+    if reply.code == _Code.DAMAGED:
+        raise JournalFault(f"line {reply.number}: the file is damaged, or not a journal")
+    if reply.code == _Code.ILLEGAL:
+        raise JournalFault(f"line {reply.number}: the journal is not a legal history, or a seat of its hull drained")
 
 
 def _text(write: Callable[..., _Reply], at: Any) -> str:
     """Returns the text that a function writes of what is at an address."""
-    room = ctypes.create_string_buffer(1)
+    buffer = ctypes.create_string_buffer(1)
     while True:
-        told = write(at, ctypes.addressof(room), len(room))
-        if told.code == _Code.TEXT:
-            return ctypes.string_at(room, told.number).decode("ascii")
-        if told.code != _Code.TOO_SMALL:
-            _refused(told.code)
-        room = ctypes.create_string_buffer(told.number)
+        reply = write(at, ctypes.addressof(buffer), len(buffer))
+        if reply.code == _Code.TEXT:
+            return ctypes.string_at(buffer, reply.number).decode("ascii")
+        if reply.code != _Code.TOO_SMALL:
+            _raise_code(reply.code)
+        buffer = ctypes.create_string_buffer(reply.number)
 
 
 def _pieces(write: Callable[..., _Reply], at: Any, size: SupportsIndex) -> Iterator[str]:
     """Yields the text of what is at an address, in blocks that a function writes from a line on."""
-    line, room = 0, ctypes.create_string_buffer(max(operator.index(size), 1))
+    line, buffer = 0, ctypes.create_string_buffer(max(operator.index(size), 1))
     while True:
-        told = write(at, line, ctypes.addressof(room), len(room))
-        if told.code == _Code.TOO_SMALL:
-            room = ctypes.create_string_buffer(told.number)
+        reply = write(at, line, ctypes.addressof(buffer), len(buffer))
+        if reply.code == _Code.TOO_SMALL:
+            buffer = ctypes.create_string_buffer(reply.number)
             continue
-        if told.code != _Code.TEXT:
-            _refused(told.code)
-        if told.number == 0:
+        if reply.code != _Code.TEXT:
+            _raise_code(reply.code)
+        if reply.number == 0:
             return
-        yield ctypes.string_at(room, told.number).decode("ascii")
-        line = told.high
+        yield ctypes.string_at(buffer, reply.number).decode("ascii")
+        line = reply.high
 
 
-class JournalPart:
+class JournalSegment:
     """A segment of a journal: lines that a seat drained; iteration gives the lines of its text, from the header to the end line."""
 
     __slots__ = ("_at", "__weakref__")
 
     def __init__(self, lines: int) -> None:
-        self._at = _at(_shared_kinds()[2], _shared_library().hull_python_part_new(lines))
+        self._at = _at(_shared_kinds()[2], _shared_library().hull_python_segment_new(lines))
 
     def __reduce__(self) -> Any:
-        raise TypeError("a part lies in one place: it can't be copied")
+        raise TypeError("a segment can't be copied")
 
     def text(self) -> str:
         """Returns the text of the lines, with the number of the first as its own first number.
 
-        `hullbook check` judges the texts of all parts in order.
+        `hullbook check` judges the texts of all segments in order.
         """
-        return _text(_shared_library().hull_python_part_text, self._at)
+        return _text(_shared_library().hull_python_segment_text, self._at)
 
     def pieces(self, size: SupportsIndex = 1 << 16) -> Iterator[str]:
         """Returns that text in blocks of whole lines, each of at most `size` bytes, or one line that is longer.
 
-        One block is in memory at a time: `file.writelines(part.pieces())`.
+        One block is in memory at a time: `file.writelines(segment.pieces())`.
         """
-        return _pieces(_shared_library().hull_python_part_text_from, self._at, size)
+        return _pieces(_shared_library().hull_python_segment_text_from, self._at, size)
 
     def __iter__(self) -> Iterator[str]:
         for piece in self.pieces():
             yield from piece.splitlines()
 
 
-class View(Outline):
-    """A snapshot: the vertices of a shared hull as of one line of its journal, an Outline."""
+class Snapshot(Polygon):
+    """The vertices of a shared hull as of one line of its journal: a Polygon."""
 
     __slots__ = ("line",)
 
-    #: The number of that line; None where the hull had none.
+    #: The number of that line; None if the hull had none.
     line: Optional[int]
 
 
 class Reader:
     """A reader of a shared hull, beside its seats: it takes no turn and no line, and waits for no call.
 
-    It is released by `give_back`, at the end of a `with`, and when it is collected.
+    It is released by `release`, at the end of a `with`, and when it is collected.
     """
 
-    __slots__ = ("_at", "_view", "__weakref__")
+    __slots__ = ("_at", "_snapshot", "__weakref__")
 
-    def __init__(self, desk: Any) -> None:
-        self._view: Optional[View] = None
+    def __init__(self, shared: Any) -> None:
+        self._snapshot: Optional[Snapshot] = None
         self._at = _at(_shared_kinds()[3], _shared_library().hull_python_reader_new())
-        _told(_shared_library().hull_python_lend_reader(self._at, desk))
+        _check_code(_shared_library().hull_python_acquire_reader(self._at, shared))
 
     def __reduce__(self) -> Any:
-        raise TypeError("a reader lies in one place: it can't be copied")
+        raise TypeError("a reader can't be copied")
 
     def __enter__(self) -> Reader:
         return self
 
     def __exit__(self, *_: object) -> None:
-        self.give_back()
+        self.release()
 
-    def give_back(self) -> None:
+    def release(self) -> None:
         """Releases the reader. Calls on it raise ValueError from then on; its snapshots stay."""
-        _shared_library().hull_python_return_reader(self._at)
+        _shared_library().hull_python_release_reader(self._at)
 
     def is_newest(self) -> bool:
-        """Returns whether no snapshot is newer than the one that `view` returned last."""
+        """Returns whether no snapshot is newer than the one that `snapshot` returned last."""
         code = _shared_library().hull_python_is_newest(self._at)
         if code > 1:
-            _refused(code)
-        return self._view is not None and code == 1
+            _raise_code(code)
+        return self._snapshot is not None and code == 1
 
-    def view(self) -> View:
+    def snapshot(self) -> Snapshot:
         """Returns the newest snapshot: it shows what each call did that had returned before. The same one as before if none is newer."""
-        if self._view is None or not self.is_newest():
-            self._view = self._read()
-        return self._view
+        if self._snapshot is None or not self.is_newest():
+            self._snapshot = self._read()
+        return self._snapshot
 
-    def _read(self) -> View:
+    def _read(self) -> Snapshot:
         """Returns the newest snapshot, copied."""
         lines: List[Optional[int]] = []
 
-        def read(out: int, room: int) -> _Reply:
-            told: _Reply = _shared_library().hull_python_read(self._at, out, room)
-            lines.append(told.high if told.x else None)
-            return told
+        def read(out: int, space: int) -> _Reply:
+            reply: _Reply = _shared_library().hull_python_read(self._at, out, space)
+            lines.append(reply.high if reply.x else None)
+            return reply
 
-        view = View(())
-        view._hold(_written_corners(read))
-        view.line = lines[-1]
-        return view
+        snapshot = Snapshot(())
+        snapshot._set_vertices(_written_vertices(read))
+        snapshot.line = lines[-1]
+        return snapshot
 
 
 class Seat:
     """A seat of a shared hull, for one thread at a time: calls on one seat from several threads wait for each other.
 
     Each call waits for its turn, and other threads of Python run meanwhile; it raises JournalFull if the journal is full. A seat is
-    released by `give_back`, at the end of a `with`, and when it is collected.
+    released by `release`, at the end of a `with`, and when it is collected.
     """
 
-    __slots__ = ("_at", "_corners", "_is_out", "_number", "_part", "__weakref__")
+    __slots__ = ("_at", "_is_acquired", "_number", "_segment", "_space", "__weakref__")
 
-    def __init__(self, desk: Any, number: int) -> None:
-        self._number, self._corners, self._is_out = number, 64, False
-        self._part: Optional[JournalPart] = None
+    def __init__(self, shared: Any, number: int) -> None:
+        self._number, self._space, self._is_acquired = number, 64, False
+        self._segment: Optional[JournalSegment] = None
         self._at = _at(_shared_kinds()[1], _shared_library().hull_python_seat_new())
-        _told(_shared_library().hull_python_lend(self._at, desk, number))
-        self._is_out = True
+        _check_code(_shared_library().hull_python_acquire_seat(self._at, shared, number))
+        self._is_acquired = True
 
     def __reduce__(self) -> Any:
-        raise TypeError("a seat lies in one place: it can't be copied")
+        raise TypeError("a seat can't be copied")
 
     def __enter__(self) -> Seat:
         return self
 
     def __exit__(self, *_: object) -> None:
-        self.give_back()
+        self.release()
 
-    def give_back(self) -> None:
+    def release(self) -> None:
         """Releases the seat. Calls on it raise ValueError from then on."""
-        self._is_out = False
-        _shared_library().hull_python_give_back(self._at)
+        self._is_acquired = False
+        _shared_library().hull_python_release_seat(self._at)
 
     def _served(self, function: Callable[..., Any], *words: int) -> _Reply:
         """Returns the reply of a function that waits for the seat's turn, or raises its exception."""
         reply: _Reply = function(self._at, *words)
-        _told(reply.code)
+        _check_code(reply.code)
         return reply
 
     def _ask(self, kind: int, x: int = 0, y: int = 0) -> _Reply:
@@ -2009,7 +2011,7 @@ class Seat:
         return self._served(_shared_library().hull_python_ask, kind, x, y)
 
     def __repr__(self) -> str:
-        return f"<Seat {self._number}, {'out' if self._is_out else 'given back'}, last turn {self.turn()}>"
+        return f"<Seat {self._number}, {'acquired' if self._is_acquired else 'released'}, last turn {self.turn()}>"
 
     def wait_at_most(self, seconds: Optional[float]) -> None:
         """Sets how long calls of the seat wait for admission, or for space: for ever, which is the default, with None, not at all with 0.
@@ -2022,14 +2024,14 @@ class Seat:
         time = never if seconds is None else min(int(min(seconds, 1e10) * 1e9), never)
         _shared_library().hull_python_wait_at_most(self._at, time)
 
-    def wait_safe(self) -> None:
+    def wait_durable(self) -> None:
         """Waits until the lines of all calls of the seat are durable in the journal file, for as long as its calls wait.
 
-        Busy if they are not by then; else what `SharedHull.safe` raises.
+        Busy if they are not by then; else what `SharedHull.durable` raises.
         """
-        told = _shared_library().hull_python_wait_safe(self._at)
-        _no_file(told, told.high)
-        _told(told.code)
+        reply = _shared_library().hull_python_wait_durable(self._at)
+        _check_journal_file(reply, reply.high)
+        _check_code(reply.code)
 
     def turn(self) -> Optional[int]:
         """Returns the number of the last call, that of its line; None if there was none."""
@@ -2038,11 +2040,11 @@ class Seat:
 
     def add(self, x: SupportsIndex, y: SupportsIndex) -> int:
         """Adds the point, and returns its multiplicity now: 1 if it is new."""
-        return _times_added(self._ask(_Kind.ADD, _whole(x), _whole(y)))
+        return _multiplicity_after_add(self._ask(_Kind.ADD, _whole(x), _whole(y)))
 
     def remove(self, x: SupportsIndex, y: SupportsIndex) -> Optional[int]:
         """Removes the point once, and returns the multiplicity that is left; None if it was not there."""
-        return _times_left(self._ask(_Kind.REMOVE, _whole(x), _whole(y)))
+        return _multiplicity_after_remove(self._ask(_Kind.REMOVE, _whole(x), _whole(y)))
 
     def place(self, x: SupportsIndex, y: SupportsIndex) -> Place:
         """Returns the location of the point: one of Place."""
@@ -2056,29 +2058,29 @@ class Seat:
         """Returns the farthest point in the direction (x, y), of several the first by x and then by y; None if there is none."""
         return _farthest(self._ask(_Kind.EXTREME, _whole(x), _whole(y)))
 
-    def drain(self) -> JournalPart:
-        """Asks how many points there are, and drains all lines of the journal, as a JournalPart.
+    def drain(self) -> JournalSegment:
+        """Asks how many points there are, and drains all lines of the journal, as a JournalSegment.
 
         That of this call is the last of them. MemoryError if there is none for the lines: no call is made then. When the journal is full,
-        one line is reserved for this call, and there is space again after it. If a signal handler raises before the part is returned,
-        `last_part` has it.
+        one line is reserved for this call, and there is space again after it. If a signal handler raises before the segment is returned,
+        `last_segment` has it.
         """
         capacity = _shared_library().hull_python_capacity(self._at)
         if capacity == 0:
-            self._ask(_Kind.COUNT)  # which tells why
-        part = JournalPart(capacity)
-        kept, self._part = self._part, part
-        told = _shared_library().hull_python_drain(self._at, part._at)
-        if told.code in _FAULTS:
-            self._part = kept
-            _told(told.code)
-        return part
+            self._ask(_Kind.COUNT)  # which raises, and says why
+        segment = JournalSegment(capacity)
+        before, self._segment = self._segment, segment
+        reply = _shared_library().hull_python_drain(self._at, segment._at)
+        if reply.code in _FAULTS:
+            self._segment = before
+            _check_code(reply.code)
+        return segment
 
-    def last_part(self) -> Optional[JournalPart]:
+    def last_segment(self) -> Optional[JournalSegment]:
         """Returns what the last drain took; None if there was none."""
-        return self._part
+        return self._segment
 
-    def corners(self) -> int:
+    def vertex_count(self) -> int:
         """Returns how many vertices there are."""
         return self._ask(_Kind.VERTICES).number
 
@@ -2088,11 +2090,11 @@ class Seat:
         It asks with space for as many as there were before, and again if there are more: each question has its line in the journal.
         """
         while True:
-            room = array("q", (0, 0)) * self._corners
-            reply = self._served(_shared_library().hull_python_ask_vertices, room.buffer_info()[0], self._corners)
+            space = array("q", (0, 0)) * self._space
+            reply = self._served(_shared_library().hull_python_ask_vertices, space.buffer_info()[0], self._space)
             if reply.code != _Code.TOO_SMALL:
-                return _pairs(room[:2 * reply.number])
-            self._corners = reply.number + reply.number // 8
+                return _pairs(space[:2 * reply.number])
+            self._space = reply.number + reply.number // 8
 
     def doubled_area(self) -> int:
         """Returns twice the area, 0 for a point and a segment."""

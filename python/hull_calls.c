@@ -16,19 +16,19 @@ hull_python *hull_python_new(uint32_t limit) {
         return NULL;
     }
     h->hull = hull;
-    hull_begins(&h->owned, 1);
+    hull_begin(&h->owned, 1);
     return h;
 }
 
 void hull_python_free(hull_python *h) {
-    if (hull_goes(&h->owned)) {
+    if (hull_drop(&h->owned)) {
         hull_free(h->hull);
         free(h);
     }
 }
 
-/* Makes a call; counts a question that the vertices answer before it. */
-static hull_reply hull_counted_call(hull_set *h, uint32_t kind, int64_t x, int64_t y) {
+/* Makes a call; before a question that the vertices answer, prepares them. */
+static hull_reply hull_prepared_call(hull_set *h, uint32_t kind, int64_t x, int64_t y) {
     if (kind >= HULL_KIND_PLACE && kind <= HULL_KIND_AREA && kind != HULL_KIND_VERTICES) {
         hull_prepare(h);
     }
@@ -36,21 +36,21 @@ static hull_reply hull_counted_call(hull_set *h, uint32_t kind, int64_t x, int64
 }
 
 hull_reply hull_python_call(hull_python *h, uint32_t kind, int64_t x, int64_t y) {
-    HULL_REPLY_OF(h, hull_counted_call(h->hull, kind, x, y));
+    HULL_REPLY_OF(h, hull_prepared_call(h->hull, kind, x, y));
 }
 
 /* Returns how many replies were written, or SIZE_MAX if the set is ended. */
 size_t hull_python_calls(hull_python *h, const hull_request *requests, hull_reply *replies, size_t count) {
     size_t made = SIZE_MAX;
-    if (hull_enters(&h->owned)) {
+    if (hull_enter(&h->owned)) {
         made = hull_calls(h->hull, requests, count, replies, count);
-        hull_leaves(&h->owned);
+        hull_leave(&h->owned);
     }
     return made;
 }
 
-hull_reply hull_python_vertices(hull_python *h, hull_point *out, size_t room) {
-    HULL_REPLY_OF(h, hull_vertices(h->hull, out, room));
+hull_reply hull_python_vertices(hull_python *h, hull_point *out, size_t capacity) {
+    HULL_REPLY_OF(h, hull_vertices(h->hull, out, capacity));
 }
 
 hull_reply hull_python_load(hull_python *h, const hull_point *points, size_t count) {
@@ -61,8 +61,8 @@ hull_reply hull_python_load_held(hull_python *h, const hull_held *held, size_t c
     HULL_REPLY_OF(h, hull_load_held(h->hull, held, count));
 }
 
-hull_reply hull_python_held_from(hull_python *h, int64_t x, int64_t y, hull_held *out, size_t room) {
-    HULL_REPLY_OF(h, hull_held_from(h->hull, x, y, out, room));
+hull_reply hull_python_held_from(hull_python *h, int64_t x, int64_t y, hull_held *out, size_t capacity) {
+    HULL_REPLY_OF(h, hull_held_from(h->hull, x, y, out, capacity));
 }
 
 hull_reply hull_python_nearest_held(hull_python *h, int64_t x, int64_t y) {

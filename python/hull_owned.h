@@ -11,8 +11,8 @@
 
 typedef struct hull_owned {
     pthread_mutex_t lock;
-    int stays;    /* a child of a fork may continue to use it */
-    int is_ended; /* it is in a child of a fork, which may not use it */
+    int survives_fork; /* a child of a fork may continue to use it */
+    int is_ended;      /* it is in a child of a fork, which may not use it */
     struct hull_owned *before;
     struct hull_owned *next;
 } hull_owned;
@@ -28,10 +28,11 @@ static void hull_unlock_all(void) {
     pthread_mutex_unlock(&hull_all_lock);
 }
 
-static void hull_forked(void) {
+/* Ends what a child of a fork may not use, and lets its other calls begin. */
+static void hull_end_torn(void) {
     hull_owned *one;
     for (one = hull_all.next; one != &hull_all; one = one->next) {
-        if (one->stays && pthread_mutex_trylock(&one->lock) == 0) {
+        if (one->survives_fork && pthread_mutex_trylock(&one->lock) == 0) {
             pthread_mutex_unlock(&one->lock);
         } else {
             one->is_ended = 1;
@@ -41,12 +42,13 @@ static void hull_forked(void) {
 }
 
 __attribute__((constructor)) static void hull_watch_forks(void) {
-    pthread_atfork(hull_lock_all, hull_unlock_all, hull_forked);
+    pthread_atfork(hull_lock_all, hull_unlock_all, hull_end_torn);
 }
 
-static void hull_begins(hull_owned *one, int stays) {
+/* Makes the lock of an object, before any other call on it. */
+static void hull_begin(hull_owned *one, int survives_fork) {
     pthread_mutex_init(&one->lock, NULL);
-    one->stays = stays;
+    one->survives_fork = survives_fork;
     one->is_ended = 0;
     hull_lock_all();
     one->before = &hull_all;
@@ -56,8 +58,8 @@ static void hull_begins(hull_owned *one, int stays) {
     hull_unlock_all();
 }
 
-/* Whether its memory may be freed: no reference to it is left, and it did not end by a fork. */
-static int hull_goes(hull_owned *one) {
+/* Ends the lock of an object to which no reference is left; returns whether its memory may be freed, as it did not end by a fork. */
+static int hull_drop(hull_owned *one) {
     if (one->is_ended) {
         return 0;
     }
@@ -69,12 +71,12 @@ static int hull_goes(hull_owned *one) {
     return 1;
 }
 
-/* Whether a call may be made on it, until hull_leaves. */
-static int hull_enters(hull_owned *one) {
+/* Takes the lock until hull_leave; returns whether a call may be made on the object. */
+static int hull_enter(hull_owned *one) {
     return !one->is_ended && pthread_mutex_lock(&one->lock) == 0;
 }
 
-static void hull_leaves(hull_owned *one) {
+static void hull_leave(hull_owned *one) {
     pthread_mutex_unlock(&one->lock);
 }
 
@@ -84,9 +86,9 @@ static void hull_leaves(hull_owned *one) {
         hull_reply reply;                      \
         memset(&reply, 0, sizeof reply);       \
         reply.code = HULL_ENDED;               \
-        if (hull_enters(&(one)->owned)) {      \
+        if (hull_enter(&(one)->owned)) {      \
             reply = (call);                    \
-            hull_leaves(&(one)->owned);        \
+            hull_leave(&(one)->owned);        \
         }                                      \
         return reply;                          \
     } while (0)
@@ -95,9 +97,9 @@ static void hull_leaves(hull_owned *one) {
 #define HULL_CODE_OF(one, call)                \
     do {                                       \
         uint32_t code = HULL_ENDED;            \
-        if (hull_enters(&(one)->owned)) {      \
+        if (hull_enter(&(one)->owned)) {      \
             code = (call);                     \
-            hull_leaves(&(one)->owned);        \
+            hull_leave(&(one)->owned);        \
         }                                      \
         return code;                           \
     } while (0)

@@ -84,7 +84,7 @@ class Cgal {
 };
 
 // The vertices of the ordered points, lower chain and upper chain, computed again if one is added or removed (Andrew, 1979).
-class Corners {
+class VertexArray {
     std::set<Point> points;
     std::vector<Point> lower, upper;
 
@@ -196,7 +196,7 @@ template <class Set> size_t round_of(const std::vector<Point> &points, const Chu
     return covered;
 }
 
-void tell(const char *name, const Times &ours, const Times &peer) {
+void print(const char *name, const Times &ours, const Times &peer) {
     std::printf("  %-24s insert %9.0f ns, ratio %7.2f   churn %9.0f ns, ratio %7.2f\n", name, peer.insert, peer.insert / ours.insert,
                 peer.churn, peer.churn / ours.churn);
 }
@@ -214,25 +214,25 @@ int main(int argc, char **argv) {
     const size_t steps = shape == "outermost" ? count - 8 : std::min<size_t>(20000, count);
     // if all vertices are computed again at each change, fewer steps are made
     const size_t few = shape == "square" ? steps : std::min<size_t>(steps, 200);
-    const bool tries_corners = shape == "square" || (count <= 10000 && shape != "spike" && shape != "outermost");
+    const bool tries_array = shape == "square" || (count <= 10000 && shape != "spike" && shape != "outermost");
     std::mt19937_64 random(12345);
     const std::vector<Point> points = points_of(shape, count, random);
     const Churn churn = churn_of(shape, points, steps);
-    Times ours, cgal, corners;
+    Times ours, cgal, vertices;
     for (int round = 0; round < rounds; round++) {
         const size_t covered = round_of<Ours>(points, churn, steps, true, ours);
         if (round_of<Cgal>(points, churn, steps, true, cgal) != covered) {
             std::printf("the peers do not agree\n");
             return 1;
         }
-        if (tries_corners) {
-            round_of<Corners>(points, churn, few, true, corners);
+        if (tries_array) {
+            round_of<VertexArray>(points, churn, few, true, vertices);
         }
     }
     std::printf("%s, %zu points: insert %.0f ns, churn %.0f ns a change\n", shape.c_str(), count, ours.insert, ours.churn);
-    tell("CGAL Delaunay hierarchy", ours, cgal);
-    if (tries_corners) {
-        tell("corners in an array", ours, corners);
+    print("CGAL Delaunay hierarchy", ours, cgal);
+    if (tries_array) {
+        print("corners in an array", ours, vertices);
     }
     return 0;
 }

@@ -1,4 +1,4 @@
-"""Which points are the vertices, of arrays of numpy: hull.Outline.of and its indices beside SciPy's ConvexHull (Qhull).
+"""Which points are the vertices, of arrays of numpy: hull.Polygon.of and its indices beside SciPy's ConvexHull (Qhull).
 
     indices.py [ROUNDS]
 
@@ -14,7 +14,7 @@ from scipy.spatial import ConvexHull
 
 
 def ours(points):
-    return hull.Outline.of(points).indices(points)
+    return hull.Polygon.of(points).indices(points)
 
 
 def theirs(points):
@@ -31,15 +31,15 @@ def main():
                 turn = chance.random(count) * 2 * numpy.pi
                 points = (numpy.stack([numpy.cos(turn), numpy.sin(turn)], axis=1) * (1 << 39)).astype(numpy.int64)
             least = {ours: 1e9, theirs: 1e9}
-            told = {}
+            found = {}
             for _ in range(rounds):
                 for ask in (ours, theirs):
                     begin = time.process_time()
-                    told[ask] = ask(points)
+                    found[ask] = ask(points)
                     least[ask] = min(least[ask], time.process_time() - begin)
-            missing = len(set(told[ours]) ^ set(map(int, told[theirs])))
+            missing = len(set(found[ours]) ^ set(map(int, found[theirs])))
             print(f"{shape} of {count:9,}: {least[ours] * 1e3:9.2f} ms, SciPy {least[theirs] * 1e3:9.2f} ms: {least[theirs] / least[ours]:5.2f}; "
-                  f"{len(told[ours])} corners, {missing} of them in one of the two alone")
+                  f"{len(found[ours])} corners, {missing} of them in one of the two alone")
 
 
 main()

@@ -15,7 +15,7 @@ namespace {
 
 double given_out() { return static_cast<double>(mallinfo2().uordblks + mallinfo2().hblkhd); }
 
-void tell(const char *name, const std::vector<hull_point> &points) {
+void print(const char *name, const std::vector<hull_point> &points) {
     const double before = given_out();
     hull_set *hull = hull_new(HULL_LIMIT_MAX);
     for (const hull_point &p : points) {
@@ -49,11 +49,11 @@ int main(int argc, char **argv) {
         square.push_back({any(random), any(random)});
         parabola.push_back({x, x * x});
     }
-    tell("square", square);
+    print("square", square);
     std::sort(square.begin(), square.end(), [](const hull_point &a, const hull_point &b) { return a.x != b.x ? a.x < b.x : a.y < b.y; });
-    tell("square, in order", square);
-    tell("parabola, in order", parabola);
+    print("square, in order", square);
+    print("parabola, in order", parabola);
     std::shuffle(parabola.begin(), parabola.end(), random);
-    tell("parabola", parabola);
+    print("parabola", parabola);
     return 0;
 }

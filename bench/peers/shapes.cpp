@@ -1,7 +1,7 @@
 // Shapes that are asked two at a time, as planners and games ask them: this library (hull.h) beside Box2D, in floats, and libccd,
 // which is below FCL, in doubles.
 //
-//     shapes CORNERS ROUNDS
+//     shapes POINTS ROUNDS
 //
 // Convex shapes of so many random points (at most 8, Box2D's limit) are placed in a square at random, so that some tenth of
 // neighbouring pairs intersect. Each line shows nanoseconds per question, the least of the rounds, in which the peers come in turns
@@ -35,18 +35,18 @@ double now() {
 }
 
 struct Shape {
-    std::vector<hull_point> corners;
+    std::vector<hull_point> vertices;
     b2PolygonShape polygon;
 };
 
-// Returns random vertices, in integers that floats represent exactly.
-std::vector<Shape> drawn(int corners) {
+// Returns shapes of random points, in integers that floats represent exactly.
+std::vector<Shape> drawn(int count) {
     std::mt19937_64 chance(7);
     std::uniform_int_distribution<std::int64_t> place(-5000, 5000), part(-90, 90);
     std::vector<Shape> all;
     while (all.size() < shapes) {
         const std::int64_t x = place(chance), y = place(chance);
-        std::vector<hull_point> points(static_cast<std::size_t>(corners)), out(8);
+        std::vector<hull_point> points(static_cast<std::size_t>(count)), out(8);
         for (hull_point &p : points) {
             p = {x + part(chance), y + part(chance)};
         }
@@ -56,12 +56,12 @@ std::vector<Shape> drawn(int corners) {
             continue;
         }
         Shape shape;
-        std::vector<b2Vec2> vertices;
+        std::vector<b2Vec2> floats;
         for (hull_point p : out) {
-            vertices.emplace_back(static_cast<float>(p.x), static_cast<float>(p.y));
+            floats.emplace_back(static_cast<float>(p.x), static_cast<float>(p.y));
         }
-        shape.polygon.Set(vertices.data(), static_cast<int32>(vertices.size()));
-        shape.corners = std::move(out);
+        shape.polygon.Set(floats.data(), static_cast<int32>(floats.size()));
+        shape.vertices = std::move(out);
         all.push_back(std::move(shape));
     }
     return all;
@@ -70,12 +70,12 @@ std::vector<Shape> drawn(int corners) {
 // Returns pairs of shapes that are near one another, in no order.
 std::vector<std::pair<const Shape *, const Shape *>> neighbours(const std::vector<Shape> &all) {
     std::vector<std::pair<const Shape *, const Shape *>> near;
-    std::vector<hull_corners> corners;
+    std::vector<hull_corners> vertices;
     for (const Shape &shape : all) {
-        corners.push_back({shape.corners.data(), shape.corners.size()});
+        vertices.push_back({shape.vertices.data(), shape.vertices.size()});
     }
     std::vector<hull_pair> found(1 << 22);
-    const hull_reply r = hull_pairs_within_distance(corners.data(), corners.size(), 300, 1, found.data(), found.size());
+    const hull_reply r = hull_pairs_within_distance(vertices.data(), vertices.size(), 300, 1, found.data(), found.size());
     found.resize(r.number);
     std::shuffle(found.begin(), found.end(), std::mt19937_64(3));
     for (std::size_t i = 0; i < found.size() && i < pairs; i++) {
@@ -87,7 +87,7 @@ std::vector<std::pair<const Shape *, const Shape *>> neighbours(const std::vecto
 void support(const void *object, const ccd_vec3_t *direction, ccd_vec3_t *out) {
     const auto *shape = static_cast<const Shape *>(object);
     double most = -1e300;
-    for (hull_point p : shape->corners) {
+    for (hull_point p : shape->vertices) {
         const double at = static_cast<double>(p.x) * direction->v[0] + static_cast<double>(p.y) * direction->v[1];
         if (at > most) {
             most = at;
@@ -130,7 +130,7 @@ bool by_box2d(const Shape &a, const Shape &b) {
     return b2TestOverlap(&a.polygon, 0, &b.polygon, 0, still, still);
 }
 
-// Returns how much of its way the second has gone when it meets the first; 2 if it does not.
+// Returns how much of its way the second has gone when it intersects the first; 2 if it does not.
 double by_box2d_cast(const Shape &a, const Shape &b, hull_point way) {
     b2ShapeCastInput in;
     in.proxyA = proxy(a), in.proxyB = proxy(b);
@@ -217,24 +217,24 @@ std::size_t all_by_box2d(const std::vector<Shape> &all) {
 }
 
 void all_pairs(const std::vector<Shape> &all, int rounds) {
-    std::vector<hull_corners> corners;
+    std::vector<hull_corners> vertices;
     for (const Shape &shape : all) {
-        corners.push_back({shape.corners.data(), shape.corners.size()});
+        vertices.push_back({shape.vertices.data(), shape.vertices.size()});
     }
     std::vector<hull_pair> found(1 << 16);
     row("all pairs of 4,000 that meet, in all", "Box2D", 1, rounds, 0,
-        [&](std::size_t) { return static_cast<double>(hull_pairs_within_distance(corners.data(), corners.size(), 0, 1, found.data(), found.size()).number); },
+        [&](std::size_t) { return static_cast<double>(hull_pairs_within_distance(vertices.data(), vertices.size(), 0, 1, found.data(), found.size()).number); },
         [&](std::size_t) { return static_cast<double>(all_by_box2d(all)); });
 }
 
 } // namespace
 
 int main(int words, char **word) {
-    const int corners = words > 1 ? std::atoi(word[1]) : 8, rounds = words > 2 ? std::atoi(word[2]) : 5;
-    if (corners < 3 || corners > 8 || rounds < 1) {
+    const int count = words > 1 ? std::atoi(word[1]) : 8, rounds = words > 2 ? std::atoi(word[2]) : 5;
+    if (count < 3 || count > 8 || rounds < 1) {
         return 2;
     }
-    const std::vector<Shape> all = drawn(corners);
+    const std::vector<Shape> all = drawn(count);
     auto near = neighbours(all);
     std::mt19937_64 chance(11);
     std::uniform_int_distribution<std::int64_t> way(-300, 300);
@@ -242,16 +242,16 @@ int main(int words, char **word) {
     for (hull_point &w : ways) {
         w = {way(chance) | 1, way(chance)};
     }
-    std::printf("%zu pairs of shapes of %d random points\n", near.size(), corners);
-    const auto first = [&](std::size_t i) { return near[i].first->corners.data(); };
-    const auto first_count = [&](std::size_t i) { return near[i].first->corners.size(); };
-    const auto second = [&](std::size_t i) { return near[i].second->corners.data(); };
-    const auto second_count = [&](std::size_t i) { return near[i].second->corners.size(); };
-    const auto meets = [&](std::size_t i) {
+    std::printf("%zu pairs of shapes of %d random points\n", near.size(), count);
+    const auto first = [&](std::size_t i) { return near[i].first->vertices.data(); };
+    const auto first_count = [&](std::size_t i) { return near[i].first->vertices.size(); };
+    const auto second = [&](std::size_t i) { return near[i].second->vertices.data(); };
+    const auto second_count = [&](std::size_t i) { return near[i].second->vertices.size(); };
+    const auto intersects = [&](std::size_t i) {
         return static_cast<double>(hull_polygon_intersects(first(i), first_count(i), second(i), second_count(i)).number);
     };
-    row("do two meet", "Box2D", near.size(), rounds, 0, meets, [&](std::size_t i) { return by_box2d(*near[i].first, *near[i].second) ? 1.0 : 0.0; });
-    row("do two meet", "libccd", near.size(), rounds, 0, meets, [&](std::size_t i) { return by_ccd(*near[i].first, *near[i].second) ? 1.0 : 0.0; });
+    row("do two meet", "Box2D", near.size(), rounds, 0, intersects, [&](std::size_t i) { return by_box2d(*near[i].first, *near[i].second) ? 1.0 : 0.0; });
+    row("do two meet", "libccd", near.size(), rounds, 0, intersects, [&](std::size_t i) { return by_ccd(*near[i].first, *near[i].second) ? 1.0 : 0.0; });
     row("how far apart, rounded down", "Box2D", near.size(), rounds, 0.01,
         [&](std::size_t i) {
             const hull_distance_bounds c = hull_polygon_distance_bounds(first(i), first_count(i), second(i), second_count(i));
@@ -267,11 +267,11 @@ int main(int words, char **word) {
         [&](std::size_t i) { return by_box2d_cast(*near[i].first, *near[i].second, ways[i]); });
     row("where a ray from outside comes in", "Box2D", near.size(), rounds, 0.001,
         [&](std::size_t i) {
-            const hull_point from = near[i].second->corners[0];
+            const hull_point from = near[i].second->vertices[0];
             const double part = part_of(hull_polygon_raycast(first(i), first_count(i), from.x, from.y, ways[i].x, ways[i].y));
             return part > 1 ? 2 : part;
         },
-        [&](std::size_t i) { return by_box2d_ray(*near[i].first, near[i].second->corners[0], ways[i]); });
+        [&](std::size_t i) { return by_box2d_ray(*near[i].first, near[i].second->vertices[0], ways[i]); });
     all_pairs(all, rounds);
     return 0;
 }

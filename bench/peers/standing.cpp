@@ -57,52 +57,52 @@ double now() {
 
 // The vertices counterclockwise from the first, and the index of the last of them (Andrew, 1979).
 struct Chain {
-    Points corners;
+    Points vertices;
     size_t last = 0;
 
     static Chain of(Points points) {
         std::sort(points.begin(), points.end(), before);
         Chain chain;
         chain.push(points.begin(), points.end(), 0);
-        chain.last = chain.corners.size() - 1;
+        chain.last = chain.vertices.size() - 1;
         chain.push(points.rbegin() + 1, points.rend(), chain.last);
-        chain.corners.pop_back();
+        chain.vertices.pop_back();
         return chain;
     }
     bool covers(Point q) const {
-        const auto middle = corners.begin() + static_cast<std::ptrdiff_t>(last);
-        if (before(q, corners[0]) || before(*middle, q)) {
+        const auto middle = vertices.begin() + static_cast<std::ptrdiff_t>(last);
+        if (before(q, vertices[0]) || before(*middle, q)) {
             return false;
         }
-        const auto right = std::upper_bound(corners.begin(), middle, q, before);
+        const auto right = std::upper_bound(vertices.begin(), middle, q, before);
         if (orient(*(right - 1), *right, q) < 0) {
             return false;
         }
-        const auto left = std::upper_bound(middle, corners.end(), q, [](const Point &p, const Point &c) { return before(c, p); });
-        return orient(*(left - 1), left == corners.end() ? corners[0] : *left, q) >= 0;
+        const auto left = std::upper_bound(middle, vertices.end(), q, [](const Point &p, const Point &c) { return before(c, p); });
+        return orient(*(left - 1), left == vertices.end() ? vertices[0] : *left, q) >= 0;
     }
     Point extreme(int64_t x, int64_t y) const {
         const bool up = y > 0 || (y == 0 && x < 0);
-        size_t low = up ? last : 0, high = up ? corners.size() : last;
+        size_t low = up ? last : 0, high = up ? vertices.size() : last;
         while (low < high) {
             const size_t middle = (low + high) / 2;
-            const Point &a = corners[middle], &b = corners[middle + 1 == corners.size() ? 0 : middle + 1];
+            const Point &a = vertices[middle], &b = vertices[middle + 1 == vertices.size() ? 0 : middle + 1];
             if (static_cast<__int128>(b.x - a.x) * x + static_cast<__int128>(b.y - a.y) * y > 0) {
                 low = middle + 1;
             } else {
                 high = middle;
             }
         }
-        return corners[low == corners.size() ? 0 : low];
+        return vertices[low == vertices.size() ? 0 : low];
     }
 
   private:
     template <class Iterator> void push(Iterator begin, Iterator end, size_t from) {
         for (; begin != end; ++begin) {
-            while (corners.size() > from + 1 && orient(corners[corners.size() - 2], corners.back(), *begin) <= 0) {
-                corners.pop_back();
+            while (vertices.size() > from + 1 && orient(vertices[vertices.size() - 2], vertices.back(), *begin) <= 0) {
+                vertices.pop_back();
             }
-            corners.push_back(*begin);
+            vertices.push_back(*begin);
         }
     }
 };
@@ -155,8 +155,8 @@ class Geos {
     }
 
   public:
-    Geos(const Points &corners, const std::vector<Points> &asked) {
-        polygon = shape(corners);
+    Geos(const Points &vertices, const std::vector<Points> &asked) {
+        polygon = shape(vertices);
         prepared = GEOSPrepare_r(context, polygon);
         for (const Points &points : asked) {
             shapes.push_back(shape(points));
@@ -171,24 +171,24 @@ class Geos {
         }
         GEOS_finish_r(context);
     }
-    bool meets(size_t i) const { return GEOSPreparedIntersects_r(context, prepared, shapes[i]) == 1; }
+    bool intersects(size_t i) const { return GEOSPreparedIntersects_r(context, prepared, shapes[i]) == 1; }
     double distance(size_t i) const {
-        double apart = 0;
-        GEOSPreparedDistance_r(context, prepared, shapes[i], &apart);
-        return apart;
+        double distance = 0;
+        GEOSPreparedDistance_r(context, prepared, shapes[i], &distance);
+        return distance;
     }
-    bool within(size_t i, double far) const { return GEOSPreparedDistanceWithin_r(context, prepared, shapes[i], far) == 1; }
+    bool within_distance(size_t i, double far) const { return GEOSPreparedDistanceWithin_r(context, prepared, shapes[i], far) == 1; }
     bool touches(size_t i) const { return GEOSPreparedTouches_r(context, prepared, shapes[i]) == 1; }
     // returns the relation, from the nine intersections of inside, boundary and outside
     hull_relation relation(size_t i) const {
         char *nine = GEOSRelate_r(context, polygon, shapes[i]);
         const auto none = [&](int a, int b) { return nine[a] == 'F' && nine[b] == 'F'; };
-        const bool within = none(2, 5), covers = none(6, 7), apart = none(0, 1) && none(3, 4), flat = nine[0] == 'F';
+        const bool within = none(2, 5), covers = none(6, 7), disjoint = none(0, 1) && none(3, 4), flat = nine[0] == 'F';
         GEOSFree_r(context, nine);
         return within && covers ? HULL_RELATION_EQUAL
                : within         ? HULL_RELATION_WITHIN
                : covers         ? HULL_RELATION_COVERS
-               : apart          ? HULL_RELATION_DISJOINT
+               : disjoint       ? HULL_RELATION_DISJOINT
                : flat           ? HULL_RELATION_TOUCHING
                                 : HULL_RELATION_OVERLAPPING;
     }
@@ -249,13 +249,13 @@ class Table {
 };
 
 // The code that one writes by hand, in a call that replies as the library does.
-__attribute__((noinline)) hull_reply place_behind_a_call(const Chain &chain, int64_t x, int64_t y) {
+__attribute__((noinline)) hull_reply place_by_a_call(const Chain &chain, int64_t x, int64_t y) {
     hull_reply reply = {};
     reply.code = chain.covers({x, y}) ? HULL_INSIDE : HULL_OUTSIDE;
     return reply;
 }
 
-__attribute__((noinline)) hull_reply extreme_behind_a_call(const Chain &chain, int64_t dx, int64_t dy) {
+__attribute__((noinline)) hull_reply extreme_by_a_call(const Chain &chain, int64_t dx, int64_t dy) {
     const Point farthest = chain.extreme(dx, dy);
     hull_reply reply = {};
     reply.code = HULL_POINT, reply.x = farthest.x, reply.y = farthest.y;
@@ -270,12 +270,12 @@ void time_loads(Table &table, const Points &points, bool slow) {
         Ours ours;
         table.time("load", "hull_load", n, [&] { return load(points, ours.place); });
     }
-    table.time("load", "sort and monotone chain", n, [&] { return Chain::of(points).corners.size(); });
+    table.time("load", "sort and monotone chain", n, [&] { return Chain::of(points).vertices.size(); });
     const auto all = to_cgal(points);
     table.time("load", "CGAL convex_hull_2", n, [&] {
-        std::vector<Kernel::Point_2> corners;
-        CGAL::convex_hull_2(all.begin(), all.end(), std::back_inserter(corners));
-        return corners.size();
+        std::vector<Kernel::Point_2> vertices;
+        CGAL::convex_hull_2(all.begin(), all.end(), std::back_inserter(vertices));
+        return vertices.size();
     });
     table.time("load", "Boost convex_hull", n, [&] {
         boost::geometry::model::multi_point<BoostPoint> many;
@@ -295,16 +295,16 @@ void time_loads(Table &table, const Points &points, bool slow) {
     }
 }
 
-void time_corners(Table &table, const Ours &ours, const Ours &known, const Chain &chain) {
-    const size_t count = chain.corners.size();
+void time_vertices(Table &table, const Ours &ours, const Ours &known, const Chain &chain) {
+    const size_t count = chain.vertices.size();
     Points out(count), copy(count);
     table.time("corners", "hull_vertices", count, [&] { return hull_vertices(ours.place, out.data(), count).number; });
     table.time("corners", "hull_vertices, known", count, [&] { return hull_vertices(known.place, out.data(), count).number; });
     table.time("corners", "a pass over an array", count, [&] {
-        std::copy(chain.corners.begin(), chain.corners.end(), copy.begin());
+        std::copy(chain.vertices.begin(), chain.vertices.end(), copy.begin());
         return copy.size();
     });
-    if (!std::equal(out.begin(), out.end(), chain.corners.begin(), [](Point a, Point b) { return a.x == b.x && a.y == b.y; })) {
+    if (!std::equal(out.begin(), out.end(), chain.vertices.begin(), [](Point a, Point b) { return a.x == b.x && a.y == b.y; })) {
         std::printf("the corners differ\n");
         std::exit(1);
     }
@@ -320,20 +320,20 @@ template <class Answer> size_t count_of(const Points &asked, Answer answer) {
 
 void time_places(Table &table, const Ours &ours, const Ours &known, const Chain &chain, const Points &asked, bool all) {
     const size_t n = asked.size();
-    const Geos geos(chain.corners, alone(asked));
-    const auto polygon = to_cgal(chain.corners), points = to_cgal(asked);
+    const Geos geos(chain.vertices, alone(asked));
+    const auto polygon = to_cgal(chain.vertices), points = to_cgal(asked);
     std::vector<size_t> counts;
     const auto time = [&](const char *name, const std::function<bool(size_t)> &covers) {
         counts.push_back(table.time("place", name, n, [&] { return count_of(asked, covers); }));
     };
-    const Point *corners = chain.corners.data();
-    const size_t h = chain.corners.size();
-    time("hull_polygon_place", [&](size_t i) { return hull_polygon_place(corners, h, asked[i].x, asked[i].y).code != HULL_OUTSIDE; });
+    const Point *vertices = chain.vertices.data();
+    const size_t h = chain.vertices.size();
+    time("hull_polygon_place", [&](size_t i) { return hull_polygon_place(vertices, h, asked[i].x, asked[i].y).code != HULL_OUTSIDE; });
     time("hull_place", [&](size_t i) { return hull_place(ours.place, asked[i].x, asked[i].y).code != HULL_OUTSIDE; });
     time("hull_place, known", [&](size_t i) { return hull_place(known.place, asked[i].x, asked[i].y).code != HULL_OUTSIDE; });
-    time("bisection behind a call", [&](size_t i) { return place_behind_a_call(chain, asked[i].x, asked[i].y).code != HULL_OUTSIDE; });
+    time("bisection behind a call", [&](size_t i) { return place_by_a_call(chain, asked[i].x, asked[i].y).code != HULL_OUTSIDE; });
     time("corners and bisection", [&](size_t i) { return chain.covers(asked[i]); });
-    time("GEOS prepared", [&](size_t i) { return geos.meets(i); });
+    time("GEOS prepared", [&](size_t i) { return geos.intersects(i); });
     if (all) {
         time("CGAL bounded_side_2", [&](size_t i) {
             return CGAL::bounded_side_2(polygon.begin(), polygon.end(), points[i], Kernel()) != CGAL::ON_UNBOUNDED_SIDE;
@@ -362,10 +362,10 @@ double distance_of(const hull_witness &w) {
 
 // Whether a segment intersects the polygon of these vertices, as Box2D casts a ray at a polygon (Catto): it is cut by the half
 // plane of each edge, in doubles. All edges are asked.
-bool cut_by_half_planes(const Points &corners, Point a, Point b) {
+bool cut_by_half_planes(const Points &vertices, Point a, Point b) {
     double lower = 0, upper = 1;
-    for (size_t i = 0; i < corners.size(); i++) {
-        const Point p = corners[i], q = corners[(i + 1) % corners.size()];
+    for (size_t i = 0; i < vertices.size(); i++) {
+        const Point p = vertices[i], q = vertices[(i + 1) % vertices.size()];
         const double nx = double(q.y - p.y), ny = double(p.x - q.x);
         const double numerator = nx * double(p.x - a.x) + ny * double(p.y - a.y);
         const double denominator = nx * double(b.x - a.x) + ny * double(b.y - a.y);
@@ -389,16 +389,16 @@ std::vector<Points> triangles_of(const Points &asked, int64_t right) {
     for (size_t i = 0; i < asked.size(); i++) {
         const Point p{asked[i].x + right, asked[i].y}, &next = asked[(i + 1) % asked.size()];
         const Point q{p.x + (next.x - asked[i].x) / 8, p.y + (next.y - p.y) / 8};
-        triangles.push_back(Chain::of({p, q, {p.x - (q.y - p.y), p.y + (q.x - p.x)}}).corners);
+        triangles.push_back(Chain::of({p, q, {p.x - (q.y - p.y), p.y + (q.x - p.x)}}).vertices);
     }
     return triangles;
 }
 
 // Times motions from each of the points an eighth of the way to the next, and triangles there, that may intersect the polygon. GEOS
 // multiplies doubles, so the number of its answers that differ is printed.
-void time_meetings(Table &table, const Chain &chain, const Points &asked) {
-    const size_t n = asked.size(), h = chain.corners.size();
-    const Point *corners = chain.corners.data();
+void time_intersections(Table &table, const Chain &chain, const Points &asked) {
+    const size_t n = asked.size(), h = chain.vertices.size();
+    const Point *vertices = chain.vertices.data();
     const std::vector<Points> triangles = triangles_of(asked, 0);
     std::vector<Points> motions;
     for (size_t i = 0; i < n; i++) {
@@ -407,16 +407,16 @@ void time_meetings(Table &table, const Chain &chain, const Points &asked) {
     }
     size_t ours = 0, theirs = 0;
     {
-        const Geos geos(chain.corners, motions);
+        const Geos geos(chain.vertices, motions);
         ours += table.time("motion", "hull_polygon_intersects_segment", n, [&] {
             return count_of(asked, [&](size_t i) {
                 const Points &m = motions[i];
-                return hull_polygon_intersects_segment(corners, h, m[0].x, m[0].y, m[1].x, m[1].y).number;
+                return hull_polygon_intersects_segment(vertices, h, m[0].x, m[0].y, m[1].x, m[1].y).number;
             });
         });
-        theirs += table.time("motion", "GEOS prepared", n, [&] { return count_of(asked, [&](size_t i) { return geos.meets(i); }); });
+        theirs += table.time("motion", "GEOS prepared", n, [&] { return count_of(asked, [&](size_t i) { return geos.intersects(i); }); });
         const size_t cut = table.time("motion", "half planes in doubles", n, [&] {
-            return count_of(asked, [&](size_t i) { return cut_by_half_planes(chain.corners, motions[i][0], motions[i][1]); });
+            return count_of(asked, [&](size_t i) { return cut_by_half_planes(chain.vertices, motions[i][0], motions[i][1]); });
         });
         if (cut != ours) {
             std::printf("of %zu motions %zu meet, and by half planes in doubles %zu\n", n, ours, cut);
@@ -424,20 +424,20 @@ void time_meetings(Table &table, const Chain &chain, const Points &asked) {
         table.time("motion", "hull_polygon_separation", n, [&] {
             return count_of(asked, [&](size_t i) {
                 const Points &m = motions[i];
-                return hull_polygon_separation(corners, h, m[0].x, m[0].y, m[1].x, m[1].y).code == HULL_DISJOINT;
+                return hull_polygon_separation(vertices, h, m[0].x, m[0].y, m[1].x, m[1].y).code == HULL_DISJOINT;
             });
         });
     }
-    const Geos geos(chain.corners, triangles);
+    const Geos geos(chain.vertices, triangles);
     ours += table.time("triangle", "hull_polygon_intersects", n, [&] {
         return count_of(asked, [&](size_t i) {
-            return hull_polygon_intersects(corners, h, triangles[i].data(), triangles[i].size()).number;
+            return hull_polygon_intersects(vertices, h, triangles[i].data(), triangles[i].size()).number;
         });
     });
-    theirs += table.time("triangle", "GEOS prepared", n, [&] { return count_of(asked, [&](size_t i) { return geos.meets(i); }); });
+    theirs += table.time("triangle", "GEOS prepared", n, [&] { return count_of(asked, [&](size_t i) { return geos.intersects(i); }); });
     table.time("triangle", "hull_polygon_witness", n, [&] {
         return count_of(asked, [&](size_t i) {
-            return hull_polygon_witness(corners, h, triangles[i].data(), triangles[i].size()).code == HULL_DISJOINT;
+            return hull_polygon_witness(vertices, h, triangles[i].data(), triangles[i].size()).code == HULL_DISJOINT;
         });
     });
     if (ours != theirs) {
@@ -448,24 +448,24 @@ void time_meetings(Table &table, const Chain &chain, const Points &asked) {
 // Times the distances of the same triangles, and then of those beside the polygon, to the right of it by its width. GEOS has
 // doubles, so the number of its distances that differ is printed.
 void time_distances(Table &table, const Chain &chain, const Points &asked) {
-    const size_t n = asked.size(), h = chain.corners.size();
-    const Point *corners = chain.corners.data();
-    const auto [least, greatest] = std::minmax_element(corners, corners + h, [](Point p, Point q) { return p.x < q.x; });
+    const size_t n = asked.size(), h = chain.vertices.size();
+    const Point *vertices = chain.vertices.data();
+    const auto [least, greatest] = std::minmax_element(vertices, vertices + h, [](Point p, Point q) { return p.x < q.x; });
     for (const int64_t right : {int64_t{0}, 2 * (greatest->x - least->x)}) {
         const std::string name = right == 0 ? "triangle" : "beside";
         const std::vector<Points> triangles = triangles_of(asked, right);
-        const Geos geos(chain.corners, triangles);
+        const Geos geos(chain.vertices, triangles);
         table.time(name, "hull_polygon_distance", n, [&] {
             return count_of(asked, [&](size_t i) {
-                return hull_polygon_distance(corners, h, triangles[i].data(), triangles[i].size()).code != HULL_INTERSECTING;
+                return hull_polygon_distance(vertices, h, triangles[i].data(), triangles[i].size()).code != HULL_INTERSECTING;
             });
         });
         table.time(name, "GEOS prepared, the distance", n, [&] {
             return count_of(asked, [&](size_t i) { return geos.distance(i) > 0; });
         });
         const size_t differ = count_of(asked, [&](size_t i) {
-            const double told = distance_of(hull_polygon_distance(corners, h, triangles[i].data(), triangles[i].size()));
-            return std::abs(told - geos.distance(i)) > 1e-9 * told + 1e-6;
+            const double computed = distance_of(hull_polygon_distance(vertices, h, triangles[i].data(), triangles[i].size()));
+            return std::abs(computed - geos.distance(i)) > 1e-9 * computed + 1e-6;
         });
         if (differ > 0) {
             std::printf("of %zu distances %zu are not those of GEOS\n", n, differ);
@@ -476,13 +476,13 @@ void time_distances(Table &table, const Chain &chain, const Points &asked) {
 // Times the relation of the triangles to the polygon: touching, overlapping, one within the other. GEOS computes it from all of the
 // polygon's edges, so it is asked fewer.
 void time_relations(Table &table, const Chain &chain, const Points &asked) {
-    const size_t h = chain.corners.size(), n = asked.size() / (h < 10000 ? 10 : 1000);
+    const size_t h = chain.vertices.size(), n = asked.size() / (h < 10000 ? 10 : 1000);
     const Points some(asked.begin(), asked.begin() + static_cast<std::ptrdiff_t>(n));
     const std::vector<Points> triangles = triangles_of(some, 0);
-    const Geos geos(chain.corners, triangles);
+    const Geos geos(chain.vertices, triangles);
     std::vector<hull_relation> ours(n), theirs(n);
     const auto relation = [&](size_t i) {
-        return static_cast<hull_relation>(hull_polygon_relation(chain.corners.data(), h, triangles[i].data(), triangles[i].size()).number);
+        return static_cast<hull_relation>(hull_polygon_relation(chain.vertices.data(), h, triangles[i].data(), triangles[i].size()).number);
     };
     table.time("relation", "hull_polygon_relation", n, [&] { return count_of(some, [&](size_t i) { return ours[i] = relation(i); }); });
     table.time("relation", "GEOS, the nine intersections", n, [&] { return count_of(some, [&](size_t i) { return theirs[i] = geos.relation(i); }); });
@@ -499,19 +499,19 @@ void time_relations(Table &table, const Chain &chain, const Points &asked) {
 // Times whether the distance of the polygon and triangles to the right of it by its width is at most three halves of that, which
 // holds for about half of them.
 void time_lengths(Table &table, const Chain &chain, const Points &asked) {
-    const size_t n = asked.size(), h = chain.corners.size();
-    const Point *corners = chain.corners.data();
-    const auto [least, greatest] = std::minmax_element(corners, corners + h, [](Point p, Point q) { return p.x < q.x; });
+    const size_t n = asked.size(), h = chain.vertices.size();
+    const Point *vertices = chain.vertices.data();
+    const auto [least, greatest] = std::minmax_element(vertices, vertices + h, [](Point p, Point q) { return p.x < q.x; });
     const int64_t width = greatest->x - least->x;
     const std::vector<Points> triangles = triangles_of(asked, 2 * width);
-    const Geos geos(chain.corners, triangles);
+    const Geos geos(chain.vertices, triangles);
     const size_t ours = table.time("length", "hull_polygon_within_distance", n, [&] {
         return count_of(asked, [&](size_t i) {
-            return hull_polygon_within_distance(corners, h, triangles[i].data(), triangles[i].size(), static_cast<uint64_t>(3 * width), 2).number;
+            return hull_polygon_within_distance(vertices, h, triangles[i].data(), triangles[i].size(), static_cast<uint64_t>(3 * width), 2).number;
         });
     });
     const double far = 1.5 * static_cast<double>(width);
-    const size_t theirs = table.time("length", "GEOS prepared", n, [&] { return count_of(asked, [&](size_t i) { return geos.within(i, far); }); });
+    const size_t theirs = table.time("length", "GEOS prepared", n, [&] { return count_of(asked, [&](size_t i) { return geos.within_distance(i, far); }); });
     if (ours != theirs) {
         std::printf("of %zu triangles %zu are within three halves of the width, and by GEOS %zu\n", n, ours, theirs);
     }
@@ -527,7 +527,7 @@ double place_time(const Chain &chain, const Points &asked, size_t threads, int r
         for (size_t thread = 0; thread < threads; thread++) {
             all.emplace_back([&] {
                 volatile size_t covered = count_of(asked, [&](size_t i) {
-                    return hull_polygon_place(chain.corners.data(), chain.corners.size(), asked[i].x, asked[i].y).code != HULL_OUTSIDE;
+                    return hull_polygon_place(chain.vertices.data(), chain.vertices.size(), asked[i].x, asked[i].y).code != HULL_OUTSIDE;
                 });
                 (void)covered;
             });
@@ -543,10 +543,10 @@ double place_time(const Chain &chain, const Points &asked, size_t threads, int r
 
 void time_extremes(Table &table, const Ours &ours, const Ours &known, const Chain &chain, const Points &asked) {
     const size_t n = asked.size();
-    const Point *corners = chain.corners.data();
-    const size_t h = chain.corners.size();
-    const size_t outline_sum = table.time("extreme", "hull_polygon_extreme", n, [&] {
-        return count_of(asked, [&](size_t i) { return static_cast<size_t>(hull_polygon_extreme(corners, h, asked[i].x, asked[i].y).x); });
+    const Point *vertices = chain.vertices.data();
+    const size_t h = chain.vertices.size();
+    const size_t polygon_sum = table.time("extreme", "hull_polygon_extreme", n, [&] {
+        return count_of(asked, [&](size_t i) { return static_cast<size_t>(hull_polygon_extreme(vertices, h, asked[i].x, asked[i].y).x); });
     });
     const size_t ours_sum = table.time("extreme", "hull_extreme", n, [&] {
         return count_of(asked, [&](size_t i) { return static_cast<size_t>(hull_extreme(ours.place, asked[i].x, asked[i].y).x); });
@@ -554,13 +554,13 @@ void time_extremes(Table &table, const Ours &ours, const Ours &known, const Chai
     const size_t known_sum = table.time("extreme", "hull_extreme, known", n, [&] {
         return count_of(asked, [&](size_t i) { return static_cast<size_t>(hull_extreme(known.place, asked[i].x, asked[i].y).x); });
     });
-    const size_t behind = table.time("extreme", "bisection behind a call", n, [&] {
-        return count_of(asked, [&](size_t i) { return static_cast<size_t>(extreme_behind_a_call(chain, asked[i].x, asked[i].y).x); });
+    const size_t by_a_call = table.time("extreme", "bisection behind a call", n, [&] {
+        return count_of(asked, [&](size_t i) { return static_cast<size_t>(extreme_by_a_call(chain, asked[i].x, asked[i].y).x); });
     });
     const size_t other = table.time("extreme", "corners and bisection", n, [&] {
         return count_of(asked, [&](size_t i) { return static_cast<size_t>(chain.extreme(asked[i].x, asked[i].y).x); });
     });
-    if (ours_sum != other || outline_sum != other || known_sum != other || behind != other) {
+    if (ours_sum != other || polygon_sum != other || known_sum != other || by_a_call != other) {
         std::printf("the farthest points differ\n");
         std::exit(1);
     }
@@ -587,7 +587,7 @@ int main(int argc, char **argv) {
         asked.push_back({x(random), y(random)});
     }
     // fewer for a polygon of many vertices, since a question that looks at all of its edges takes a millisecond there
-    const Points some(asked.begin(), chain.corners.size() < 10000 ? asked.end() : asked.begin() + 1000);
+    const Points some(asked.begin(), chain.vertices.size() < 10000 ? asked.end() : asked.begin() + 1000);
     // as many directions to each side of the set
     Points directions;
     std::uniform_int_distribution<int64_t> any(-1000, 1000), slope(-2 * wide, 2 * wide);
@@ -604,15 +604,15 @@ int main(int argc, char **argv) {
     Table table;
     for (int round = 0; round < rounds; round++) {
         time_loads(table, points, shape == "square");
-        time_corners(table, ours, known, chain);
-        time_places(table, ours, known, chain, asked, chain.corners.size() < 1000);
+        time_vertices(table, ours, known, chain);
+        time_places(table, ours, known, chain, asked, chain.vertices.size() < 1000);
         time_extremes(table, ours, known, chain, directions);
-        time_meetings(table, chain, some);
+        time_intersections(table, chain, some);
         time_distances(table, chain, some);
         time_relations(table, chain, asked);
         time_lengths(table, chain, some);
     }
-    std::printf("%s, %zu points, %zu corners\n", shape.c_str(), count, chain.corners.size());
+    std::printf("%s, %zu points, %zu corners\n", shape.c_str(), count, chain.vertices.size());
     table.print();
     const double one = place_time(chain, asked, 1, 5 * rounds), four = place_time(chain, asked, 4, 5 * rounds);
     std::printf("  %-9s %-34s %10.1f ns  of one thread's speed %.2f\n", "place", "hull_polygon_place by 4 threads", four, one / four);

@@ -62,17 +62,17 @@ template <class Place> unsigned long asked(const std::atomic<bool> &stops, Point
 class Shared : public Way {
 public:
     explicit Shared(unsigned readers, std::uint32_t lines = 0) {
-        desk_ = hull_shared_new();
-        bool good = desk_ != nullptr && (readers == 0 || hull_shared_set_max_readers(desk_, readers) == HULL_READERS_SET);
-        good = good && (lines > 0 ? hull_shared_open(desk_, HULL_LIMIT_MAX, 0, lines, most_threads + 1)
-                                  : hull_shared_open_without_journal(desk_, HULL_LIMIT_MAX, 0, most_threads + 1)) == HULL_OPEN;
+        shared_ = hull_shared_new();
+        bool good = shared_ != nullptr && (readers == 0 || hull_shared_set_max_readers(shared_, readers) == HULL_READERS_SET);
+        good = good && (lines > 0 ? hull_shared_open(shared_, HULL_LIMIT_MAX, 0, lines, most_threads + 1)
+                                  : hull_shared_open_without_journal(shared_, HULL_LIMIT_MAX, 0, most_threads + 1)) == HULL_OPEN;
         for (unsigned k = 0; good && k < readers; k++) {
             readers_.push_back(hull_shared_reader_new());
-            good = readers_[k] != nullptr && hull_shared_acquire_reader(desk_, readers_[k]) == HULL_ACQUIRED;
+            good = readers_[k] != nullptr && hull_shared_acquire_reader(shared_, readers_[k]) == HULL_ACQUIRED;
         }
         for (unsigned k = 0; good && k <= most_threads; k++) {
             seats_.push_back(hull_shared_seat_new());
-            good = seats_[k] != nullptr && hull_shared_acquire_seat(desk_, &line_, seats_[k], k) == HULL_ACQUIRED;
+            good = seats_[k] != nullptr && hull_shared_acquire_seat(shared_, &gate_, seats_[k], k) == HULL_ACQUIRED;
         }
         if (!good) {
             std::abort();
@@ -80,20 +80,20 @@ public:
     }
     ~Shared() override {
         for (hull_shared_seat *seat : seats_) {
-            hull_shared_release_seat(desk_, seat), hull_shared_seat_free(seat);
+            hull_shared_release_seat(shared_, seat), hull_shared_seat_free(seat);
         }
         for (hull_shared_reader *reader : readers_) {
-            hull_shared_release_reader(desk_, reader), hull_shared_reader_free(reader);
+            hull_shared_release_reader(shared_, reader), hull_shared_reader_free(reader);
         }
-        hull_shared_close(desk_), hull_shared_end(desk_), hull_shared_free(desk_);
+        hull_shared_close(shared_), hull_shared_end(shared_), hull_shared_free(shared_);
     }
     void change(bool adds, std::int64_t x, std::int64_t y) override {
-        hull_shared_call(&line_, seats_[most_threads], adds ? HULL_KIND_ADD : HULL_KIND_REMOVE, x, y);
+        hull_shared_call(&gate_, seats_[most_threads], adds ? HULL_KIND_ADD : HULL_KIND_REMOVE, x, y);
     }
 
 protected:
-    hull_shared_gate line_ = {};
-    hull_shared *desk_;
+    hull_shared_gate gate_ = {};
+    hull_shared *shared_;
     std::vector<hull_shared_seat *> seats_;
     std::vector<hull_shared_reader *> readers_;
 };
@@ -103,21 +103,21 @@ public:
     Seats() : Shared(0) {}
     unsigned long ask(unsigned me, const std::atomic<bool> &stops, Points points) override {
         return asked(stops, points, [&](std::int64_t x, std::int64_t y) {
-            return hull_shared_call(&line_, seats_[me], HULL_KIND_PLACE, x, y).told.code;
+            return hull_shared_call(&gate_, seats_[me], HULL_KIND_PLACE, x, y).told.code;
         });
     }
 };
 
 // Each question takes the newest snapshot, and copies its vertices.
-class Views : public Shared {
+class Snapshots : public Shared {
 public:
-    Views() : Shared(most_threads) {}
+    Snapshots() : Shared(most_threads) {}
     unsigned long ask(unsigned me, const std::atomic<bool> &stops, Points points) override {
-        std::vector<hull_point> corners(1 << 12);
+        std::vector<hull_point> vertices(1 << 12);
         return asked(stops, points, [&](std::int64_t x, std::int64_t y) {
-            const hull_shared_view view = hull_shared_read(readers_[me]);
-            hull_shared_snapshot_vertices(readers_[me], corners.data(), corners.size());
-            return hull_polygon_place(corners.data(), view.count, x, y).code;
+            const hull_shared_view snapshot = hull_shared_read(readers_[me]);
+            hull_shared_snapshot_vertices(readers_[me], vertices.data(), vertices.size());
+            return hull_polygon_place(vertices.data(), snapshot.count, x, y).code;
         });
     }
 };
@@ -127,16 +127,16 @@ class Looks : public Shared {
 public:
     Looks() : Shared(most_threads) {}
     unsigned long ask(unsigned me, const std::atomic<bool> &stops, Points points) override {
-        std::vector<hull_point> corners(1 << 12);
+        std::vector<hull_point> vertices(1 << 12);
         hull_shared_reader *const reader = readers_[me];
-        hull_shared_view view = hull_shared_read(reader);
-        hull_shared_snapshot_vertices(reader, corners.data(), corners.size());
+        hull_shared_view snapshot = hull_shared_read(reader);
+        hull_shared_snapshot_vertices(reader, vertices.data(), vertices.size());
         return asked(stops, points, [&](std::int64_t x, std::int64_t y) {
             if (hull_shared_is_newest(reader) == 0) {
-                view = hull_shared_read(reader);
-                hull_shared_snapshot_vertices(reader, corners.data(), corners.size());
+                snapshot = hull_shared_read(reader);
+                hull_shared_snapshot_vertices(reader, vertices.data(), vertices.size());
             }
-            return hull_polygon_place(corners.data(), view.count, x, y).code;
+            return hull_polygon_place(vertices.data(), snapshot.count, x, y).code;
         });
     }
 };
@@ -164,24 +164,24 @@ private:
 // Copies of the vertices, made at each change that moves one, which the asking threads take by a counted pointer.
 class Copied : public Way {
 public:
-    using Corners = std::vector<hull_point>;
+    using VertexArray = std::vector<hull_point>;
     ~Copied() override { hull_free(set_); }
     void change(bool adds, std::int64_t x, std::int64_t y) override {
         adds ? hull_add(set_, x, y) : hull_remove(set_, x, y);
-        Corners corners(hull_vertices(set_, nullptr, 0).number);
-        hull_vertices(set_, corners.data(), corners.size());
-        newest_.store(std::make_shared<const Corners>(std::move(corners)));
+        VertexArray vertices(hull_vertices(set_, nullptr, 0).number);
+        hull_vertices(set_, vertices.data(), vertices.size());
+        newest_.store(std::make_shared<const VertexArray>(std::move(vertices)));
     }
     unsigned long ask(unsigned, const std::atomic<bool> &stops, Points points) override {
         return asked(stops, points, [&](std::int64_t x, std::int64_t y) {
-            const std::shared_ptr<const Corners> corners = newest_.load();
-            return hull_polygon_place(corners->data(), corners->size(), x, y).code;
+            const std::shared_ptr<const VertexArray> vertices = newest_.load();
+            return hull_polygon_place(vertices->data(), vertices->size(), x, y).code;
         });
     }
 
 private:
     hull_set *set_ = hull_new(HULL_LIMIT_MAX);
-    std::atomic<std::shared_ptr<const Corners>> newest_{std::make_shared<const Corners>()};
+    std::atomic<std::shared_ptr<const VertexArray>> newest_{std::make_shared<const VertexArray>()};
 };
 
 // Vertices that no thread changes: the fastest possible.
@@ -193,17 +193,17 @@ public:
     }
     unsigned long ask(unsigned, const std::atomic<bool> &stops, Points points) override {
         return asked(stops, points, [&](std::int64_t x, std::int64_t y) {
-            return hull_polygon_place(corners_.data(), corners_.size(), x, y).code;
+            return hull_polygon_place(vertices_.data(), vertices_.size(), x, y).code;
         });
     }
     void take() {
-        corners_.resize(hull_vertices(set_, nullptr, 0).number);
-        hull_vertices(set_, corners_.data(), corners_.size());
+        vertices_.resize(hull_vertices(set_, nullptr, 0).number);
+        hull_vertices(set_, vertices_.data(), vertices_.size());
     }
 
 private:
     hull_set *set_ = hull_new(HULL_LIMIT_MAX);
-    std::vector<hull_point> corners_;
+    std::vector<hull_point> vertices_;
 };
 
 void fill(Way &way, long count) {
@@ -283,7 +283,7 @@ double inner_change(unsigned readers, std::uint32_t lines, long points, long cou
 
 // Returns the nanoseconds of taking a new snapshot after a change, with the one before dropped: how much longer such a row takes
 // than one without.
-double view(long count, bool reads) {
+double snapshot_time(long count, bool reads) {
     struct Reading : Unasked {
         using Unasked::Unasked;
         void read(bool reads) {
@@ -311,7 +311,7 @@ int main(int words, char **word) {
     const long rounds = words > 4 ? std::atol(word[4]) : 5;
     Bare bare;
     Looks looks;
-    Views views;
+    Snapshots snapshots;
     Locked locked;
     Copied copied;
     Seats seats;
@@ -319,7 +319,7 @@ int main(int words, char **word) {
         const char *name;
         Way *way;
         double best[3];
-    } rows[] = {{"bare outline", &bare, {}}, {"reader, looks first", &looks, {}}, {"reader, each a view", &views, {}},
+    } rows[] = {{"bare outline", &bare, {}}, {"reader, looks first", &looks, {}}, {"reader, each a view", &snapshots, {}},
                 {"shared_mutex", &locked, {}}, {"atomic shared_ptr", &copied, {}}, {"seats", &seats, {}}};
     for (Row &row : rows) {
         fill(*row.way, points);
@@ -352,8 +352,8 @@ int main(int words, char **word) {
     }
     double taken = 1e18, none = 1e18;
     for (long round = 0; round < rounds; round++) {
-        taken = std::min(taken, view(100000, true));
-        none = std::min(none, view(100000, false));
+        taken = std::min(taken, snapshot_time(100000, true));
+        none = std::min(none, snapshot_time(100000, false));
     }
     std::printf("a view taken, and the one before let go: %.0f ns of processor\n", taken - none);
     return 0;

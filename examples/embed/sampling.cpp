@@ -1,6 +1,6 @@
-// A sampling planner of another library, OMPL's RRT-Connect (Kuffner and LaValle, 2000), whose motions are judged by outlines: each
-// is a segment, that is free where it meets no obstacle. OMPL's own judge looks at points along a motion and may step over a corner.
-// Nothing of an outline is ever written, so a planner with many threads may ask the same ones. Compile with
+// A sampling planner of another library, OMPL's RRT-Connect (Kuffner and LaValle, 2000), whose motions are validated by polygons: each
+// is a segment, which is free if it intersects no obstacle. OMPL's own validator tests points along a motion and may step over a vertex.
+// Nothing writes to a polygon, so a planner with many threads may query the same ones. Compile with
 //
 //     c++ sampling.cpp $(pkg-config --cflags ompl eigen3) $(pkg-config --cflags --libs hull) -lhull_shared -lompl -std=c++17 -o sampling
 #include "hull.hpp"
@@ -20,7 +20,7 @@ namespace {
 
 namespace base = ompl::base;
 
-// steps of 2^-20: what is asked of the outlines is the state next to OMPL's on this lattice
+// steps of 2^-20: the polygons are queried about the point of this lattice that is nearest to OMPL's state
 constexpr hull::Lattice lattice{20};
 
 hull::Point at(const base::State *state) {
@@ -30,18 +30,18 @@ hull::Point at(const base::State *state) {
 
 hull::Point whole(std::int64_t x, std::int64_t y) { return {x << 20, y << 20}; }
 
-const std::vector<hull::Outline> &obstacles() {
-    static const std::vector<hull::Outline> all = {
-        hull::Outline({whole(-9, -4), whole(6, -5), whole(6, -3)}),
-        hull::Outline({whole(-6, 3), whole(-1, 1), whole(9, 2), whole(9, 4)}),
-        hull::Outline({whole(-8, 0), whole(-3, -1), whole(-5, 2)}),
+const std::vector<hull::Polygon> &obstacles() {
+    static const std::vector<hull::Polygon> all = {
+        hull::Polygon({whole(-9, -4), whole(6, -5), whole(6, -3)}),
+        hull::Polygon({whole(-6, 3), whole(-1, 1), whole(9, 2), whole(9, 4)}),
+        hull::Polygon({whole(-8, 0), whole(-3, -1), whole(-5, 2)}),
     };
     return all;
 }
 
 bool is_free(hull::Point a, hull::Point b) {
-    for (const hull::Outline &obstacle : obstacles()) {
-        if (obstacle.meets_segment(a, b)) {
+    for (const hull::Polygon &obstacle : obstacles()) {
+        if (obstacle.intersects_segment(a, b)) {
             return false;
         }
     }

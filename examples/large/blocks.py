@@ -1,9 +1,9 @@
-"""The corners of more points than one machine holds, by Dask's distributed scheduler.
+"""The vertices of more points than one machine holds, by Dask's distributed scheduler.
 
     blocks.py POINTS [--workers N] [--shape square|parabola] [--seed S] [--kill]
 
-The corners of a union are those of the corners. So each worker loads blocks of at most 1,048,576 points, which here are made by the
-block's number from the seed, and keeps the outline of each; outlines are merged as a tree, and no point crosses but corners. With
+The vertices of a union are those of the vertices. So each worker loads blocks of at most 1,048,576 points, which here are made by the
+block's number from the seed, and keeps the polygon of each; polygons are merged as a tree, and only vertices are sent. With
 --kill one worker is killed in the middle: its blocks are made again by the others, and the answer is the same. `--workers 0` does all
 in this one process, with no Dask. The answer goes to the standard output, what it took to the other one.
 """
@@ -29,7 +29,7 @@ def mixed(words):
 
 
 def points_of(shape, seed, first, count):
-    """The points from one number on: random ones of a square, or those of a parabola in mixed order, where all are corners."""
+    """The points from one number on: random ones of a square, or those of a parabola in mixed order, where all are vertices."""
     numbers = numpy.arange(first, first + count, dtype=numpy.uint64)
     if shape == "parabola":
         x = (numbers * numpy.uint64(0x9E3779B1) % numpy.uint64(1 << 20)).astype(numpy.int64) - (1 << 19)
@@ -39,28 +39,28 @@ def points_of(shape, seed, first, count):
     return (words >> numpy.uint64(24)).astype(numpy.int64) - (1 << 39)
 
 
-def outline_of_block(asked, number):
-    """The outline of a block: what a worker does with the points that it has."""
+def polygon_of_block(asked, number):
+    """The polygon of a block: what a worker does with the points that it has."""
     first = number * asked.block
-    return hull.Outline.of(points_of(asked.shape, asked.seed, first, min(asked.block, asked.points - first)))
+    return hull.Polygon.of(points_of(asked.shape, asked.seed, first, min(asked.block, asked.points - first)))
 
 
 def by_one_process(asked, blocks):
-    """The outline of all, a block behind the other."""
-    return hull.merge(outline_of_block(asked, number) for number in range(blocks))
+    """The polygon of all, one block after the other."""
+    return hull.merge(polygon_of_block(asked, number) for number in range(blocks))
 
 
 def kill_one(client):
-    """Kills the worker that holds most outlines, with them."""
+    """Kills the worker that holds most polygons, with them."""
     address, held = max(client.has_what().items(), key=lambda it: len(it[1]))
     print("a worker is killed that holds", len(held), "outlines", file=sys.stderr)
     os.kill(client.run(os.getpid, workers=[address])[address], signal.SIGKILL)
 
 
 def by_workers(asked, blocks, client):
-    """The same by the workers of a client: a task for each block, and one for each group of outlines that are merged."""
+    """The same by the workers of a client: a task for each block, and one for each group of polygons that are merged."""
     from distributed import wait
-    layer = client.map(partial(outline_of_block, asked), range(blocks), pure=False)
+    layer = client.map(partial(polygon_of_block, asked), range(blocks), pure=False)
     if asked.kill:
         wait(layer[:max(1, blocks // 2)])
         kill_one(client)
@@ -77,13 +77,13 @@ def sent():
 
 
 def with_cluster(asked, blocks):
-    """The outline of all by workers, each a process, with the seconds and the bytes from when all are there."""
+    """The polygon of all by workers, each a process, with the seconds and the bytes from when all are there."""
     from distributed import Client, LocalCluster
     with LocalCluster(n_workers=asked.workers, threads_per_worker=1, dashboard_address=None) as cluster, Client(cluster) as client:
         client.wait_for_workers(asked.workers)
         begun, before = time.time(), sent()
-        outline = by_workers(asked, blocks, client)
-        return outline, time.time() - begun, sent() - before
+        polygon = by_workers(asked, blocks, client)
+        return polygon, time.time() - begun, sent() - before
 
 
 def main():
@@ -99,11 +99,11 @@ def main():
         sys.exit(f"blocks.py: blocks are of 1 to {BLOCK} points, and the parabola has so many at most")
     blocks = -(-asked.points // asked.block)
     if asked.workers:
-        outline, seconds, crossed = with_cluster(asked, blocks)
+        polygon, seconds, crossed = with_cluster(asked, blocks)
     else:
         begun, crossed = time.time(), 0
-        outline, seconds = by_one_process(asked, blocks), time.time() - begun
-    print(asked.points, "points,", len(outline), "corners, doubled area", outline.doubled_area(), "diameter", *sum(outline.diameter(), ()))
+        polygon, seconds = by_one_process(asked, blocks), time.time() - begun
+    print(asked.points, "points,", len(polygon), "corners, doubled area", polygon.doubled_area(), "diameter", *sum(polygon.diameter(), ()))
     print(f"{seconds:.2f} s, {asked.points / seconds / 1e6:.2f} million points a second, {crossed} bytes sent", file=sys.stderr)
 
 

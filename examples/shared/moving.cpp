@@ -4,7 +4,7 @@
 //     c++ moving.cpp $(pkg-config --cflags ompl eigen3) $(pkg-config --cflags --libs hull) -lhull_shared -lompl -lpthread -std=c++20 -o moving
 //
 // moving [WAY [PLANS]] plans so often in each thread (25), by `readers`, by a `mutex` round hulls of one thread, or by `copies` of their
-// corners that a mutex guards; the time goes to standard error.
+// vertices that a mutex guards; the time goes to standard error.
 #include "hull.hpp"
 
 #include <ompl/base/MotionValidator.h>
@@ -39,7 +39,7 @@ hull::Point at(const base::State *state) {
     return lattice.point(s->values[0], s->values[1]);
 }
 
-// The corners of an obstacle at a moment: each goes up and down by at most 1, and leaves a way round on both sides.
+// The vertices of an obstacle at a moment: each goes up and down by at most 1, and leaves a way round on both sides.
 std::vector<hull::Point> shape(std::size_t k, unsigned moment) {
     static const std::array<std::vector<std::array<std::int64_t, 2>>, obstacles> shapes = {{
         {{-8, -5}, {5, -6}, {6, -4}, {0, -3}},
@@ -54,10 +54,10 @@ std::vector<hull::Point> shape(std::size_t k, unsigned moment) {
     return points;
 }
 
-// A planner's question: whether a motion meets no obstacle.
+// A planner's question: whether a motion intersects no obstacle.
 using Judge = std::function<bool(hull::Point, hull::Point)>;
 
-// Where the obstacles are kept: how they move, and what a planner asks them by.
+// The obstacles: how they move, and how a planner queries them.
 class World {
 public:
     virtual ~World() = default;
@@ -71,7 +71,7 @@ public:
     Readers() {
         for (std::size_t k = 0; k < obstacles; k++) {
             hulls_.push_back(hull::SharedHull::open_without_journal({1000, 0, 1, 1, planners}));
-            seats_.push_back(hulls_[k].lend(0));
+            seats_.push_back(hulls_[k].acquire_seat(0));
         }
     }
     void move(std::size_t k, const std::vector<hull::Point> &from, const std::vector<hull::Point> &to) override {
@@ -85,11 +85,11 @@ public:
     Judge judge() override {
         auto readers = std::make_shared<std::vector<hull::Reader>>();
         for (hull::SharedHull &hull : hulls_) {
-            readers->push_back(hull.lend_reader());
+            readers->push_back(hull.acquire_reader());
         }
         return [readers](hull::Point a, hull::Point b) {
             for (hull::Reader &reader : *readers) {
-                if (reader.newest().meets_segment(a, b)) {
+                if (reader.newest().intersects_segment(a, b)) {
                     return false;
                 }
             }
@@ -102,7 +102,7 @@ private:
     std::vector<hull::Seat> seats_;
 };
 
-// Hulls of one thread behind a mutex, from which each question takes its outline.
+// Hulls of one thread behind a mutex, from which each question takes its polygon.
 class Locked : public World {
 public:
     Locked() {
@@ -123,7 +123,7 @@ public:
         return [this](hull::Point a, hull::Point b) {
             const std::lock_guard<std::mutex> lock(lock_);
             for (hull::Hull &hull : hulls_) {
-                if (hull.outline().meets_segment(a, b)) {
+                if (hull.polygon().intersects_segment(a, b)) {
                     return false;
                 }
             }
@@ -136,23 +136,23 @@ private:
     std::mutex lock_;
 };
 
-// Outlines that are copied behind a mutex, by hand: one by who moves, and one by each question.
+// Polygons behind a mutex, which the moving thread replaces and each question copies.
 class Copies : public World {
 public:
     void move(std::size_t k, const std::vector<hull::Point> &, const std::vector<hull::Point> &to) override {
-        auto outline = std::make_shared<const hull::Outline>(hull::Outline::of(to));
+        auto polygon = std::make_shared<const hull::Polygon>(hull::Polygon::of(to));
         const std::lock_guard<std::mutex> lock(lock_);
-        outlines_[k] = std::move(outline);
+        polygons_[k] = std::move(polygon);
     }
     Judge judge() override {
         return [this](hull::Point a, hull::Point b) {
-            std::array<std::shared_ptr<const hull::Outline>, obstacles> all;
+            std::array<std::shared_ptr<const hull::Polygon>, obstacles> all;
             {
                 const std::lock_guard<std::mutex> lock(lock_);
-                all = outlines_;
+                all = polygons_;
             }
-            for (const auto &outline : all) {
-                if (outline->meets_segment(a, b)) {
+            for (const auto &polygon : all) {
+                if (polygon->intersects_segment(a, b)) {
                     return false;
                 }
             }
@@ -161,7 +161,7 @@ public:
     }
 
 private:
-    std::array<std::shared_ptr<const hull::Outline>, obstacles> outlines_;
+    std::array<std::shared_ptr<const hull::Polygon>, obstacles> polygons_;
     std::mutex lock_;
 };
 

@@ -14,7 +14,7 @@ PLACE = 5, 50
 
 
 def insert(hull: SharedHull, number: int, height: Callable[[int], int]) -> None:
-    with hull.lend(number) as seat:
+    with hull.acquire_seat(number) as seat:
         for i in range(ROUNDS):
             seat.add(i if i % 2 else -i, height(i))
 
@@ -33,11 +33,11 @@ heights: List[Callable[[int], int]] = [lambda i: i, lambda i: -i, lambda i: 0]
 inserting = [threading.Thread(target=insert, args=(hull, number, height)) for number, height in enumerate(heights, 1)]
 for thread in inserting:
     thread.start()
-with hull.lend(0) as seat:
+with hull.acquire_seat(0) as seat:
     asked = ask(seat)
     for thread in inserting:
         thread.join()
-    print(f"{seat.count()} points, {seat.corners()} corners, doubled area {seat.doubled_area()}")
+    print(f"{seat.count()} points, {seat.vertex_count()} corners, doubled area {seat.doubled_area()}")
     print("(5, 50) lies", seat.place(*PLACE).name.capitalize())
 journal = hull.close()
 print("each call has its line:", str(len(journal.splitlines()) == 3 * ROUNDS + asked + 4 + 2).lower())

@@ -28,17 +28,17 @@ using hull::SharedHull;
 static std::atomic<int> passed, failed;
 static long refused = -1;
 
-// the request that comes behind so many is refused (with no inlining, by which gcc would see a mismatch of new and free)
-#define APART __attribute__((noinline))
-APART void *operator new(std::size_t size) {
+// the request that comes after so many is refused (not inlined, since gcc would see a mismatch of new and free)
+#define NO_INLINE __attribute__((noinline))
+NO_INLINE void *operator new(std::size_t size) {
     void *block = refused >= 0 && refused-- == 0 ? nullptr : std::malloc(size > 0 ? size : 1);
     if (block == nullptr) {
         throw std::bad_alloc();
     }
     return block;
 }
-APART void operator delete(void *block) noexcept { std::free(block); }
-APART void operator delete(void *block, std::size_t) noexcept { std::free(block); }
+NO_INLINE void operator delete(void *block) noexcept { std::free(block); }
+NO_INLINE void operator delete(void *block, std::size_t) noexcept { std::free(block); }
 
 #define CHECK(...) check((__VA_ARGS__), #__VA_ARGS__, __LINE__)
 static void check(bool truth, const char *text, int line) {
@@ -55,8 +55,8 @@ template <class Call> static bool refuses(Refusal code, Call call) {
     try {
         call();
     } catch (const std::runtime_error &fault) {
-        const auto *told = dynamic_cast<const hull::Fault *>(&fault);
-        return told != nullptr && told->code() == code && std::string(told->what()).size() > 10;
+        const auto *refusal = dynamic_cast<const hull::Fault *>(&fault);
+        return refusal != nullptr && refusal->code() == code && std::string(refusal->what()).size() > 10;
     }
     return false;
 }
@@ -69,126 +69,137 @@ static_assert(!std::is_copy_constructible_v<SharedHull> && std::is_nothrow_move_
 static const std::vector<Point> square = {{0, 0}, {10, 0}, {10, 10}, {0, 10}};
 constexpr std::int64_t far = HULL_COORDINATE_MAX;
 
-static void outlines() {
+static void polygons() {
     Hull h;
     for (std::int64_t step = 0; step < 25; step++) {
-        const hull::Outline outline = h.outline();
-        bool same = outline.corners() == h.vertices() && outline.doubled_area() == h.doubled_area();
+        const hull::Polygon polygon = h.polygon();
+        bool same = polygon.vertices() == h.vertices() && polygon.doubled_area() == h.doubled_area();
         for (Point p{-6, -6}; p.x <= 6; p.y < 6 ? p.y++ : (p.x++, p.y = -6)) {
-            same = same && outline.place(p) == h.place(p);
-            const auto seen = outline.tangents(p), wanted = h.tangents(p);
+            same = same && polygon.place(p) == h.place(p);
+            const auto seen = polygon.tangents(p), wanted = h.tangents(p);
             same = same && seen.has_value() == wanted.has_value();
             same = same && (!seen || (seen->left == wanted->left && seen->right == wanted->right));
-            same = same && ((p.x == 0 && p.y == 0) || outline.extreme(p) == h.extreme(p));
+            same = same && ((p.x == 0 && p.y == 0) || polygon.extreme(p) == h.extreme(p));
         }
         CHECK(same);
         h.add({step * 7 % 11 - 5, step * step % 11 - 5});
     }
-    const hull::Outline outline = h.outline();
-    CHECK(refuses(Refusal::zero_direction, [&] { outline.extreme({0, 0}); }));
-    CHECK(refuses(Refusal::out_of_range, [&] { outline.place({far + 1, 0}); }));
-    CHECK(refuses(Refusal::out_of_range, [] { hull::Outline({{0, far + 1}}); }));
-    CHECK(refuses(Refusal::no_outline, [] { hull::Outline({{1, 0}, {0, 0}}); }));
+    const hull::Polygon polygon = h.polygon();
+    CHECK(refuses(Refusal::zero_direction, [&] { polygon.extreme({0, 0}); }));
+    CHECK(refuses(Refusal::out_of_range, [&] { polygon.place({far + 1, 0}); }));
+    CHECK(refuses(Refusal::out_of_range, [] { hull::Polygon({{0, far + 1}}); }));
+    CHECK(refuses(Refusal::no_polygon, [] { hull::Polygon({{1, 0}, {0, 0}}); }));
     std::vector<Point> backward(square.rbegin(), square.rend());
-    CHECK(hull::Outline::of(backward).corners() == square && hull::Outline::of({}) == hull::Outline());
+    CHECK(hull::Polygon::of(backward).vertices() == square && hull::Polygon::of({}) == hull::Polygon());
     backward.push_back({5, 5});
-    CHECK(hull::Outline::of(backward).corners() == square && refuses(Refusal::out_of_range, [] { hull::Outline::of({{0, far + 1}}); }));
-    CHECK(hull::Outline().place({0, 0}) == Place::outside && hull::Outline() == hull::Outline(std::vector<Point>()) && outline != hull::Outline());
+    CHECK(hull::Polygon::of(backward).vertices() == square && refuses(Refusal::out_of_range, [] { hull::Polygon::of({{0, far + 1}}); }));
+    CHECK(hull::Polygon().place({0, 0}) == Place::outside && hull::Polygon() == hull::Polygon(std::vector<Point>()) && polygon != hull::Polygon());
 }
 
 static void encounters() {
-    const hull::Outline outline(square), none;
-    CHECK(outline.meets_segment({-5, 5}, {5, 15}) && !outline.meets_segment({-5, 6}, {5, 16}) && outline.meets_segment({10, 10}, {11, 11}));
-    CHECK(!outline.apart_from_segment({-5, 5}, {5, 15}));
-    const auto found = outline.apart_from_segment({-5, 6}, {5, 16});
+    const hull::Polygon polygon(square), none;
+    CHECK(polygon.intersects_segment({-5, 5}, {5, 15}) && !polygon.intersects_segment({-5, 6}, {5, 16}));
+    CHECK(polygon.intersects_segment({10, 10}, {11, 11}));
+    CHECK(!polygon.separation_from_segment({-5, 5}, {5, 15}));
+    const auto found = polygon.separation_from_segment({-5, 6}, {5, 16});
     CHECK(found && found->farthest == (Point{0, 10}) && found->direction == (Point{-10, 10}));
-    const auto corner = outline.nearest({12, -3}), edge = outline.nearest({3, -3}), inside = outline.nearest({3, 10});
-    CHECK(corner && corner->where == hull::Nearest::Where::corner && corner->from == (Point{10, 0}) && corner->to == corner->from);
+    const auto vertex = polygon.nearest({12, -3}), edge = polygon.nearest({3, -3}), inside = polygon.nearest({3, 10});
+    CHECK(vertex && vertex->where == hull::Nearest::Where::vertex && vertex->from == (Point{10, 0}) && vertex->to == vertex->from);
     CHECK(edge && edge->where == hull::Nearest::Where::edge && edge->from == (Point{0, 0}) && edge->to == (Point{10, 0}));
     CHECK(inside && inside->where == hull::Nearest::Where::covered && inside->from == (Point{3, 10}));
-    const auto box = outline.bounding_box();
+    const auto box = polygon.bounding_box();
     CHECK(box && box->least == (Point{0, 0}) && box->greatest == (Point{10, 10}));
-    CHECK(!none.meets_segment({0, 0}, {1, 1}) && !none.apart_from_segment({0, 0}, {1, 1}) && !none.nearest({0, 0}) && !none.bounding_box());
-    CHECK(refuses(Refusal::out_of_range, [&] { outline.meets_segment({0, 0}, {0, far + 1}); }));
-    CHECK(refuses(Refusal::out_of_range, [&] { outline.apart_from_segment({far + 1, 0}, {0, 0}); }));
-    CHECK(refuses(Refusal::out_of_range, [&] { outline.nearest({far + 1, 0}); }));
+    CHECK(!none.intersects_segment({0, 0}, {1, 1}) && !none.separation_from_segment({0, 0}, {1, 1}) && !none.nearest({0, 0}) && !none.bounding_box());
+    CHECK(refuses(Refusal::out_of_range, [&] { polygon.intersects_segment({0, 0}, {0, far + 1}); }));
+    CHECK(refuses(Refusal::out_of_range, [&] { polygon.separation_from_segment({far + 1, 0}, {0, 0}); }));
+    CHECK(refuses(Refusal::out_of_range, [&] { polygon.nearest({far + 1, 0}); }));
 }
 
-static void two_outlines() {
+static void two_polygons() {
     using Shows = hull::Witness::Shows;
-    const hull::Outline outline(square), none, small({{2, 2}, {4, 2}, {3, 4}}), beside({{12, 0}, {15, 3}, {12, 6}}), across({{-5, 5}, {15, 6}});
-    CHECK(outline.meets(small) && outline.contains(small) && !small.contains(outline) && !outline.meets(beside));
-    const auto covered = outline.witness(small), within = small.witness(outline), apart = outline.witness(beside), crossing = outline.witness(across);
-    CHECK(covered && covered->shows == Shows::within ? small.contains(hull::Outline({covered->a})) : covered->a.x >= 2);
-    CHECK(within && within->shows == Shows::within && outline.contains(hull::Outline({within->a})));
-    CHECK(apart && apart->shows == Shows::apart && apart->a == (Point{10, 10}) && apart->b == (Point{10, 0}));
+    const hull::Polygon polygon(square), none, small({{2, 2}, {4, 2}, {3, 4}}), beside({{12, 0}, {15, 3}, {12, 6}}), across({{-5, 5}, {15, 6}});
+    CHECK(polygon.intersects(small) && polygon.contains(small) && !small.contains(polygon) && !polygon.intersects(beside));
+    const auto covered = polygon.witness(small), within = small.witness(polygon), disjoint = polygon.witness(beside), crossing = polygon.witness(across);
+    CHECK(covered && covered->shows == Shows::within ? small.contains(hull::Polygon({covered->a})) : covered->a.x >= 2);
+    CHECK(within && within->shows == Shows::within && polygon.contains(hull::Polygon({within->a})));
+    CHECK(disjoint && disjoint->shows == Shows::disjoint && disjoint->a == (Point{10, 10}) && disjoint->b == (Point{10, 0}));
     CHECK(crossing && crossing->shows == Shows::crossing && crossing->c == (Point{-5, 5}) && crossing->d == (Point{15, 6}));
-    const hull::Outline flush({{10, 3}, {14, 3}, {14, 5}});
+    const hull::Polygon flush({{10, 3}, {14, 3}, {14, 5}});
     using hull::Relation;
-    CHECK(outline.relation(small) == Relation::covers && small.relation(outline) == Relation::within && outline.relation(outline) == Relation::equal);
-    CHECK(outline.relation(beside) == Relation::apart && outline.relation(flush) == Relation::touching && outline.relation(across) == Relation::overlapping);
-    CHECK(outline.contains_inside(small) && !outline.contains_inside(outline) && !outline.contains_inside(flush));
-    CHECK(outline.within(beside, 2) && !outline.within(beside, 1999, 1000) && !outline.within(none, 1, 0));
-    CHECK(outline.relations({small, beside, none, outline}) == (std::vector<Relation>{Relation::covers, Relation::apart, Relation::covers, Relation::equal}));
+    CHECK(polygon.relation(small) == Relation::covers && small.relation(polygon) == Relation::within && polygon.relation(polygon) == Relation::equal);
+    CHECK(polygon.relation(beside) == Relation::disjoint && polygon.relation(flush) == Relation::touching);
+    CHECK(polygon.relation(across) == Relation::overlapping);
+    CHECK(polygon.contains_inside(small) && !polygon.contains_inside(polygon) && !polygon.contains_inside(flush));
+    CHECK(polygon.within_distance(beside, 2) && !polygon.within_distance(beside, 1999, 1000) && !polygon.within_distance(none, 1, 0));
+    CHECK(polygon.relations({small, beside, none, polygon}) ==
+          (std::vector<Relation>{Relation::covers, Relation::disjoint, Relation::covers, Relation::equal}));
     using Pairs = std::vector<std::pair<std::size_t, std::size_t>>;
-    CHECK(hull::pairs_within({beside, outline, none, small, across}) == (Pairs{{0, 4}, {1, 3}, {1, 4}}) && hull::pairs_within({}).empty());
-    CHECK(hull::pairs_within({beside, outline}, 2).size() == 1 && hull::pairs_within({beside, outline}, 1999, 1000).empty());
-    CHECK(hull::pairs_within({small, small, small, small}) == (Pairs{{0, 1}, {0, 2}, {0, 3}, {1, 2}, {1, 3}, {2, 3}}));
-    CHECK(outline.meets_segments({{{-1, 1}, {20, 1}}, {{11, 0}, {11, 9}}}) == (std::vector<bool>{true, false}) && outline.meets_segments({}).empty());
-    CHECK(refuses(Refusal::out_of_range, [&] { outline.meets_segments({{{0, 0}, {far + 1, 0}}}); }));
-    const hull::Motion slides = outline.first_meeting(beside, {-8, 4}), falls = outline.first_meeting(beside, {0, 9}), stays = outline.first_meeting(small, {1, 1});
-    CHECK(slides.hit && slides.moves && slides.corner == Point(12, 0) && slides.hit->part * 4 == slides.hit->whole && slides.hit->from == Point(10, 0));
-    CHECK(!falls.hit && stays.hit && stays.hit->where == hull::Hit::Where::start && !outline.first_meeting(none, {1, 1}).hit);
-    CHECK(refuses(Refusal::out_of_range, [&] { outline.first_meeting(beside, {far + 1, 0}); }));
-    CHECK(beside.moved({-8, 4}).corners() == (std::vector<Point>{{4, 4}, {7, 7}, {4, 10}}) && refuses(Refusal::out_of_range, [&] { beside.moved({far, 0}); }));
-    CHECK(small.turned({0, 1}).corners() == (std::vector<Point>{{-4, 3}, {-2, 2}, {-2, 4}}) && refuses(Refusal::zero_direction, [&] { small.turned({0, 0}); }));
+    CHECK(hull::pairs_within_distance({beside, polygon, none, small, across}) == (Pairs{{0, 4}, {1, 3}, {1, 4}}));
+    CHECK(hull::pairs_within_distance({}).empty());
+    CHECK(hull::pairs_within_distance({beside, polygon}, 2).size() == 1 && hull::pairs_within_distance({beside, polygon}, 1999, 1000).empty());
+    CHECK(hull::pairs_within_distance({small, small, small, small}) == (Pairs{{0, 1}, {0, 2}, {0, 3}, {1, 2}, {1, 3}, {2, 3}}));
+    CHECK(polygon.intersects_segments({{{-1, 1}, {20, 1}}, {{11, 0}, {11, 9}}}) == (std::vector<bool>{true, false}));
+    CHECK(polygon.intersects_segments({}).empty());
+    CHECK(refuses(Refusal::out_of_range, [&] { polygon.intersects_segments({{{0, 0}, {far + 1, 0}}}); }));
+    const hull::Motion slides = polygon.first_meeting(beside, {-8, 4}), falls = polygon.first_meeting(beside, {0, 9});
+    const hull::Motion stays = polygon.first_meeting(small, {1, 1});
+    CHECK(slides.hit && slides.moves && slides.vertex == Point(12, 0) && slides.hit->part * 4 == slides.hit->whole && slides.hit->from == Point(10, 0));
+    CHECK(!falls.hit && stays.hit && stays.hit->where == hull::Hit::Where::start && !polygon.first_meeting(none, {1, 1}).hit);
+    CHECK(refuses(Refusal::out_of_range, [&] { polygon.first_meeting(beside, {far + 1, 0}); }));
+    CHECK(beside.translate({-8, 4}).vertices() == (std::vector<Point>{{4, 4}, {7, 7}, {4, 10}}));
+    CHECK(refuses(Refusal::out_of_range, [&] { beside.translate({far, 0}); }));
+    CHECK(small.rotate({0, 1}).vertices() == (std::vector<Point>{{-4, 3}, {-2, 2}, {-2, 4}}));
+    CHECK(refuses(Refusal::zero_direction, [&] { small.rotate({0, 0}); }));
     hull::Hull held(5);
     CHECK(!held.nearest_held({0, 0}) && held.add({9, 9}) == 1 && held.add({-9, 9}) == 1);
     CHECK(held.nearest_held({0, 5}) == (std::pair<Point, hull::Area>{{-9, 9}, 97}) && held.nearest_held({1, 9})->second == 64);
     CHECK(refuses(Refusal::out_of_range, [&] { held.nearest_held({far + 1, 0}); }));
     CHECK(small.indices({{3, 4}, {9, 9}, {2, 2}, {3, 4}}) == (std::vector<std::size_t>{2, 4, 0}));
-    const auto gap = outline.clearance(beside), to_corner = outline.clearance_to_point({13, 14}), to_way = outline.clearance_to_segment({13, 14}, {16, 10});
-    CHECK(gap && gap->down() == 2 && gap->up() == 2 && to_corner && to_corner->down() == 5 && to_way && *to_way <= *to_corner && *to_way > *gap);
-    CHECK(*gap <= *gap && !(*gap < *gap) && !(*gap > *gap) && !(*to_corner <= *gap));
-    CHECK(*gap < *to_corner && *gap != *to_corner && *gap == *outline.clearance_to_point({12, 5}) && *gap >= *gap);
-    CHECK(to_corner->words().low == 25 && outline.clearance(small)->up() == 0 && !none.clearance(outline) && !none.clearance_to_point({0, 0}));
-    CHECK(outline.within_segment({13, 14}, {13, 20}, 5) && !outline.within_point({13, 14}, 4999, 1000) && outline.within_point({13, 14}, 5));
-    CHECK(outline.relation_to_segment({10, 3}, {10, 12}) == Relation::touching && outline.relation_to_segment({2, 2}, {9, 9}) == Relation::covers);
-    CHECK(refuses(Refusal::out_of_range, [&] { outline.clearance_to_point({far + 1, 0}); }));
-    CHECK(refuses(Refusal::out_of_range, [&] { outline.relation_to_segment({0, 0}, {0, far + 1}); }));
-    CHECK(refuses(Refusal::out_of_range, [&] { outline.within_point({0, -far - 1}, 1); }));
+    const auto gap = polygon.distance_bounds(beside), to_vertex = polygon.distance_bounds_to_point({13, 14});
+    const auto to_way = polygon.distance_bounds_to_segment({13, 14}, {16, 10});
+    CHECK(gap && gap->down() == 2 && gap->up() == 2 && to_vertex && to_vertex->down() == 5 && to_way && *to_way <= *to_vertex && *to_way > *gap);
+    CHECK(*gap <= *gap && !(*gap < *gap) && !(*gap > *gap) && !(*to_vertex <= *gap));
+    CHECK(*gap < *to_vertex && *gap != *to_vertex && *gap == *polygon.distance_bounds_to_point({12, 5}) && *gap >= *gap);
+    CHECK(to_vertex->words().low == 25 && polygon.distance_bounds(small)->up() == 0);
+    CHECK(!none.distance_bounds(polygon) && !none.distance_bounds_to_point({0, 0}));
+    CHECK(polygon.within_distance_of_segment({13, 14}, {13, 20}, 5));
+    CHECK(!polygon.within_distance_of_point({13, 14}, 4999, 1000) && polygon.within_distance_of_point({13, 14}, 5));
+    CHECK(polygon.relation_to_segment({10, 3}, {10, 12}) == Relation::touching && polygon.relation_to_segment({2, 2}, {9, 9}) == Relation::covers);
+    CHECK(refuses(Refusal::out_of_range, [&] { polygon.distance_bounds_to_point({far + 1, 0}); }));
+    CHECK(refuses(Refusal::out_of_range, [&] { polygon.relation_to_segment({0, 0}, {0, far + 1}); }));
+    CHECK(refuses(Refusal::out_of_range, [&] { polygon.within_distance_of_point({0, -far - 1}, 1); }));
     using Met = hull::Hit::Where;
-    const auto ray = outline.cast_ray({-2, 1}, {3, 1}), way = outline.cast_segment({14, 3}, {-6, 3});
+    const auto ray = polygon.raycast({-2, 1}, {3, 1}), way = polygon.raycast_segment({14, 3}, {-6, 3});
     CHECK(ray && ray->where == Met::edge && ray->from == (Point{0, 10}) && ray->to == (Point{0, 0}) && ray->part * 3 == ray->whole * 2);
     CHECK(way && way->where == Met::edge && way->from == (Point{10, 0}) && way->part * 5 == way->whole);
-    CHECK(outline.cast_ray({3, 3}, {1, 0})->where == Met::start && across.cast_ray({35, 7}, {-20, -1})->where == Met::corner);
-    const auto out = outline.last_on_ray({-2, 1}, {3, 1});
-    CHECK(out && out->where == Met::edge && out->from == (Point{10, 0}) && out->part == 4 * out->whole && !outline.last_on_ray({-2, 1}, {-3, 1}));
-    CHECK(!outline.cast_ray({-2, 1}, {-3, 1}) && !outline.cast_segment({14, 3}, {11, 3}) && !none.cast_ray({0, 0}, {1, 0}));
-    CHECK(refuses(Refusal::zero_direction, [&] { outline.cast_ray({0, 0}, {0, 0}); }));
-    CHECK(refuses(Refusal::out_of_range, [&] { outline.cast_segment({0, 0}, {0, far + 1}); }));
-    CHECK(!none.witness(outline) && !outline.witness(none) && !none.meets(outline) && outline.contains(none));
+    CHECK(polygon.raycast({3, 3}, {1, 0})->where == Met::start && across.raycast({35, 7}, {-20, -1})->where == Met::vertex);
+    const auto out = polygon.raycast_exit({-2, 1}, {3, 1});
+    CHECK(out && out->where == Met::edge && out->from == (Point{10, 0}) && out->part == 4 * out->whole && !polygon.raycast_exit({-2, 1}, {-3, 1}));
+    CHECK(!polygon.raycast({-2, 1}, {-3, 1}) && !polygon.raycast_segment({14, 3}, {11, 3}) && !none.raycast({0, 0}, {1, 0}));
+    CHECK(refuses(Refusal::zero_direction, [&] { polygon.raycast({0, 0}, {0, 0}); }));
+    CHECK(refuses(Refusal::out_of_range, [&] { polygon.raycast_segment({0, 0}, {0, far + 1}); }));
+    CHECK(!none.witness(polygon) && !polygon.witness(none) && !none.intersects(polygon) && polygon.contains(none));
     using Where = hull::Distance::Where;
-    const hull::Outline aside({{13, 5}});
-    const auto zero = outline.distance(small), corners = outline.distance(beside), edge = outline.distance(aside), corner = aside.distance(outline);
-    CHECK(zero && zero->where == Where::zero && !outline.distance(none) && !none.distance(outline));
-    CHECK(corners && corners->where == Where::corners && corners->a == (Point{10, 0}) && corners->b == (Point{12, 0}));
-    CHECK(edge && edge->where == Where::edge_and_corner && edge->a == (Point{10, 0}) && edge->b == (Point{10, 10}) && edge->c == (Point{13, 5}));
-    CHECK(corner && corner->where == Where::corner_and_edge && corner->a == (Point{13, 5}) && corner->b == edge->a && corner->c == edge->b);
+    const hull::Polygon aside({{13, 5}});
+    const auto zero = polygon.distance(small), vertices = polygon.distance(beside), edge = polygon.distance(aside), vertex = aside.distance(polygon);
+    CHECK(zero && zero->where == Where::zero && !polygon.distance(none) && !none.distance(polygon));
+    CHECK(vertices && vertices->where == Where::vertices && vertices->a == (Point{10, 0}) && vertices->b == (Point{12, 0}));
+    CHECK(edge && edge->where == Where::edge_and_vertex && edge->a == (Point{10, 0}) && edge->b == (Point{10, 10}) && edge->c == (Point{13, 5}));
+    CHECK(vertex && vertex->where == Where::vertex_and_edge && vertex->a == (Point{13, 5}) && vertex->b == edge->a && vertex->c == edge->b);
     const auto strip = beside.least_width();
     CHECK(strip && strip->from == (Point{12, 6}) && strip->to == (Point{12, 0}) && strip->farthest == (Point{15, 3}));
-    CHECK(!none.least_width() && !hull::Outline({{3, 4}}).least_width());
-    const auto ends = outline.diameter();
+    CHECK(!none.least_width() && !hull::Polygon({{3, 4}}).least_width());
+    const auto ends = polygon.diameter();
     CHECK(ends && (ends->first.x - ends->second.x) * (ends->first.y - ends->second.y) != 0 && !none.diameter());
-    CHECK(outline.width_along({3, 4}) == hull::Area(70) && !none.width_along({1, 0}));
-    CHECK(refuses(Refusal::zero_direction, [&] { outline.width_along({0, 0}); }));
-    CHECK(refuses(Refusal::out_of_range, [&] { outline.width_along({far + 1, 0}); }));
+    CHECK(polygon.width_along({3, 4}) == hull::Area(70) && !none.width_along({1, 0}));
+    CHECK(refuses(Refusal::zero_direction, [&] { polygon.width_along({0, 0}); }));
+    CHECK(refuses(Refusal::out_of_range, [&] { polygon.width_along({far + 1, 0}); }));
     bool rounded = false;
     CHECK(hull::direction_of(1, -0.5, &rounded) == (Point{1LL << 39, -(1LL << 38)}) && !rounded);
     CHECK(hull::direction_of(1, 0x1p-40, &rounded) == (Point{1LL << 39, 0}) && rounded);
-    CHECK(outline.extreme_d(0.5, 0.25) == (Point{10, 10}) && outline.extreme_d(0, 0) == (Point{0, 0}));
-    CHECK(outline.extreme_d(-1e-310, 3e-310) == (Point{0, 10}));
-    CHECK(refuses(Refusal::out_of_range, [&] { outline.extreme_d(std::numeric_limits<double>::quiet_NaN(), 0); }));
+    CHECK(polygon.extreme_d(0.5, 0.25) == (Point{10, 10}) && polygon.extreme_d(0, 0) == (Point{0, 0}));
+    CHECK(polygon.extreme_d(-1e-310, 3e-310) == (Point{0, 10}));
+    CHECK(refuses(Refusal::out_of_range, [&] { polygon.extreme_d(std::numeric_limits<double>::quiet_NaN(), 0); }));
     hull::Hull h(4);
     h.add({1, 2});
     CHECK(h.extreme_d(1e300, -1e-300) == (Point{1, 2}));
@@ -247,9 +258,9 @@ static void one_thread() {
 }
 
 static void points() {
-    std::ostringstream told;
-    told << Point{3, -4} << Point();
-    CHECK(told.str() == "(3, -4)(0, 0)");
+    std::ostringstream text;
+    text << Point{3, -4} << Point();
+    CHECK(text.str() == "(3, -4)(0, 0)");
     CHECK(Point(1, 5) < Point(2, 0) && Point(1, 5) < Point(1, 6) && Point(1, 5) <= Point(1, 5) && Point(2, 0) > Point(1, 9) && !(Point(1, 5) >= Point(1, 6)));
     std::unordered_set<Point> all;
     for (std::int64_t i = 0; i < 900; i++) {
@@ -274,20 +285,20 @@ static void many_at_once() {
     CHECK(h.add_all(parabola) == std::vector<std::uint32_t>(1000, 1));
     CHECK(h.add_all({{0, 0}, {-1, 0}, {-2, 0}, {1, 1}}) == (std::vector<std::uint32_t>{2, 1, 0, 2}));
     const std::vector<Point> asked = {{5, 30}, {0, 0}, {-3, 0}, {-1, -5}};
-    const hull::Outline outline = h.outline();
+    const hull::Polygon polygon = h.polygon();
     const auto places = h.place_all(asked);
     const auto seen = h.tangents_all(asked);
-    CHECK(places == (std::vector<Place>{Place::inside, Place::on, Place::outside, Place::outside}) && outline.place_all(asked) == places);
-    CHECK(!seen[0] && seen[3] && seen[3]->left == h.tangents({-1, -5})->left && outline.tangents_all(asked)[3]->right == seen[3]->right);
+    CHECK(places == (std::vector<Place>{Place::inside, Place::on, Place::outside, Place::outside}) && polygon.place_all(asked) == places);
+    CHECK(!seen[0] && seen[3] && seen[3]->left == h.tangents({-1, -5})->left && polygon.tangents_all(asked)[3]->right == seen[3]->right);
     const auto farthest = h.extreme_all({{1, 0}, {-1, 0}});
-    CHECK(farthest[0] == Point(999, 999 * 999) && farthest[1] == Point(-1, 0) && outline.extreme_all({{1, 0}, {-1, 0}}) == farthest);
-    CHECK(outline.place_all(parabola) == std::vector<Place>(1000, Place::on) && h.place_all({}).empty());
+    CHECK(farthest[0] == Point(999, 999 * 999) && farthest[1] == Point(-1, 0) && polygon.extreme_all({{1, 0}, {-1, 0}}) == farthest);
+    CHECK(polygon.place_all(parabola) == std::vector<Place>(1000, Place::on) && h.place_all({}).empty());
     CHECK(refuses(Refusal::zero_direction, [&] { h.extreme_all({{1, 0}, {0, 0}}); }));
     for (Point wrong : {Point{0, far + 1}, {-far - 1, 0}}) {
         const std::size_t size = h.size();
         CHECK(refuses(Refusal::out_of_range, [&] { h.add_all({{5, 25}, wrong}); }) && h.multiplicity({5, 25}) == 1);
         CHECK(refuses(Refusal::out_of_range, [&] { h.remove_all({{5, 25}, wrong}); }) && h.size() == size);
-        CHECK(refuses(Refusal::out_of_range, [&] { outline.place_all({{5, 25}, wrong}); }));
+        CHECK(refuses(Refusal::out_of_range, [&] { polygon.place_all({{5, 25}, wrong}); }));
     }
     CHECK(h.remove_all(parabola) == 1000 && h.remove_all(parabola) == 2 && h.remove_all({}) == 0 && h.size() == 1);
 }
@@ -302,7 +313,7 @@ static void texts() {
                {Refusal::too_many, "there are as many points as the limit, or the multiplicity is the greatest"},
                {Refusal::no_memory, "memory was refused"},
                {Refusal::out_of_order, "the points are not in order"},
-               {Refusal::no_outline, "the points are not a convex polygon"},
+               {Refusal::no_polygon, "the points are not a convex polygon"},
                {Refusal::out_of_limits, "a limit of a hull is out of range"},
                {Refusal::no_seat, "there is no such seat at the hull"},
                {Refusal::not_open, "the hull is closed"},
@@ -332,17 +343,17 @@ template <class Call> static std::pair<Refusal, std::uint64_t> fault_of(Call cal
 
 static void reopened() {
     const std::string head = "hullbook journal 3 first 5 limit 3 capacity 9\n", old = head + "5 1 add 0 0 = added\nend 1\n";
-    const auto told = [](const std::string &text, std::uint32_t seats) { return fault_of([&] { SharedHull::reopen(text, 4, seats); }); };
-    CHECK(told("", 2) == std::make_pair(Refusal::no_journal, std::uint64_t(1)));
-    CHECK(told(head + "5 1 add 0 = added\nend 1\n", 2) == std::make_pair(Refusal::no_journal, std::uint64_t(2)));
-    CHECK(told(head + "5 1 add 0 0 = again 2\nend 1\n", 2) == std::make_pair(Refusal::illegal, std::uint64_t(2)));
-    CHECK(told(old, 1) == std::make_pair(Refusal::too_few_seats, std::uint64_t(2)));
-    CHECK(told(old, 0) == std::make_pair(Refusal::out_of_limits, std::uint64_t(0)));
+    const auto refused_by = [](const std::string &text, std::uint32_t seats) { return fault_of([&] { SharedHull::reopen(text, 4, seats); }); };
+    CHECK(refused_by("", 2) == std::make_pair(Refusal::no_journal, std::uint64_t(1)));
+    CHECK(refused_by(head + "5 1 add 0 = added\nend 1\n", 2) == std::make_pair(Refusal::no_journal, std::uint64_t(2)));
+    CHECK(refused_by(head + "5 1 add 0 0 = again 2\nend 1\n", 2) == std::make_pair(Refusal::illegal, std::uint64_t(2)));
+    CHECK(refused_by(old, 1) == std::make_pair(Refusal::too_few_seats, std::uint64_t(2)));
+    CHECK(refused_by(old, 0) == std::make_pair(Refusal::out_of_limits, std::uint64_t(0)));
     SharedHull h = SharedHull::reopen(old, 4, 2);
-    CHECK(h.lend(1).add({0, 0}) == 2);
+    CHECK(h.acquire_seat(1).add({0, 0}) == 2);
     SharedHull bare = SharedHull::open_without_journal({3, 7, 0, 1});
     for (std::uint32_t i = 1; i <= 1000; i++) {
-        CHECK(bare.lend(0).add({1, 2}) == i);
+        CHECK(bare.acquire_seat(0).add({1, 2}) == i);
     }
     CHECK(bare.close() == "hullbook journal 3 first 1007 limit 3 capacity 1\nend 0\n");
     CHECK(fault_of([] { SharedHull::open_without_journal({0, 7, 0, 1}); }).first == Refusal::out_of_limits);
@@ -357,20 +368,20 @@ static void refusals() {
         for (std::int64_t i = 0; i < 100; i++) {
             h.add({i, i * i});
         }
-        const hull::Outline outline = h.outline();
+        const hull::Polygon polygon = h.polygon();
         Hull twin = h.copy();
         twin.load_held(h.held());
-        std::size_t seen = twin.place_all(many).size() + twin.add_all(many).size() + outline.extreme_all(many).size();
-        seen += hull::wkt(outline.corners(), 3).size();
+        std::size_t seen = twin.place_all(many).size() + twin.add_all(many).size() + polygon.extreme_all(many).size();
+        seen += hull::wkt(polygon.vertices(), 3).size();
         SharedHull shared({4, 7, 20, 2});
-        Seat seat = shared.lend(1);
+        Seat seat = shared.acquire_seat(1);
         for (Point p : square) {
             seat.add(p);
         }
         seen += seat.vertices().size();
-        const hull::JournalPart part = seat.drain();
-        seat.give_back();
-        return seen + part.text().size() + shared.close().size() + SharedHull::reopen(old, 4, 2).close().size();
+        const hull::JournalSegment segment = seat.drain();
+        seat.release();
+        return seen + segment.text().size() + shared.close().size() + SharedHull::reopen(old, 4, 2).close().size();
     };
     const std::size_t wanted = all();
     int met = 0;
@@ -458,9 +469,9 @@ static void shared() {
         CHECK(refuses(Refusal::out_of_limits, [&] { SharedHull h(wrong); }));
     }
     SharedHull h({4, 7, 20, 2});
-    CHECK(refuses(Refusal::no_seat, [&] { h.lend(2); }));
-    Seat seat = h.lend(1);
-    CHECK(refuses(Refusal::no_seat, [&] { h.lend(1); }) && refuses(Refusal::seats_out, [&] { h.close(); }));
+    CHECK(refuses(Refusal::no_seat, [&] { h.acquire_seat(2); }));
+    Seat seat = h.acquire_seat(1);
+    CHECK(refuses(Refusal::no_seat, [&] { h.acquire_seat(1); }) && refuses(Refusal::seats_out, [&] { h.close(); }));
     CHECK(seat.number() == 1 && !seat.turn() && !seat.extreme({1, 0}) && seat.turn() == 7u);
     for (Point p : square) {
         CHECK(seat.add(p) == 1);
@@ -476,42 +487,42 @@ static void shared() {
     CHECK(refuses(Refusal::vacant, [&] { seat.count(); }) && other.count() == 4);
     seat = std::move(other);
     CHECK(seat.turn() == 21u && seat.number() == 1 && refuses(Refusal::vacant, [&] { other.drain(); }));
-    other = h.lend(0);
+    other = h.acquire_seat(0);
     CHECK(other.number() == 0 && !other.turn());
     other = std::move(seat);
-    CHECK(other.number() == 1 && other.turn() == 21u && h.lend(0).number() == 0);
-    other = h.lend(0);
+    CHECK(other.number() == 1 && other.turn() == 21u && h.acquire_seat(0).number() == 0);
+    other = h.acquire_seat(0);
     for (int i = 0; i < 5; i++) {
         other.count();
     }
     CHECK(refuses(Refusal::full, [&] { other.count(); }) && other.turn() == 26u);
-    other.give_back();
+    other.release();
     CHECK(refuses(Refusal::vacant, [&] { other.count(); }));
     SharedHull moved = std::move(h);
     const std::string journal = moved.close();
     CHECK(journal.size() > 100 && journal.back() == '\n' && moved.close() == journal);
-    CHECK(refuses(Refusal::not_open, [&] { moved.lend(0); }));
-    CHECK(refuses(Refusal::ended, [&] { h.lend(0); }) && refuses(Refusal::ended, [&] { h.close(); }));
+    CHECK(refuses(Refusal::not_open, [&] { moved.acquire_seat(0); }));
+    CHECK(refuses(Refusal::ended, [&] { h.acquire_seat(0); }) && refuses(Refusal::ended, [&] { h.close(); }));
     SharedHull drained({4, 7, 20, 1});
-    hull::JournalPart part = drained.lend(0).drain(), taken = std::move(part);
+    hull::JournalSegment segment = drained.acquire_seat(0).drain(), taken = std::move(segment);
     CHECK(taken.text() == "hullbook journal 3 first 7 limit 4 capacity 21\n7 0 count = count 0\nend 1\n");
-    CHECK(refuses(Refusal::ended, [&] { part.text(); }) && refuses(Refusal::ended, [&] { part.write_to(std::cout); }));
-    Seat late = SharedHull({4, 0, 4, 1}).lend(0);
-    CHECK(late.add({1, 1}) == 1); // the desk is there until its last seat is back
+    CHECK(refuses(Refusal::ended, [&] { segment.text(); }) && refuses(Refusal::ended, [&] { segment.write_to(std::cout); }));
+    Seat late = SharedHull({4, 0, 4, 1}).acquire_seat(0);
+    CHECK(late.add({1, 1}) == 1); // the shared hull is there until its last seat is released
 }
 
 // overlaps.c has it, with which this is linked in one of two builds
 extern "C" long hull_overlaps(void) __attribute__((weak));
 
-// seats that come and go in several threads: no two calls on their desk overlap
-static void lendings() {
+// seats that several threads acquire and release: no two calls on their shared hull overlap
+static void acquisitions() {
     SharedHull h = SharedHull::open_without_journal({4, 0, 0, 8});
     std::vector<std::thread> all;
     for (std::uint32_t k = 0; k < 4; k++) {
         all.emplace_back([k, &h] {
             for (std::uint32_t i = 0; i < 25; i++) {
-                Seat seat = h.lend(k);
-                seat = h.lend(k + 4);
+                Seat seat = h.acquire_seat(k);
+                seat = h.acquire_seat(k + 4);
                 seat.add({1, 2});
                 if (i % 5 == 0) {
                     CHECK(refuses(Refusal::seats_out, [&] { h.close(); }));
@@ -527,44 +538,45 @@ static void lendings() {
 
 static_assert(!std::is_copy_constructible_v<hull::Reader> && std::is_nothrow_move_assignable_v<hull::Reader>);
 
-// readers, with their views
+// readers, with their snapshots
 static void readers() {
-    CHECK(refuses(Refusal::no_seat, [&] { SharedHull({10, 7, 20, 1}).lend_reader(); }));
+    CHECK(refuses(Refusal::no_seat, [&] { SharedHull({10, 7, 20, 1}).acquire_reader(); }));
     CHECK(refuses(Refusal::out_of_limits, [&] { SharedHull({10, 7, 20, 1, HULL_SHARED_READERS_MAX + 1}); }));
     SharedHull h({10, 7, 20, 1, 2});
-    hull::Reader one = h.lend_reader(), two = h.lend_reader();
-    CHECK(refuses(Refusal::no_seat, [&] { h.lend_reader(); }));
-    CHECK(one.view().size() == 0 && !one.line() && one.is_newest());
-    Seat seat = h.lend(0);
+    hull::Reader one = h.acquire_reader(), two = h.acquire_reader();
+    CHECK(refuses(Refusal::no_seat, [&] { h.acquire_reader(); }));
+    CHECK(one.snapshot().size() == 0 && !one.line() && one.is_newest());
+    Seat seat = h.acquire_seat(0);
     for (Point p : {Point(0, 0), Point(8, 0), Point(0, 8)}) {
         seat.add(p);
     }
     CHECK(!one.is_newest() && one.newest().size() == 3 && one.is_newest() && one.line() == 9);
-    CHECK(one.view().place({1, 1}) == Place::inside && one.view().doubled_area() == 64);
-    CHECK(one.view().relation(hull::Outline({{0, 0}, {8, 0}, {0, 8}})) == hull::Relation::equal);
-    const hull::Outline before(std::vector<Point>(one.view().begin(), one.view().end()));
+    CHECK(one.snapshot().place({1, 1}) == Place::inside && one.snapshot().doubled_area() == 64);
+    CHECK(one.snapshot().relation(hull::Polygon({{0, 0}, {8, 0}, {0, 8}})) == hull::Relation::equal);
+    const hull::Polygon before(std::vector<Point>(one.snapshot().begin(), one.snapshot().end()));
     seat.remove({8, 0});
-    CHECK(two.read() && two.view().size() == 2 && two.line() == 10);
-    CHECK(before.corners()[1] == Point(8, 0) && one.view().relation(before) == hull::Relation::equal && before.contains(two.view()) && !two.view().contains(before));
-    CHECK(*(two.view().end() - 1) == Point(0, 8) && *two.view().begin() == Point(0, 0));
-    for (std::int64_t y : {9, 10, 11}) { // as many corners, at other places
+    CHECK(two.read() && two.snapshot().size() == 2 && two.line() == 10);
+    CHECK(before.vertices()[1] == Point(8, 0) && one.snapshot().relation(before) == hull::Relation::equal);
+    CHECK(before.contains(two.snapshot()) && !two.snapshot().contains(before));
+    CHECK(*(two.snapshot().end() - 1) == Point(0, 8) && *two.snapshot().begin() == Point(0, 0));
+    for (std::int64_t y : {9, 10, 11}) { // as many vertices, at other places
         seat.remove({0, y - 1});
         seat.add({0, y});
-        CHECK(two.newest().size() == 2 && *(two.view().end() - 1) == Point(0, y) && two.view().place({0, y}) == Place::on);
-        CHECK(two.view().place({0, y + 1}) == Place::outside && two.line() == seat.turn());
+        CHECK(two.newest().size() == 2 && *(two.snapshot().end() - 1) == Point(0, y) && two.snapshot().place({0, y}) == Place::on);
+        CHECK(two.snapshot().place({0, y + 1}) == Place::outside && two.line() == seat.turn());
     }
     seat.remove({0, 11});
     seat.add({0, 8});
     CHECK(two.read());
-    seat.give_back();
+    seat.release();
     CHECK(refuses(Refusal::seats_out, [&] { h.close(); }));
     one = std::move(two);
-    CHECK(one.view().size() == 2 && refuses(Refusal::vacant, [&] { two.read(); }));
-    one.give_back();
+    CHECK(one.snapshot().size() == 2 && refuses(Refusal::vacant, [&] { two.read(); }));
+    one.release();
     CHECK(refuses(Refusal::vacant, [&] { one.is_newest(); }) && !h.close().empty());
-    CHECK(refuses(Refusal::not_open, [&] { h.lend_reader(); }));
+    CHECK(refuses(Refusal::not_open, [&] { h.acquire_reader(); }));
     SharedHull again = SharedHull::reopen(h.close(), 20, 1, 1), bare = SharedHull::open_without_journal({10, 7, 0, 1, 1});
-    CHECK(again.lend_reader().view().size() == 2 && bare.lend_reader().view().size() == 0);
+    CHECK(again.acquire_reader().snapshot().size() == 2 && bare.acquire_reader().snapshot().size() == 0);
 }
 
 // a folder that goes with the test, and how many lines of its file add a point
@@ -592,78 +604,78 @@ struct Folder {
     }
 };
 
-// a hull whose journal is kept in a file: however it ends, all lines are there, and the file is let go
-static void kept() {
+// a hull with a journal file: however it ends, all lines are there, and the file is closed
+static void journal_files() {
     const Folder folder;
     const hull::Limits limits{1000, 0, 100, 2, 2};
     {
-        SharedHull h = SharedHull::keep(folder.file(), limits);
-        Seat seat = h.lend(0);
+        SharedHull h = SharedHull::open_journal(folder.file(), limits);
+        Seat seat = h.acquire_seat(0);
         for (std::int64_t x = 0; x < 10; x++) {
             seat.add({x, 1});
         }
     } // with no close
     CHECK(folder.additions() == 10);
-    Seat late = SharedHull::keep(folder.file(), limits).lend(1);
+    Seat late = SharedHull::open_journal(folder.file(), limits).acquire_seat(1);
     late.add({0, 2});
-    late = SharedHull({4, 0, 4, 1}).lend(0); // the last that has the hull closes its file
+    late = SharedHull({4, 0, 4, 1}).acquire_seat(0); // the last that has the hull closes its file
     CHECK(folder.additions() == 11);
-    SharedHull h = SharedHull::keep(folder.file(), limits);
-    CHECK(refuses(Refusal::no_file, [&] { SharedHull::keep(folder.file(), limits); }));
-    h = SharedHull::keep(folder.path + "/other", limits);
+    SharedHull h = SharedHull::open_journal(folder.file(), limits);
+    CHECK(refuses(Refusal::no_file, [&] { SharedHull::open_journal(folder.file(), limits); }));
+    h = SharedHull::open_journal(folder.path + "/other", limits);
     CHECK(std::remove((folder.path + "/other").c_str()) == 0);
-    h = SharedHull::keep(folder.file(), limits);
-    hull::Reader reader = h.lend_reader();
-    Seat seat = h.lend(0);
+    h = SharedHull::open_journal(folder.file(), limits);
+    hull::Reader reader = h.acquire_reader();
+    Seat seat = h.acquire_seat(0);
     seat.add({1, 3});
-    seat.give_back();
+    seat.release();
     CHECK(refuses(Refusal::seats_out, [&] { h.close(); }) && refuses(Refusal::seats_out, [&] { h.close(); }));
-    seat = h.lend(0);
+    seat = h.acquire_seat(0);
     for (std::int64_t x = 0; x < 200; x++) {
         seat.add({x, 4});
     }
     seat.wait_at_most(std::chrono::seconds(10));
-    seat.wait_safe();
-    CHECK(h.safe() > *seat.turn() && reader.newest().size() > 2);
-    reader.give_back();
-    seat.give_back();
+    seat.wait_durable();
+    CHECK(h.durable() > *seat.turn() && reader.newest().size() > 2);
+    reader.release();
+    seat.release();
     h.close();
-    CHECK(folder.additions() == 212 && refuses(Refusal::not_open, [&] { h.safe(); }));
-    CHECK(SharedHull::compact(folder.file()) > 212 && SharedHull::keep(folder.file(), limits).lend(0).count() == 212);
+    CHECK(folder.additions() == 212 && refuses(Refusal::not_open, [&] { h.durable(); }));
+    CHECK(SharedHull::compact(folder.file()) > 212 && SharedHull::open_journal(folder.file(), limits).acquire_seat(0).count() == 212);
     try {
-        SharedHull::keep(folder.path + "/none/at all", limits);
+        SharedHull::open_journal(folder.path + "/none/at all", limits);
         CHECK(false);
     } catch (const hull::Fault &fault) {
         CHECK(fault.code() == Refusal::no_file && fault.number() == ENOENT);
     }
-    h = SharedHull::keep(folder.file(), limits);
-    seat = h.lend(0);
+    h = SharedHull::open_journal(folder.file(), limits);
+    seat = h.acquire_seat(0);
     CHECK(std::remove(folder.file().c_str()) == 0);
     seat.add({1, 5});
     try {
-        seat.wait_safe();
+        seat.wait_durable();
         CHECK(false);
     } catch (const hull::Fault &fault) {
         CHECK(fault.code() == Refusal::no_file && fault.number() == ESTALE);
     }
-    seat.give_back();
+    seat.release();
     CHECK(refuses(Refusal::no_file, [&] { h.close(); }) && !h.close().empty());
 }
 
-// threads that wait for what is safe while another closes the hull
+// threads that wait for durable lines while another closes the hull
 static void closed_beside_waiters() {
     const Folder folder;
     for (int again = 0; again < 10; again++) {
-        SharedHull h = SharedHull::keep(folder.file(), {100000, 0, 5000, 3});
+        SharedHull h = SharedHull::open_journal(folder.file(), {100000, 0, 5000, 3});
         std::vector<std::thread> all;
         std::atomic<int> begun{0};
         for (std::uint32_t k = 0; k < 3; k++) {
-            all.emplace_back([&, k, seat = h.lend(k)]() mutable {
+            all.emplace_back([&, k, seat = h.acquire_seat(k)]() mutable {
                 for (std::int64_t x = 0; x < 100; x++) {
                     seat.add({x, again * 3 + k});
                 }
-                seat.wait_safe();
-                seat.give_back();
+                seat.wait_durable();
+                seat.release();
                 begun++;
                 try {
                     for (;;) {
@@ -685,12 +697,12 @@ static void closed_beside_waiters() {
     CHECK(folder.additions() == 3000);
 }
 
-// threads at once, of which one asks for more corners than it had room for
+// threads at once, of which one asks for more vertices than it had space for
 static void threads(const char *file) {
     SharedHull h({HULL_LIMIT_MAX, 0, 100000, 4});
     std::vector<std::thread> all;
     for (std::uint32_t k = 0; k < 4; k++) {
-        all.emplace_back([k, seat = h.lend(k)]() mutable {
+        all.emplace_back([k, seat = h.acquire_seat(k)]() mutable {
             for (std::int64_t i = 0; i < 1000; i++) {
                 seat.add({4 * i + k, (4 * i + k) * (4 * i + k)});
                 if (k == 0 && i % 100 == 99) {
@@ -702,7 +714,7 @@ static void threads(const char *file) {
     for (std::thread &thread : all) {
         thread.join();
     }
-    CHECK(h.lend(0).count() == 4000);
+    CHECK(h.acquire_seat(0).count() == 4000);
     std::ofstream(file) << h.close();
 }
 
@@ -714,16 +726,16 @@ int main(int words, char **word) {
     reopened();
     refusals();
     lattice(words > 1 ? word[1] : "lattice.txt");
-    outlines();
+    polygons();
     encounters();
-    two_outlines();
+    two_polygons();
     exchange();
     shared();
     readers();
-    kept();
+    journal_files();
     closed_beside_waiters();
     if (hull_overlaps != nullptr) {
-        lendings();
+        acquisitions();
     }
     if (words > 2) {
         threads(word[2]);

@@ -121,7 +121,7 @@ class Calls(unittest.TestCase):
         self.assertEqual((none.extreme_all([(1, 0)] * 2), none.tangents_all([(1, 0)] * 2)), ([None] * 2, [None] * 2))
         self.assertEqual((self.hull.extreme_all([]), self.hull.tangents_all([])), ([], []))
 
-    def test_what_is_held(self):
+    def test_membership(self):
         self.assertTrue((4, 4) in self.hull and (5, 4) not in self.hull and (COORDINATE_LIMIT + 1, 0) not in self.hull)
         for wrong in (3, (1, 2, 3), "ab", (0.5, 1), (True, 0)):
             self.assertRaises((TypeError, ValueError), self.hull.__contains__, wrong)
@@ -146,14 +146,14 @@ class Calls(unittest.TestCase):
         for kind in "c_int8 c_int16 c_int32 c_int64 c_uint8 c_uint16 c_uint32 c_uint64 c_long c_size_t".split():
             points = (getattr(ctypes, kind) * 2 * 5)(*SQUARE)
             self.assertEqual(list(self.hull.place_all(points)), [13] * 4 + [12], kind)
-        turned = (ctypes.c_int32.__ctype_be__ * 2 * 5)(*SQUARE)
-        self.assertEqual(list(self.hull.place_all(turned)), [13] * 4 + [12])
+        swapped = (ctypes.c_int32.__ctype_be__ * 2 * 5)(*SQUARE)
+        self.assertEqual(list(self.hull.place_all(swapped)), [13] * 4 + [12])
         self.assertRaises(OutOfRange, self.hull.place_all, (ctypes.c_uint64 * 2 * 1)((0, (1 << 64) - 5)))
         self.assertRaises(TypeError, self.hull.place_all, (ctypes.c_double * 2 * 1)((0, 1)))
         floats = memoryview(array("d", [0.0, 1.0])).cast("B").cast("d", (1, 2))
         self.assertRaisesRegex(TypeError, r"shape \(1, 2\) is of format 'd'", self.hull.place_all, floats)
-        turned = memoryview(array("q", range(6))).cast("B").cast("q", (2, 3))
-        self.assertRaisesRegex(ValueError, r"\(n, 2\).*\(2, 3\); its transpose has", self.hull.place_all, turned)
+        transposed = memoryview(array("q", range(6))).cast("B").cast("q", (2, 3))
+        self.assertRaisesRegex(ValueError, r"\(n, 2\).*\(2, 3\); its transpose has", self.hull.place_all, transposed)
         for wrong in ([(True, False)], [(0, 1.0)], [0, 1], array("q", (0, 1)), b"abcd", [(0, 1, 2)], 7, None):
             self.assertRaises((TypeError, ValueError), self.hull.place_all, wrong)
 
@@ -207,13 +207,13 @@ class Calls(unittest.TestCase):
         self.assertEqual(hull.vertices()[0], (26 / 256, 1.0))
         self.assertEqual((hull.place(1, 0.5), hull.place(3, 0.5), hull.extreme(1, 0.1)), (Place.INSIDE, Place.OUTSIDE, (2.5, 1.25)))
         self.assertEqual((hull.remove(0.1, 1), hull.area(), (0.5, 0) in hull, (0.5, 0.001) in hull), (0, 1.25, True, False))
-        self.assertEqual((hull.distance_to(1, 0.1), hull.distance_to(2.5, 5.25), hull.distance_to(-2.5, -4)), (0, 4.0, 5.0))
+        self.assertEqual((hull.distance_to_point(1, 0.1), hull.distance_to_point(2.5, 5.25), hull.distance_to_point(-2.5, -4)), (0, 4.0, 5.0))
         self.assertEqual(hull.tangents(1.5, -7), ((0.5, 0.0), (2.5, 0.0)))
         self.assertEqual(hull.distance(hull_module.FloatHull([(2.5, 2.25)], power=8)), 1.0)
         self.assertEqual(hull.wkt(), "POLYGON ((0.5 0.0, 2.5 0.0, 2.5 1.25, 0.5 0.0))")
         self.assertEqual((sorted(hull), repr(hull)), ([(0.5, 0.0), (2.5, 0.0), (2.5, 1.25)], "<FloatHull of 3 points, steps of 2**-8>"))
         none = hull_module.FloatHull()
-        self.assertEqual((none.distance_to(1, 1), none.extreme(1, 0), none.tangents(1, 1), none.area()), (None, None, None, 0))
+        self.assertEqual((none.distance_to_point(1, 1), none.extreme(1, 0), none.tangents(1, 1), none.area()), (None, None, None, 0))
         self.assertRaises(ValueError, hull.distance, none)
 
     def test_text(self):
@@ -228,21 +228,24 @@ class Calls(unittest.TestCase):
         self.assertEqual((hull.load(Counter()), hull == Hull(), hull != Hull(), hull == 0), (0, True, False, False))
         self.assertRaises(TypeError, hash, hull)
         self.assertRaises(ValueError, hull.load, Counter({(0, 0): 0}))
-        outline, twin = self.hull.outline(), Hull(SQUARE).outline()
-        self.assertEqual((len(outline), list(outline)), (4, [(0, 0), (10, 0), (10, 10), (0, 10)]))
-        self.assertTrue((10, 0) in outline and (4, 4) not in outline)
-        self.assertTrue(outline == twin and hash(outline) == hash(twin) and outline != Hull().outline() and outline != 4)
-        for other in (copy.copy(outline), copy.deepcopy(outline), pickle.loads(pickle.dumps(outline))):
-            self.assertEqual(other, outline)
+        polygon, twin = self.hull.polygon(), Hull(SQUARE).polygon()
+        self.assertEqual((len(polygon), list(polygon)), (4, [(0, 0), (10, 0), (10, 10), (0, 10)]))
+        self.assertTrue((10, 0) in polygon and (4, 4) not in polygon)
+        self.assertTrue(polygon == twin and hash(polygon) == hash(twin) and polygon != Hull().polygon() and polygon != 4)
+        for other in (copy.copy(polygon), copy.deepcopy(polygon), pickle.loads(pickle.dumps(polygon))):
+            self.assertEqual(other, polygon)
+        of_version_2 = (b"\x80\x02chull\n_outline_again\nq\x00carray\narray\nq\x01X\x01\x00\x00\x00qq\x02]q\x03(K\x00K\x00K\x03K\x00K\x00K\x04e"
+                        b"\x86q\x04Rq\x05\x85q\x06Rq\x07.")
+        self.assertEqual(pickle.loads(of_version_2), hull_module.Polygon([(0, 0), (3, 0), (0, 4)]))
 
     def test_distances(self):
-        outline = hull_module.Outline([(0, 0), (8, 0), (0, 6)])
-        self.assertEqual([outline.squared_distance_to(x, y) for x, y in [(1, 1), (-3, -4), (8, 6), (4, -5)]],
+        polygon = hull_module.Polygon([(0, 0), (8, 0), (0, 6)])
+        self.assertEqual([polygon.squared_distance_to_point(x, y) for x, y in [(1, 1), (-3, -4), (8, 6), (4, -5)]],
                          [0, 25, Fraction(48 * 48, 100), 25])
-        point, none = hull_module.Outline([(8, 6)]), hull_module.Outline([])
-        self.assertEqual((outline.squared_distance(point), point.squared_distance(outline)), (Fraction(48 * 48, 100),) * 2)
-        self.assertEqual((outline.squared_distance(outline), point.squared_distance(hull_module.Outline([(5, 2)]))), (0, 25))
-        self.assertEqual((none.squared_distance(point), none.squared_distance_to(1, 1)), (None, None))
+        point, none = hull_module.Polygon([(8, 6)]), hull_module.Polygon([])
+        self.assertEqual((polygon.squared_distance(point), point.squared_distance(polygon)), (Fraction(48 * 48, 100),) * 2)
+        self.assertEqual((polygon.squared_distance(polygon), point.squared_distance(hull_module.Polygon([(5, 2)]))), (0, 25))
+        self.assertEqual((none.squared_distance(point), none.squared_distance_to_point(1, 1)), (None, None))
 
     def test_what_is_public(self):
         public = {name for name, value in vars(hull_module).items() if not name.startswith("_")
@@ -258,224 +261,228 @@ class Calls(unittest.TestCase):
                 words = set(function.__code__.co_varnames[:function.__code__.co_argcount]) - {"self"}
                 self.assertEqual(words | {"return"}, set(function.__annotations__), function)
 
-    def test_outline(self):
-        corners = []
+    def test_polygon(self):
+        vertices = []
         for step in range(20):
-            hull, outline = Hull(corners), Hull(corners).outline()
-            self.assertEqual(outline.vertices(), hull.vertices())
+            hull, polygon = Hull(vertices), Hull(vertices).polygon()
+            self.assertEqual(polygon.vertices(), hull.vertices())
             grid = [(x, y) for x in range(-6, 7) for y in range(-6, 7)]
-            self.assertEqual(outline.place_all(grid), hull.place_all(grid))
-            self.assertEqual(outline.tangents_all(grid), hull.tangents_all(grid))
+            self.assertEqual(polygon.place_all(grid), hull.place_all(grid))
+            self.assertEqual(polygon.tangents_all(grid), hull.tangents_all(grid))
             grid.remove((0, 0))
-            self.assertEqual(outline.extreme_all(grid), hull.extreme_all(grid))
-            self.assertEqual((outline.doubled_area(), outline.wkt()), (hull.doubled_area(), hull.wkt()))
-            corners.append((step * 7 % 11 - 5, step * step % 11 - 5))
-        self.assertEqual(outline.place(0, 0), hull.place(0, 0))
-        self.assertEqual(outline.extreme(1, 0), hull.extreme(1, 0))
-        self.assertEqual(outline.tangents(9, 9), hull.tangents(9, 9))
+            self.assertEqual(polygon.extreme_all(grid), hull.extreme_all(grid))
+            self.assertEqual((polygon.doubled_area(), polygon.wkt()), (hull.doubled_area(), hull.wkt()))
+            vertices.append((step * 7 % 11 - 5, step * step % 11 - 5))
+        self.assertEqual(polygon.place(0, 0), hull.place(0, 0))
+        self.assertEqual(polygon.extreme(1, 0), hull.extreme(1, 0))
+        self.assertEqual(polygon.tangents(9, 9), hull.tangents(9, 9))
         for points in ([(1, 0), (0, 0)], [(0, 0), (2, 0), (1, 0)], [(0, 0), (0, 1), (1, 0)], [(1, 1), (1, 1)]):
-            self.assertRaises(ValueError, hull_module.Outline, points)
-        self.assertRaises(OutOfRange, hull_module.Outline, [(0, COORDINATE_LIMIT + 1)])
-        self.assertRaises(ZeroDirection, outline.extreme, 0, 0)
-        self.assertRaises(OutOfRange, outline.place, COORDINATE_LIMIT + 1, 0)
+            self.assertRaises(ValueError, hull_module.Polygon, points)
+        self.assertRaises(OutOfRange, hull_module.Polygon, [(0, COORDINATE_LIMIT + 1)])
+        self.assertRaises(ZeroDirection, polygon.extreme, 0, 0)
+        self.assertRaises(OutOfRange, polygon.place, COORDINATE_LIMIT + 1, 0)
 
-    def test_outlines_of_points(self):
-        of, ring = hull_module.Outline.of, [(0, 0), (10, 0), (10, 10), (0, 10)]
+    def test_polygons_of_points(self):
+        of, ring = hull_module.Polygon.of, [(0, 0), (10, 0), (10, 10), (0, 10)]
         for first in range(4):
-            turned = ring[first:] + ring[:first]
-            for points in (turned, turned[::-1], turned + [(5, 5)], turned * 2, columns(turned)):
+            shifted = ring[first:] + ring[:first]
+            for points in (shifted, shifted[::-1], shifted + [(5, 5)], shifted * 2, columns(shifted)):
                 self.assertEqual(list(of(points)), ring)
         parabola = [(x * 7 % 500, (x * 7 % 500) ** 2) for x in range(500)]
-        self.assertEqual((list(of(parabola)), list(of([])), of([(1, 2)] * 65535)), (sorted(parabola), [], hull_module.Outline([(1, 2)])))
+        self.assertEqual((list(of(parabola)), list(of([])), of([(1, 2)] * 65535)), (sorted(parabola), [], hull_module.Polygon([(1, 2)])))
         self.assertRaises(OutOfRange, of, [(0, COORDINATE_LIMIT + 1)])
         self.assertRaises(TooMany, of, [(1, 2)] * 65536)
 
-    def test_encounters(self):
-        outline = hull_module.Outline([(0, 0), (10, 0), (10, 10), (0, 10)])
-        self.assertTrue(outline.meets_segment(-5, 5, 5, 15))
-        self.assertFalse(outline.meets_segment(-5, 6, 5, 16))
-        self.assertIsNone(outline.apart_from_segment(-5, 5, 5, 15))
-        self.assertEqual(outline.apart_from_segment(-5, 6, 5, 16), ((0, 10), (-10, 10)))
-        self.assertEqual(outline.nearest(12, -3), ((10, 0),))
-        self.assertEqual(outline.nearest(3, -3), ((0, 0), (10, 0)))
-        self.assertEqual(outline.nearest(3, 10), ())
-        self.assertEqual(outline.bounding_box(), ((0, 0), (10, 10)))
-        none = hull_module.Outline([])
-        self.assertFalse(none.meets_segment(0, 0, 1, 1))
-        self.assertEqual((none.apart_from_segment(0, 0, 1, 1), none.nearest(0, 0), none.bounding_box()), (None, None, None))
+    def test_segments_and_points(self):
+        polygon = hull_module.Polygon([(0, 0), (10, 0), (10, 10), (0, 10)])
+        self.assertTrue(polygon.intersects_segment(-5, 5, 5, 15))
+        self.assertFalse(polygon.intersects_segment(-5, 6, 5, 16))
+        self.assertIsNone(polygon.separation_from_segment(-5, 5, 5, 15))
+        self.assertEqual(polygon.separation_from_segment(-5, 6, 5, 16), ((0, 10), (-10, 10)))
+        self.assertEqual(polygon.nearest(12, -3), ((10, 0),))
+        self.assertEqual(polygon.nearest(3, -3), ((0, 0), (10, 0)))
+        self.assertEqual(polygon.nearest(3, 10), ())
+        self.assertEqual(polygon.bounding_box(), ((0, 0), (10, 10)))
+        none = hull_module.Polygon([])
+        self.assertFalse(none.intersects_segment(0, 0, 1, 1))
+        self.assertEqual((none.separation_from_segment(0, 0, 1, 1), none.nearest(0, 0), none.bounding_box()), (None, None, None))
         far = COORDINATE_LIMIT + 1
-        self.assertRaises(OutOfRange, outline.meets_segment, 0, 0, far, 0)
-        self.assertRaises(OutOfRange, outline.apart_from_segment, far, 0, 0, 0)
-        self.assertRaises(OutOfRange, outline.nearest, 0, 1 << 70)
+        self.assertRaises(OutOfRange, polygon.intersects_segment, 0, 0, far, 0)
+        self.assertRaises(OutOfRange, polygon.separation_from_segment, far, 0, 0, 0)
+        self.assertRaises(OutOfRange, polygon.nearest, 0, 1 << 70)
 
-    def test_outlines_are_merged(self):
-        Outline, merge = hull_module.Outline, hull_module.merge
-        parts = [[(x * y % 23, x + y) for x in range(part, part + 9)] for part in range(12) for y in (1, 7)]
-        whole = Outline.of([point for part in parts for point in part])
-        self.assertEqual(merge(map(Outline.of, parts)), whole)
-        halves = merge(map(Outline.of, parts[:5])), merge(map(Outline.of, parts[5:]))
+    def test_polygons_are_merged(self):
+        Polygon, merge = hull_module.Polygon, hull_module.merge
+        blocks = [[(x * y % 23, x + y) for x in range(first, first + 9)] for first in range(12) for y in (1, 7)]
+        whole = Polygon.of([point for block in blocks for point in block])
+        self.assertEqual(merge(map(Polygon.of, blocks)), whole)
+        halves = merge(map(Polygon.of, blocks[:5])), merge(map(Polygon.of, blocks[5:]))
         self.assertEqual((merge(halves), merge([whole]), merge([whole] * 3)), (whole,) * 3)
-        none, point = Outline([]), Outline([(3, 4)])
+        none, point = Polygon([]), Polygon([(3, 4)])
         self.assertEqual((merge([]), merge([none, none]), merge([none, point])), (none, none, point))
         self.assertEqual(merge([point] * (2 * MULTIPLICITY_LIMIT + 1)), point)
         self.assertRaises(TypeError, merge, [point, [(0, 0)]])
         self.assertEqual(whole, merge([whole]))
 
-    def test_more_corners_are_merged_than_an_outline_has(self):
+    def test_more_vertices_are_merged_than_a_polygon_has(self):
         half = POINT_LIMIT // 2
-        low, high = (hull_module.Outline([(x, x * x) for x in range(first, first + half)]) for first in (0, half))
+        low, high = (hull_module.Polygon([(x, x * x) for x in range(first, first + half)]) for first in (0, half))
         both = hull_module.merge([low, high, low, high])
         self.assertEqual((len(both), both.place(half, half * half)), (POINT_LIMIT, Place.ON))
         again = pickle.loads(pickle.dumps(both))
         self.assertTrue(again == both and len(pickle.dumps(both)) < 16 * POINT_LIMIT + 1000)
-        self.assertRaises(TooMany, hull_module.merge, [both, hull_module.Outline([(-1, 1)])])
+        self.assertRaises(TooMany, hull_module.merge, [both, hull_module.Polygon([(-1, 1)])])
 
-    def test_clearances(self):
-        Outline, Relation = hull_module.Outline, hull_module.Relation
-        outline, none, beside = Outline([(0, 0), (10, 0), (10, 10), (0, 10)]), Outline([]), Outline([(12, 0), (15, 3), (12, 6)])
-        self.assertEqual((outline.distance_bounds(beside), outline.distance_bounds(outline)), ((2.0, 2.0), (0.0, 0.0)))
-        self.assertEqual((outline.distance_bounds_to(13, 14), outline.squared_distance_to_segment(16, 10, 13, 14)), ((5.0, 5.0), Fraction(576, 25)))
-        low, high = outline.distance_bounds_to(11, 11)
+    def test_distance_bounds(self):
+        Polygon, Relation = hull_module.Polygon, hull_module.Relation
+        polygon, none, beside = Polygon([(0, 0), (10, 0), (10, 10), (0, 10)]), Polygon([]), Polygon([(12, 0), (15, 3), (12, 6)])
+        self.assertEqual((polygon.distance_bounds(beside), polygon.distance_bounds(polygon)), ((2.0, 2.0), (0.0, 0.0)))
+        self.assertEqual(polygon.distance_bounds_to_point(13, 14), (5.0, 5.0))
+        self.assertEqual(polygon.squared_distance_to_segment(16, 10, 13, 14), Fraction(576, 25))
+        low, high = polygon.distance_bounds_to_point(11, 11)
         self.assertTrue(low < high == math.sqrt(2) and Fraction(low) ** 2 < 2 < Fraction(high) ** 2)
-        self.assertEqual(outline.distance_bounds_to_segment(13, 14, 13, 20), (5.0, 5.0))
-        self.assertEqual((none.distance_bounds(outline), outline.distance_bounds(none), none.distance_bounds_to(0, 0)), (None, None, None))
+        self.assertEqual(polygon.distance_bounds_to_segment(13, 14, 13, 20), (5.0, 5.0))
+        self.assertEqual((none.distance_bounds(polygon), polygon.distance_bounds(none), none.distance_bounds_to_point(0, 0)), (None, None, None))
         self.assertIsNone(none.squared_distance_to_segment(0, 0, 1, 1))
-        self.assertTrue(outline.within_segment(13, 14, 13, 20, 5) and outline.within_point(13, 14, 5.0) and outline.within_point(13, 14, 2 ** 64))
-        self.assertFalse(outline.within_segment(13, 14, 13, 20, 4.999) or outline.within_point(13, 14, Fraction(2 ** 40 - 1, 2 ** 39)))
-        self.assertFalse(none.within_point(0, 0, 5) or none.within_point(0, 0, 2 ** 64))
-        self.assertIs(outline.relation_to_segment(10, 12, 10, 3), Relation.TOUCHING)
-        self.assertIs(outline.relation_to_segment(9, 9, 2, 2), Relation.COVERS)
+        self.assertTrue(polygon.within_distance_of_segment(13, 14, 13, 20, 5) and polygon.within_distance_of_point(13, 14, 5.0))
+        self.assertTrue(polygon.within_distance_of_point(13, 14, 2 ** 64))
+        self.assertFalse(polygon.within_distance_of_segment(13, 14, 13, 20, 4.999))
+        self.assertFalse(polygon.within_distance_of_point(13, 14, Fraction(2 ** 40 - 1, 2 ** 39)))
+        self.assertFalse(none.within_distance_of_point(0, 0, 5) or none.within_distance_of_point(0, 0, 2 ** 64))
+        self.assertIs(polygon.relation_to_segment(10, 12, 10, 3), Relation.TOUCHING)
+        self.assertIs(polygon.relation_to_segment(9, 9, 2, 2), Relation.COVERS)
         self.assertIs(none.relation_to_segment(9, 9, 2, 2), Relation.WITHIN)
         far = COORDINATE_LIMIT + 1
-        for ask in (outline.distance_bounds_to_segment, outline.squared_distance_to_segment, outline.relation_to_segment):
+        for ask in (polygon.distance_bounds_to_segment, polygon.squared_distance_to_segment, polygon.relation_to_segment):
             self.assertRaises(OutOfRange, ask, 0, 0, far, 0)
             self.assertRaises(OutOfRange, ask, 0, -far, 0, 0)
-        self.assertRaises(OutOfRange, outline.within_point, far, 0, 1)
-        self.assertRaises(OutOfRange, outline.within_point, 0, 0, -1)
+        self.assertRaises(OutOfRange, polygon.within_distance_of_point, far, 0, 1)
+        self.assertRaises(OutOfRange, polygon.within_distance_of_point, 0, 0, -1)
 
-    def test_casts(self):
-        outline, line, none = (hull_module.Outline(corners) for corners in ([(0, 0), (10, 0), (10, 10), (0, 10)], [(0, 0), (4, 4)], []))
-        self.assertEqual(outline.cast_ray(-2, 1, 3, 1), (Fraction(2, 3), ((0, 10), (0, 0))))
-        self.assertEqual(outline.cast_segment(14, 3, -6, 3), (Fraction(1, 5), ((10, 0), (10, 10))))
-        self.assertEqual((outline.cast_ray(3, 3, 1, 0), line.cast_ray(7, 7, -1, -1)), ((0, ()), (3, ((4, 4),))))
-        self.assertEqual(outline.last_on_ray(-2, 1, 3, 1), (4, ((10, 0), (10, 10))))
-        self.assertEqual((line.last_on_ray(7, 7, -1, -1), none.last_on_ray(0, 0, 1, 0)), ((7, ((0, 0),)), None))
-        misses = outline.cast_ray(-2, 1, -3, 1), outline.cast_segment(14, 3, 11, 3), none.cast_ray(0, 0, 1, 0), none.cast_segment(0, 0, 1, 0)
+    def test_raycasts(self):
+        polygon, line, none = (hull_module.Polygon(vertices) for vertices in ([(0, 0), (10, 0), (10, 10), (0, 10)], [(0, 0), (4, 4)], []))
+        self.assertEqual(polygon.raycast(-2, 1, 3, 1), (Fraction(2, 3), ((0, 10), (0, 0))))
+        self.assertEqual(polygon.raycast_segment(14, 3, -6, 3), (Fraction(1, 5), ((10, 0), (10, 10))))
+        self.assertEqual((polygon.raycast(3, 3, 1, 0), line.raycast(7, 7, -1, -1)), ((0, ()), (3, ((4, 4),))))
+        self.assertEqual(polygon.raycast_exit(-2, 1, 3, 1), (4, ((10, 0), (10, 10))))
+        self.assertEqual((line.raycast_exit(7, 7, -1, -1), none.raycast_exit(0, 0, 1, 0)), ((7, ((0, 0),)), None))
+        misses = polygon.raycast(-2, 1, -3, 1), polygon.raycast_segment(14, 3, 11, 3), none.raycast(0, 0, 1, 0), none.raycast_segment(0, 0, 1, 0)
         self.assertEqual(misses, (None,) * 4)
-        self.assertRaises(ZeroDirection, outline.cast_ray, 0, 0, 0, 0)
-        self.assertRaises(OutOfRange, outline.cast_ray, 0, 0, 0, COORDINATE_LIMIT + 1)
-        self.assertRaises(OutOfRange, outline.cast_segment, 0, -COORDINATE_LIMIT - 1, 0, 0)
+        self.assertRaises(ZeroDirection, polygon.raycast, 0, 0, 0, 0)
+        self.assertRaises(OutOfRange, polygon.raycast, 0, 0, 0, COORDINATE_LIMIT + 1)
+        self.assertRaises(OutOfRange, polygon.raycast_segment, 0, -COORDINATE_LIMIT - 1, 0, 0)
 
-    def test_two_outlines(self):
-        Outline, Shows = hull_module.Outline, hull_module.Shows
-        outline, none = Outline([(0, 0), (10, 0), (10, 10), (0, 10)]), Outline([])
-        small, beside, across = Outline([(2, 2), (4, 2), (3, 4)]), Outline([(12, 0), (15, 3), (12, 6)]), Outline([(-5, 5), (15, 6)])
-        self.assertTrue(outline.meets(small) and outline.contains(small))
-        self.assertFalse(small.contains(outline) or outline.meets(beside) or none.meets(outline) or none.contains(outline))
-        self.assertTrue(outline.contains(none))
-        Relation, flush = hull_module.Relation, Outline([(10, 3), (14, 3), (14, 5)])
-        told = [outline.relation(other) for other in (small, beside, flush, across, outline)]
-        self.assertEqual(told, [Relation.COVERS, Relation.APART, Relation.TOUCHING, Relation.OVERLAPPING, Relation.EQUAL])
-        self.assertIs(small.relation(outline), Relation.WITHIN)
-        self.assertTrue(outline.contains_inside(small))
-        self.assertFalse(outline.contains_inside(outline) or outline.contains_inside(flush))
-        self.assertTrue(outline.within(beside, 2) and outline.within(beside, 2.0) and outline.within(beside, Fraction(2001, 1000)))
-        self.assertFalse(outline.within(beside, 1.999999) or outline.within(beside, Fraction(1999, 1000)) or outline.within(none, 5))
-        self.assertTrue(outline.within(beside, 2 ** 64) and not outline.within(none, 2 ** 64))
-        self.assertTrue(outline.within(beside, Fraction(2 ** 40 + 1, 2 ** 39)) and not outline.within(beside, Fraction(2 ** 40 - 1, 2 ** 39)))
+    def test_two_polygons(self):
+        Polygon, Shows = hull_module.Polygon, hull_module.Shows
+        polygon, none = Polygon([(0, 0), (10, 0), (10, 10), (0, 10)]), Polygon([])
+        small, beside, across = Polygon([(2, 2), (4, 2), (3, 4)]), Polygon([(12, 0), (15, 3), (12, 6)]), Polygon([(-5, 5), (15, 6)])
+        self.assertTrue(polygon.intersects(small) and polygon.contains(small))
+        self.assertFalse(small.contains(polygon) or polygon.intersects(beside) or none.intersects(polygon) or none.contains(polygon))
+        self.assertTrue(polygon.contains(none))
+        Relation, flush = hull_module.Relation, Polygon([(10, 3), (14, 3), (14, 5)])
+        relations = [polygon.relation(other) for other in (small, beside, flush, across, polygon)]
+        self.assertEqual(relations, [Relation.COVERS, Relation.DISJOINT, Relation.TOUCHING, Relation.OVERLAPPING, Relation.EQUAL])
+        self.assertIs(small.relation(polygon), Relation.WITHIN)
+        self.assertTrue(polygon.contains_inside(small))
+        self.assertFalse(polygon.contains_inside(polygon) or polygon.contains_inside(flush))
+        for distance in (2, 2.0, Fraction(2001, 1000), 2 ** 64, Fraction(2 ** 40 + 1, 2 ** 39)):
+            self.assertTrue(polygon.within_distance(beside, distance))
+        for distance in (1.999999, Fraction(1999, 1000), Fraction(2 ** 40 - 1, 2 ** 39)):
+            self.assertFalse(polygon.within_distance(beside, distance))
+        self.assertFalse(polygon.within_distance(none, 5) or polygon.within_distance(none, 2 ** 64))
         for distance in (-1, float("nan"), float("inf")):
-            self.assertRaises(OutOfRange, outline.within, beside, distance)
-        covered, within, crossing = outline.witness(small), small.witness(outline), outline.witness(across)
+            self.assertRaises(OutOfRange, polygon.within_distance, beside, distance)
+        covered, within, crossing = polygon.witness(small), small.witness(polygon), polygon.witness(across)
         self.assertTrue(covered.shows is Shows.COVERED and len(covered.points) == 1 and covered.points[0] in small.vertices())
         self.assertTrue(within.shows is Shows.WITHIN and within.points[0] in small.vertices())
         self.assertEqual((crossing.shows, crossing.points[2:]), (Shows.CROSSING, ((-5, 5), (15, 6))))
-        self.assertEqual(outline.witness(beside), (Shows.APART, ((10, 10), (10, 0))))
-        self.assertEqual((outline.witness(none), none.witness(outline), none.diameter(), none.width_along(1, 0)), (None,) * 4)
-        point = Outline([(13, 5)])
-        self.assertEqual((outline.distance(small), outline.distance(none), none.distance(outline)), (((), ()), None, None))
-        self.assertEqual(outline.distance(beside), (((10, 0),), ((12, 0),)))
-        self.assertEqual(outline.distance(point), (((10, 0), (10, 10)), ((13, 5),)))
-        self.assertEqual(point.distance(outline), (((13, 5),), ((10, 0), (10, 10))))
-        self.assertRaises(TypeError, outline.distance, [(0, 0)])
+        self.assertEqual(polygon.witness(beside), (Shows.DISJOINT, ((10, 10), (10, 0))))
+        self.assertEqual((polygon.witness(none), none.witness(polygon), none.diameter(), none.width_along(1, 0)), (None,) * 4)
+        point = Polygon([(13, 5)])
+        self.assertEqual((polygon.distance(small), polygon.distance(none), none.distance(polygon)), (((), ()), None, None))
+        self.assertEqual(polygon.distance(beside), (((10, 0),), ((12, 0),)))
+        self.assertEqual(polygon.distance(point), (((10, 0), (10, 10)), ((13, 5),)))
+        self.assertEqual(point.distance(polygon), (((13, 5),), ((10, 0), (10, 10))))
+        self.assertRaises(TypeError, polygon.distance, [(0, 0)])
         self.assertEqual(beside.least_width(), ((12, 6), (12, 0), (15, 3)))
-        self.assertEqual((none.least_width(), Outline([(3, 4)]).least_width()), (None, None))
-        (px, py), (qx, qy) = outline.diameter()
+        self.assertEqual((none.least_width(), Polygon([(3, 4)]).least_width()), (None, None))
+        (px, py), (qx, qy) = polygon.diameter()
         self.assertEqual((px - qx) ** 2 + (py - qy) ** 2, 200)
-        self.assertEqual(outline.width_along(3, 4), 70)
-        self.assertRaises(ZeroDirection, outline.width_along, 0, 0)
-        self.assertRaises(OutOfRange, outline.width_along, COORDINATE_LIMIT + 1, 0)
-        self.assertRaises(TypeError, outline.meets, [(0, 0)])
+        self.assertEqual(polygon.width_along(3, 4), 70)
+        self.assertRaises(ZeroDirection, polygon.width_along, 0, 0)
+        self.assertRaises(OutOfRange, polygon.width_along, COORDINATE_LIMIT + 1, 0)
+        self.assertRaises(TypeError, polygon.intersects, [(0, 0)])
 
     def test_motions(self):
-        Outline = hull_module.Outline
-        outline, none = Outline([(0, 0), (10, 0), (10, 10), (0, 10)]), Outline([])
-        small, beside = Outline([(2, 2), (4, 2), (3, 4)]), Outline([(12, 0), (15, 3), (12, 6)])
-        self.assertEqual(outline.first_meeting(beside, -8, 4), (Fraction(1, 4), ((10, 0), (10, 10)), (12, 0), True))
-        self.assertEqual(beside.first_meeting(outline, 8, -4)[0], Fraction(1, 4))
-        self.assertEqual(outline.first_meeting(small, 1, 1), (0, (), None, False))
-        self.assertEqual((outline.first_meeting(beside, 0, 9), outline.first_meeting(beside, 0, 0), outline.first_meeting(none, 1, 1)), (None,) * 3)
-        self.assertRaises(OutOfRange, outline.first_meeting, beside, COORDINATE_LIMIT + 1, 0)
-        self.assertRaises(TypeError, outline.first_meeting, [(0, 0)], 1, 1)
-        self.assertEqual((beside.moved(-8, 4).vertices(), none.moved(1, 1).vertices()), ([(4, 4), (7, 7), (4, 10)], []))
+        Polygon = hull_module.Polygon
+        polygon, none = Polygon([(0, 0), (10, 0), (10, 10), (0, 10)]), Polygon([])
+        small, beside = Polygon([(2, 2), (4, 2), (3, 4)]), Polygon([(12, 0), (15, 3), (12, 6)])
+        self.assertEqual(polygon.first_meeting(beside, -8, 4), (Fraction(1, 4), ((10, 0), (10, 10)), (12, 0), True))
+        self.assertEqual(beside.first_meeting(polygon, 8, -4)[0], Fraction(1, 4))
+        self.assertEqual(polygon.first_meeting(small, 1, 1), (0, (), None, False))
+        self.assertEqual((polygon.first_meeting(beside, 0, 9), polygon.first_meeting(beside, 0, 0), polygon.first_meeting(none, 1, 1)), (None,) * 3)
+        self.assertRaises(OutOfRange, polygon.first_meeting, beside, COORDINATE_LIMIT + 1, 0)
+        self.assertRaises(TypeError, polygon.first_meeting, [(0, 0)], 1, 1)
+        self.assertEqual((beside.translate(-8, 4).vertices(), none.translate(1, 1).vertices()), ([(4, 4), (7, 7), (4, 10)], []))
         for way in ((COORDINATE_LIMIT, 0), (0, 1 << 70)):
-            self.assertRaises(OutOfRange, beside.moved, *way)
-        self.assertEqual((small.turned(0, 1).vertices(), none.turned(1, 1).vertices()), ([(-4, 3), (-2, 2), (-2, 4)], []))
-        self.assertRaises(ZeroDirection, small.turned, 0, 0)
-        self.assertRaises(OutOfRange, small.turned, COORDINATE_LIMIT, 1)
+            self.assertRaises(OutOfRange, beside.translate, *way)
+        self.assertEqual((small.rotate(0, 1).vertices(), none.rotate(1, 1).vertices()), ([(-4, 3), (-2, 2), (-2, 4)], []))
+        self.assertRaises(ZeroDirection, small.rotate, 0, 0)
+        self.assertRaises(OutOfRange, small.rotate, COORDINATE_LIMIT, 1)
         held = Hull([(9, 9), (-9, 9)])
         self.assertEqual((held.nearest_held(0, 5), held.nearest_held(1, 9), Hull().nearest_held(1, 1)), (((-9, 9), 97), ((9, 9), 64), None))
         self.assertRaises(OutOfRange, held.nearest_held, COORDINATE_LIMIT + 1, 0)
         by_chance = random.Random(5)
         for _ in range(200):
-            one, other = (Outline.of([(by_chance.randrange(-9, 9) + at, by_chance.randrange(-9, 9)) for _ in range(5)]) for at in (0, 25))
+            one, other = (Polygon.of([(by_chance.randrange(-9, 9) + at, by_chance.randrange(-9, 9)) for _ in range(5)]) for at in (0, 25))
             dx, dy = by_chance.randrange(-40, 1), by_chance.randrange(-9, 9)
             met = one.first_meeting(other, dx, dy)
 
             def meet(part):
-                large = [Outline.of([(x * part.denominator, y * part.denominator) for x, y in shape.vertices()]) for shape in (one, other)]
-                return large[0].meets(large[1].moved(dx * part.numerator, dy * part.numerator))
+                large = [Polygon.of([(x * part.denominator, y * part.denominator) for x, y in shape.vertices()]) for shape in (one, other)]
+                return large[0].intersects(large[1].translate(dx * part.numerator, dy * part.numerator))
 
             self.assertFalse(any(meet(Fraction(k, 97)) for k in range(98) if met is None or Fraction(k, 97) < met.part))
             self.assertTrue(met is None or meet(met.part))
 
-    def test_many_outlines(self):
-        Outline, pairs_within, by_chance = hull_module.Outline, hull_module.pairs_within, random.Random(3)
+    def test_many_polygons(self):
+        Polygon, pairs_within_distance, by_chance = hull_module.Polygon, hull_module.pairs_within_distance, random.Random(3)
 
         def point(most):
             return by_chance.randrange(-most, most), by_chance.randrange(-most, most)
 
-        def outline(points, size, most):
+        def polygon(points, size, most):
             x, y = point(most)
-            return Outline.of([(x + dx, y + dy) for dx, dy in (point(size) for _ in range(points))])
+            return Polygon.of([(x + dx, y + dy) for dx, dy in (point(size) for _ in range(points))])
 
         for _ in range(30):
             size, most = by_chance.choice([1, 3, 10]), by_chance.choice([4, 30])
-            all = [outline(by_chance.randrange(8), size, most) for _ in range(by_chance.randrange(30))]
+            all = [polygon(by_chance.randrange(8), size, most) for _ in range(by_chance.randrange(30))]
             for distance in (0, 1, Fraction(5, 2), 3.5, Fraction(1, 3 ** 30), 2 ** 70):
-                pairs = [(i, j) for j in range(len(all)) for i in range(j) if all[i].within(all[j], distance)]
-                self.assertEqual(pairs_within(all, distance), sorted(pairs))
+                pairs = [(i, j) for j in range(len(all)) for i in range(j) if all[i].within_distance(all[j], distance)]
+                self.assertEqual(pairs_within_distance(all, distance), sorted(pairs))
             segments = [(point(40), point(40)) for _ in range(30)]
             points = [point(5) for _ in range(30)]
             for one in all[:4]:
                 self.assertEqual(one.relations(all), [one.relation(other) for other in all])
-                self.assertEqual(list(one.meets_segments(segments)), [one.meets_segment(*a, *b) for a, b in segments])
-            hull = Outline.of(points + [(9, 9)])
+                self.assertEqual(list(one.intersects_segments(segments)), [one.intersects_segment(*a, *b) for a, b in segments])
+            hull = Polygon.of(points + [(9, 9)])
             self.assertEqual(hull.indices(points), [points.index(c) if c in points else None for c in hull.vertices()])
-        self.assertRaises(TypeError, pairs_within, [[(0, 0)]])
-        self.assertRaises(OutOfRange, pairs_within, [], -1)
-        self.assertRaises(OutOfRange, hull.meets_segments, [((0, 0), (0, COORDINATE_LIMIT + 1))])
-        self.assertRaises(ValueError, hull.meets_segments, [((0, 0),)])
-        self.assertEqual((hull.meets_segments([]), hull.indices([]), Outline([]).indices([(1, 1)])), (b"", [None] * len(hull), []))
+        self.assertRaises(TypeError, pairs_within_distance, [[(0, 0)]])
+        self.assertRaises(OutOfRange, pairs_within_distance, [], -1)
+        self.assertRaises(OutOfRange, hull.intersects_segments, [((0, 0), (0, COORDINATE_LIMIT + 1))])
+        self.assertRaises(ValueError, hull.intersects_segments, [((0, 0),)])
+        self.assertEqual((hull.intersects_segments([]), hull.indices([]), Polygon([]).indices([(1, 1)])), (b"", [None] * len(hull), []))
 
-    def test_sequences_that_make_their_outlines(self):
+    def test_sequences_that_make_their_polygons(self):
         """What a call looks at stays until it ends, and is what was handed over, whatever the caller's sequence does meanwhile."""
-        Outline, pairs_within = hull_module.Outline, hull_module.pairs_within
+        Polygon, pairs_within_distance = hull_module.Polygon, hull_module.pairs_within_distance
 
         def square(k):
-            return Outline([(3 * k, 0), (3 * k + 2, 0), (3 * k + 2, 2), (3 * k, 2)])
+            return Polygon([(3 * k, 0), (3 * k + 2, 0), (3 * k + 2, 2), (3 * k, 2)])
 
         class Made(Sequence):
-            """Outlines to which only the caller refers."""
+            """Polygons to which only the caller refers."""
 
             def __len__(self):
                 return 300
@@ -490,34 +497,34 @@ class Calls(unittest.TestCase):
                 return 5 + list.__len__(self)
 
         near = [(k, k + 1) for k in range(299)]
-        one = Outline([(0, 0), (1000, 0), (1000, 1)])
-        for outlines in (Made(), Lying(Made()), tuple(Made())):
+        one = Polygon([(0, 0), (1000, 0), (1000, 1)])
+        for polygons in (Made(), Lying(Made()), tuple(Made())):
             for distance in (1, Fraction(1) + Fraction(1, 1 << 40)):
-                self.assertEqual(pairs_within(outlines, distance), near)
-            self.assertEqual(one.relations(outlines), [one.relation(other) for other in Made()])
+                self.assertEqual(pairs_within_distance(polygons, distance), near)
+            self.assertEqual(one.relations(polygons), [one.relation(other) for other in Made()])
         for wrong in ([square(0), None], Lying([square(0), (1, 2)])):
-            self.assertRaises(TypeError, pairs_within, wrong)
+            self.assertRaises(TypeError, pairs_within_distance, wrong)
             self.assertRaises(TypeError, one.relations, wrong)
 
-    def test_outlines_that_other_threads_change(self):
-        """A list whose elements are exchanged, and outlines that are made anew: each answer is one of those before and after."""
-        Outline, pairs_within = hull_module.Outline, hull_module.pairs_within
+    def test_polygons_that_other_threads_change(self):
+        """A list whose elements are exchanged, and polygons that are made anew: each answer is one of those before and after."""
+        Polygon, pairs_within_distance = hull_module.Polygon, hull_module.pairs_within_distance
         many, few = [(x, x * x) for x in range(3000)], [(5000, 0), (5001, 0), (5000, 1)]
-        both = [Outline(many), Outline(few)]
-        changing, outlines, ends = Outline(many), [Outline(many) for _ in range(4)], []
-        areas = {outline.doubled_area() for outline in both}
-        relations = {both[0].relation(outline) for outline in both}
-        places = {tuple(outline.indices(many)) for outline in both}
+        both = [Polygon(many), Polygon(few)]
+        changing, polygons, ends = Polygon(many), [Polygon(many) for _ in range(4)], []
+        areas = {polygon.doubled_area() for polygon in both}
+        relations = {both[0].relation(polygon) for polygon in both}
+        places = {tuple(polygon.indices(many)) for polygon in both}
         pairs = [[], *([(i, j)] for j in range(3) for i in range(j)), [(0, 1), (0, 2), (1, 2)]]
 
         def change():
             while not ends:
-                for corners in (few, many):
-                    changing.__init__(corners)
+                for vertices in (few, many):
+                    changing.__init__(vertices)
                     with self.assertRaises(ValueError):
                         changing.__init__([(0, 0), (0, 0)])
-                    outlines[1] = Outline(corners)
-                    outlines[:] = [Outline(many) for _ in range(len(corners) % 3 + 2)]
+                    polygons[1] = Polygon(vertices)
+                    polygons[:] = [Polygon(many) for _ in range(len(vertices) % 3 + 2)]
 
         threads = [threading.Thread(target=change) for _ in range(2)]
         for thread in threads:
@@ -527,45 +534,45 @@ class Calls(unittest.TestCase):
                 self.assertIn(changing.doubled_area(), areas)
                 self.assertIn(both[0].relation(changing), relations)
                 self.assertIn(tuple(changing.indices(many)), places)
-                self.assertIn(changing.moved(0, 0), both)
-                self.assertIn(changing.turned(1, 0), both)
-                self.assertIn(pairs_within([both[0], changing, both[1]], 0), pairs)
-                self.assertTrue(set(both[0].relations(outlines)) <= {*relations, hull_module.Relation.EQUAL})
+                self.assertIn(changing.translate(0, 0), both)
+                self.assertIn(changing.rotate(1, 0), both)
+                self.assertIn(pairs_within_distance([both[0], changing, both[1]], 0), pairs)
+                self.assertTrue(set(both[0].relations(polygons)) <= {*relations, hull_module.Relation.EQUAL})
         finally:
             ends.append(True)
             for thread in threads:
                 thread.join()
 
     def test_lengths_of_any_size(self):
-        Outline = hull_module.Outline
-        one, other, none = Outline([(0, 0)]), Outline([(COORDINATE_LIMIT, 0)]), Outline([])
+        Polygon = hull_module.Polygon
+        one, other, none = Polygon([(0, 0)]), Polygon([(COORDINATE_LIMIT, 0)]), Polygon([])
         for length in (10 ** 400, Fraction(10 ** 400, 3), Decimal(10) ** 400, COORDINATE_LIMIT):
-            self.assertTrue(one.within(other, length) and one.within_point(COORDINATE_LIMIT, 5, length + 1))
-            self.assertFalse(one.within(none, length))
-            self.assertEqual(hull_module.pairs_within([one, none, other], length), [(0, 2)])
-        self.assertFalse(one.within(other, COORDINATE_LIMIT - Fraction(1, 10 ** 400)))
+            self.assertTrue(one.within_distance(other, length) and one.within_distance_of_point(COORDINATE_LIMIT, 5, length + 1))
+            self.assertFalse(one.within_distance(none, length))
+            self.assertEqual(hull_module.pairs_within_distance([one, none, other], length), [(0, 2)])
+        self.assertFalse(one.within_distance(other, COORDINATE_LIMIT - Fraction(1, 10 ** 400)))
         for wrong in (-10 ** 400, math.inf, -math.inf, math.nan, Decimal("inf"), Decimal("nan"), -1):
-            self.assertRaises(OutOfRange, one.within, other, wrong)
-            self.assertRaises(OutOfRange, hull_module.pairs_within, [one], wrong)
+            self.assertRaises(OutOfRange, one.within_distance, other, wrong)
+            self.assertRaises(OutOfRange, hull_module.pairs_within_distance, [one], wrong)
         for wrong in ("1", None, 1j, [1]):
-            self.assertRaises(TypeError, one.within, other, wrong)
+            self.assertRaises(TypeError, one.within_distance, other, wrong)
 
     def test_relations_to_segments(self):
-        Relation, outline = hull_module.Relation, hull_module.Outline([(0, 0), (10, 0), (10, 10), (0, 10)])
+        Relation, polygon = hull_module.Relation, hull_module.Polygon([(0, 0), (10, 0), (10, 10), (0, 10)])
         for relation, segments in ((Relation.COVERS, [(0, 0, 10, 0), (2, 2, 9, 9), (5, 0, 5, 5), (10, 5, 10, 5)]),
                                    (Relation.TOUCHING, [(10, 3, 10, 12), (10, 10, 12, 12)]),
-                                   (Relation.OVERLAPPING, [(5, 5, 20, 5), (-5, 5, 20, 5)]), (Relation.APART, [(20, 20, 30, 30)])):
+                                   (Relation.OVERLAPPING, [(5, 5, 20, 5), (-5, 5, 20, 5)]), (Relation.DISJOINT, [(20, 20, 30, 30)])):
             for segment in segments:
-                self.assertEqual(outline.relation_to_segment(*segment), relation)
+                self.assertEqual(polygon.relation_to_segment(*segment), relation)
 
     def test_segments_have_two_ends(self):
-        outline = hull_module.Outline([(0, 0), (10, 0), (10, 10)])
+        polygon = hull_module.Polygon([(0, 0), (10, 0), (10, 10)])
         for wrong in ([((0, 0), (1, 1), (2, 2)), ((3, 3),)], [((0, 0),)], [((0, 0), (1, 1), (2, 2))]):
-            self.assertRaises(ValueError, outline.meets_segments, wrong)
+            self.assertRaises(ValueError, polygon.intersects_segments, wrong)
 
     def test_text_of_floats(self):
-        for corners in ([(0.5, 1)], [(0, 0), (1, 2.75)], [(True, 1)], [("1", 2)]):
-            self.assertRaises(TypeError, wkt, corners)
+        for vertices in ([(0.5, 1)], [(0, 0), (1, 2.75)], [(True, 1)], [("1", 2)]):
+            self.assertRaises(TypeError, wkt, vertices)
 
     def test_directions_of_floats(self):
         direction_of, top = hull_module.direction_of, 1 << 39
@@ -577,21 +584,21 @@ class Calls(unittest.TestCase):
         self.assertEqual(direction_of(5e-324, -5e-324), ((top, -top), False))
         for words in ((math.nan, 0), (0, math.nan), (math.inf, 0), (1, -math.inf)):
             self.assertRaises(OutOfRange, direction_of, *words)
-        outline = hull_module.Outline([(0, 0), (10, 0), (10, 10), (0, 10)])
-        self.assertEqual((outline.extreme_d(0.5, 0.25), outline.extreme_d(0, 0)), ((10, 10), (0, 0)))
-        self.assertEqual(hull_module.Outline([]).extreme_d(1, 1), None)
+        polygon = hull_module.Polygon([(0, 0), (10, 0), (10, 10), (0, 10)])
+        self.assertEqual((polygon.extreme_d(0.5, 0.25), polygon.extreme_d(0, 0)), ((10, 10), (0, 0)))
+        self.assertEqual(hull_module.Polygon([]).extreme_d(1, 1), None)
         self.assertEqual(Hull([(1, 2)]).extreme_d(1e300, -1e-300), (1, 2))
 
-    def test_outline_by_threads(self):
-        outline = Hull([(x, x * x) for x in range(-500, 500)]).outline()
+    def test_polygon_by_threads(self):
+        polygon = Hull([(x, x * x) for x in range(-500, 500)]).polygon()
         asked = [(x, 250000 - 900 * x) for x in range(-500, 500)]
-        wanted, told = outline.place_all(asked), []
-        threads = [threading.Thread(target=lambda: told.append([outline.place_all(asked) for _ in range(20)])) for _ in range(4)]
+        wanted, answers = polygon.place_all(asked), []
+        threads = [threading.Thread(target=lambda: answers.append([polygon.place_all(asked) for _ in range(20)])) for _ in range(4)]
         for thread in threads:
             thread.start()
         for thread in threads:
             thread.join()
-        self.assertEqual(told, [[wanted] * 20] * 4)
+        self.assertEqual(answers, [[wanted] * 20] * 4)
 
     def test_area_in_two_words(self):
         hull = Hull()
@@ -666,12 +673,12 @@ class Locks(unittest.TestCase):
         hull = Hull([(1, 2)])
         self.race(lambda n: list(hull.items()), lambda n: hull.copy(), lambda n: hull.load_items([((n, n), 3)]))
 
-    def test_corners_of_one_moment(self):
+    def test_vertices_of_one_moment(self):
         hull = Hull()
 
         def are_those_of_a_parabola(_):
-            corners = hull.vertices()
-            assert corners == [(n, n * n) for n in range(len(corners))], corners
+            vertices = hull.vertices()
+            assert vertices == [(n, n * n) for n in range(len(vertices))], vertices
 
         self.race(lambda n: hull.add(n, n * n), are_those_of_a_parabola)
 
@@ -681,7 +688,7 @@ class Locks(unittest.TestCase):
             hull_module._LIBRARY.hull_refuse(request)
             try:
                 twin = hull.copy()
-                self.assertEqual((twin.vertices(), twin.outline().vertices()), (hull.vertices(), hull.vertices()))
+                self.assertEqual((twin.vertices(), twin.polygon().vertices()), (hull.vertices(), hull.vertices()))
             except MemoryError:
                 refused += 1
             hull_module._LIBRARY.hull_refuse(-1)
@@ -721,17 +728,17 @@ class Arrays(unittest.TestCase):
             self.assertRaisesRegex(ValueError, message, self.hull.place_all, points)
 
     def test_shapes_of_segments(self):
-        outline = hull_module.Outline([(0, 0), (10, 0), (10, 10)])
+        polygon = hull_module.Polygon([(0, 0), (10, 0), (10, 10)])
         ends = numpy.array([[0, 0, 5, 5], [20, 20, 30, 30], [5, 1, 6, 1]])
         for segments in (ends, ends.reshape(3, 2, 2), ends.astype("int16")):
-            self.assertEqual(outline.meets_segments(segments).tolist(), [1, 0, 1])
+            self.assertEqual(polygon.intersects_segments(segments).tolist(), [1, 0, 1])
         for wrong in (ends.reshape(2, 6), ends.reshape(6, 2), ends.reshape(12), ends.reshape(1, 12), ends.reshape(3, 4, 1), ends.reshape(2, 2, 3)):
-            self.assertRaisesRegex(ValueError, r"shape \(n, 4\) or \(n, 2, 2\)", outline.meets_segments, wrong)
-        self.assertEqual(outline.meets_segments(ends[:0]).tolist(), [])
+            self.assertRaisesRegex(ValueError, r"shape \(n, 4\) or \(n, 2, 2\)", polygon.intersects_segments, wrong)
+        self.assertEqual(polygon.intersects_segments(ends[:0]).tolist(), [])
 
     def test_questions(self):
-        corners = self.hull.vertex_array()
-        self.assertEqual((corners.tolist(), corners.dtype), ([[0, 0], [10, 0], [10, 10], [0, 10]], numpy.int64))
+        vertices = self.hull.vertex_array()
+        self.assertEqual((vertices.tolist(), vertices.dtype), ([[0, 0], [10, 0], [10, 10], [0, 10]], numpy.int64))
         self.assertEqual(Hull().vertex_array().shape, (0, 2))
         farthest = self.hull.extreme_all(numpy.array([[1, 0], [0, 1]], dtype=numpy.int32))
         self.assertEqual((farthest.tolist(), farthest.dtype), ([[10, 0], [0, 10]], numpy.int64))

@@ -1,4 +1,4 @@
-"""When hulls, seats and parts of python/hull.py end: in garbage, at exit, in signals' handlers, beside threads and in forks.
+"""When hulls, seats and segments of python/hull.py end: in garbage, at exit, in signals' handlers, beside threads and in forks.
 
 What has to end its process is run in one of its own; one that hangs is killed, and fails.
 """
@@ -26,16 +26,16 @@ def run(text, head=HEAD):
 
 
 def in_child(work):
-    """What a child of a fork tells: the name of the fault, or "" where there was none; None where it hung."""
+    """Returns what a child of a fork reports: the name of the fault, "" if there was none; None if it hung."""
     reading, writing = os.pipe()
     child = os.fork()
     if child == 0:
         try:
             work()
-            told = ""
+            fault_name = ""
         except BaseException as fault:
-            told = type(fault).__name__
-        os.write(writing, told.encode())
+            fault_name = type(fault).__name__
+        os.write(writing, fault_name.encode())
         os._exit(0)
     os.close(writing)
     for _ in range(2000):
@@ -50,7 +50,7 @@ def in_child(work):
 
 
 class Timer:
-    """A signal that comes again and again, each time so long behind the one before, with what its handler does."""
+    """A signal that comes again and again, each time so long after the one before, with what its handler does."""
 
     def __init__(self, handler, seconds):
         self.handler, self.seconds = handler, seconds
@@ -70,74 +70,74 @@ class Interrupted(Exception):
 
 class Garbage(unittest.TestCase):
     def test_a_finalizer_asks_what_it_refers_to(self):
-        told = []
+        answers = []
 
         class Map:
             def __init__(self, zone):
                 self.zone, self.parent = zone or Hull(SQUARE), self
-                self.outline = self.zone.outline()
+                self.polygon = self.zone.polygon()
 
             def __del__(self):
                 self.zone.add(20, 5)
-                told.append((self.zone.doubled_area(), self.zone.vertices(), len(self.zone), self.outline.doubled_area()))
+                answers.append((self.zone.doubled_area(), self.zone.vertices(), len(self.zone), self.polygon.doubled_area()))
 
         for made_before in range(300):  # the collector goes by the order in which objects were made
             Map(Hull(SQUARE) if made_before % 2 else None)
         gc.collect()
-        self.assertEqual(told, [(300, [(0, 0), (10, 0), (20, 5), (10, 10), (0, 10)], 5, 200)] * 300)
+        self.assertEqual(answers, [(300, [(0, 0), (10, 0), (20, 5), (10, 10), (0, 10)], 5, 200)] * 300)
 
     def test_a_journal_in_garbage(self):
-        told = []
+        answers = []
 
-        class Desk:
+        class Book:
             def __init__(self, hull, seat):
                 self.hull, self.seat, self.parent = hull, seat, self
                 self.seat.add(3, 4)
 
             def __del__(self):
-                told.append(self.seat.count())
-                self.seat.give_back()
-                told.append(self.hull.close().count("\n"))
+                answers.append(self.seat.count())
+                self.seat.release()
+                answers.append(self.hull.close().count("\n"))
 
         for _ in range(300):
             hull = SharedHull(capacity=9, seats=2)
-            Desk(hull, hull.lend(1))
+            Book(hull, hull.acquire_seat(1))
         del hull
         gc.collect()
-        self.assertEqual(told, [1, 4] * 300)
+        self.assertEqual(answers, [1, 4] * 300)
 
     def test_the_collector_does_not_know_them(self):
         shared = SharedHull(capacity=9, seats=1)
-        seat = shared.lend(0)
-        for place in (Hull()._at, shared._desk, seat._at, seat.drain()._at):
+        seat = shared.acquire_seat(0)
+        for place in (Hull()._at, shared._shared, seat._at, seat.drain()._at):
             self.assertFalse(gc.is_tracked(place))
 
     def test_seats_in_garbage(self):
         hull = SharedHull(capacity=None, seats=64)
         before = gc.get_threshold()
-        lent = 0
+        acquired = 0
         try:
             for threshold in (1, 2, 3, 7, 50, 700):
                 gc.set_threshold(threshold)
                 for number in itertools.islice(itertools.cycle(range(64)), 1500):
                     try:
-                        cycle = [hull.lend(number)]
+                        cycle = [hull.acquire_seat(number)]
                     except hull_module.NoSeat:  # it is in garbage still
                         gc.collect()
-                        cycle = [hull.lend(number)]
+                        cycle = [hull.acquire_seat(number)]
                     cycle.append(cycle)
-                    cycle[0].add(number, lent % 5)
-                    lent += 1
+                    cycle[0].add(number, acquired % 5)
+                    acquired += 1
                     if number % 16 == 0:
                         self.assertRaises(SeatsOut, hull.close)
         finally:
             gc.set_threshold(*before)
         del cycle
         gc.collect()
-        self.assertEqual((lent, hull.close().count("\n")), (9000, 2))
+        self.assertEqual((acquired, hull.close().count("\n")), (9000, 2))
 
-    def test_what_is_let_go_ends(self):
-        """A hull, a seat or a part that is let go gives its memory back."""
+    def test_what_is_dropped_ends(self):
+        """A hull, a seat or a segment to which nothing refers frees its memory."""
 
         def memory():
             with open("/proc/self/statm", encoding="ascii") as file:
@@ -145,10 +145,10 @@ class Garbage(unittest.TestCase):
 
         def work():
             shared = SharedHull(capacity=50, seats=1)
-            seat = shared.lend(0)
+            seat = shared.acquire_seat(0)
             seat.add(1, 2)
-            parts = [seat.drain() for _ in range(3)]
-            return Hull((x, x * x) for x in range(300)).copy(), Hull(SQUARE).outline(), parts
+            segments = [seat.drain() for _ in range(3)]
+            return Hull((x, x * x) for x in range(300)).copy(), Hull(SQUARE).polygon(), segments
 
         for _ in range(200):
             work()
@@ -172,22 +172,22 @@ def asked():
         yield hull
     finally:
         print("generator", hull.doubled_area(), flush=True)
-kept, running = Map(), asked()
+last, running = Map(), asked()
 next(running)
 print("end", flush=True)
 """
-        older = "import atexit\natexit.register(lambda: print('atexit', kept.zone.doubled_area(), flush=True))\n"
+        older = "import atexit\natexit.register(lambda: print('atexit', last.zone.doubled_area(), flush=True))\n"
         for more in ("", "import hull\n", "import hull\nsys.modules['__main__'].module = sys.modules['__main__']\n"):
             text, status = run(program, older + HEAD + more)
-            told = text.splitlines()
-            self.assertEqual((told[:2], sorted(told[2:]), status), (["end", "atexit 200"], ["generator 200", "module 200"], 0))
+            lines = text.splitlines()
+            self.assertEqual((lines[:2], sorted(lines[2:]), status), (["end", "atexit 200"], ["generator 200", "module 200"], 0))
 
     def test_daemon_threads(self):
         for n in range(12):
             self.assertEqual(run(f"""
 shared, hull = SharedHull(capacity=None, seats=4), Hull()
 def work(number):
-    seat = shared.lend(number)
+    seat = shared.acquire_seat(number)
     while True:
         seat.add(number, 5)
         hull.add_all([(x, x * x) for x in range(50)])
@@ -228,7 +228,7 @@ class Signals(unittest.TestCase):
                 try:
                     armed.append(True)
                     while True:
-                        with shared.lend(1) as seat:
+                        with shared.acquire_seat(1) as seat:
                             seat.add(1, 2)
                             seat.drain()
                             drained += 1
@@ -236,18 +236,18 @@ class Signals(unittest.TestCase):
                     interrupts += 1
                 seat = None
                 gc.collect()  # a frame of the traceback may have it still
-                shared.lend(1).give_back()
+                shared.acquire_seat(1).release()
         self.assertTrue(interrupts > 5 and drained > 5, (interrupts, drained))
         self.assertEqual(shared.close().count("\n"), 2)
 
     def test_a_handler_makes_calls(self):
         shared = SharedHull(capacity=None, seats=1)
-        seat, hull, turns = shared.lend(0), Hull(), itertools.count()
+        seat, hull, turns = shared.acquire_seat(0), Hull(), itertools.count()
 
         def handler(*_):
             seat.add(next(turns), 5)
             hull.add(1, 2)
-            shared.lend(0) if False else repr(shared)
+            shared.acquire_seat(0) if False else repr(shared)
 
         end = time.monotonic() + 0.7
         with Timer(handler, 0.0003):
@@ -262,10 +262,10 @@ class Signals(unittest.TestCase):
 
 class Forks(unittest.TestCase):
     def test_a_child_goes_on_with_a_hull(self):
-        hull, outline = Hull(SQUARE), Hull(SQUARE).outline()
+        hull, polygon = Hull(SQUARE), Hull(SQUARE).polygon()
 
         def work():
-            assert (hull.doubled_area(), outline.doubled_area(), hull.add(20, 5)) == (200, 200, 1)
+            assert (hull.doubled_area(), polygon.doubled_area(), hull.add(20, 5)) == (200, 200, 1)
             assert hull.copy().doubled_area() == 300
 
         self.assertEqual((in_child(work), hull.doubled_area()), ("", 200))
@@ -281,33 +281,34 @@ class Forks(unittest.TestCase):
         thread = threading.Thread(target=load)
         thread.start()
         # (whether the thread is in a call at a fork is up to the scheduler: fork until it was, which on one core takes many forks)
-        told, until = [], time.monotonic() + 60
-        while "Ended" not in told and time.monotonic() < until or len(told) < 25:
-            told.append(in_child(lambda: (hull.doubled_area(), hull.copy())))
+        faults, until = [], time.monotonic() + 60
+        while "Ended" not in faults and time.monotonic() < until or len(faults) < 25:
+            faults.append(in_child(lambda: (hull.doubled_area(), hull.copy())))
         stop.set()
         thread.join()
-        self.assertTrue({"Ended"} <= set(told) <= {"", "Ended"}, told)
+        self.assertTrue({"Ended"} <= set(faults) <= {"", "Ended"}, faults)
         self.assertEqual(len(hull), len(set(points)))
 
     def test_a_child_has_no_shared_hull(self):
         shared = SharedHull(capacity=1 << 20, seats=3)
-        asked, stop = shared.lend(0), threading.Event()
+        asked, stop = shared.acquire_seat(0), threading.Event()
         threads = [threading.Thread(target=self.make_calls, args=(shared, number, stop)) for number in (1, 2)]
         for thread in threads:
             thread.start()
-        told = [in_child(call) for _ in range(8) for call in (
-            lambda: asked.add(1, 2), shared.close, lambda: shared.lend(2), asked.drain, lambda: SharedHull(4, 1).lend(0).count())]
+        faults = [in_child(call) for _ in range(8) for call in (
+            lambda: asked.add(1, 2), shared.close, lambda: shared.acquire_seat(2), asked.drain,
+            lambda: SharedHull(4, 1).acquire_seat(0).count())]
         stop.set()
         for thread in threads:
             thread.join()
-        self.assertEqual(told, ["Ended", "Ended", "Ended", "Ended", ""] * 8)
-        part = asked.drain()
-        self.assertEqual(in_child(lambda: asked.give_back() or len(part.text())), "")
-        asked.give_back()
+        self.assertEqual(faults, ["Ended", "Ended", "Ended", "Ended", ""] * 8)
+        segment = asked.drain()
+        self.assertEqual(in_child(lambda: asked.release() or len(segment.text())), "")
+        asked.release()
         self.assertEqual(shared.close().count("\n"), 2)
 
     def make_calls(self, shared, number, stop):
-        with shared.lend(number) as seat:
+        with shared.acquire_seat(number) as seat:
             while not stop.is_set():
                 seat.add(number, 3)
 
@@ -315,15 +316,15 @@ class Forks(unittest.TestCase):
 @unittest.skipUnless(hasattr(hull_module._shared_library(), "hull_refuse"), "the library refuses no memory")
 class Refusals(unittest.TestCase):
     def test_texts(self):
-        """Where memory is refused, a text is told to be missing, and comes when it is asked for again."""
+        """If memory is refused, a text raises, and comes when it is asked for again."""
         library, refused = hull_module._shared_library(), 0
         for request in range(60):
             shared = SharedHull(capacity=9, seats=1)
-            seat = shared.lend(0)
+            seat = shared.acquire_seat(0)
             seat.add(1, 2)
-            part = seat.drain()
-            seat.give_back()
-            for ask, lines in ((part.text, 4), (lambda: "".join(part.pieces(30)), 4), (shared.close, 2)):
+            segment = seat.drain()
+            seat.release()
+            for ask, lines in ((segment.text, 4), (lambda: "".join(segment.pieces(30)), 4), (shared.close, 2)):
                 library.hull_refuse(request)
                 try:
                     self.assertEqual(ask().count("\n"), lines)
@@ -339,7 +340,7 @@ class Refusals(unittest.TestCase):
             library.hull_refuse(request)
             try:
                 with SharedHull(capacity=9, seats=1) as shared:
-                    with shared.lend(0) as seat:
+                    with shared.acquire_seat(0) as seat:
                         self.assertEqual((seat.add(1, 2), seat.vertices(), seat.drain().text().count("\n")), (1, [(1, 2)], 5))
             except MemoryError:
                 refused += 1

@@ -1,9 +1,10 @@
-"""Writes random calls on a hull with their answers, which every face is tried by: random_calls.py CALLS SEED.
+"""Writes random calls on a hull with their answers, with which each language is tested: random_calls.py CALLS SEED.
 
-The answers are worked out from all points for each call anew (the chain of Andrew, 1979), with nothing of the library. A line is a call's
-word, its coordinates and its answer: how often a point is held (0 where there are too many) of `add` and `multiplicity`; how often it still
-is of `remove` (-1 where it was not there); `inside`, `on` or `outside` of `place`; points of `tangents` and `extreme`, or nothing; all corners
-of `vertices`; twice the area. A line `move S X Y` begins anew with the hull of no points, on a grid of steps S from (X, Y).
+The answers are computed from all points for each call anew (the chain of Andrew, 1979), with nothing of the library. A line is a call's
+word, its coordinates and its answer: of `add` and `multiplicity` the multiplicity (0 if there are too many); of `remove` the multiplicity
+that is left (-1 if the point was not there); of `place` `inside`, `on` or `outside`; of `tangents` and `extreme` points, or nothing; of
+`vertices` all vertices; of `area` twice the area. A line `move S X Y` begins anew with the hull of no points, on a grid of steps S from
+(X, Y).
 """
 import random
 import sys
@@ -11,20 +12,20 @@ import sys
 LIMIT, SIDE = 40, 12
 
 
-def turn(a, b, c):
+def orientation(a, b, c):
     return (b[0] - a[0]) * (c[1] - a[1]) - (b[1] - a[1]) * (c[0] - a[0])
 
 
 def half(points):
     chain = []
     for point in points:
-        while len(chain) > 1 and turn(chain[-2], chain[-1], point) <= 0:
+        while len(chain) > 1 and orientation(chain[-2], chain[-1], point) <= 0:
             chain.pop()
         chain.append(point)
     return chain[:-1]
 
 
-def corners(held):
+def vertices(held):
     points = sorted(held)
     return points if len(points) < 2 else half(points) + half(points[::-1])
 
@@ -34,13 +35,13 @@ def edges(ring):
 
 
 def on_segment(p, a, b):
-    return turn(a, b, p) == 0 and min(a[0], b[0]) <= p[0] <= max(a[0], b[0]) and min(a[1], b[1]) <= p[1] <= max(a[1], b[1])
+    return orientation(a, b, p) == 0 and min(a[0], b[0]) <= p[0] <= max(a[0], b[0]) and min(a[1], b[1]) <= p[1] <= max(a[1], b[1])
 
 
 def place(ring, p):
     if any(on_segment(p, a, b) for a, b in edges(ring)):
         return "on"
-    return "inside" if len(ring) > 2 and all(turn(a, b, p) > 0 for a, b in edges(ring)) else "outside"
+    return "inside" if len(ring) > 2 and all(orientation(a, b, p) > 0 for a, b in edges(ring)) else "outside"
 
 
 def tangents(ring, p):
@@ -50,8 +51,8 @@ def tangents(ring, p):
     for sign in (1, -1):
         best = ring[0]
         for c in ring[1:]:
-            side = sign * turn(p, best, c)
-            if side > 0 or side == 0 and (c[0] - p[0]) ** 2 + (c[1] - p[1]) ** 2 > (best[0] - p[0]) ** 2 + (best[1] - p[1]) ** 2:
+            turn = sign * orientation(p, best, c)
+            if turn > 0 or turn == 0 and (c[0] - p[0]) ** 2 + (c[1] - p[1]) ** 2 > (best[0] - p[0]) ** 2 + (best[1] - p[1]) ** 2:
                 best = c
         found.append(best)
     return found
@@ -62,7 +63,7 @@ def extreme(ring, d):
 
 
 def answer(held, word, p):
-    ring = corners(held)
+    ring = vertices(held)
     if word == "add":
         if p not in held and len(held) == LIMIT:
             return [0]
@@ -74,8 +75,8 @@ def answer(held, word, p):
         held[p] -= 1
         return [held[p]] if held[p] else [held.pop(p)]
     if word in ("place", "tangents", "extreme"):
-        told = {"place": place, "tangents": tangents, "extreme": extreme}[word](ring, p)
-        return [told] if word == "place" else [number for point in told for number in point]
+        found = {"place": place, "tangents": tangents, "extreme": extreme}[word](ring, p)
+        return [found] if word == "place" else [number for point in found for number in point]
     if word == "multiplicity":
         return [held.get(p, 0)]
     return [number for c in ring for number in c] if word == "vertices" else [sum(a[0] * b[1] - a[1] * b[0] for a, b in edges(ring))]

@@ -1,4 +1,4 @@
-// Makes the calls of random_calls.py on a hull of hull.hpp and on its outline: replay FILE. Tells how many were made.
+// Makes the calls of random_calls.py on a hull of hull.hpp and on its polygon: replay FILE. Prints how many it made.
 #include "hull.hpp"
 
 #include <fstream>
@@ -7,7 +7,7 @@
 
 using hull::Point;
 
-static std::string told(const std::vector<Point> &points) {
+static std::string text_of(const std::vector<Point> &points) {
     std::string text;
     for (const Point &p : points) {
         text += " " + std::to_string(p.x) + " " + std::to_string(p.y);
@@ -15,7 +15,7 @@ static std::string told(const std::vector<Point> &points) {
     return text;
 }
 
-static std::string told(hull::Area number) {
+static std::string text_of(hull::Area number) {
     std::string digits;
     do {
         digits.insert(digits.begin(), static_cast<char>('0' + static_cast<int>(number % 10)));
@@ -24,7 +24,7 @@ static std::string told(hull::Area number) {
     return " " + digits;
 }
 
-// what can be asked of a hull and of its outline
+// the answer of a hull or of its polygon to a question
 template <class Asked> static std::string question(const Asked &asked, const std::string &word, Point p) {
     if (word == "place") {
         const hull::Place place = asked.place(p);
@@ -32,13 +32,13 @@ template <class Asked> static std::string question(const Asked &asked, const std
     }
     if (word == "tangents") {
         const auto seen = asked.tangents(p);
-        return seen ? told({seen->left, seen->right}) : "";
+        return seen ? text_of({seen->left, seen->right}) : "";
     }
     if (word == "extreme") {
         const auto farthest = asked.extreme(p);
-        return farthest ? told(std::vector<Point>{*farthest}) : "";
+        return farthest ? text_of(std::vector<Point>{*farthest}) : "";
     }
-    return told(asked.doubled_area());
+    return text_of(asked.doubled_area());
 }
 
 static std::string change(hull::Hull &h, const std::string &word, Point p) {
@@ -60,23 +60,23 @@ static bool is_right(hull::Hull &h, const std::string &word, Point p, const std:
     if (word == "multiplicity") {
         return " " + std::to_string(h.multiplicity(p)) == wanted;
     }
-    const hull::Outline outline = h.outline();
+    const hull::Polygon polygon = h.polygon();
     if (word == "vertices") {
-        return told(h.vertices()) == wanted && told(outline.corners()) == wanted;
+        return text_of(h.vertices()) == wanted && text_of(polygon.vertices()) == wanted;
     }
-    return question(h, word, p) == wanted && question(outline, word, p) == wanted;
+    return question(h, word, p) == wanted && question(polygon, word, p) == wanted;
 }
 
-int main(int, char **words) {
-    std::ifstream file(words[1]);
+int main(int, char **arguments) {
+    std::ifstream file(arguments[1]);
     hull::Hull h(40);
     long made = 0;
     for (std::string line; std::getline(file, line);) {
-        std::istringstream parts(line);
+        std::istringstream words(line);
         std::string word, wanted;
         Point p;
-        parts >> word >> p.x >> p.y;
-        std::getline(parts, wanted);
+        words >> word >> p.x >> p.y;
+        std::getline(words, wanted);
         if (word == "move") {
             h.clear();
         } else if (is_right(h, word, p, wanted)) {

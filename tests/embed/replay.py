@@ -1,4 +1,4 @@
-"""Makes the calls of random_calls.py on a hull of python/hull.py and on its outline: replay.py FILE. Tells how many were made."""
+"""Makes the calls of random_calls.py on a hull of python/hull.py and on its polygon: replay.py FILE. Prints how many it made."""
 import sys
 
 from hull import Hull, TooMany
@@ -9,7 +9,7 @@ def flat(points):
 
 
 def answers(hull, word, x, y):
-    """What the hull tells, and what its outline does, where it can be asked."""
+    """Returns the answer of the hull, and that of its polygon if it has such a question."""
     if word == "add":
         try:
             return [[hull.add(x, y)]]
@@ -20,7 +20,7 @@ def answers(hull, word, x, y):
         return [[-1 if left is None else left]]
     if word == "multiplicity":
         return [[hull.multiplicity(x, y)]]
-    both = hull, hull.outline()
+    both = hull, hull.polygon()
     if word == "place":
         return [[it.place(x, y).name.lower()] for it in both]
     if word == "tangents":
@@ -39,7 +39,7 @@ with open(sys.argv[1], encoding="ascii") as file:
             hull = Hull(limit=40)
             continue
         numbers = [int(it) if it.lstrip("-").isdigit() else it for it in words]
-        for told in answers(hull, word, *numbers[:2]):
-            assert told == numbers[2:], (line, told)
+        for answer in answers(hull, word, *numbers[:2]):
+            assert answer == numbers[2:], (line, answer)
         made += 1
 print(made, "calls")

@@ -268,18 +268,18 @@ in_python() {
     for interpreter in $(pythons); do
         numbered=$("$interpreter" -c 'import sys; print("%d.%d" % sys.version_info[:2])')
         attempt "the tests of python/hull.py by $interpreter ($numbered)" python "$here/hull_tests.py"
-        attempt "hulls end behind their last user by $interpreter ($numbered)" python -W ignore "$here/lives_tests.py"
+        attempt "hulls end after their last user by $interpreter ($numbered)" python -W ignore "$here/lives_tests.py"
     done
     interpreter=python3
     replays Python python "$here/replay.py"
-    attempt "2000 pairs of outlines by chance, by all corners and edges" python "$here/random_outlines.py" 2000 1
-    attempt "2000 rays and segments by chance, by all edges" python "$here/random_casts.py" 2000 1
-    attempt "2000 motions by chance, by all differences of corners" python "$here/random_motions.py" 2000 1
+    attempt "2000 pairs of polygons by chance, by all vertices and edges" python "$here/random_polygons.py" 2000 1
+    attempt "2000 rays and segments by chance, by all edges" python "$here/random_raycasts.py" 2000 1
+    attempt "2000 motions by chance, by all differences of vertices" python "$here/random_motions.py" 2000 1
     attempt "libhull.so slowed down compiles" slowed hull
     attempt "libhull_shared.so slowed down compiles" slowed hull_shared -DSHARED
     attempt "calls on one hull from several threads wait for each other" python_slowed "$here/hull_tests.py" Locks
-    attempt "calls on one desk, seat and part do" python_slowed "$here/../shared/shared_tests.py" Locks
-    attempt "refused memory is told" python_slowed "$here/lives_tests.py" Refusals
+    attempt "calls on one shared hull, seat and segment do" python_slowed "$here/../shared/shared_tests.py" Locks
+    attempt "refused memory is reported" python_slowed "$here/lives_tests.py" Refusals
     attempt "examples/embed/places.py writes examples/embed/places.txt" writes "$examples/places.txt" python "$examples/places.py"
     if with numpy; then
         attempt "examples/embed/places.py with numpy" writes "$examples/places.txt" python "$examples/places.py"
@@ -296,7 +296,7 @@ in_python() {
     fi
 }
 
-# the same answer by Dask's scheduler, also where a worker is killed that holds outlines: NAME ARGUMENTS..
+# the same answer by Dask's scheduler, also if a worker is killed that has polygons: NAME ARGUMENTS..
 by_dask() {
     wanted=$top/examples/large/$1.txt
     shift
@@ -317,10 +317,10 @@ in_many_processes() {
     if with "numpy, distributed"; then
         attempt "examples/large/blocks.py by one process" by_dask square 2000000 --block 65536 --workers 0
         attempt "examples/large/blocks.py by three workers" by_dask square 2000000 --block 65536 --workers 3
-        attempt "examples/large/blocks.py where a worker is killed in the middle" by_dask square 2000000 --block 65536 --workers 3 --kill
-        attempt "examples/large/blocks.py where all are corners" by_dask parabola 262144 --shape parabola --block 16384 --workers 3 --kill
+        attempt "examples/large/blocks.py with a worker that is killed in the middle" by_dask square 2000000 --block 65536 --workers 3 --kill
+        attempt "examples/large/blocks.py with points that are all vertices" by_dask parabola 262144 --shape parabola --block 16384 --workers 3 --kill
     else
-        skip "outlines by Dask's workers" "python3 with numpy and distributed (python3-distributed)"
+        skip "polygons by Dask's workers" "python3 with numpy and distributed (python3-distributed)"
     fi
     if is_there mpicc && is_there mpirun; then
         # shellcheck disable=SC2046 # the flags stand apart by spaces

@@ -24,34 +24,34 @@ class Calls(unittest.TestCase):
 
     def test_calls(self):
         hull = SharedHull(capacity=100, seats=2, limit=6, first=7)
-        seat = hull.lend(1)
+        seat = hull.acquire_seat(1)
         self.assertEqual((seat.turn(), seat.extreme(1, 0), seat.turn()), (None, None, 7))
         self.assertEqual((seat.place(0, 0), seat.tangents(0, 0)), (Place.OUTSIDE, None))
         self.assertEqual([seat.add(x, y) for x, y in [(0, 0), (10, 0), (10, 10), (0, 10), (4, 4)]], [1] * 5)
         self.assertEqual((seat.add(4, 4), [seat.remove(4, 4) for _ in range(3)]), (2, [1, 0, None]))
         self.assertEqual((seat.place(5, 5), seat.place(10, 5)), (Place.INSIDE, Place.ON))
         self.assertEqual((seat.tangents(20, 5), seat.extreme(0, 1)), (((10, 0), (10, 10)), (0, 10)))
-        self.assertEqual((seat.corners(), seat.doubled_area(), seat.count(), seat.turn()), (4, 200, 4, 25))
+        self.assertEqual((seat.vertex_count(), seat.doubled_area(), seat.count(), seat.turn()), (4, 200, 4, 25))
 
-    def test_parts(self):
+    def test_segments(self):
         hull = SharedHull(capacity=3, seats=1, limit=6, first=7)
-        seat = hull.lend(0)
+        seat = hull.acquire_seat(0)
         seat.add(1, 2)
-        part = seat.drain()
+        segment = seat.drain()
         lines = ["hullbook journal 3 first 7 limit 6 capacity 4", "7 0 add 1 2 = added", "8 0 count = count 1", "end 2"]
-        self.assertEqual((list(part), part.text().splitlines()), (lines, lines))
+        self.assertEqual((list(segment), segment.text().splitlines()), (lines, lines))
         for size in (1, 20, 46, 66, 67, 1000):
-            pieces = list(part.pieces(size))
-            self.assertEqual(("".join(pieces), all(piece.endswith("\n") for piece in pieces)), (part.text(), True))
+            pieces = list(segment.pieces(size))
+            self.assertEqual(("".join(pieces), all(piece.endswith("\n") for piece in pieces)), (segment.text(), True))
             self.assertLessEqual(max(map(len, pieces)), max(size, 46))
-        self.assertRaises(TypeError, copy.copy, part)
+        self.assertRaises(TypeError, copy.copy, segment)
         for x in range(3):
             seat.add(x, 5)
         self.assertRaises(JournalFull, seat.add, 4, 5)
         self.assertRaises(JournalFull, seat.count)
         self.assertEqual(list(seat.drain())[::4], ["hullbook journal 3 first 9 limit 6 capacity 4", "12 0 count = count 4"])
         self.assertEqual((seat.add(4, 5), seat.turn()), (1, 13))
-        seat.give_back()
+        seat.release()
         self.assertRaises(ValueError, seat.drain)
         self.assertEqual(hull.close().splitlines(),
                          ["hullbook journal 3 first 13 limit 6 capacity 3", "13 0 add 4 5 = added", "end 1"])
@@ -68,69 +68,69 @@ class Calls(unittest.TestCase):
         for capacity, seats in ((0, 2), (-1, 2), (CAPACITY_LIMIT + 1, 2), (4, 0), (4, SEAT_LIMIT + 1), (4, 1 << 32)):
             self.assertRaises(ValueError, SharedHull.reopen, old, capacity, seats)
         with SharedHull.reopen(old.encode(), 4, 2) as hull:
-            with hull.lend(1) as seat:
+            with hull.acquire_seat(1) as seat:
                 self.assertEqual((seat.add(0, 0), seat.turn(), seat.count()), (2, 7, 2))
-            self.assertEqual(repr(hull), "<SharedHull for 4 calls behind a journal, 0 of 2 seats out>")
+            self.assertEqual(repr(hull), "<SharedHull for 4 calls after a journal, 0 of 2 seats acquired>")
         self.assertEqual(hull.close(), "hullbook journal 3 first 7 limit 3 capacity 4\n"
                                        "7 1 add 0 0 = again 2\n8 1 count = count 2\nend 2\n")
 
     def test_readers(self):
-        self.assertRaises(NoSeat, SharedHull(capacity=20, seats=1).lend_reader)
+        self.assertRaises(NoSeat, SharedHull(capacity=20, seats=1).acquire_reader)
         for wrong in (-1, READER_LIMIT + 1, 1 << 40):
             self.assertRaises(ValueError, SharedHull, capacity=20, seats=1, readers=wrong)
         hull = SharedHull(capacity=20, seats=1, limit=10, first=7, readers=2)
-        one, two = hull.lend_reader(), hull.lend_reader()
-        self.assertRaises(NoSeat, hull.lend_reader)
-        self.assertFalse(one.is_newest())  # it has returned no view yet
-        self.assertEqual((one.view().vertices(), one.view().line, one.is_newest()), ([], None, True))
-        with hull.lend(0) as seat:
+        one, two = hull.acquire_reader(), hull.acquire_reader()
+        self.assertRaises(NoSeat, hull.acquire_reader)
+        self.assertFalse(one.is_newest())  # it has returned no snapshot yet
+        self.assertEqual((one.snapshot().vertices(), one.snapshot().line, one.is_newest()), ([], None, True))
+        with hull.acquire_seat(0) as seat:
             for x, y in [(0, 0), (8, 0), (0, 8)]:
                 seat.add(x, y)
             self.assertFalse(one.is_newest())
-            view = one.view()
-            self.assertEqual((view.vertices(), view.line, seat.turn()), ([(0, 0), (8, 0), (0, 8)], 9, 9))
-            self.assertEqual((view.place(1, 1), view.doubled_area(), one.view() is view), (Place.INSIDE, 64, True))
+            snapshot = one.snapshot()
+            self.assertEqual((snapshot.vertices(), snapshot.line, seat.turn()), ([(0, 0), (8, 0), (0, 8)], 9, 9))
+            self.assertEqual((snapshot.place(1, 1), snapshot.doubled_area(), one.snapshot() is snapshot), (Place.INSIDE, 64, True))
             seat.remove(8, 0)
-            self.assertEqual((two.view().vertices(), two.view().line), ([(0, 0), (0, 8)], 10))
-            self.assertTrue(view.contains(two.view()))
+            self.assertEqual((two.snapshot().vertices(), two.snapshot().line), ([(0, 0), (0, 8)], 10))
+            self.assertTrue(snapshot.contains(two.snapshot()))
             for i in range(100):
                 seat.add(8, 8) if i % 2 == 0 else seat.remove(8, 8)
-                self.assertEqual(len(one.view()), 3 - i % 2)
+                self.assertEqual(len(one.snapshot()), 3 - i % 2)
                 if i % 10 == 9:
                     seat.drain()
         self.assertRaises(SeatsOut, hull.close)
-        one.give_back()
-        self.assertRaises(ValueError, one.view)
+        one.release()
+        self.assertRaises(ValueError, one.snapshot)
         self.assertRaises(ValueError, one.is_newest)
         with two:
-            self.assertEqual(view.vertices(), [(0, 0), (8, 0), (0, 8)])
+            self.assertEqual(snapshot.vertices(), [(0, 0), (8, 0), (0, 8)])
         hull.close()
-        self.assertRaises(ValueError, hull.lend_reader)
-        with SharedHull(capacity=None, seats=1, readers=READER_LIMIT) as bare, bare.lend_reader() as reader, bare.lend(0) as seat:
+        self.assertRaises(ValueError, hull.acquire_reader)
+        with SharedHull(capacity=None, seats=1, readers=READER_LIMIT) as bare, bare.acquire_reader() as reader, bare.acquire_seat(0) as seat:
             seat.add(1, 2)
-            self.assertEqual((reader.view().vertices(), reader.view().line), ([(1, 2)], 0))
+            self.assertEqual((reader.snapshot().vertices(), reader.snapshot().line), ([(1, 2)], 0))
 
-    def test_readers_go_on(self):
-        with SharedHull(capacity=20, seats=1, limit=10, first=7) as hull, hull.lend(0) as seat:
+    def test_readers_continue(self):
+        with SharedHull(capacity=20, seats=1, limit=10, first=7) as hull, hull.acquire_seat(0) as seat:
             for x, y in [(0, 0), (8, 0), (0, 8), (1, 1)]:
                 seat.add(x, y)
         again = SharedHull.reopen(hull.close(), capacity=20, seats=1, readers=1)
-        with again.lend_reader() as reader:
-            self.assertEqual((reader.view().vertices(), reader.view().line), ([(0, 0), (8, 0), (0, 8)], 10))
-        with tempfile.TemporaryDirectory() as folder, SharedHull.keep(f"{folder}/zone", capacity=20, seats=1, readers=1) as kept:
-            with kept.lend_reader() as reader, kept.lend(0) as seat:
+        with again.acquire_reader() as reader:
+            self.assertEqual((reader.snapshot().vertices(), reader.snapshot().line), ([(0, 0), (8, 0), (0, 8)], 10))
+        with tempfile.TemporaryDirectory() as folder, SharedHull.open_journal(f"{folder}/zone", capacity=20, seats=1, readers=1) as hull:
+            with hull.acquire_reader() as reader, hull.acquire_seat(0) as seat:
                 seat.add(1, 2)
-                self.assertEqual(reader.view().vertices(), [(1, 2)])
+                self.assertEqual(reader.snapshot().vertices(), [(1, 2)])
 
     def test_no_journal(self):
         hull = SharedHull(capacity=None, seats=1, limit=6, first=7)
-        with hull.lend(0) as seat:
+        with hull.acquire_seat(0) as seat:
             self.assertEqual([seat.add(1, 2) for _ in range(1000)], list(range(1, 1001)))
         self.assertEqual(hull.close(), "hullbook journal 3 first 1007 limit 6 capacity 1\nend 0\n")
 
     def test_faults_of_calls(self):
         hull = SharedHull(capacity=3, seats=1, limit=1)
-        seat = hull.lend(0)
+        seat = hull.acquire_seat(0)
         self.assertRaises(OutOfRange, seat.add, COORDINATE_LIMIT + 1, 0)
         self.assertRaises(OutOfRange, seat.place, 1 << 64, 0)
         self.assertRaises(ZeroDirection, seat.extreme, 0, 0)
@@ -142,11 +142,11 @@ class Calls(unittest.TestCase):
 
     def test_a_full_hull(self):
         hull = SharedHull(capacity=1, seats=1, limit=6, answers=True)
-        seat = hull.lend(0)
+        seat = hull.acquire_seat(0)
         self.assertEqual((seat.add(1, 1), seat.count(), seat.turn()), (1, 1, 0))
         self.assertRaises(JournalFull, seat.remove, 1, 1)
         hull = SharedHull(capacity=2, seats=2, limit=100, waits=True)
-        one, two = hull.lend(0), hull.lend(1)
+        one, two = hull.acquire_seat(0), hull.acquire_seat(1)
         thread = threading.Thread(target=lambda: [one.add(x, x) for x in range(10)])
         thread.start()
         while thread.is_alive():
@@ -157,7 +157,7 @@ class Calls(unittest.TestCase):
 
     def test_deadlines(self):
         hull = SharedHull(capacity=1, seats=2, limit=100, waits=True)
-        one, two = hull.lend(0), hull.lend(1)
+        one, two = hull.acquire_seat(0), hull.acquire_seat(1)
         self.assertEqual(one.add(1, 1), 1)
         for time in (0, 0.01, 1e-12):
             two.wait_at_most(time)
@@ -168,7 +168,7 @@ class Calls(unittest.TestCase):
         two.wait_at_most(None)
         thread = threading.Thread(target=two.add, args=(1, 1))
         thread.start()
-        while hull.stats().for_room == 0:
+        while hull.stats().for_space == 0:
             pass
         one.drain()
         thread.join()
@@ -179,33 +179,33 @@ class Calls(unittest.TestCase):
             path = os.path.join(folder, "zone.journal")
             lines = 0
             for again in range(1, 4):
-                hull = SharedHull.keep(path, capacity=50, seats=4, limit=200, every=0.001 if again == 2 else None)
-                self.assertEqual(hull.safe(), lines)
+                hull = SharedHull.open_journal(path, capacity=50, seats=4, limit=200, every=0.001 if again == 2 else None)
+                self.assertEqual(hull.durable(), lines)
                 with self.assertRaises(BlockingIOError):
-                    SharedHull.keep(path, capacity=50, seats=4)
+                    SharedHull.open_journal(path, capacity=50, seats=4)
 
                 def add(number):
-                    with hull.lend(number) as seat:
-                        seat.wait_safe()
+                    with hull.acquire_seat(number) as seat:
+                        seat.wait_durable()
                         for x in range(20):
                             self.assertEqual(seat.add(x, number), again)
-                            seat.wait_safe()
-                            self.assertGreater(hull.safe(), seat.turn())
+                            seat.wait_durable()
+                            self.assertGreater(hull.durable(), seat.turn())
 
                 threads = [threading.Thread(target=add, args=(number,)) for number in range(4)]
                 for thread in threads:
                     thread.start()
                 for thread in threads:
                     thread.join()
-                seat = hull.lend(0)
+                seat = hull.acquire_seat(0)
                 self.assertRaises(SeatsOut, hull.close)
                 self.assertEqual(seat.count(), 80)
                 self.assertGreater(hull.sync(), seat.turn())
-                seat.give_back()
-                self.assertRaises(ValueError, seat.wait_safe)
+                seat.release()
+                self.assertRaises(ValueError, seat.wait_durable)
                 text = hull.close().splitlines()
                 lines = int(text[0].split()[4]) + len(text) - 2
-                self.assertRaises(ValueError, hull.safe)
+                self.assertRaises(ValueError, hull.durable)
             with open(path, encoding="ascii") as file:
                 self.assertEqual(sum(" add " in line for line in file), 240)
             self.assertEqual(SharedHull.compact(path), lines)
@@ -214,45 +214,45 @@ class Calls(unittest.TestCase):
             self.assertRaises(ValueError, SharedHull.compact, "a\0b")
             with open(path, "w", encoding="ascii") as file:
                 file.write("somebody's\n")
-            self.assertRaises(JournalFault, SharedHull.keep, path, capacity=1, seats=1)
-            self.assertRaises(FileNotFoundError, SharedHull.keep, os.path.join(folder, "none", "at all"), capacity=1, seats=1)
-            self.assertRaises(ValueError, SharedHull.keep, os.path.join(folder, "new"), capacity=1, seats=SEAT_LIMIT)
+            self.assertRaises(JournalFault, SharedHull.open_journal, path, capacity=1, seats=1)
+            self.assertRaises(FileNotFoundError, SharedHull.open_journal, os.path.join(folder, "none", "at all"), capacity=1, seats=1)
+            self.assertRaises(ValueError, SharedHull.open_journal, os.path.join(folder, "new"), capacity=1, seats=SEAT_LIMIT)
 
-    def test_a_file_is_kept_while_a_reader_is_out(self):
+    def test_a_file_stays_open_while_a_reader_is_acquired(self):
         with tempfile.TemporaryDirectory() as folder:
             path = os.path.join(folder, "zone.journal")
-            hull = SharedHull.keep(path, capacity=50, seats=2, readers=1)
-            reader = hull.lend_reader()
-            with hull.lend(0) as seat:
+            hull = SharedHull.open_journal(path, capacity=50, seats=2, readers=1)
+            reader = hull.acquire_reader()
+            with hull.acquire_seat(0) as seat:
                 for x in range(10):
                     seat.add(x, 1)
             for _ in range(2):
-                self.assertRaisesRegex(SeatsOut, "a reader of the hull is out", hull.close)
-            with hull.lend(1) as seat:
+                self.assertRaisesRegex(SeatsOut, "a reader of the hull is acquired", hull.close)
+            with hull.acquire_seat(1) as seat:
                 for x in range(100):
                     seat.add(x, 2)
                 seat.wait_at_most(10)
-                seat.wait_safe()
-            reader.give_back()
+                seat.wait_durable()
+            reader.release()
             hull.close()
             with open(path, encoding="ascii") as file:
                 self.assertEqual(sum(" add " in line for line in file), 110)
-            hull = SharedHull.keep(path, capacity=50, seats=2, readers=1)
-            reader, seat = hull.lend_reader(), hull.lend(0)
+            hull = SharedHull.open_journal(path, capacity=50, seats=2, readers=1)
+            reader, seat = hull.acquire_reader(), hull.acquire_seat(0)
             seat.add(1000, 1000)
-            seat.give_back()
+            seat.release()
             self.assertRaises(SeatsOut, hull.close)
             del hull, reader, seat  # the last of them closes the file
             with open(path, encoding="ascii") as file:
                 self.assertIn(" add 1000 1000 = added\n", file.read())
-            SharedHull.keep(path, capacity=50, seats=1).close()
+            SharedHull.open_journal(path, capacity=50, seats=1).close()
 
     def test_a_close_beside_threads_that_wait(self):
-        """It is refused, or they are answered; no line is lost, and nobody asks a file that is gone."""
+        """It is refused, or they are answered; no line is lost, and no thread asks a file that is closed."""
         with tempfile.TemporaryDirectory() as folder:
             for again in range(20):
                 path = os.path.join(folder, str(again))
-                hull, ends = SharedHull.keep(path, capacity=5000, seats=1), []
+                hull, ends = SharedHull.open_journal(path, capacity=5000, seats=1), []
 
                 def sync():
                     try:
@@ -264,7 +264,7 @@ class Calls(unittest.TestCase):
                 threads = [threading.Thread(target=sync) for _ in range(3)]
                 for thread in threads:
                     thread.start()
-                with hull.lend(0) as seat:
+                with hull.acquire_seat(0) as seat:
                     for x in range(300):
                         seat.add(x, again)
                 while True:
@@ -272,7 +272,7 @@ class Calls(unittest.TestCase):
                         hull.close()
                         break
                     except ValueError as fault:
-                        self.assertIn("waits for what is safe", str(fault))
+                        self.assertIn("waits for durable lines", str(fault))
                 for thread in threads:
                     thread.join()
                 self.assertEqual(ends, ["the hull is closed"] * 3)
@@ -282,8 +282,8 @@ class Calls(unittest.TestCase):
     def test_times_are_seconds(self):
         with tempfile.TemporaryDirectory() as folder:
             path = os.path.join(folder, "zone.journal")
-            hull = SharedHull.keep(path, capacity=400000, seats=1, every=30.0)
-            with hull.lend(0) as seat:
+            hull = SharedHull.open_journal(path, capacity=400000, seats=1, every=30.0)
+            with hull.acquire_seat(0) as seat:
                 for x in range(20):
                     seat.add(x, 1)
                     time.sleep(0.005)
@@ -301,104 +301,104 @@ class Calls(unittest.TestCase):
                 self.assertTrue(times and all(0 <= lasts < 60 for lasts in times), times[-3:])
             hull.close()
         hull = SharedHull(capacity=1, seats=1, waits=True)
-        with hull.lend(0) as seat:
+        with hull.acquire_seat(0) as seat:
             seat.add(1, 1)
             seat.wait_at_most(0.2)
             begun = time.monotonic()
             self.assertRaises(JournalFull, seat.add, 1, 1)
             self.assertGreater(time.monotonic() - begun, 0.1)
 
-    def test_a_file_that_is_refused_is_let_go(self):
+    def test_a_file_that_is_refused_is_closed(self):
         with tempfile.TemporaryDirectory() as folder:
             path = os.path.join(folder, "zone.journal")
             for wrong in ({"seats": SEAT_LIMIT}, {"capacity": 0}, {"limit": 0}):
-                self.assertRaises(ValueError, SharedHull.keep, path, **{"capacity": 10, "seats": 1, **wrong})
-            SharedHull.keep(path, capacity=10, seats=1).close()
+                self.assertRaises(ValueError, SharedHull.open_journal, path, **{"capacity": 10, "seats": 1, **wrong})
+            SharedHull.open_journal(path, capacity=10, seats=1).close()
 
     def test_a_drain_that_is_refused(self):
-        library, seat = hull_module._shared_library(), SharedHull(capacity=10, seats=1).lend(0)
-        part = seat.drain()
+        library, seat = hull_module._shared_library(), SharedHull(capacity=10, seats=1).acquire_seat(0)
+        segment = seat.drain()
         drain = library.hull_python_drain
         library.hull_python_drain = lambda *_: hull_module._Reply(hull_module._Code.BUSY)
         try:
             self.assertRaises(Busy, seat.drain)
         finally:
             library.hull_python_drain = drain
-        self.assertIs(seat.last_part(), part)
+        self.assertIs(seat.last_segment(), segment)
 
     def test_seats_and_the_journal(self):
         hull = SharedHull(capacity=10, seats=2)
-        with hull.lend(0) as seat:
+        with hull.acquire_seat(0) as seat:
             for number in (0, 2, -1, SEAT_LIMIT, 1 << 32, (1 << 32) + 1, 1 << 40):
-                self.assertRaises(NoSeat, hull.lend, number)
+                self.assertRaises(NoSeat, hull.acquire_seat, number)
             seat.add(3, 4)
             self.assertRaises(SeatsOut, hull.close)
         self.assertRaises(ValueError, seat.add, 3, 4)
-        seat.give_back()
-        hull.lend(1)  # let go at once
+        seat.release()
+        hull.acquire_seat(1)  # released at once
         text = hull.close()
         self.assertIn("add 3 4", text)
         for size in (1, 50, 1 << 16):
             self.assertEqual("".join(hull.close_in_pieces(size)), text)
         self.assertEqual(hull.close(), text)
-        self.assertRaises(ValueError, hull.lend, 0)
+        self.assertRaises(ValueError, hull.acquire_seat, 0)
         for value in (hull, seat):
             self.assertRaises(TypeError, copy.copy, value)
 
     def test_the_last_seat_keeps_the_hull(self):
-        seat = SharedHull(capacity=10, seats=1).lend(0)
+        seat = SharedHull(capacity=10, seats=1).acquire_seat(0)
         self.assertEqual((seat.add(3, 4), seat.count()), (1, 1))
 
     def test_the_end_of_a_with_closes(self):
         with SharedHull(capacity=10, seats=1) as hull:
-            hull.lend(0).give_back()
-        self.assertRaises(ValueError, hull.lend, 0)
+            hull.acquire_seat(0).release()
+        self.assertRaises(ValueError, hull.acquire_seat, 0)
         with SharedHull(capacity=10, seats=1) as hull:
             hull.close()
 
-    def test_the_end_of_a_with_tells_seats_that_are_out(self):
-        with self.assertRaisesRegex(SeatsOut, "seats of the hull are out: 1, 3"):
+    def test_the_end_of_a_with_names_acquired_seats(self):
+        with self.assertRaisesRegex(SeatsOut, "seats of the hull are acquired: 1, 3"):
             with SharedHull(capacity=10, seats=4) as hull:
-                seats = [hull.lend(number) for number in (3, 0, 1)]
-                seats[1].give_back()
-        seats[0].give_back()
-        self.assertRaisesRegex(SeatsOut, "are out: 1$", hull.close)
+                seats = [hull.acquire_seat(number) for number in (3, 0, 1)]
+                seats[1].release()
+        seats[0].release()
+        self.assertRaisesRegex(SeatsOut, "are acquired: 1$", hull.close)
         with self.assertRaises(ZeroDivisionError):
             with hull:
                 1 // 0
-        seats[2].give_back()
+        seats[2].release()
         self.assertIn("capacity 10", hull.close())
         hull = SharedHull(capacity=10, seats=SEAT_LIMIT)
-        seats = [hull.lend(number) for number in (63, 31, 40, 32)]
-        self.assertRaisesRegex(SeatsOut, "are out: 31, 32, 40, 63$", hull.close)
+        seats = [hull.acquire_seat(number) for number in (63, 31, 40, 32)]
+        self.assertRaisesRegex(SeatsOut, "are acquired: 31, 32, 40, 63$", hull.close)
 
-    def test_corners(self):
+    def test_vertices(self):
         hull = SharedHull(capacity=2000, seats=1)
-        with hull.lend(0) as seat:
+        with hull.acquire_seat(0) as seat:
             self.assertEqual((seat.vertices(), seat.turn()), ([], 0))
             for x in range(100):
                 seat.add(x, x * x)
             self.assertEqual(seat.vertices(), [(x, x * x) for x in range(100)])
-            self.assertEqual(seat.turn(), 102)  # there was no room at first
+            self.assertEqual(seat.turn(), 102)  # there was no space at first
             self.assertEqual((len(seat.vertices()), seat.turn()), (100, 103))
 
     def test_what_is_printed(self):
         hull = SharedHull(capacity=9, seats=2, limit=5, first=7)
-        seat = hull.lend(1)
+        seat = hull.acquire_seat(1)
         seat.count()
-        self.assertEqual(repr(hull), "<SharedHull for 9 calls from 7, limit 5, 1 of 2 seats out>")
-        self.assertEqual(repr(seat), "<Seat 1, out, last turn 7>")
-        seat.give_back()
-        self.assertEqual(repr(seat), "<Seat 1, given back, last turn 7>")
+        self.assertEqual(repr(hull), "<SharedHull for 9 calls from 7, limit 5, 1 of 2 seats acquired>")
+        self.assertEqual(repr(seat), "<Seat 1, acquired, last turn 7>")
+        seat.release()
+        self.assertEqual(repr(seat), "<Seat 1, released, last turn 7>")
 
 
 @unittest.skipUnless(hasattr(hull_module._shared_library(), "hull_overlaps"), "the library counts no overlaps")
 class Locks(unittest.TestCase):
-    """By a library that is slowed down, and counts the calls on a desk, a seat or a part that begin while another is under way."""
+    """By a library that is slowed down, and counts the calls on a shared hull, a seat or a segment that begin while another is under way."""
 
     def setUp(self):
         self.hull = SharedHull(capacity=1000, seats=2)
-        self.seat = self.hull.lend(0)
+        self.seat = self.hull.acquire_seat(0)
 
     def race(self, *calls):
         """The calls at once, each in a thread of its own."""
@@ -424,17 +424,17 @@ class Locks(unittest.TestCase):
     def test_one_seat(self):
         self.race(lambda: self.seat.add(1, 2), self.seat.count, self.seat.drain, self.seat.vertices)
 
-    def test_one_desk(self):
-        self.race(lambda: self.hull.lend(1).give_back(), self.close,
+    def test_one_shared_hull(self):
+        self.race(lambda: self.hull.acquire_seat(1).release(), self.close,
                   lambda: self.assertRaises(SeatsOut, self.hull.__exit__, None, None, None), lambda: repr(self.hull))
 
     def test_one_text(self):
-        part = self.seat.drain()
-        self.seat.give_back()
-        self.race(self.hull.close, self.hull.close, part.text, lambda: list(part), part.text)
+        segment = self.seat.drain()
+        self.seat.release()
+        self.race(self.hull.close, self.hull.close, segment.text, lambda: list(segment), segment.text)
 
-    def test_a_seat_given_back_while_it_is_asked(self):
-        calls = iter([self.seat.give_back])
+    def test_a_seat_released_while_it_is_asked(self):
+        calls = iter([self.seat.release])
         with self.assertRaises(AssertionError):
             self.race(self.seat.count, lambda: next(calls, int)())
         self.assertEqual(hull_module._shared_library().hull_overlaps(), 0)
@@ -444,7 +444,7 @@ class Threads(unittest.TestCase):
     def make_calls(self, hull, number, calls):
         """So many mixed calls of one seat, each with a number above that of the one before."""
         numbers = random.Random(number)
-        with hull.lend(number) as seat:
+        with hull.acquire_seat(number) as seat:
             kinds = [seat.add, seat.add, seat.remove, seat.place, seat.tangents, seat.extreme]
             last = -1
             for _ in range(calls):
