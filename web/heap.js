@@ -89,15 +89,15 @@ export class Heap {
     /** The three imports of the module. */
     imports() {
         return {
-            web_alloc: (answer, bytes) => this.#answer(answer, this.take(Number(bytes))),
+            web_alloc: (answer, bytes) => this.#writeBlock(answer, this.take(Number(bytes))),
             web_realloc: (answer, at, kept, bytes) =>
-                this.#answer(answer, this.resize(Number(at), Number(kept), Number(bytes))),
+                this.#writeBlock(answer, this.resize(Number(at), Number(kept), Number(bytes))),
             web_dealloc: (at) => this.give(Number(at)),
         };
     }
 
     /** Writes whether there is a block, and its address: one that is not null if there is none. */
-    #answer(answer, at) {
+    #writeBlock(answer, at) {
         const to = Number(answer), { view } = this;
         view.setUint32(to, at ? 1 : 0, true);
         view.setUint32(to + 8, at || 16, true);

@@ -514,8 +514,9 @@ export class Page {
 
     #openJournals(texts) {
         const segments = texts.map(({ name, text }) => ({ name, journal: readBy(readJournal, name, text) }));
-        this.work.open(segments.length > 1 ? joinJournals(segments) : { ...segments[0].journal, segments: [{ name: segments[0].name, from: 0 }] });
-        if (this.replay.wrong === null) this.work.message = segments.length > 1 ? `the ${segments.length} segments are a legal journal` : "the journal is legal";
+        const [{ name, journal }] = segments, isOne = segments.length === 1;
+        this.work.open(isOne ? { ...journal, segments: [{ name, from: 0 }] } : joinJournals(segments));
+        if (this.replay.wrong === null) this.work.message = isOne ? "the journal is legal" : `the ${segments.length} segments are a legal journal`;
         else this.work.message = `the journal is wrong: ${this.replay.wrong.expected} is right`;
     }
 
