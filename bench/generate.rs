@@ -144,8 +144,8 @@ fn hostile(kind: &str, calls: u64, random: &mut Random) -> Option<Vec<String>> {
         }
         "seesaw" => {
             let points: Vec<_> = (0..number / 2).map(|_| random.point(1 << 19)).collect();
-            let corner = ["add 1000000 0", "remove 1000000 0"].map(String::from);
-            say("add", &points).chain(corner.into_iter().cycle().take(number as usize / 2)).collect()
+            let vertex = ["add 1000000 0", "remove 1000000 0"].map(String::from);
+            say("add", &points).chain(vertex.into_iter().cycle().take(number as usize / 2)).collect()
         }
         _ => return None,
     })

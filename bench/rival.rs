@@ -349,7 +349,7 @@ impl Tree {
     }
 
     /// Calls `visit` with each vertex, counterclockwise from the first.
-    fn corners(&self, mut visit: impl FnMut(Point)) {
+    fn visit_vertices(&self, mut visit: impl FnMut(Point)) {
         let Some(root) = self.root else { return };
         let (first, last) = (self.first(root), self.last(root));
         visit(first);
@@ -371,7 +371,7 @@ impl Tree {
             return None;
         }
         let mut best: Option<Edge> = None;
-        self.corners(|v| {
+        self.visit_vertices(|v| {
             best = Some(match best {
                 None => (v, v),
                 Some((l, r)) => {
@@ -389,7 +389,7 @@ impl Tree {
 
     fn vertices(&self) -> Vec<Point> {
         let mut list = Vec::new();
-        self.corners(|v| list.push(v));
+        self.visit_vertices(|v| list.push(v));
         list
     }
 
@@ -397,7 +397,7 @@ impl Tree {
         let Some(root) = self.root else { return 0 };
         let first = self.first(root);
         let (mut sum, mut before) = (0, first);
-        self.corners(|v| {
+        self.visit_vertices(|v| {
             sum += orient(first, before, v);
             before = v;
         });

@@ -199,7 +199,7 @@ def stretches(lists):
     for what, rows in (("codes", codes), ("kinds", kinds)):
         yield "rust/hull/src/raw.rs", what, "".join(f"    pub const {it.name}: u32 = {it.number};\n" for it in rows)
         yield "python/hull.py", what, "".join(f"    {it.name} = {it.number}\n" for it in rows)
-    yield "rust/hull/src/outline.rs", "relations", documented(relations, "    /// ", 135, lambda it: f"{it.camel()},")
+    yield "rust/hull/src/polygon.rs", "relations", documented(relations, "    /// ", 135, lambda it: f"{it.camel()},")
     yield "rust/hull/src/answer.rs", "relations", "".join(f"        {it.number} => Relation::{it.camel()},\n" for it in relations)
     yield "python/hull.py", "relations", documented(relations, "    #: ", 135, lambda it: f"{it.name} = {it.number}")
     yield "web/hull.js", "relations", f"    {', '.join(quoted)},\n"

@@ -8,15 +8,15 @@ const number = Number(process.argv[2] ?? 10000);
 const { Hull } = await load();
 
 /** Whether a point is left of the diagonals from the first vertex, and then of one edge. */
-function plainPlace(corners, point) {
-    let low = 1, high = corners.length - 1;
-    if (turn(corners[0], corners[low], point) < 0 || turn(corners[0], corners[high], point) > 0) return false;
+function plainPlace(vertices, point) {
+    let low = 1, high = vertices.length - 1;
+    if (turn(vertices[0], vertices[low], point) < 0 || turn(vertices[0], vertices[high], point) > 0) return false;
     while (high - low > 1) {
         const middle = (low + high) >> 1;
-        if (turn(corners[0], corners[middle], point) >= 0) low = middle;
+        if (turn(vertices[0], vertices[middle], point) >= 0) low = middle;
         else high = middle;
     }
-    return turn(corners[low], corners[high], point) >= 0;
+    return turn(vertices[low], vertices[high], point) >= 0;
 }
 
 function row(name, ours, plain) {
@@ -41,24 +41,24 @@ for (const shape of ["disc", "circle"]) {
             sum += chainOf(list).length;
         }
     });
-    console.log(`${`${shape}, ${number} points, ${kept.length} corners`.padEnd(34)}    hull.js      plain     ratio`);
+    console.log(`${`${shape}, ${number} points, ${kept.length} vertices`.padEnd(34)}    hull.js      plain     ratio`);
     row("add, from nothing", rate(number, () => {
         hull.clear();
         for (const point of points) sum += hull.add(...point);
     }), plain);
     row("add or remove", rate(2000, (n) => change(n)), plain);
-    row("add or remove, and all corners", rate(200, (n) => change(n, () => (sum += hull.vertexArray().length))), plain);
+    row("add or remove, and all vertices", rate(200, (n) => change(n, () => (sum += hull.vertexArray().length))), plain);
     const plainPlaces = rate(number, () => {
         for (const point of others) sum += plainPlace(kept, point) ? 1 : 0;
     });
     row("place", rate(number, () => {
         for (const [x, y] of others) sum += hull.place(x, y).length;
     }), plainPlaces);
-    const outline = hull.outline();
-    row("place of its outline", rate(number, () => {
-        for (const [x, y] of others) sum += outline.place(x, y).length;
+    const polygon = hull.polygon();
+    row("place of its polygon", rate(number, () => {
+        for (const [x, y] of others) sum += polygon.place(x, y).length;
     }), plainPlaces);
-    outline.free();
+    polygon.free();
     row("placeAll", rate(number, () => (sum += hull.placeAll(flat).length)), plainPlaces);
     if (!Number.isFinite(sum)) throw new Error("a point was not there");
     hull.free();

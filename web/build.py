@@ -68,7 +68,7 @@ def sources_of(crate):
 
 
 def crates_below(name):
-    """A crate of the repository and all on which it stands, each with what its line in crates.txt names."""
+    """Returns a crate of the repository and all crates below it, each with what its line in crates.txt names."""
     crate = kit.crates()[name]
     return {it.name: it.line.partition(":")[2].split() for it in [crate, *reversed(crate.below())]}
 
@@ -102,21 +102,21 @@ def heap_of_the_host(rattle):
     return texts
 
 
-def lay_out(room, rattle):
+def lay_out(folder, rattle):
     """Writes the crates for wasm64 to a folder, and takes away what they no longer have."""
     below = crates_below(LIBRARY)
     lines = {HOST: "core libc", HEAP: HOST} | {it: " ".join(low) for it, low in below.items() if it != HEAP}
     for name in lines:
         texts = heap_of_the_host(rattle) if name == HOST else NAMED if name == HEAP else texts_of(f"{TOP}/crates/{name}")
-        crate = f"{room}/crates/{name}"
+        crate = f"{folder}/crates/{name}"
         for gone in set(sources_of(crate)) - set(texts):
             os.remove(f"{crate}/{gone}")
         for file, text in texts.items():
             write(f"{crate}/{file}", text)
     # rt has a crate with imports say where its C lies: there is none
-    os.makedirs(f"{room}/crates/{HOST}/c", exist_ok=True)
+    os.makedirs(f"{folder}/crates/{HOST}/c", exist_ok=True)
     listed = (f"{it}{' wasm64' if it == LIBRARY else ''}: {low}\n" for it, low in lines.items())
-    write(f"{room}/crates.txt", "".join(listed))
+    write(f"{folder}/crates.txt", "".join(listed))
 
 
 def number_at(data, at):
@@ -152,14 +152,14 @@ def lower(module, to):
 
 
 def main(words):
-    room, begun = os.path.abspath(words[0]) if words else f"{TOP}/web/out", kit.crates()[LIBRARY].sources()
+    folder, begun = os.path.abspath(words[0]) if words else f"{TOP}/web/out", kit.crates()[LIBRARY].sources()
     page = subprocess.run(["rt", "doc"], stdout=subprocess.PIPE, text=True, check=True).stdout.strip()
-    lay_out(room, os.path.join(os.path.dirname(page), "rattle"))
-    ran = subprocess.run(["rt", "lib"], cwd=f"{room}/crates/{LIBRARY}", env={**os.environ, "RT_ALLOW_C": HOST}, check=False)
+    lay_out(folder, os.path.join(os.path.dirname(page), "rattle"))
+    ran = subprocess.run(["rt", "lib"], cwd=f"{folder}/crates/{LIBRARY}", env={**os.environ, "RT_ALLOW_C": HOST}, check=False)
     if ran.returncode == 0:
-        strip(f"{room}/crates/{LIBRARY}/out/{LIBRARY}.wasm", f"{room}/hull.wasm")
-        lower(f"{room}/hull.wasm", f"{room}/hull32.wasm")
-        write(f"{room}/made-of", f"{begun}\n")
+        strip(f"{folder}/crates/{LIBRARY}/out/{LIBRARY}.wasm", f"{folder}/hull.wasm")
+        lower(f"{folder}/hull.wasm", f"{folder}/hull32.wasm")
+        write(f"{folder}/made-of", f"{begun}\n")
     return ran.returncode
 
 

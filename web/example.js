@@ -1,21 +1,21 @@
 // The example that the page opens with: points that come and go, a second hull beside them with its distance and what separates the
 // two, and a planner's segment that can be dragged. The module computes all that it shows, in each frame.
-const ROOM = [-1000, -620, 1000, 620]; // the visible range, two corners
+const RANGE = [-1000, -620, 1000, 620]; // the visible range, by two opposite points
 const POINTS = 34;
 const EACH = 300; // milliseconds until a point comes or goes
 const GRIP = 24; // pixels round an end of the segment
 const OTHER = [[0, 150], [-120, 90], [-150, -40], [-60, -140], [80, -130], [150, -20], [110, 100]];
 const LONG = 4000; // how far the separating line extends
 
-const apartFrom = ([ax, ay], [bx, by]) => Math.hypot(ax - bx, ay - by);
+const distanceOf = ([ax, ay], [bx, by]) => Math.hypot(ax - bx, ay - by);
 
 /** Returns the points of two features that are nearest to one another: a feature of two points is the foot on their edge. */
-function nearestOf(places) {
+function nearestOf(features) {
     const foot = ([from, to], [x, y]) => {
         const [dx, dy] = [to[0] - from[0], to[1] - from[1]], along = ((x - from[0]) * dx + (y - from[1]) * dy) / (dx * dx + dy * dy);
         return [from[0] + along * dx, from[1] + along * dy];
     };
-    return places.map((place, i) => (place.length === 2 ? foot(place, places[1 - i][0]) : place[0]));
+    return features.map((it, i) => (it.length === 2 ? foot(it, features[1 - i][0]) : it[0]));
 }
 
 export class Example {
@@ -32,11 +32,11 @@ export class Example {
     }
 
     free() {
-        for (const it of [this.outline, this.beside, this.hull, this.other]) it.free();
+        for (const it of [this.polygon, this.beside, this.hull, this.other]) it.free();
     }
 
-    get room() {
-        return ROOM;
+    get range() {
+        return RANGE;
     }
 
     #comes() {
@@ -68,43 +68,43 @@ export class Example {
 
     /** Asks the module for all that is shown. */
     ask() {
-        this.outline?.free();
+        this.polygon?.free();
         this.beside?.free();
-        [this.outline, this.beside] = [this.hull.outline(), this.other.outline()];
+        [this.polygon, this.beside] = [this.hull.polygon(), this.other.polygon()];
         const ends = this.segment.flat();
         Object.assign(this, {
-            witness: this.outline.witness(this.beside),
-            places: this.outline.distance(this.beside),
-            square: this.outline.squaredDistance(this.beside),
-            hits: [this.outline, this.beside].map((it) => it.meetsSegment(...ends)),
+            witness: this.polygon.witness(this.beside),
+            features: this.polygon.distance(this.beside),
+            square: this.polygon.squaredDistance(this.beside),
+            hits: [this.polygon, this.beside].map((it) => it.intersectsSegment(...ends)),
         });
     }
 
     /** Returns the values of the rows, by the names of the rows. */
     readings() {
-        const { numerator, denominator } = this.square, meets = numerator === 0n;
+        const { numerator, denominator } = this.square, isZero = numerator === 0n;
         const square = denominator === 1n ? `${numerator}` : `${numerator}/${denominator}`;
         const [point, direction] = this.witness.points.map((it) => `(${it.join(", ")})`);
         const shows = {
-            apart: `no corner goes beyond ${point} along ${direction}`, covered: `the first covers ${point}`,
+            disjoint: `no vertex goes beyond ${point} along ${direction}`, covered: `the first covers ${point}`,
             within: `the second covers ${point}`, crossing: "two segments cross",
         }[this.witness.shows];
         const struck = this.hits.map((it, i) => it && ["the first hull", "the second hull"][i]).filter(Boolean);
         return {
-            points: `${this.hull.count()}, ${this.outline.count()} of them corners`,
-            distance: meets ? "0: the hulls meet" : `√(${square}) ≈ ${Math.sqrt(Number(numerator) / Number(denominator)).toFixed(1)}`,
+            points: `${this.hull.count()}, ${this.polygon.count()} of them vertices`,
+            distance: isZero ? "0: the hulls intersect" : `√(${square}) ≈ ${Math.sqrt(Number(numerator) / Number(denominator)).toFixed(1)}`,
             witness: shows,
             segment: struck.length ? `hits ${struck.join(" and ")}` : "is free",
         };
     }
 
     draw(picture) {
-        const { outline, beside } = this, corners = [outline.vertexArray(), beside.vertexArray()];
-        picture.polygon(corners[0]);
+        const { polygon, beside } = this, vertices = [polygon.vertexArray(), beside.vertexArray()];
+        picture.polygon(vertices[0]);
         picture.discs(this.points.map((it) => picture.view.toScreen(it)), 3, "point");
-        picture.corners(corners[0]);
-        picture.polygon(corners[1], "other", "within");
-        picture.corners(corners[1], "other");
+        picture.vertices(vertices[0]);
+        picture.polygon(vertices[1], "other", "within");
+        picture.vertices(vertices[1], "other");
         this.#drawWitness(picture);
         const isFree = !this.hits.includes(true), color = isFree ? "right" : "left", [from, to] = this.segment;
         picture.lines([[from, to]], color, 4, isFree ? [] : [9, 6]);
@@ -116,10 +116,10 @@ export class Example {
     /** Draws the distance as a line, and a witness that they are disjoint or intersect. */
     #drawWitness(picture) {
         const { shows, points } = this.witness;
-        if (shows === "apart") {
-            const [corner, [dx, dy]] = points, far = LONG / Math.hypot(dx, dy);
-            picture.lines([[[corner[0] - dy * far, corner[1] + dx * far], [corner[0] + dy * far, corner[1] - dx * far]]], "soft", 1, [3, 5]);
-            const ends = nearestOf(this.places);
+        if (shows === "disjoint") {
+            const [vertex, [dx, dy]] = points, far = LONG / Math.hypot(dx, dy);
+            picture.lines([[[vertex[0] - dy * far, vertex[1] + dx * far], [vertex[0] + dy * far, vertex[1] - dx * far]]], "soft", 1, [3, 5]);
+            const ends = nearestOf(this.features);
             picture.lines([ends], "text", 2);
             picture.discs(ends.map((it) => picture.view.toScreen(it)), 4, "text");
         } else {
@@ -131,8 +131,8 @@ export class Example {
     /** Takes the segment by an end or between them: returns what moves it to the pointer, or null. */
     taken(place, view) {
         const ends = this.segment.map((it) => view.toScreen(it)), middle = [0, 1].map((i) => (ends[0][i] + ends[1][i]) / 2);
-        const end = ends.findIndex((it) => apartFrom(it, place) <= GRIP);
-        if (end < 0 && apartFrom(middle, place) > GRIP) return null;
+        const end = ends.findIndex((it) => distanceOf(it, place) <= GRIP);
+        if (end < 0 && distanceOf(middle, place) > GRIP) return null;
         this.isTaken = true;
         let at = view.toLattice(place);
         return (to) => {

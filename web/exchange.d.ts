@@ -15,4 +15,4 @@ export function toFloat(coordinate: number, power: number): number;
 export function directionOf(dx: number, dy: number): Point;
 
 /** Returns vertices as well-known text, their coordinates divided by 2^power (default 0). */
-export function wkt(corners: Iterable<readonly number[]>, power?: number): string;
+export function wkt(vertices: Iterable<readonly number[]>, power?: number): string;

@@ -63,8 +63,8 @@ export function directionOf(dx, dy) {
 
 /** Returns vertices as well-known text (OGC 06-103r4), their coordinates divided by 2^power: a polygon's ring is closed and runs
  * counterclockwise. */
-export function wkt(corners, power = 0) {
-    const texts = Array.from(corners, (corner) => Array.from(corner, (it) => toFloat(it, power)).join(" "));
+export function wkt(vertices, power = 0) {
+    const texts = Array.from(vertices, (vertex) => Array.from(vertex, (it) => toFloat(it, power)).join(" "));
     if (texts.length === 0) return "POLYGON EMPTY";
     if (texts.length === 1) return `POINT (${texts[0]})`;
     return texts.length === 2 ? `LINESTRING (${texts.join(", ")})` : `POLYGON ((${[...texts, texts[0]].join(", ")}))`;

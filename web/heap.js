@@ -25,7 +25,7 @@ export class Heap {
     #memory;
     #top;
     #limit;
-    #given_back = new Float64Array(64);
+    #freed = new Float64Array(64);
     #view;
     #bytes;
 
@@ -54,9 +54,9 @@ export class Heap {
     /** Returns a block of so many bytes at a multiple of 16, or 0. */
     take(bytes) {
         if (bytes > GREATEST) return 0;
-        const its = class_of(bytes), kept = this.#given_back[its];
+        const its = class_of(bytes), kept = this.#freed[its];
         if (kept) {
-            this.#given_back[its] = this.view.getFloat64(kept, true);
+            this.#freed[its] = this.view.getFloat64(kept, true);
             return kept;
         }
         const end = this.#top + HEAD + size_of(its);
@@ -70,8 +70,8 @@ export class Heap {
     /** Frees a block. */
     give(at) {
         const its = this.view.getUint32(at - HEAD, true);
-        this.view.setFloat64(at, this.#given_back[its], true);
-        this.#given_back[its] = at;
+        this.view.setFloat64(at, this.#freed[its], true);
+        this.#freed[its] = at;
     }
 
     /** Returns a block of another size with the first `kept` bytes of the one passed, which is freed; or 0, and that one is
@@ -89,15 +89,15 @@ export class Heap {
     /** The three imports of the module. */
     imports() {
         return {
-            web_alloc: (answer, bytes) => this.#tell(answer, this.take(Number(bytes))),
+            web_alloc: (answer, bytes) => this.#writeBlock(answer, this.take(Number(bytes))),
             web_realloc: (answer, at, kept, bytes) =>
-                this.#tell(answer, this.resize(Number(at), Number(kept), Number(bytes))),
+                this.#writeBlock(answer, this.resize(Number(at), Number(kept), Number(bytes))),
             web_dealloc: (at) => this.give(Number(at)),
         };
     }
 
     /** Writes whether there is a block, and its address: one that is not null if there is none. */
-    #tell(answer, at) {
+    #writeBlock(answer, at) {
         const to = Number(answer), { view } = this;
         view.setUint32(to, at ? 1 : 0, true);
         view.setUint32(to + 8, at || 16, true);

@@ -22,10 +22,10 @@ export class Ended extends HullError {}
 /** What was passed as points is no iterable of pairs, and no array of numbers. */
 export class NoPoints extends HullError {}
 /** The points are not a convex polygon, or another polygon is not of the same module. */
-export class NoOutline extends HullError {}
+export class NoPolygon extends HullError {}
 /** The module stopped in the middle of a call: it and all its hulls fail from then on. */
 export class Trapped extends HullError {}
-/** The module can't be loaded: the engine can't run it, the bytes are not it, or they can't be had. */
+/** The module can't be loaded: the engine can't run it, the bytes are not the module, or they can't be read. */
 export class Unsupported extends HullError {}
 
 /** A point: x and y. */
@@ -107,23 +107,23 @@ export interface Hull extends Questions {
     /** Removes all points; the limit stays. */
     clear(): void;
     /** Returns the convex polygon of the hull now. NoMemory. */
-    outline(): Outline;
+    polygon(): Polygon;
 }
 
 /** A convex polygon: the vertices of a hull, which answers as that hull did then. */
-export interface Outline extends Questions {
+export interface Polygon extends Questions {
     /** Returns how many vertices there are. */
     count(): number;
     /** Returns whether the polygon intersects a segment, boundaries included. */
-    meetsSegment(ax: number, ay: number, bx: number, by: number): boolean;
+    intersectsSegment(ax: number, ay: number, bx: number, by: number): boolean;
     /** Returns a vertex and a direction that separates the polygon from a segment: no vertex has a greater product with it, and both
      * ends have. Null if they intersect, or there is no vertex. */
-    apartFromSegment(ax: number, ay: number, bx: number, by: number): { corner: Point; direction: Point } | null;
+    separationFromSegment(ax: number, ay: number, bx: number, by: number): { vertex: Point; direction: Point } | null;
     /** Returns where the nearest point is: of one point at that vertex, of two at the foot on the edge between them, of none the
      * polygon covers the one asked about. Null if there is no vertex. */
     nearest(x: number, y: number): Point[] | null;
     /** Returns the squared distance to a point, 0 if the polygon covers it. Null if there is no vertex. */
-    squaredDistanceTo(x: number, y: number): Fraction | null;
+    squaredDistanceToPoint(x: number, y: number): Fraction | null;
     /** Returns the least and the greatest point of the bounding box. */
     boundingBox(): [least: Point, greatest: Point] | null;
     /** Returns the greatest product of a vertex with the direction less the least. */
@@ -133,56 +133,56 @@ export interface Outline extends Questions {
     /** Returns where the polygon is least wide: the ends of an edge, and a vertex farthest from it. */
     leastWidth(): [Point, Point, Point] | null;
     /** Returns whether the two polygons intersect, boundaries included. */
-    meets(other: Outline): boolean;
+    intersects(other: Polygon): boolean;
     /** Returns whether this polygon contains the other one. */
-    contains(other: Outline): boolean;
+    contains(other: Polygon): boolean;
     /** Returns how this polygon is related to the other one. */
-    relation(other: Outline): Relation;
+    relation(other: Polygon): Relation;
     /** Returns whether this polygon contains the other one with no point of it on the boundary. */
-    containsInside(other: Outline): boolean;
+    containsInside(other: Polygon): boolean;
     /** Returns whether their distance is at most numerator / denominator (default 1), exactly; false if one has no vertex. OutOfRange
      * if the numerator is not an integer Number from 0 to 2^53 - 1, or the denominator not one from 1 to 2^32 - 1. */
-    within(other: Outline, numerator: number, denominator?: number): boolean;
+    withinDistance(other: Polygon, numerator: number, denominator?: number): boolean;
     /** The same for the segment from (ax, ay) to (bx, by), which may be one point. */
-    withinSegment(ax: number, ay: number, bx: number, by: number, numerator: number, denominator?: number): boolean;
+    withinDistanceOfSegment(ax: number, ay: number, bx: number, by: number, numerator: number, denominator?: number): boolean;
     /** Returns how this polygon is related to the segment from (ax, ay) to (bx, by), which may be one point: one that it contains gives
      * "covers", also along an edge; one that leaves it touches if it has no point inside, and else overlaps. */
     relationToSegment(ax: number, ay: number, bx: number, by: number): Relation;
     /** Returns where the ray from (x, y) in a direction enters; null if it misses. ZeroDirection. */
-    castRay(x: number, y: number, dx: number, dy: number): Hit | null;
+    raycast(x: number, y: number, dx: number, dy: number): Hit | null;
     /** Returns the last point of that ray in the polygon; null if it misses. ZeroDirection. */
-    lastOnRay(x: number, y: number, dx: number, dy: number): Hit | null;
+    raycastExit(x: number, y: number, dx: number, dy: number): Hit | null;
     /** The same for the segment from (ax, ay) to (bx, by); its last point is where that from (bx, by) to (ax, ay) enters. */
-    castSegment(ax: number, ay: number, bx: number, by: number): Hit | null;
+    raycastSegment(ax: number, ay: number, bx: number, by: number): Hit | null;
     /** Returns where the two polygons intersect, or what separates them. Null if one has no vertex. */
-    witness(other: Outline): Witness | null;
+    witness(other: Polygon): Witness | null;
     /** Returns where the two polygons are nearest: a feature of this one and one of the other, as `nearest`; two of none if they
      * intersect. */
-    distance(other: Outline): [ours: Point[], theirs: Point[]] | null;
+    distance(other: Polygon): [ours: Point[], theirs: Point[]] | null;
     /** Returns the squared distance of the two polygons, 0 if they intersect. */
-    squaredDistance(other: Outline): Fraction | null;
+    squaredDistance(other: Polygon): Fraction | null;
     /** Returns the squared distance of a segment, which may be one point. Null if there is no vertex. */
     squaredDistanceToSegment(ax: number, ay: number, bx: number, by: number): Fraction | null;
     /** Returns the greatest Number that is not above the distance of the two polygons, and the least that is not below it: equal if the
      * distance is a Number, else neighbours. Null if one has no vertex. */
-    distanceBounds(other: Outline): [down: number, up: number] | null;
+    distanceBounds(other: Polygon): [down: number, up: number] | null;
     /** The same for a segment, which may be one point. */
     distanceBoundsToSegment(ax: number, ay: number, bx: number, by: number): [down: number, up: number] | null;
 }
 
 /** How one polygon is related to another: `within` if the other one covers all of it and more, `covers` the other way, `equal` if each
  * covers the other; else `touching` if they intersect and a line has them on its two sides, `overlapping` if they intersect and none
- * has, `apart` if they are disjoint. */
+ * has, `disjoint` if they share no point. */
 export type Relation =
     // written by tools/table.py: relations
-    | "apart" | "touching" | "overlapping" | "within" | "covers" | "equal";
+    | "disjoint" | "touching" | "overlapping" | "within" | "covers" | "equal";
     // end of what tools/table.py writes
 
-/** Why two polygons intersect, or what separates them: `apart`, a vertex of the first and a direction; `covered`, a vertex of the
+/** Why two polygons intersect, or what separates them: `disjoint`, a vertex of the first and a direction; `covered`, a vertex of the
  * second that the first covers; `within`, a vertex of the first that the second covers; `crossing`, two vertices of each whose
  * segments cross. */
 export interface Witness {
-    shows: "apart" | "covered" | "within" | "crossing";
+    shows: "disjoint" | "covered" | "within" | "crossing";
     points: Point[];
 }
 
@@ -204,11 +204,11 @@ export interface Library {
         /** Makes an empty hull for at most `limit` different points, 1 to 2^20 (the default). OutOfRange, NoMemory. */
         new (limit?: number): Hull;
     };
-    Outline: {
-        /** Makes the polygon of vertices as `vertices` returns them. NoOutline, OutOfRange, NoMemory. */
-        new (corners: Points): Outline;
+    Polygon: {
+        /** Makes the polygon of vertices as `vertices` returns them. NoPolygon, OutOfRange, NoMemory. */
+        new (vertices: Points): Polygon;
         /** Returns the convex polygon of any points, in any order. TooMany, OutOfRange, NoMemory. */
-        of(points: Points): Outline;
+        of(points: Points): Polygon;
     };
 }
 

@@ -16,7 +16,7 @@ export class TooMany extends HullError {}
 export class NoMemory extends HullError {}
 export class Ended extends HullError {}
 export class NoPoints extends HullError {}
-export class NoOutline extends HullError {}
+export class NoPolygon extends HullError {}
 export class Trapped extends HullError {}
 export class Unsupported extends HullError {}
 
@@ -28,8 +28,8 @@ const KIND = {
 const CODE = {
     // written by tools/table.py: codes
     ok: 0, outOfRange: 1, zeroDirection: 2, added: 3, again: 4, tooMany: 5, noMemory: 6, removed: 7, left: 8, absent: 9, point: 10,
-    empty: 11, inside: 12, on: 13, outside: 14, tangents: 15, noTangent: 16, number: 17, corners: 18, tooSmall: 19, cleared: 20,
-    outOfOrder: 21, unknownKind: 22, meeting: 23, apart: 24, covered: 25, corner: 26, edge: 27, box: 28, within: 29, crossing: 30,
+    empty: 11, inside: 12, on: 13, outside: 14, tangents: 15, noTangent: 16, number: 17, vertices: 18, tooSmall: 19, cleared: 20,
+    outOfOrder: 21, unknownKind: 22, intersecting: 23, disjoint: 24, covered: 25, vertex: 26, edge: 27, box: 28, within: 29, crossing: 30,
     points: 31,
     // end of what tools/table.py writes
 };
@@ -37,8 +37,8 @@ const FAULTS = {
     [CODE.outOfRange]: () => new OutOfRange("a coordinate is out of range"),
     [CODE.zeroDirection]: () => new ZeroDirection("both components of the direction are 0"),
     [CODE.tooMany]: () => new TooMany("the hull takes no more points, or this one no more often"),
-    [CODE.noMemory]: () => new NoMemory("the heap has no room for it"),
-    [CODE.outOfOrder]: () => new NoPoints("the held points are not in their order, each once"),
+    [CODE.noMemory]: () => new NoMemory("the heap has no space for it"),
+    [CODE.outOfOrder]: () => new NoPoints("the points are not in order, each once"),
 };
 const PLACES = { [CODE.inside]: "inside", [CODE.on]: "on", [CODE.outside]: "outside" };
 // the structs of hull.h, in bytes
@@ -48,20 +48,20 @@ const POINT = { size: 16, y: 8 };
 const HELD = { size: 24, y: 8, times: 16 };
 const BRIDGE = { size: 72, upper: 8, lower: 40 };
 const WITNESS = { size: 72, first: 8 };
-const CLEARANCE = { shift: 4, lower: 8, upper: 16, numerator: 24, denominator: 48 };
+const DISTANCE_BOUNDS = { shift: 4, lower: 8, upper: 16, numerator: 24, denominator: 48 };
 const HIT = { first: 8, numerator: 40, denominator: 56 };
 // the kinds of witnesses, each with how many of its points belong to it
 const SHOWN = {
-    [CODE.apart]: ["apart", 2], [CODE.covered]: ["covered", 1], [CODE.within]: ["within", 1], [CODE.crossing]: ["crossing", 4],
+    [CODE.disjoint]: ["disjoint", 2], [CODE.covered]: ["covered", 1], [CODE.within]: ["within", 1], [CODE.crossing]: ["crossing", 4],
 };
 // the relations of two convex polygons, by their numbers
 const RELATIONS = [
     // written by tools/table.py: relations
-    "apart", "touching", "overlapping", "within", "covers", "equal",
+    "disjoint", "touching", "overlapping", "within", "covers", "equal",
     // end of what tools/table.py writes
 ];
 // how many points of a distance are the feature of this polygon, and of the other
-const PLACES_OF = { [CODE.points]: [1, 1], [CODE.corner]: [1, 2], [CODE.edge]: [2, 1] };
+const FEATURES = { [CODE.points]: [1, 1], [CODE.vertex]: [1, 2], [CODE.edge]: [2, 1] };
 const REQUESTS_AT_ONCE = 1024;
 const HALF = 2 ** 32;
 
@@ -220,21 +220,21 @@ class Instance {
         const { view } = this.heap, at = this.witness, fault = FAULTS[view.getUint32(at, true)];
         if (fault !== undefined) throw fault();
         if (view.getUint32(at, true) === CODE.empty) return null;
-        const scale = 2 ** view.getUint32(at + CLEARANCE.shift, true);
+        const scale = 2 ** view.getUint32(at + DISTANCE_BOUNDS.shift, true);
         const words64 = (from, count) => Array.from({ length: count }, (_, i) => view.getBigUint64(at + from + 8 * i, true));
         const inOne = (from, count) => words64(from, count).reduce((above, word) => (above << 64n) + word, 0n);
         return {
-            bounds: [readWhole(view, at + CLEARANCE.lower) / scale, readWhole(view, at + CLEARANCE.upper) / scale],
-            squared: { numerator: inOne(CLEARANCE.numerator, 3), denominator: inOne(CLEARANCE.denominator, 2) },
+            bounds: [readWhole(view, at + DISTANCE_BOUNDS.lower) / scale, readWhole(view, at + DISTANCE_BOUNDS.upper) / scale],
+            squared: { numerator: inOne(DISTANCE_BOUNDS.numerator, 3), denominator: inOne(DISTANCE_BOUNDS.denominator, 2) },
         };
     }
 
     /** Makes a call that returns where a ray or a segment enters; null if it does not. */
-    met(name, ...words) {
+    hit(name, ...words) {
         this.call(name, BigInt(this.witness), ...words);
         const { view } = this.heap, at = this.witness, code = view.getUint32(at, true);
         if (FAULTS[code] !== undefined) throw FAULTS[code]();
-        const count = { [CODE.covered]: 0, [CODE.corner]: 1, [CODE.edge]: 2 }[code];
+        const count = { [CODE.covered]: 0, [CODE.vertex]: 1, [CODE.edge]: 2 }[code];
         if (count === undefined) return null;
         const number = (from) => (view.getBigUint64(at + from, true) << 64n) + view.getBigUint64(at + from + 8, true);
         const points = [0, 1].slice(0, count).map((i) => this.point(at + HIT.first + i * POINT.size));
@@ -257,7 +257,7 @@ class Instance {
     }
 
     /** Returns a block with the points in it. */
-    placed(coordinates) {
+    stored(coordinates) {
         const at = this.take(Math.max(1, coordinates.length / 2) * POINT.size), { view } = this.heap;
         coordinates.forEach((value, i) => writeWhole(view, at + 8 * i, value));
         return at;
@@ -337,15 +337,15 @@ class Questions {
         return found;
     }
 
-    /** Makes one kind of call at each of the points; passes index, code, number and points of each reply to `tell`. */
-    _serve(kind, coordinates, tell) {
+    /** Makes one kind of call at each of the points; passes index, code, number and points of each reply to `read`. */
+    _serve(kind, coordinates, read) {
         const count = coordinates.length / 2;
         for (let from = 0; from < count; from += REQUESTS_AT_ONCE) {
-            this.#serveSome(kind, coordinates, from, Math.min(REQUESTS_AT_ONCE, count - from), tell);
+            this.#serveSome(kind, coordinates, from, Math.min(REQUESTS_AT_ONCE, count - from), read);
         }
     }
 
-    #serveSome(kind, coordinates, from, count, tell) {
+    #serveSome(kind, coordinates, from, count, read) {
         const instance = this._live(), { requests, requestsAt, reply, replyAt } = instance;
         for (let i = 0; i < count; i++) {
             const at = 2 * (from + i);
@@ -356,7 +356,7 @@ class Questions {
         for (let i = 0; i < count; i++) {
             const at = reply + i * REPLY.size;
             const points = kind === KIND.tangents || kind === KIND.extreme ? [instance.point(at + REPLY.x), instance.point(at + REPLY.otherX)] : [];
-            tell(from + i, view.getUint32(at, true), view.getUint32(at + REPLY.number, true), points);
+            read(from + i, view.getUint32(at, true), view.getUint32(at + REPLY.number, true), points);
         }
     }
 
@@ -389,10 +389,10 @@ class HullOfInstance extends Questions {
         if (!Number.isInteger(limit) || limit < 1 || limit > POINT_LIMIT) {
             throw new OutOfRange(`a limit is a whole Number from 1 to ${POINT_LIMIT}, and not ${String(limit)}`);
         }
-        const room = instance.take(Number(instance.call("hull_size"))), at = BigInt(room);
+        const storage = instance.take(Number(instance.call("hull_size"))), at = BigInt(storage);
         super(instance, () => {
             instance.end("hull_end", at);
-            instance.heap.give(room);
+            instance.heap.give(storage);
         });
         this.#at = at;
         instance.call("hull_make", limit, at);
@@ -426,7 +426,7 @@ class HullOfInstance extends Questions {
     }
 
     load(points) {
-        const coordinates = flat(points), instance = this._live(), array = instance.placed(coordinates);
+        const coordinates = flat(points), instance = this._live(), array = instance.stored(coordinates);
         try {
             instance.ask("hull_load", this.#at, BigInt(array), BigInt(coordinates.length / 2));
         } finally {
@@ -443,7 +443,7 @@ class HullOfInstance extends Questions {
 
     loadHeld(held) {
         const rows = Array.from(held ?? [], ({ point, times }) => {
-            if (!Number.isInteger(times) || times < 1 || times > MULTIPLICITY_LIMIT) throw new OutOfRange("a point is held 1 to 65535 times");
+            if (!Number.isInteger(times) || times < 1 || times > MULTIPLICITY_LIMIT) throw new OutOfRange("a multiplicity is from 1 to 65535");
             return [...pairOf(point).map(checked), times];
         });
         const instance = this._live(), array = instance.take(Math.max(1, rows.length) * HELD.size), { view } = instance.heap;
@@ -462,9 +462,9 @@ class HullOfInstance extends Questions {
     }
 
     held() {
-        const instance = this._live(), least = BigInt(-COORDINATE_LIMIT), room = this.count();
-        const at = instance.outOf(room * HELD.size);
-        instance.ask("hull_held_from", this.#at, least, least, BigInt(at), BigInt(room));
+        const instance = this._live(), least = BigInt(-COORDINATE_LIMIT), capacity = this.count();
+        const at = instance.outOf(capacity * HELD.size);
+        instance.ask("hull_held_from", this.#at, least, least, BigInt(at), BigInt(capacity));
         return Array.from({ length: instance.number() }, (_, i) => {
             const here = at + i * HELD.size;
             return { point: instance.point(here), times: instance.heap.view.getUint32(here + HELD.times, true) };
@@ -495,35 +495,35 @@ class HullOfInstance extends Questions {
         return there;
     }
 
-    _callAll(requests, count, replies, room) {
-        this._live().call("hull_calls", this.#at, requests, count, replies, room);
+    _callAll(requests, count, replies, capacity) {
+        this._live().call("hull_calls", this.#at, requests, count, replies, capacity);
     }
 }
 
-class OutlineOfInstance extends Questions {
+class PolygonOfInstance extends Questions {
     #at;
     #count;
     // the same for the module
     #address;
-    #corners;
+    #length;
 
-    constructor(instance, corners) {
-        const coordinates = flat(corners), count = coordinates.length / 2;
-        if (count > POINT_LIMIT) throw new TooMany("an outline has more corners than a hull may have");
-        const room = instance.placed(coordinates);
-        super(instance, () => instance.heap.give(room));
-        [this.#at, this.#count, this.#address, this.#corners] = [room, count, BigInt(room), BigInt(count)];
+    constructor(instance, vertices) {
+        const coordinates = flat(vertices), count = coordinates.length / 2;
+        if (count > POINT_LIMIT) throw new TooMany("a polygon has more vertices than a hull may have");
+        const storage = instance.stored(coordinates);
+        super(instance, () => instance.heap.give(storage));
+        [this.#at, this.#count, this.#address, this.#length] = [storage, count, BigInt(storage), BigInt(count)];
         try {
-            instance.ask("hull_is_polygon", this.#address, this.#corners);
-            if (instance.number() !== 1) throw new NoOutline("the points are not the corners of a hull in their order");
+            instance.ask("hull_is_polygon", this.#address, this.#length);
+            if (instance.number() !== 1) throw new NoPolygon("the points are not the vertices of a convex polygon in order");
         } catch (error) {
             this.free();
             throw error;
         }
     }
 
-    _callAll(requests, count, replies, room) {
-        this._live().call("hull_polygon_calls", this.#address, this.#corners, requests, count, replies, room);
+    _callAll(requests, count, replies, capacity) {
+        this._live().call("hull_polygon_calls", this.#address, this.#length, requests, count, replies, capacity);
     }
 
     count() {
@@ -537,14 +537,14 @@ class OutlineOfInstance extends Questions {
 
     /** Makes a call of this polygon that replies; returns the code. */
     #found(name, ...words) {
-        return this._live().ask(name, this.#address, this.#corners, ...words);
+        return this._live().ask(name, this.#address, this.#length, ...words);
     }
 
     /** Makes such a call of this polygon and another one, or one that returns a witness. */
     #beside(call, name, other, ...words) {
         const instance = this._live();
-        if (!(other instanceof OutlineOfInstance) || other._live() !== instance) throw new NoOutline("the other one is no outline of the same module");
-        return instance[call](name, this.#address, this.#corners, other.#address, other.#corners, ...words);
+        if (!(other instanceof PolygonOfInstance) || other._live() !== instance) throw new NoPolygon("the other one is no polygon of the same module");
+        return instance[call](name, this.#address, this.#length, other.#address, other.#length, ...words);
     }
 
     /** Returns the number of a call with another polygon. */
@@ -553,20 +553,20 @@ class OutlineOfInstance extends Questions {
         return this._live().number();
     }
 
-    meetsSegment(ax, ay, bx, by) {
+    intersectsSegment(ax, ay, bx, by) {
         this.#found("hull_polygon_intersects_segment", whole(ax), whole(ay), whole(bx), whole(by));
         return this._live().number() === 1;
     }
 
-    apartFromSegment(ax, ay, bx, by) {
-        if (this.#found("hull_polygon_separation", whole(ax), whole(ay), whole(bx), whole(by)) !== CODE.apart) return null;
-        const [corner, direction] = this._live().pair();
-        return { corner, direction };
+    separationFromSegment(ax, ay, bx, by) {
+        if (this.#found("hull_polygon_separation", whole(ax), whole(ay), whole(bx), whole(by)) !== CODE.disjoint) return null;
+        const [vertex, direction] = this._live().pair();
+        return { vertex, direction };
     }
 
     nearest(x, y) {
         const code = this.#found("hull_polygon_nearest", whole(x), whole(y)), points = this._live().pair();
-        return { [CODE.covered]: [], [CODE.corner]: points.slice(0, 1), [CODE.edge]: points }[code] ?? null;
+        return { [CODE.covered]: [], [CODE.vertex]: points.slice(0, 1), [CODE.edge]: points }[code] ?? null;
     }
 
     boundingBox() {
@@ -582,11 +582,11 @@ class OutlineOfInstance extends Questions {
     }
 
     leastWidth() {
-        const [code, points] = this._live().witnessed("hull_polygon_least_width", this.#address, this.#corners);
+        const [code, points] = this._live().witnessed("hull_polygon_least_width", this.#address, this.#length);
         return code === CODE.edge ? points.slice(0, 3) : null;
     }
 
-    meets(other) {
+    intersects(other) {
         return this.#numberBeside("hull_polygon_intersects", other) === 1;
     }
 
@@ -602,11 +602,11 @@ class OutlineOfInstance extends Questions {
         return this.#numberBeside("hull_polygon_contains_inside", other) === 1;
     }
 
-    within(other, numerator, denominator = 1) {
+    withinDistance(other, numerator, denominator = 1) {
         return this.#numberBeside("hull_polygon_within_distance", other, ...lengthOf(numerator, denominator)) === 1;
     }
 
-    withinSegment(ax, ay, bx, by, numerator, denominator = 1) {
+    withinDistanceOfSegment(ax, ay, bx, by, numerator, denominator = 1) {
         this.#found("hull_polygon_within_distance_of_segment", whole(ax), whole(ay), whole(bx), whole(by), ...lengthOf(numerator, denominator));
         return this._live().number() === 1;
     }
@@ -616,16 +616,16 @@ class OutlineOfInstance extends Questions {
         return RELATIONS[this._live().number()];
     }
 
-    castRay(x, y, dx, dy) {
-        return this._live().met("hull_polygon_raycast", this.#address, this.#corners, whole(x), whole(y), whole(dx), whole(dy));
+    raycast(x, y, dx, dy) {
+        return this._live().hit("hull_polygon_raycast", this.#address, this.#length, whole(x), whole(y), whole(dx), whole(dy));
     }
 
-    lastOnRay(x, y, dx, dy) {
-        return this._live().met("hull_polygon_raycast_exit", this.#address, this.#corners, whole(x), whole(y), whole(dx), whole(dy));
+    raycastExit(x, y, dx, dy) {
+        return this._live().hit("hull_polygon_raycast_exit", this.#address, this.#length, whole(x), whole(y), whole(dx), whole(dy));
     }
 
-    castSegment(ax, ay, bx, by) {
-        return this._live().met("hull_polygon_raycast_segment", this.#address, this.#corners, whole(ax), whole(ay), whole(bx), whole(by));
+    raycastSegment(ax, ay, bx, by) {
+        return this._live().hit("hull_polygon_raycast_segment", this.#address, this.#length, whole(ax), whole(ay), whole(bx), whole(by));
     }
 
     witness(other) {
@@ -636,18 +636,18 @@ class OutlineOfInstance extends Questions {
     distance(other) {
         const [code, points] = this.#beside("witnessed", "hull_polygon_distance", other);
         if (code === CODE.empty) return null;
-        const [ours, theirs] = PLACES_OF[code] ?? [0, 0];
+        const [ours, theirs] = FEATURES[code] ?? [0, 0];
         return [points.slice(0, ours), points.slice(ours, ours + theirs)];
     }
 
     squaredDistance(other) {
-        const places = this.distance(other);
-        return places && squaredDistanceOf(places);
+        const features = this.distance(other);
+        return features && squaredDistanceOf(features);
     }
 
-    squaredDistanceTo(x, y) {
-        const place = this.nearest(x, y);
-        return place && squaredDistanceOf([place, place.length ? [[x, y]] : []]);
+    squaredDistanceToPoint(x, y) {
+        const feature = this.nearest(x, y);
+        return feature && squaredDistanceOf([feature, feature.length ? [[x, y]] : []]);
     }
 
     squaredDistanceToSegment(ax, ay, bx, by) {
@@ -665,7 +665,7 @@ class OutlineOfInstance extends Questions {
     /** Returns the distance of a segment. */
     #measuredTo(ax, ay, bx, by) {
         const ends = [whole(ax), whole(ay), whole(bx), whole(by)];
-        return this._live().measured("hull_polygon_distance_bounds_to_segment", this.#address, this.#corners, ...ends);
+        return this._live().measured("hull_polygon_distance_bounds_to_segment", this.#address, this.#length, ...ends);
     }
 }
 
@@ -679,14 +679,14 @@ function lengthOf(numerator, denominator) {
 }
 
 /** Returns the squared distance of two features, each a point or an edge; 0 if both are none. */
-function squaredDistanceOf(places) {
-    if (places[0].length === 0) return { numerator: 0n, denominator: 1n };
-    const [[point], [from, to]] = places.toSorted?.((a, b) => a.length - b.length) ?? [...places].sort((a, b) => a.length - b.length);
+function squaredDistanceOf(features) {
+    if (features[0].length === 0) return { numerator: 0n, denominator: 1n };
+    const [[point], [from, to]] = features.toSorted?.((a, b) => a.length - b.length) ?? [...features].sort((a, b) => a.length - b.length);
     const less = (a, b) => [BigInt(a[0]) - BigInt(b[0]), BigInt(a[1]) - BigInt(b[1])], square = ([x, y]) => x * x + y * y;
     const way = less(point, from);
     if (!to) return { numerator: square(way), denominator: 1n };
-    const edge = less(to, from), side = edge[0] * way[1] - edge[1] * way[0];
-    return { numerator: side * side, denominator: square(edge) };
+    const edge = less(to, from), doubledArea = edge[0] * way[1] - edge[1] * way[0];
+    return { numerator: doubledArea * doubledArea, denominator: square(edge) };
 }
 
 /** Whether the engine has 64-bit memories, tested by a module with nothing else. */
@@ -697,7 +697,7 @@ function moduleBeside() {
     try {
         return HAS_WIDE_MEMORY ? new URL("./out/hull.wasm", import.meta.url) : new URL("./out/hull32.wasm", import.meta.url);
     } catch (error) {
-        throw new Unsupported("nothing says where hull.wasm stands, as in a bundle of CommonJS: pass load its bytes or its URL", { cause: error });
+        throw new Unsupported("the location of hull.wasm is not known, as in a bundle of CommonJS: pass load its bytes or its URL", { cause: error });
     }
 }
 
@@ -721,7 +721,7 @@ async function bytesOrFault(source) {
     try {
         return await bytesOf(source);
     } catch (error) {
-        throw error instanceof HullError ? error : new Unsupported(`the module can't be had: ${error.message}`, { cause: error });
+        throw error instanceof HullError ? error : new Unsupported(`the module can't be read: ${error.message}`, { cause: error });
     }
 }
 
@@ -743,16 +743,16 @@ export async function load(source = moduleBeside(), { memory = Infinity } = {}) 
 }
 
 function classesOf(instance) {
-    class Outline extends OutlineOfInstance {
-        constructor(corners) {
-            super(instance, corners);
+    class Polygon extends PolygonOfInstance {
+        constructor(vertices) {
+            super(instance, vertices);
         }
 
         static of(points) {
-            const coordinates = flat(points), array = instance.placed(coordinates);
+            const coordinates = flat(points), array = instance.stored(coordinates);
             try {
                 const count = instance.filled(POINT.size, "hull_polygon_of", BigInt(array), BigInt(coordinates.length / 2));
-                return new Outline(instance.points(instance.out.at, count));
+                return new Polygon(instance.points(instance.out.at, count));
             } finally {
                 instance.heap.give(array);
             }
@@ -763,8 +763,8 @@ function classesOf(instance) {
             super(instance, limit);
         }
 
-        outline() {
-            return new Outline(this.vertexArray());
+        polygon() {
+            return new Polygon(this.vertexArray());
         }
 
         copy() {
@@ -778,5 +778,5 @@ function classesOf(instance) {
             return other;
         }
     }
-    return { Hull, Outline };
+    return { Hull, Polygon };
 }

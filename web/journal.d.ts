@@ -4,12 +4,12 @@ import type { Hull } from "./hull.js";
 /** The greatest number of lines of a journal. */
 export const CAPACITY_LIMIT: number;
 
-/** A text that is not a journal: the first line that is wrong, counted from 1, why, what is there and what should be. */
+/** A text that is not a journal: the first line that is wrong, counted from 1, why, what was found and what was expected. */
 export class TextError extends Error {
-    constructor(line: number, why: string, stands?: string, should?: string);
+    constructor(line: number, why: string, found?: string, expected?: string);
     readonly line: number;
-    readonly stands: string;
-    readonly should: string;
+    readonly found: string;
+    readonly expected: string;
 }
 
 /** A call with its reply, in the words of the text. */
@@ -26,8 +26,8 @@ export interface Journal {
     limit: number;
     capacity: number;
     lines: Line[];
-    /** The texts of which it was joined: their names, and the index of the first line of each. */
-    parts?: { name: string; from: number }[];
+    /** The segments of which it was joined: their names, and the index of the first line of each. */
+    segments?: { name: string; from: number }[];
 }
 
 /** Returns a journal with no line. */
@@ -41,7 +41,7 @@ export function journalText(journal: Journal): string;
 /** Reads a journal; throws a TextError if the text is not one. Replies are not judged. */
 export function readJournal(text: string): Journal;
 /** Joins the segments of a journal, in any order; throws a RangeError if they do not continue one another. */
-export function joinJournals(parts: { name: string; journal: Journal }[]): Journal;
+export function joinJournals(segments: { name: string; journal: Journal }[]): Journal;
 /** Makes a call, and returns its reply in the words of the text. */
 export function serve(hull: Hull, call: string): string;
 /** Returns the call that reverts a change, or null if there was none. */
@@ -53,8 +53,8 @@ export class Replay {
     journal: Journal;
     /** How many lines were served. */
     at: number;
-    /** The first wrong line and what should be there; null if none was met. */
-    wrong: { index: number; line: Line; should: string } | null;
+    /** The first wrong line and the one that was expected; null if none was met. */
+    wrong: { index: number; line: Line; expected: string } | null;
     /** The points: the multiplicity of "x y". */
     held: Map<string, number>;
     /** Makes a call after the last line served; lines after it are cut off. */

@@ -20,13 +20,13 @@ async function table(mode) {
 }
 
 function packed({ journal, at, power }, from = 0) {
-    return { text: journalText({ ...journal, lines: journal.lines.slice(from) }), parts: journal.parts, at, power };
+    return { text: journalText({ ...journal, lines: journal.lines.slice(from) }), parts: journal.segments, at, power };
 }
 
-function unpacked({ text, parts, at, power }, base = null) {
+function unpacked({ text, parts: segments, at, power }, base = null) {
     const journal = readJournal(base ?? text);
     if (base !== null) for (const line of readJournal(text).lines) journal.lines.push(line);
-    return { journal: parts ? { ...journal, parts } : journal, at, power };
+    return { journal: segments ? { ...journal, segments } : journal, at, power };
 }
 
 const deedsBy = (change, { done, undone }) => {
@@ -41,8 +41,8 @@ export class Keeper {
     keep(work, more, isEnding = false) {
         const { here } = work, { length } = here.journal.lines, before = this.#base?.journal === here.journal ? this.#base.lines : 0;
         if (length - before > LONG && !isEnding) {
-            const laid = () => this.keep(work, more, true);
-            return this.#lay(here.journal).then(laid, laid);
+            const keepRest = () => this.keep(work, more, true);
+            return this.#store(here.journal).then(keepRest, keepRest);
         }
         const kept = { ...more, ...packed(here, before), base: before > 0 ? this.#base.id : null };
         try {
@@ -60,7 +60,7 @@ export class Keeper {
         this.#tried(() => localStorage.setItem(NAME, text));
     }
 
-    /** Does what a browser that stores nothing refuses: there Save does it. */
+    /** Does what a browser that stores nothing refuses: in such a browser the user saves files. */
     #tried(run) {
         try {
             run();
@@ -69,7 +69,7 @@ export class Keeper {
         }
     }
 
-    async #lay(journal) {
+    async #store(journal) {
         const { length } = journal.lines, id = Date.now() + Math.random(), store = await table("readwrite");
         await done(store.put(journalText({ ...journal, lines: journal.lines.slice(0, length) }), id));
         for (const old of (await done(store.getAllKeys())).slice(0, -BASES)) store.delete(old);

@@ -27,17 +27,17 @@ export class List {
     /** Shows the lines of a replay, with the one that was made last, or the wrong one, in the middle. */
     show(replay) {
         this.replay = replay;
-        const { length } = replay.journal.lines, room = this.box.clientHeight, shown = replay.wrong?.index ?? replay.at - 1;
+        const { length } = replay.journal.lines, height = this.box.clientHeight, shown = replay.wrong?.index ?? replay.at - 1;
         this.tall.style.height = `${Math.min(TALLEST, ROW * length)}px`;
-        const hidden = ROW * length - room, wanted = Math.max(0, Math.min(hidden, ROW * shown - room / 2));
-        this.box.scrollTop = ROW * length <= TALLEST ? wanted : (wanted / hidden) * (TALLEST - room);
+        const hidden = ROW * length - height, wanted = Math.max(0, Math.min(hidden, ROW * shown - height / 2));
+        this.box.scrollTop = ROW * length <= TALLEST ? wanted : (wanted / hidden) * (TALLEST - height);
         this.draw();
     }
 
     /** Returns how many pixels of the list are above the visible ones, if it were as tall as it is long. */
     #above() {
-        const { length } = this.replay.journal.lines, room = this.box.clientHeight, { scrollTop } = this.box;
-        return ROW * length <= TALLEST ? scrollTop : (scrollTop / (TALLEST - room)) * (ROW * length - room);
+        const { length } = this.replay.journal.lines, height = this.box.clientHeight, { scrollTop } = this.box;
+        return ROW * length <= TALLEST ? scrollTop : (scrollTop / (TALLEST - height)) * (ROW * length - height);
     }
 
     draw() {
@@ -53,7 +53,7 @@ export class List {
     row(row, index, at, wrong) {
         const line = this.replay.journal.lines[index], isWrong = wrong?.index === index;
         row.className = isWrong ? "wrong" : index === at - 1 ? "last" : index >= at ? "later" : "";
-        row.textContent = row.title = `${isWrong ? "✗ " : ""}${lineText(line)}${isWrong ? ` (should be: ${wrong.should})` : ""}`;
+        row.textContent = row.title = `${isWrong ? "✗ " : ""}${lineText(line)}${isWrong ? ` (should be: ${wrong.expected})` : ""}`;
         row.dataset.index = index;
         row.ariaCurrent = index === at - 1 ? "step" : null;
         row.setAttribute("aria-posinset", index + 1);

@@ -18,25 +18,25 @@ function row(numbers, count) {
 }
 
 /** Returns the relations of the polygon to each of the others, in their order. */
-export function relations(outline, others) {
-    return Array.from(others, (other) => outline.relation(other));
+export function relations(polygon, others) {
+    return Array.from(others, (other) => polygon.relation(other));
 }
 
 /** Returns whether the polygon intersects each of the segments [ax, ay, bx, by], in their order. */
-export function meetsSegments(outline, segments) {
-    return Array.from(segments, (segment) => outline.meetsSegment(...row(segment, 4)));
+export function intersectsSegments(polygon, segments) {
+    return Array.from(segments, (segment) => polygon.intersectsSegment(...row(segment, 4)));
 }
 
 /** Returns the pairs [i, j], i < j, of polygons whose distance is at most numerator / denominator, exactly; with 0, that have a point
  * in common. By a sweep over their boxes. */
-export function pairsWithin(outlines, numerator = 0, denominator = 1) {
+export function pairsWithinDistance(polygons, numerator = 0, denominator = 1) {
     const isWhole = (value) => Number.isSafeInteger(value) && value >= 0;
     if (!isWhole(numerator) || !isWhole(denominator) || denominator < 1 || denominator >= 2 ** 32) {
         throw new OutOfRange("a length is a whole Number from 0 on by one from 1 to 2^32 - 1");
     }
     const boxes = [], pairs = [], length = Math.ceil(numerator / denominator) + (numerator > 2 ** 50 ? 1 : 0);
-    outlines.forEach((outline, at) => {
-        const box = outline.boundingBox();
+    polygons.forEach((polygon, at) => {
+        const box = polygon.boundingBox();
         if (box) boxes.push({ at, left: box[0][0], right: box[1][0], bottom: box[0][1], top: box[1][1] });
     });
     boxes.sort((a, b) => a.left - b.left || a.at - b.at);
@@ -44,68 +44,68 @@ export function pairsWithin(outlines, numerator = 0, denominator = 1) {
         for (let j = k + 1; j < boxes.length && boxes[j].left - box.right <= length; j++) {
             const other = boxes[j];
             if (other.bottom - box.top > length || box.bottom - other.top > length) continue;
-            if (outlines[box.at].within(outlines[other.at], numerator, denominator)) pairs.push([box.at, other.at].sort((a, b) => a - b));
+            if (polygons[box.at].withinDistance(polygons[other.at], numerator, denominator)) pairs.push([box.at, other.at].sort((a, b) => a - b));
         }
     });
     return pairs.sort(([a, b], [c, d]) => a - c || b - d);
 }
 
 /** Returns for each vertex the index of the first of the points that is equal to it; -1 if none is. */
-export function indices(outline, points) {
-    const places = new Map();
-    Array.from(points).forEach((point, place) => {
+export function indices(polygon, points) {
+    const found = new Map();
+    Array.from(points).forEach((point, index) => {
         const [x, y] = row(point, 2);
         const name = `${x} ${y}`;
-        if (!places.has(name)) places.set(name, place);
+        if (!found.has(name)) found.set(name, index);
     });
-    return outline.vertices().map(([x, y]) => places.get(`${x} ${y}`) ?? -1);
+    return polygon.vertices().map(([x, y]) => found.get(`${x} ${y}`) ?? -1);
 }
 
 const isSooner = (one, other) => one.numerator * other.denominator < other.numerator * one.denominator;
 
 /** Returns the soonest of the hits of vertices that go this way to a polygon, as far as it leads, and of one found before. */
-function soonest(found, outline, corners, dx, dy, moves) {
-    for (const corner of corners) {
-        const hit = outline.castRay(...corner, dx, dy);
+function soonest(found, polygon, vertices, dx, dy, moves) {
+    for (const vertex of vertices) {
+        const hit = polygon.raycast(...vertex, dx, dy);
         if (hit && hit.part.numerator <= hit.part.denominator && (!found || isSooner(hit.part, found.part))) {
-            found = { part: hit.part, points: hit.points, corner, moves };
+            found = { part: hit.part, points: hit.points, vertex, moves };
         }
     }
     return found;
 }
 
 /** Returns when a polygon that moves straight by (dx, dy) first intersects one that does not move; null if they never do. Two convex
- * shapes first meet at a vertex of one of them. */
+ * shapes first touch at a vertex of one of them. */
 export function firstMeeting(standing, moving, dx, dy) {
     checked([dx, dy]);
-    if (standing.meets(moving)) return { part: { numerator: 0n, denominator: 1n }, points: [], corner: null, moves: false };
+    if (standing.intersects(moving)) return { part: { numerator: 0n, denominator: 1n }, points: [], vertex: null, moves: false };
     if (dx === 0 && dy === 0) return null;
     const found = soonest(null, standing, moving.vertices(), dx, dy, true);
     return soonest(found, moving, standing.vertices(), -dx, -dy, false);
 }
 
-/** Returns points, all in range. */
-function placed(corners) {
-    checked(corners.flat());
-    return corners;
+/** Returns the points, which must be in range; else throws OutOfRange. */
+function checkedPoints(points) {
+    checked(points.flat());
+    return points;
 }
 
 /** Returns the vertices of the polygon translated by (dx, dy), of which another one can be made. Throws OutOfRange. */
-export function moved(outline, dx, dy) {
+export function translate(polygon, dx, dy) {
     checked([dx, dy], 2 * COORDINATE_LIMIT);
-    return placed(outline.vertices().map(([x, y]) => [x + dx, y + dy]));
+    return checkedPoints(polygon.vertices().map(([x, y]) => [x + dx, y + dy]));
 }
 
 /** Returns the vertices of the polygon rotated about (0, 0) by the angle of (a, b), and scaled by its length. Throws OutOfRange,
  * ZeroDirection. */
-export function turned(outline, a, b) {
+export function rotate(polygon, a, b) {
     checked([a, b]);
     if (a === 0 && b === 0) throw new ZeroDirection("a direction is zero");
     const [c, s] = [BigInt(a), BigInt(b)];
-    const corners = outline.vertices().map(([x, y]) => [BigInt(x), BigInt(y)]).map(([x, y]) => [Number(c * x - s * y), Number(s * x + c * y)]);
+    const vertices = polygon.vertices().map(([x, y]) => [BigInt(x), BigInt(y)]).map(([x, y]) => [Number(c * x - s * y), Number(s * x + c * y)]);
     const isBefore = ([x, y], [u, v]) => x < u || (x === u && y < v);
-    const from = corners.reduce((least, corner, at) => (isBefore(corner, corners[least]) ? at : least), 0);
-    return placed([...corners.slice(from), ...corners.slice(0, from)]);
+    const from = vertices.reduce((least, vertex, at) => (isBefore(vertex, vertices[least]) ? at : least), 0);
+    return checkedPoints([...vertices.slice(from), ...vertices.slice(0, from)]);
 }
 
 /** Returns the point of the set that is nearest to (x, y), of several the first by x and then y, and the square of its distance; null

@@ -17,7 +17,7 @@ const STEPS = { ArrowLeft: [-1, 0], ArrowRight: [1, 0], ArrowUp: [0, 1], ArrowDo
 const NOTHING = { move() {}, end() {} }; // a drag of nothing
 
 const element = (id) => document.getElementById(id);
-const tell = (id, text) => {
+const setText = (id, text) => {
     if (element(id).textContent !== text) element(id).textContent = text;
 };
 
@@ -65,7 +65,7 @@ export class Page {
 
     resized() {
         this.picture.resize();
-        if (this.mode === "example") this.view.fit(this.example.room, 1);
+        if (this.mode === "example") this.view.fit(this.example.range, 1);
         this.show();
     }
 
@@ -79,10 +79,10 @@ export class Page {
             this.example?.free();
             this.example = null;
         }
-        tell("own", mode === "example" ? "Draw your own" : "Show the example");
-        tell("pause", this.isPaused ? "Go on" : "Pause");
+        setText("own", mode === "example" ? "Draw your own" : "Show the example");
+        setText("pause", this.isPaused ? "Go on" : "Pause");
         this.picture.resize();
-        this.view.fit(mode === "example" ? this.example.room : this.hull.vertexArray(), mode === "example" ? 1 : 0.8);
+        this.view.fit(mode === "example" ? this.example.range : this.hull.vertexArray(), mode === "example" ? 1 : 0.8);
     }
 
     /** Changes from the example to a plane to draw on, and back. */
@@ -95,7 +95,7 @@ export class Page {
 
     pause() {
         this.isPaused = !this.isPaused;
-        tell("pause", this.isPaused ? "Go on" : "Pause");
+        setText("pause", this.isPaused ? "Go on" : "Pause");
         this.show();
     }
 
@@ -146,8 +146,8 @@ export class Page {
         try {
             run();
         } catch (error) {
-            this.work.told = `${name}: ${error.message}`;
-            this.fault = error.line ? { where: `line ${error.line} of ${error.file ?? name}`, stands: error.stands, should: error.should } : null;
+            this.work.message = `${name}: ${error.message}`;
+            this.fault = error.line ? { where: `line ${error.line} of ${error.file ?? name}`, found: error.found, expected: error.expected } : null;
         }
         this.show();
     }
@@ -173,8 +173,8 @@ export class Page {
         const { coordinates, size } = this.replay.held, [x, y] = this.view.exact(place);
         let least = (reach / this.view.scale) ** 2, found = null;
         for (let i = 0; i < 2 * size; i += 2) {
-            const apart = (coordinates[i] - x) ** 2 + (coordinates[i + 1] - y) ** 2;
-            if (apart <= least) [least, found] = [apart, [coordinates[i], coordinates[i + 1]]];
+            const squared = (coordinates[i] - x) ** 2 + (coordinates[i + 1] - y) ** 2;
+            if (squared <= least) [least, found] = [squared, [coordinates[i], coordinates[i + 1]]];
         }
         return found;
     }
@@ -197,9 +197,9 @@ export class Page {
             scene: (picture) => this.#drawScene(picture),
             over: (picture) => cursor !== null && picture.pointer(cursor, seen),
         });
-        tell("where", cursor === null ? "" : `${this.#text(cursor)} is ${hull.place(...cursor)}`);
-        for (const side of ["left", "right"]) tell(side, seen === null ? "" : `${side} ${this.#text(seen[side])}`);
-        tell("last", this.work.told);
+        setText("where", cursor === null ? "" : `${this.#text(cursor)} is ${hull.place(...cursor)}`);
+        for (const side of ["left", "right"]) setText(side, seen === null ? "" : `${side} ${this.#text(seen[side])}`);
+        setText("last", this.work.message);
         this.#showFault();
         if (this.#listed !== this.work.state) this.#showJournal();
     }
@@ -208,7 +208,7 @@ export class Page {
         if (!this.isPaused) this.example.move(this.#before === null ? 0 : now - this.#before);
         this.#before = this.isPaused ? null : now;
         this.picture.draw({ state: ["example", now], scene: () => {}, over: (picture) => this.example.draw(picture) });
-        for (const [name, text] of Object.entries(this.example.readings())) tell(`shown-${name}`, text);
+        for (const [name, text] of Object.entries(this.example.readings())) setText(`shown-${name}`, text);
         if (!this.isPaused) this.show();
     }
 
@@ -219,14 +219,14 @@ export class Page {
 
     /** Draws the still part of the picture, and updates its numbers. */
     #drawScene(picture) {
-        const { hull, replay, work: { power } } = this, corners = hull.vertexArray(), doubled = hull.doubledArea();
-        tell("count", `${hull.count()}, ${corners.length / 2} of them corners`);
-        tell("area", power === 0 ? `${doubled / 2n}${doubled % 2n ? ".5" : ""}` : `${toFloat(Number(doubled), 2 * power + 1)}`);
+        const { hull, replay, work: { power } } = this, vertices = hull.vertexArray(), doubled = hull.doubledArea();
+        setText("count", `${hull.count()}, ${vertices.length / 2} of them vertices`);
+        setText("area", power === 0 ? `${doubled / 2n}${doubled % 2n ? ".5" : ""}` : `${toFloat(Number(doubled), 2 * power + 1)}`);
         picture.grid();
-        picture.polygon(corners);
+        picture.polygon(vertices);
         this.levels().forEach((bridges, level) => picture.bridges(bridges, level));
         picture.points(replay.held);
-        picture.corners(corners);
+        picture.vertices(vertices);
     }
 
     /** Returns the stored bridges of as many levels as are requested and exist. */
@@ -237,14 +237,14 @@ export class Page {
             if (bridges.length === 0) break;
             levels.push(bridges);
         }
-        tell("leveled", `${levels.length} level${levels.length === 1 ? "" : "s"}`);
+        setText("leveled", `${levels.length} level${levels.length === 1 ? "" : "s"}`);
         return levels;
     }
 
     #showJournal() {
         const { at, journal, wrong } = this.replay, { length } = journal.lines;
         Object.assign(element("step"), { max: wrong === null ? length : wrong.index, value: at });
-        tell("place", `${at} of ${length} calls`);
+        setText("place", `${at} of ${length} calls`);
         this.list.show(this.replay);
         this.#listed = this.work.state;
     }
@@ -255,19 +255,19 @@ export class Page {
         const { wrong, journal } = this.replay;
         let { fault } = this;
         if (!fault && wrong !== null) {
-            const part = journal.parts?.findLast((it) => it.from <= wrong.index) ?? { name: "the journal", from: 0 };
-            fault = { where: `line ${wrong.index - part.from + 2} of ${part.name}`, stands: lineText(wrong.line), should: wrong.should };
+            const segment = journal.segments?.findLast((it) => it.from <= wrong.index) ?? { name: "the journal", from: 0 };
+            fault = { where: `line ${wrong.index - segment.from + 2} of ${segment.name}`, found: lineText(wrong.line), expected: wrong.expected };
         }
         element("wrong").hidden = !fault;
-        for (const name of fault ? ["where", "stands", "should"] : []) tell(`wrong-${name}`, fault[name]);
+        for (const name of fault ? ["where", "found", "expected"] : []) setText(`wrong-${name}`, fault[name]);
     }
 
     /** Speaks what is shown now: only on request. */
     speak() {
-        const rows = [...document.querySelectorAll(this.mode === "example" ? "#shown > *" : "#told > *")];
+        const rows = [...document.querySelectorAll(this.mode === "example" ? "#shown > *" : "#drawn > *")];
         const text = rows.map((it) => it.textContent.trim()).filter(Boolean).join(", ");
-        tell("spoken", "");
-        requestAnimationFrame(() => tell("spoken", text));
+        setText("spoken", "");
+        requestAnimationFrame(() => setText("spoken", text));
     }
 
     /** Moves the cross, and writes its questions if requested. */
@@ -377,7 +377,7 @@ export class Page {
                 if (!held) return this.#pan().move(to, last);
                 const next = this.view.toLattice(to);
                 // (both calls or none: if the journal is full the point stays)
-                if (next.join() === at.join() || !this.work.hasRoom(2)) return;
+                if (next.join() === at.join() || !this.work.hasSpace(2)) return;
                 this.work.make(deed, [`remove ${at.join(" ")}`, `add ${next.join(" ")}`]);
                 at = next;
             },
@@ -406,8 +406,8 @@ export class Page {
     pinched(finger, place) {
         const other = [...this.#fingers].find(([it]) => it !== finger)?.[1], before = this.#fingers.get(finger);
         if (!other || !before) return;
-        const apart = ([x, y]) => Math.max(1, Math.hypot(x - other[0], y - other[1]));
-        this.view.zoom(apart(place) / apart(before), other);
+        const distance = ([x, y]) => Math.max(1, Math.hypot(x - other[0], y - other[1]));
+        this.view.zoom(distance(place) / distance(before), other);
         this.view.pan((place[0] - before[0]) / 2, (place[1] - before[1]) / 2);
         this.#fingers.set(finger, place);
         this.show();
@@ -513,10 +513,11 @@ export class Page {
     }
 
     #openJournals(texts) {
-        const parts = texts.map(({ name, text }) => ({ name, journal: readBy(readJournal, name, text) }));
-        this.work.open(parts.length > 1 ? joinJournals(parts) : { ...parts[0].journal, parts: [{ name: parts[0].name, from: 0 }] });
-        if (this.replay.wrong === null) this.work.told = parts.length > 1 ? `the ${parts.length} parts are a legal journal` : "the journal is legal";
-        else this.work.told = `the journal is wrong: ${this.replay.wrong.should} is right`;
+        const segments = texts.map(({ name, text }) => ({ name, journal: readBy(readJournal, name, text) }));
+        const [{ name, journal }] = segments, isOne = segments.length === 1;
+        this.work.open(isOne ? { ...journal, segments: [{ name, from: 0 }] } : joinJournals(segments));
+        if (this.replay.wrong === null) this.work.message = isOne ? "the journal is legal" : `the ${segments.length} segments are a legal journal`;
+        else this.work.message = `the journal is wrong: ${this.replay.wrong.expected} is right`;
     }
 
     #openPoints(texts) {
@@ -526,7 +527,7 @@ export class Page {
         this.work.openCalls(calls, power);
         const lattice = power === 0 ? "" : `, times 2^${power}${rounded ? `, ${rounded} of their numbers rounded` : ""}`;
         const refused = this.replay.journal.lines.filter((it) => it.reply === "toomany").length;
-        this.work.told = `${rows.length} points opened${lattice}${refused ? `, ${refused} refused: a hull takes no more` : ""}`;
+        this.work.message = `${rows.length} points opened${lattice}${refused ? `, ${refused} refused: a hull takes no more` : ""}`;
     }
 
     text() {

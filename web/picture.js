@@ -2,14 +2,14 @@
 import { pointOf } from "./texts.js";
 
 const LABELS = 400; // up to so many points are drawn as discs, with their multiplicities; more are written as pixels, all at once
-const APART = 1.5; // vertices nearer to one another, in pixels, are drawn as one
+const MERGED = 1.5; // vertices nearer to one another, in pixels, are drawn as one
 
 /** Yields the vertices [x0, y0, x1, ..] on the screen, except those that look the same as the one before. */
-function* seenOf(corners, view, apart) {
+function* seenOf(vertices, view, least) {
     let [left, top] = [NaN, NaN];
-    for (let i = 0; i < corners.length; i += 2) {
-        const at = view.toScreen([corners[i], corners[i + 1]]);
-        if (Math.abs(at[0] - left) < apart && Math.abs(at[1] - top) < apart) continue;
+    for (let i = 0; i < vertices.length; i += 2) {
+        const at = view.toScreen([vertices[i], vertices[i + 1]]);
+        if (Math.abs(at[0] - left) < least && Math.abs(at[1] - top) < least) continue;
         [left, top] = at;
         yield at;
     }
@@ -81,10 +81,10 @@ export class Picture {
         pen.setLineDash([]);
     }
 
-    polygon(corners, color = "hull", inside = "inside") {
+    polygon(vertices, color = "hull", inside = "inside") {
         const { pen } = this;
         pen.beginPath();
-        for (const [left, top] of seenOf(corners, this.view, 0.25)) pen.lineTo(left, top);
+        for (const [left, top] of seenOf(vertices, this.view, 0.25)) pen.lineTo(left, top);
         pen.closePath();
         pen.fillStyle = this.color(inside);
         pen.fill();
@@ -93,8 +93,8 @@ export class Picture {
         pen.stroke();
     }
 
-    corners(corners, color = "hull") {
-        this.discs(seenOf(corners, this.view, APART), 4.5, color);
+    vertices(vertices, color = "hull") {
+        this.discs(seenOf(vertices, this.view, MERGED), 4.5, color);
     }
 
     discs(places, radius, color) {
@@ -110,8 +110,8 @@ export class Picture {
 
     /** Draws the stored bridges of a level: the deeper, the thinner. The lower ones are dashed. */
     bridges(bridges, level) {
-        for (const side of ["upper", "lower"]) {
-            this.lines(bridges.map((it) => it[side]), side, Math.max(0.5, 3 - level / 3), side === "lower" ? [6, 3] : []);
+        for (const chain of ["upper", "lower"]) {
+            this.lines(bridges.map((it) => it[chain]), chain, Math.max(0.5, 3 - level / 3), chain === "lower" ? [6, 3] : []);
         }
     }
 

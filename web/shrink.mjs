@@ -61,16 +61,16 @@ export function part(text, files) {
 
 /** Returns a module without the exports that a script does not name, and what only they need. */
 export function cut(module, script) {
-    const words = new Set(script.match(/\w+/g)), room = mkdtempSync(`${tmpdir()}/shrink-`);
+    const words = new Set(script.match(/\w+/g)), folder = mkdtempSync(`${tmpdir()}/shrink-`);
     const named = WebAssembly.Module.exports(new WebAssembly.Module(module)).map((it) => it.name).filter((it) => words.has(it));
     const graph = [{ name: "page", root: true, reaches: named }, ...named.map((name) => ({ name, export: name }))];
-    const [from, to, reached] = ["whole.wasm", "cut.wasm", "graph.json"].map((it) => `${room}/${it}`);
+    const [from, to, reached] = ["whole.wasm", "cut.wasm", "graph.json"].map((it) => `${folder}/${it}`);
     try {
         writeFileSync(from, module);
         writeFileSync(reached, JSON.stringify(graph));
         execFileSync("wasm-metadce", ["--enable-bulk-memory", "--enable-sign-ext", "--graph-file", reached, from, "-o", to]);
         return readFileSync(to);
     } finally {
-        rmSync(room, { recursive: true });
+        rmSync(folder, { recursive: true });
     }
 }

@@ -5,7 +5,7 @@ import { chainOf, order, placeIn, pointsOf, rate } from "./chain.mjs";
 import { load } from "./hull.js";
 
 const SETS = 500, CHANGES = 60, ROUNDS = 30;
-const { Hull, Outline } = await load();
+const { Hull, Polygon } = await load();
 let polygonHull = null;
 try {
     ({ polygonHull } = createRequire(import.meta.url)("/usr/share/nodejs/d3-polygon"));
@@ -32,7 +32,7 @@ function bezout(a, b) {
     return [old, -u, s];
 }
 
-/** Returns the four corners of a parallelogram whose edges have a cross product of 1, which reaches over half of all coordinates up
+/** Returns the four vertices of a parallelogram whose edges have a cross product of 1, which reaches over half of all coordinates up
  * to `limit`. */
 function sliver(random, limit) {
     for (;;) {
@@ -44,16 +44,16 @@ function sliver(random, limit) {
     }
 }
 
-const same = (corners, points) => String(corners?.map(String).sort()) === String(points.map(String).sort());
+const same = (vertices, points) => String(vertices?.map(String).sort()) === String(points.map(String).sort());
 
 console.log("| Coordinates to | plain doubles | `d3.polygonHull` | hullbook |\n|---|---|---|---|");
 for (const power of [27, 30]) {
     const random = randomOf(power), wrong = [0, 0, 0];
     for (let i = 0; i < SETS; i++) {
-        const points = sliver(random, 2 ** power), outline = Outline.of(points);
-        const found = [chainOf(points.toSorted?.(order) ?? [...points].sort(order)), polygonHull?.(points), outline.vertices()];
+        const points = sliver(random, 2 ** power), polygon = Polygon.of(points);
+        const found = [chainOf(points.toSorted?.(order) ?? [...points].sort(order)), polygonHull?.(points), polygon.vertices()];
         found.forEach((it, which) => (wrong[which] += !same(it, points)));
-        outline.free();
+        polygon.free();
     }
     console.log(`| 2^${power} | ${wrong[0]} | ${polygonHull ? wrong[1] : "-"} | ${wrong[2]} |`);
 }
@@ -77,15 +77,15 @@ function costOf(shape, number) {
         }
     }, ROUNDS);
     if (!Number.isFinite(sum)) throw new Error("a point was not there");
-    const corners = hull.vertexArray().length / 2;
+    const vertices = hull.vertexArray().length / 2;
     hull.free();
-    return { corners, ours: 1e6 / ours, plain: 1e6 / plain };
+    return { vertices, ours: 1e6 / ours, plain: 1e6 / plain };
 }
 
-console.log("\n| Points | of them corners | hullbook | chain made anew | times |\n|---|---|---|---|---|");
+console.log("\n| Points | of them vertices | hullbook | recomputed | times |\n|---|---|---|---|---|");
 for (const [shape, name] of [["disc", "in a disc"], ["circle", "on a circle"]]) {
     for (const number of [10, 50, 100, 1000, 10000]) {
-        const { corners, ours, plain } = costOf(shape, number);
-        console.log(`| ${number.toLocaleString("en")} ${name} | ${corners} | ${ours.toFixed(1)} µs | ${plain.toFixed(1)} µs | ${(plain / ours).toFixed(1)} |`);
+        const { vertices, ours, plain } = costOf(shape, number);
+        console.log(`| ${number.toLocaleString("en")} ${name} | ${vertices} | ${ours.toFixed(1)} µs | ${plain.toFixed(1)} µs | ${(plain / ours).toFixed(1)} |`);
     }
 }

@@ -27,9 +27,9 @@ function rowsOfTable(text) {
         const fields = line.trim().split(/[,;\t ]+/).filter(Boolean), numbers = fields.map(Number);
         if (fields.length === 0 || line.startsWith("#")) return;
         const [x, y, times = 1] = numbers, isRow = numbers.every(Number.isFinite) && fields.length >= 2;
-        const should = `X,Y or X,Y,TIMES, with 1 to ${MULTIPLICITY_LIMIT} times`;
+        const expected = `X,Y or X,Y,TIMES, with 1 to ${MULTIPLICITY_LIMIT} times`;
         if (isRow && isTimes(times)) rows.push([x, y, times]);
-        else if (rows.length > 0 || i > 0) throw new TextError(i + 1, "it is no point", line, should);
+        else if (rows.length > 0 || i > 0) throw new TextError(i + 1, "it is no point", line, expected);
     });
     if (rows.length === 0) throw new TextError(1, "there are no points", text.split("\n")[0], "X,Y");
     return rows;
@@ -57,8 +57,8 @@ function rowsOfGeometry(text) {
         if (typeof it?.[0] === "number") rows.push([it[0], it[1], times[rows.length - times.from] ?? 1]);
         else if (Array.isArray(it)) for (const part of it) positions(part, times);
     };
-    const walk = (it, told = []) => {
-        const times = Object.assign([...(it?.properties?.times ?? told)], { from: rows.length });
+    const walk = (it, inherited = []) => {
+        const times = Object.assign([...(it?.properties?.times ?? inherited)], { from: rows.length });
         positions(it?.coordinates, times);
         for (const part of [it?.geometry, ...(it?.geometries ?? []), ...(it?.features ?? [])]) if (part) walk(part, times);
     };
@@ -117,8 +117,8 @@ function rowsOfDrawing(text) {
     const rows = [...drawing.querySelectorAll("circle, ellipse, line, rect, path, polygon, polyline")].flatMap((shape) => {
         let matrix = new DOMMatrix();
         for (let it = shape; it instanceof Element; it = it.parentNode) {
-            const turned = it.getAttribute("transform");
-            if (turned) matrix = matrixOf(turned).multiply(matrix);
+            const transform = it.getAttribute("transform");
+            if (transform) matrix = matrixOf(transform).multiply(matrix);
         }
         const times = Number(shape.getAttribute("data-times") ?? 1);
         return placesOf(shape).map(([x, y]) => {
@@ -185,33 +185,33 @@ function rowsHeld(held, power) {
     return rows.map(([x, y, times]) => [toFloat(x, power), toFloat(y, power), times]);
 }
 
-const geometryOf = (corners) => (corners.length === 0 ? { type: "GeometryCollection", geometries: [] }
-    : corners.length === 1 ? { type: "Point", coordinates: corners[0] }
-    : corners.length === 2 ? { type: "LineString", coordinates: corners } : { type: "Polygon", coordinates: [[...corners, corners[0]]] });
+const geometryOf = (vertices) => (vertices.length === 0 ? { type: "GeometryCollection", geometries: [] }
+    : vertices.length === 1 ? { type: "Point", coordinates: vertices[0] }
+    : vertices.length === 2 ? { type: "LineString", coordinates: vertices } : { type: "Polygon", coordinates: [[...vertices, vertices[0]]] });
 
 /** Texts of the points and their vertices, by the names of their kinds. */
 export const WRITTEN = {
     csv: (rows) => `x,y,times\n${rows.map((row) => `${row.join(",")}\n`).join("")}`,
-    geojson: (rows, corners) => {
+    geojson: (rows, vertices) => {
         const feature = (properties, geometry) => ({ type: "Feature", properties, geometry });
         const points = feature({ times: rows.map((row) => row[2]) }, { type: "MultiPoint", coordinates: rows.map(([x, y]) => [x, y]) });
-        return `${JSON.stringify({ type: "FeatureCollection", features: [points, feature({ is: "hull" }, geometryOf(corners))] })}\n`;
+        return `${JSON.stringify({ type: "FeatureCollection", features: [points, feature({ is: "hull" }, geometryOf(vertices))] })}\n`;
     },
-    svg: (rows, corners) => {
+    svg: (rows, vertices) => {
         const xs = rows.map((row) => row[0]), ys = rows.map((row) => -row[1]), least = (them) => them.reduce((a, b) => Math.min(a, b), Infinity);
         const [left, top] = [least(xs), least(ys)].map((it) => (it === Infinity ? 0 : it));
         const size = Math.max(-least(xs.map((it) => -it)) - left, -least(ys.map((it) => -it)) - top, 1e-300), dot = size / 150;
         const box = rows.length ? [left - size / 20, top - size / 20, 1.1 * size, 1.1 * size] : [0, 0, 1, 1];
         const often = (times) => (times > 1 ? ` data-times="${times}"` : "");
         const points = rows.map(([x, y, times]) => `<circle cx="${x}" cy="${-y + 0}" r="${dot}"${often(times)}/>\n`).join("");
-        const polygon = `points="${corners.map(([x, y]) => `${x},${-y + 0}`).join(" ")}" fill="#dce9f8" stroke="#2160a8" stroke-width="${dot / 2}"`;
+        const polygon = `points="${vertices.map(([x, y]) => `${x},${-y + 0}`).join(" ")}" fill="#dce9f8" stroke="#2160a8" stroke-width="${dot / 2}"`;
         return `<svg xmlns="http://www.w3.org/2000/svg" viewBox="${box.join(" ")}">\n<polygon ${polygon}/>\n${points}</svg>\n`;
     },
 };
 
 /** Returns the set as a text of a kind. */
-export function writeRows(kind, held, corners, power) {
-    return WRITTEN[kind](rowsHeld(held, power), corners.map((corner) => corner.map((it) => toFloat(it, power))));
+export function writeRows(kind, held, vertices, power) {
+    return WRITTEN[kind](rowsHeld(held, power), vertices.map((vertex) => vertex.map((it) => toFloat(it, power))));
 }
 
 /** Returns the fragment of an address that contains the points: "points=0,0;8,0*2" and the power if it is not 0; "" if it would be

@@ -12,7 +12,7 @@ export class Work {
     /** Counts what changed the hull or the journal. */
     state = 0;
     /** The last call, or why there was none. */
-    told = "";
+    message = "";
 
     constructor(Hull, was = { journal: emptyJournal(), power: 0 }) {
         this.#Hull = Hull;
@@ -40,14 +40,14 @@ export class Work {
         this.replay.go(at);
         this.state += 1;
         const { journal } = this.replay;
-        this.told = this.replay.at > 0 ? lineText(journal.lines[this.replay.at - 1]) : "";
+        this.message = this.replay.at > 0 ? lineText(journal.lines[this.replay.at - 1]) : "";
     }
 
     /** Whether the journal has space for so many calls; if not, reports that. */
-    hasRoom(calls) {
+    hasSpace(calls) {
         const { at, journal } = this.replay;
         if (at + calls <= journal.capacity) return true;
-        this.told = "the journal is full: save it, and begin a new one";
+        this.message = "the journal is full: save it, and begin a new one";
         return false;
     }
 
@@ -55,9 +55,9 @@ export class Work {
         const lines = [];
         try {
             for (const call of calls) lines.push(this.replay.call(call));
-            this.told = lines.length ? lineText(lines.at(-1)) : "";
+            this.message = lines.length ? lineText(lines.at(-1)) : "";
         } catch (error) {
-            this.told = error.message;
+            this.message = error.message;
         }
         this.state += lines.length > 0;
         return lines;
@@ -102,7 +102,7 @@ export class Work {
 
     /** Writes questions, which change nothing, only after all calls: from an earlier position they would cut the later ones off. */
     ask(calls) {
-        if (this.isAtTheEnd && this.hasRoom(calls.length)) this.#make(calls);
+        if (this.isAtTheEnd && this.hasSpace(calls.length)) this.#make(calls);
     }
 
     /** Takes a journal in place of the present one. */
@@ -150,7 +150,7 @@ export class Work {
         const { here } = this;
         if (was) this.#take(was);
         else if (at !== undefined) this.#to(at);
-        else return this.hasRoom(calls.length) ? { calls: inverses(this.#make(calls)) } : null;
+        else return this.hasSpace(calls.length) ? { calls: inverses(this.#make(calls)) } : null;
         return was ? { was: here } : { at: here.at };
     }
 

@@ -103,13 +103,13 @@ fn through_mutex(threads: u32, points: usize, calls: usize) -> f64 {
 fn through_seats(threads: u32, points: usize, calls: usize) -> f64 {
     let capacity = (points + threads as usize * calls) as u32;
     let hull = SharedHull::open(Limits { points: POINT_LIMIT, first: 0, capacity, seats: threads }).unwrap();
-    let mut seat = hull.lend(0).unwrap();
+    let mut seat = hull.acquire_seat(0).unwrap();
     for point in Points(7).take(points) {
         seat.add(point).unwrap();
     }
-    seat.give_back();
+    seat.release();
     timed(threads, calls, |me| {
-        let mut seat = hull.lend(me).unwrap();
+        let mut seat = hull.acquire_seat(me).unwrap();
         move |kind, at| by_seat(&mut seat, kind, at)
     })
 }

@@ -1,6 +1,5 @@
-//! Three threads put points of a growing square in, while a fourth asks whether a place is covered yet. What the hull
-//! came to is written in the end, and the journal of all calls to the file that is named, if one is: hullbook's `check`
-//! judges it.
+//! Three threads add points of a growing square, while a fourth asks whether a place is covered yet. At the end the program prints
+//! the state of the hull, and writes the journal of all calls to the file that you name, if you name one: `hullbook check` judges it.
 use hull::{Fault, Limits, Place, Point, Seat, SharedHull};
 use std::error::Error;
 use std::thread;
@@ -16,7 +15,7 @@ fn insert(seat: &mut Seat, height: fn(i64) -> i64) -> Result<(), Fault> {
     Ok(())
 }
 
-/// Asks until the place is covered, at most as often as one thread inserts; tells how often that was.
+/// Asks until the place is covered, at most as often as one thread inserts; returns how often it asked.
 fn ask(seat: &mut Seat) -> Result<i64, Fault> {
     for asked in 1..ROUNDS {
         if seat.place(PLACE)? == Place::Inside {
@@ -31,17 +30,17 @@ fn main() -> Result<(), Box<dyn Error>> {
     let heights: [fn(i64) -> i64; 3] = [|i| i, |i| -i, |_| 0];
     let mut inserting = Vec::new();
     for (number, height) in (1..).zip(heights) {
-        let mut seat = hull.lend(number)?;
+        let mut seat = hull.acquire_seat(number)?;
         inserting.push(thread::spawn(move || insert(&mut seat, height)));
     }
-    let mut seat = hull.lend(0)?;
+    let mut seat = hull.acquire_seat(0)?;
     let asked = ask(&mut seat)?;
     for thread in inserting {
         thread.join().expect("no thread panics")?;
     }
-    println!("{} points, {} corners, doubled area {}", seat.count()?, seat.corners()?, seat.doubled_area()?);
+    println!("{} points, {} corners, doubled area {}", seat.count()?, seat.vertex_count()?, seat.doubled_area()?);
     println!("(5, 50) lies {:?}", seat.place(PLACE)?);
-    seat.give_back();
+    seat.release();
     let journal = hull.close()?;
     let calls = 3 * ROUNDS + asked + 4;
     println!("each call has its line: {}", journal.lines().count() as i64 == calls + 2);

@@ -55,7 +55,7 @@ executable('user', 'user.c', dependencies: dependency('hull'))
 """
 RUST = """use hull::{Hull, Point};
 fn main() {
-    let mut hull = Hull::new(100).expect("room");
+    let mut hull = Hull::new(100).expect("memory");
     for i in 0..4 {
         hull.add(Point { x: 10 * (i & 1), y: 10 * (i >> 1) }).expect("added");
     }
@@ -76,9 +76,9 @@ for (const point of ["0, 0", "8, 0", "8, 6"]) {
     })()`);
     await tab.click(at);
 }
-const told = [await tab.text("count"), await tab.text("area")].join(", ");
+const shown = [await tab.text("count"), await tab.text("area")].join(", ");
 await tab.close();
-console.log(told);
+console.log(shown);
 process.exit(0);
 """
 TYPED = """import { load, type Point } from 'hullbook';
@@ -86,9 +86,9 @@ export async function first(): Promise<Point> {
     const { Hull } = await load();
     const hull = new Hull();
     hull.addAll([[0, 0], [10, 0], [10, 10]]);
-    const corners: Point[] = hull.vertices(), area: bigint = hull.doubledArea();
+    const vertices: Point[] = hull.vertices(), area: bigint = hull.doubledArea();
     const place: "inside" | "on" | "outside" = hull.place(5, 5);
-    return area > 0n && place === "on" ? corners[0] : [0, 0];
+    return area > 0n && place === "on" ? vertices[0] : [0, 0];
 }
 """
 
@@ -226,7 +226,7 @@ def try_page(tries):
         print("skipped: the page: there is no chromium or no node")
         return
     tries.lay("page", page__mjs=PAGE.replace("CLONE", f"{tries.room}/clone"))
-    tries.prints("the page from disk, in Chromium", "3, 3 of them corners, 24", "node", "page.mjs", at="page", env={"CHROMIUM": browser})
+    tries.prints("the page from disk, in Chromium", "3, 3 of them vertices, 24", "node", "page.mjs", at="page", env={"CHROMIUM": browser})
 
 
 def try_install(tries):

@@ -1,23 +1,24 @@
 //! Each function of `rust/hull`, each of its answers and each of its faults.
-use hull::{pairs_within, direction_of, wkt, Distance, Entry, Fault, Held, Hit, Hull, Lattice, Nearest, Outline, Place, Point, Relation, Separation, Strip, Witness};
+use hull::{direction_of, pairs_within_distance, wkt, Distance, Entry, Fault, Held, Hit, Hull, Lattice, Nearest, Place, Point, Polygon, Relation};
+use hull::{Separation, Strip, Witness};
 use hull::{Limits, SharedHull, COORDINATE_LIMIT, MULTIPLICITY_LIMIT, POINT_LIMIT};
 use std::alloc::{GlobalAlloc, Layout, System};
 use std::cell::Cell;
 use std::collections::HashSet;
 
-/// The allocator of all, but that a thread may have one request refused.
+/// The allocator, except that a thread may have one request refused.
 struct Refusing;
 
 thread_local! {
-    /// Behind how many requests one is refused; none where it is negative.
+    /// After how many requests one is refused; none if it is negative.
     static LEFT: Cell<i64> = const { Cell::new(-1) };
 }
 
 fn is_refused() -> bool {
     LEFT.try_with(|left| {
-        let behind = left.get();
-        left.set((behind - 1).max(-1));
-        behind == 0
+        let before = left.get();
+        left.set((before - 1).max(-1));
+        before == 0
     })
     .unwrap_or(false)
 }
@@ -89,180 +90,180 @@ fn loads() {
 }
 
 #[test]
-fn outlines() {
+fn polygons() {
     let mut hull = Hull::new(100).unwrap();
     for step in 0..30 {
-        let outline = hull.outline().unwrap();
-        assert!(outline.corners().iter().copied().eq(hull.vertices().unwrap()));
+        let polygon = hull.polygon().unwrap();
+        assert!(polygon.vertices().iter().copied().eq(hull.vertices().unwrap()));
         for at in (0..169).map(|i| point(i % 13 - 6, i / 13 - 6)) {
-            assert_eq!(outline.place(at), hull.place(at));
-            assert_eq!(outline.tangents(at), hull.tangents(at));
-            assert_eq!(outline.extreme(at), hull.extreme(at));
+            assert_eq!(polygon.place(at), hull.place(at));
+            assert_eq!(polygon.tangents(at), hull.tangents(at));
+            assert_eq!(polygon.extreme(at), hull.extreme(at));
         }
-        assert_eq!(outline.doubled_area(), hull.doubled_area());
+        assert_eq!(polygon.doubled_area(), hull.doubled_area());
         hull.add(point(step * 7 % 11 - 5, step * step % 11 - 5)).unwrap();
     }
-    let outline = hull.outline().unwrap();
-    assert_eq!(outline.clone(), outline);
+    let polygon = hull.polygon().unwrap();
+    assert_eq!(polygon.clone(), polygon);
     let (asked, wanted) = (point(20, 3), hull.tangents(point(20, 3)));
     std::thread::scope(|threads| {
         for _ in 0..4 {
-            threads.spawn(|| assert_eq!(outline.tangents(asked), wanted));
+            threads.spawn(|| assert_eq!(polygon.tangents(asked), wanted));
         }
     });
-    assert_eq!(Outline::new(&[point(1, 0), point(0, 0)]), Err(Fault::NoOutline));
-    assert_eq!(Outline::new(&[point(0, 0), point(1, 0), point(2, 0)]), Err(Fault::NoOutline));
-    assert_eq!(Outline::new(&[point(0, COORDINATE_LIMIT + 1)]), Err(Fault::OutOfRange));
-    assert_eq!(outline.place(point(0, COORDINATE_LIMIT + 1)), Err(Fault::OutOfRange));
+    assert_eq!(Polygon::new(&[point(1, 0), point(0, 0)]), Err(Fault::NoPolygon));
+    assert_eq!(Polygon::new(&[point(0, 0), point(1, 0), point(2, 0)]), Err(Fault::NoPolygon));
+    assert_eq!(Polygon::new(&[point(0, COORDINATE_LIMIT + 1)]), Err(Fault::OutOfRange));
+    assert_eq!(polygon.place(point(0, COORDINATE_LIMIT + 1)), Err(Fault::OutOfRange));
 }
 
 #[test]
-fn encounters() {
-    let outline = Outline::new(&[point(0, 0), point(10, 0), point(10, 10), point(0, 10)]).unwrap();
-    assert_eq!(outline.meets_segment(point(-5, 5), point(5, 15)), Ok(true));
-    assert_eq!(outline.meets_segment(point(-5, 6), point(5, 16)), Ok(false));
-    assert_eq!(outline.apart_from_segment(point(-5, 5), point(5, 15)), Ok(None));
-    let parted = Separation { farthest: point(0, 10), direction: point(-10, 10) };
-    assert_eq!(outline.apart_from_segment(point(-5, 6), point(5, 16)), Ok(Some(parted)));
-    assert_eq!(outline.nearest(point(12, -3)), Ok(Some(Nearest::Corner(point(10, 0)))));
-    assert_eq!(outline.nearest(point(3, -3)), Ok(Some(Nearest::Edge(point(0, 0), point(10, 0)))));
-    assert_eq!(outline.nearest(point(3, 10)), Ok(Some(Nearest::Covered)));
-    assert_eq!(outline.bounding_box(), Some((point(0, 0), point(10, 10))));
-    let none = Outline::new(&[]).unwrap();
-    assert_eq!(none.meets_segment(point(0, 0), point(1, 1)), Ok(false));
-    assert_eq!(none.apart_from_segment(point(0, 0), point(1, 1)), Ok(None));
+fn intersections() {
+    let polygon = Polygon::new(&[point(0, 0), point(10, 0), point(10, 10), point(0, 10)]).unwrap();
+    assert_eq!(polygon.intersects_segment(point(-5, 5), point(5, 15)), Ok(true));
+    assert_eq!(polygon.intersects_segment(point(-5, 6), point(5, 16)), Ok(false));
+    assert_eq!(polygon.separation_from_segment(point(-5, 5), point(5, 15)), Ok(None));
+    let separation = Separation { farthest: point(0, 10), direction: point(-10, 10) };
+    assert_eq!(polygon.separation_from_segment(point(-5, 6), point(5, 16)), Ok(Some(separation)));
+    assert_eq!(polygon.nearest(point(12, -3)), Ok(Some(Nearest::Vertex(point(10, 0)))));
+    assert_eq!(polygon.nearest(point(3, -3)), Ok(Some(Nearest::Edge(point(0, 0), point(10, 0)))));
+    assert_eq!(polygon.nearest(point(3, 10)), Ok(Some(Nearest::Covered)));
+    assert_eq!(polygon.bounding_box(), Some((point(0, 0), point(10, 10))));
+    let none = Polygon::new(&[]).unwrap();
+    assert_eq!(none.intersects_segment(point(0, 0), point(1, 1)), Ok(false));
+    assert_eq!(none.separation_from_segment(point(0, 0), point(1, 1)), Ok(None));
     assert_eq!((none.nearest(point(0, 0)), none.bounding_box()), (Ok(None), None));
     let far = point(0, COORDINATE_LIMIT + 1);
-    assert_eq!(outline.meets_segment(far, point(0, 0)), Err(Fault::OutOfRange));
-    assert_eq!(outline.apart_from_segment(point(0, 0), far), Err(Fault::OutOfRange));
-    assert_eq!(outline.nearest(far), Err(Fault::OutOfRange));
+    assert_eq!(polygon.intersects_segment(far, point(0, 0)), Err(Fault::OutOfRange));
+    assert_eq!(polygon.separation_from_segment(point(0, 0), far), Err(Fault::OutOfRange));
+    assert_eq!(polygon.nearest(far), Err(Fault::OutOfRange));
 }
 
 #[test]
-fn clearances() {
-    let outline = Outline::new(&[point(0, 0), point(10, 0), point(10, 10), point(0, 10)]).unwrap();
-    let beside = Outline::new(&[point(12, 0), point(15, 3), point(12, 6)]).unwrap();
-    let none = Outline::new(&[]).unwrap();
-    let gap = outline.clearance(&beside).unwrap();
-    let to = |at| outline.clearance_to_point(at).unwrap().unwrap();
+fn distance_bounds() {
+    let polygon = Polygon::new(&[point(0, 0), point(10, 0), point(10, 10), point(0, 10)]).unwrap();
+    let beside = Polygon::new(&[point(12, 0), point(15, 3), point(12, 6)]).unwrap();
+    let none = Polygon::new(&[]).unwrap();
+    let gap = polygon.distance_bounds(&beside).unwrap();
+    let to = |at| polygon.distance_bounds_to_point(at).unwrap().unwrap();
     assert_eq!((gap.down(), gap.up(), gap.squared()), (2.0, 2.0, ([0, 0, 4], [0, 1])));
     assert_eq!((to(point(13, 14)).down(), to(point(5, 5)).up()), (5.0, 0.0));
     assert!(to(point(11, 11)).down() < 2f64.sqrt() && to(point(11, 11)).up() == 2f64.sqrt());
     assert!(gap < to(point(13, 14)) && gap == to(point(12, 5)) && to(point(11, 11)) < gap && gap <= gap);
-    let way = outline.clearance_to_segment(point(13, 14), point(16, 10)).unwrap().unwrap();
+    let way = polygon.distance_bounds_to_segment(point(13, 14), point(16, 10)).unwrap().unwrap();
     assert!(way < to(point(13, 14)) && way.squared().0[2] * 25 == way.squared().1[1] * 576);
-    assert!(none.clearance(&outline).is_none() && none.clearance_to_point(point(0, 0)).unwrap().is_none());
-    assert_eq!(outline.within_segment(point(13, 14), point(13, 20), 5, 1), Ok(true));
-    assert_eq!(outline.within_point(point(13, 14), 4999, 1000), Ok(false));
-    assert_eq!(outline.relation_to_segment(point(10, 12), point(10, 3)), Ok(Relation::Touching));
-    assert_eq!(outline.relation_to_segment(point(9, 9), point(2, 2)), Ok(Relation::Covers));
+    assert!(none.distance_bounds(&polygon).is_none() && none.distance_bounds_to_point(point(0, 0)).unwrap().is_none());
+    assert_eq!(polygon.within_distance_of_segment(point(13, 14), point(13, 20), 5, 1), Ok(true));
+    assert_eq!(polygon.within_distance_of_point(point(13, 14), 4999, 1000), Ok(false));
+    assert_eq!(polygon.relation_to_segment(point(10, 12), point(10, 3)), Ok(Relation::Touching));
+    assert_eq!(polygon.relation_to_segment(point(9, 9), point(2, 2)), Ok(Relation::Covers));
     let far = point(0, COORDINATE_LIMIT + 1);
-    assert_eq!(outline.clearance_to_point(far).err(), Some(Fault::OutOfRange));
-    assert_eq!(outline.within_point(far, 1, 1), Err(Fault::OutOfRange));
-    assert_eq!(outline.relation_to_segment(point(0, 0), far), Err(Fault::OutOfRange));
+    assert_eq!(polygon.distance_bounds_to_point(far).err(), Some(Fault::OutOfRange));
+    assert_eq!(polygon.within_distance_of_point(far, 1, 1), Err(Fault::OutOfRange));
+    assert_eq!(polygon.relation_to_segment(point(0, 0), far), Err(Fault::OutOfRange));
 }
 
 #[test]
-fn casts() {
-    let outline = Outline::new(&[point(0, 0), point(10, 0), point(10, 10), point(0, 10)]).unwrap();
-    let line = Outline::new(&[point(0, 0), point(4, 4)]).unwrap();
-    let none = Outline::new(&[]).unwrap();
-    let ray = outline.cast_ray(point(-2, 1), point(3, 1)).unwrap().unwrap();
+fn raycasts() {
+    let polygon = Polygon::new(&[point(0, 0), point(10, 0), point(10, 10), point(0, 10)]).unwrap();
+    let line = Polygon::new(&[point(0, 0), point(4, 4)]).unwrap();
+    let none = Polygon::new(&[]).unwrap();
+    let ray = polygon.raycast(point(-2, 1), point(3, 1)).unwrap().unwrap();
     assert_eq!((ray.place, ray.part * 3), (Entry::Edge(point(0, 10), point(0, 0)), ray.whole * 2));
-    let way = outline.cast_segment(point(14, 3), point(-6, 3)).unwrap().unwrap();
+    let way = polygon.raycast_segment(point(14, 3), point(-6, 3)).unwrap().unwrap();
     assert_eq!((way.place, way.part * 5), (Entry::Edge(point(10, 0), point(10, 10)), way.whole));
-    let out = outline.last_on_ray(point(-2, 1), point(3, 1)).unwrap().unwrap();
+    let out = polygon.raycast_exit(point(-2, 1), point(3, 1)).unwrap().unwrap();
     assert_eq!((out.place, out.part), (Entry::Edge(point(10, 0), point(10, 10)), out.whole * 4));
-    assert_eq!(outline.last_on_ray(point(-2, 1), point(-3, 1)), Ok(None));
-    assert_eq!(outline.cast_ray(point(3, 3), point(1, 0)), Ok(Some(Hit { place: Entry::Start, part: 0, whole: 1 })));
-    assert_eq!(line.cast_ray(point(7, 7), point(-1, -1)).unwrap().unwrap().place, Entry::Corner(point(4, 4)));
-    assert_eq!((outline.cast_ray(point(-2, 1), point(-3, 1)), none.cast_ray(point(0, 0), point(1, 0))), (Ok(None), Ok(None)));
-    assert_eq!(outline.cast_segment(point(14, 3), point(11, 3)), Ok(None));
-    assert_eq!(outline.cast_ray(point(0, 0), point(0, 0)), Err(Fault::ZeroDirection));
-    assert_eq!(outline.cast_segment(point(0, 0), point(0, COORDINATE_LIMIT + 1)), Err(Fault::OutOfRange));
+    assert_eq!(polygon.raycast_exit(point(-2, 1), point(-3, 1)), Ok(None));
+    assert_eq!(polygon.raycast(point(3, 3), point(1, 0)), Ok(Some(Hit { place: Entry::Start, part: 0, whole: 1 })));
+    assert_eq!(line.raycast(point(7, 7), point(-1, -1)).unwrap().unwrap().place, Entry::Vertex(point(4, 4)));
+    assert_eq!((polygon.raycast(point(-2, 1), point(-3, 1)), none.raycast(point(0, 0), point(1, 0))), (Ok(None), Ok(None)));
+    assert_eq!(polygon.raycast_segment(point(14, 3), point(11, 3)), Ok(None));
+    assert_eq!(polygon.raycast(point(0, 0), point(0, 0)), Err(Fault::ZeroDirection));
+    assert_eq!(polygon.raycast_segment(point(0, 0), point(0, COORDINATE_LIMIT + 1)), Err(Fault::OutOfRange));
 }
 
 #[test]
-fn two_outlines() {
-    let outline = Outline::new(&[point(0, 0), point(10, 0), point(10, 10), point(0, 10)]).unwrap();
-    let small = Outline::new(&[point(2, 2), point(4, 2), point(3, 4)]).unwrap();
-    let beside = Outline::new(&[point(12, 0), point(15, 3), point(12, 6)]).unwrap();
-    let across = Outline::new(&[point(-5, 5), point(15, 6)]).unwrap();
-    let none = Outline::new(&[]).unwrap();
-    assert!(outline.meets(&small) && outline.contains(&small) && !small.contains(&outline) && !outline.meets(&beside));
-    assert!(matches!(outline.witness(&small), Some(Witness::Covered(p)) if small.corners().contains(&p)));
-    assert!(matches!(small.witness(&outline), Some(Witness::Within(p)) if small.corners().contains(&p)));
-    let parted = Separation { farthest: point(10, 10), direction: point(10, 0) };
-    assert_eq!(outline.witness(&beside), Some(Witness::Apart(parted)));
-    assert!(matches!(outline.witness(&across), Some(Witness::Crossing(_, [p, q])) if across.corners() == [p, q]));
-    assert_eq!((outline.witness(&none), none.witness(&outline), none.diameter()), (None, None, None));
-    assert!(!none.meets(&outline) && outline.contains(&none) && !none.contains(&outline));
-    let flush = Outline::new(&[point(10, 3), point(14, 3), point(14, 5)]).unwrap();
-    let stand = |other: &Outline| (outline.relation(other), other.relation(&outline));
-    assert_eq!(stand(&small), (Relation::Covers, Relation::Within));
-    assert_eq!((stand(&beside), stand(&flush)), ((Relation::Apart, Relation::Apart), (Relation::Touching, Relation::Touching)));
-    assert_eq!((stand(&across), outline.relation(&outline)), ((Relation::Overlapping, Relation::Overlapping), Relation::Equal));
-    assert!(outline.contains_inside(&small) && !outline.contains_inside(&outline) && !outline.contains_inside(&flush));
-    assert!(outline.within(&beside, 2, 1) && !outline.within(&beside, 1999, 1000) && !outline.within(&none, 1, 0));
-    let all = [beside.clone(), outline.clone(), none.clone(), small.clone(), across.clone()];
-    let told = [Relation::Apart, Relation::Equal, Relation::Covers, Relation::Covers, Relation::Overlapping];
-    assert_eq!((outline.relations(&all).unwrap(), outline.relations(&[])), (told.to_vec(), Ok(vec![])));
-    assert_eq!(pairs_within(&all, 0, 1), Ok(vec![(0, 4), (1, 3), (1, 4)]));
-    assert_eq!((pairs_within(&all[..2], 2, 1), pairs_within(&all[..2], 1999, 1000)), (Ok(vec![(0, 1)]), Ok(vec![])));
-    assert_eq!(pairs_within(&vec![small.clone(); 9], 0, 1).unwrap().len(), 36);
-    let slides = outline.first_meeting(&beside, point(-8, 4)).unwrap().unwrap();
-    assert_eq!((slides.corner, slides.moves, slides.hit.part * 4), (point(12, 0), true, slides.hit.whole));
+fn two_polygons() {
+    let polygon = Polygon::new(&[point(0, 0), point(10, 0), point(10, 10), point(0, 10)]).unwrap();
+    let small = Polygon::new(&[point(2, 2), point(4, 2), point(3, 4)]).unwrap();
+    let beside = Polygon::new(&[point(12, 0), point(15, 3), point(12, 6)]).unwrap();
+    let across = Polygon::new(&[point(-5, 5), point(15, 6)]).unwrap();
+    let none = Polygon::new(&[]).unwrap();
+    assert!(polygon.intersects(&small) && polygon.contains(&small) && !small.contains(&polygon) && !polygon.intersects(&beside));
+    assert!(matches!(polygon.witness(&small), Some(Witness::Covered(p)) if small.vertices().contains(&p)));
+    assert!(matches!(small.witness(&polygon), Some(Witness::Within(p)) if small.vertices().contains(&p)));
+    let separation = Separation { farthest: point(10, 10), direction: point(10, 0) };
+    assert_eq!(polygon.witness(&beside), Some(Witness::Disjoint(separation)));
+    assert!(matches!(polygon.witness(&across), Some(Witness::Crossing(_, [p, q])) if across.vertices() == [p, q]));
+    assert_eq!((polygon.witness(&none), none.witness(&polygon), none.diameter()), (None, None, None));
+    assert!(!none.intersects(&polygon) && polygon.contains(&none) && !none.contains(&polygon));
+    let flush = Polygon::new(&[point(10, 3), point(14, 3), point(14, 5)]).unwrap();
+    let relate = |other: &Polygon| (polygon.relation(other), other.relation(&polygon));
+    assert_eq!(relate(&small), (Relation::Covers, Relation::Within));
+    assert_eq!((relate(&beside), relate(&flush)), ((Relation::Disjoint, Relation::Disjoint), (Relation::Touching, Relation::Touching)));
+    assert_eq!((relate(&across), polygon.relation(&polygon)), ((Relation::Overlapping, Relation::Overlapping), Relation::Equal));
+    assert!(polygon.contains_inside(&small) && !polygon.contains_inside(&polygon) && !polygon.contains_inside(&flush));
+    assert!(polygon.within_distance(&beside, 2, 1) && !polygon.within_distance(&beside, 1999, 1000) && !polygon.within_distance(&none, 1, 0));
+    let all = [beside.clone(), polygon.clone(), none.clone(), small.clone(), across.clone()];
+    let wanted = [Relation::Disjoint, Relation::Equal, Relation::Covers, Relation::Covers, Relation::Overlapping];
+    assert_eq!((polygon.relations(&all).unwrap(), polygon.relations(&[])), (wanted.to_vec(), Ok(vec![])));
+    assert_eq!(pairs_within_distance(&all, 0, 1), Ok(vec![(0, 4), (1, 3), (1, 4)]));
+    assert_eq!((pairs_within_distance(&all[..2], 2, 1), pairs_within_distance(&all[..2], 1999, 1000)), (Ok(vec![(0, 1)]), Ok(vec![])));
+    assert_eq!(pairs_within_distance(&vec![small.clone(); 9], 0, 1).unwrap().len(), 36);
+    let slides = polygon.first_meeting(&beside, point(-8, 4)).unwrap().unwrap();
+    assert_eq!((slides.vertex, slides.moves, slides.hit.part * 4), (point(12, 0), true, slides.hit.whole));
     assert_eq!(slides.hit.place, Entry::Edge(point(10, 0), point(10, 10)));
-    assert_eq!((outline.first_meeting(&beside, point(0, 9)), outline.first_meeting(&none, point(1, 1))), (Ok(None), Ok(None)));
-    assert_eq!(outline.first_meeting(&small, point(1, 1)).unwrap().unwrap().hit.place, Entry::Start);
-    assert_eq!(outline.first_meeting(&beside, point(COORDINATE_LIMIT + 1, 0)), Err(Fault::OutOfRange));
-    assert_eq!(beside.moved(point(-8, 4)).unwrap().corners(), [point(4, 4), point(7, 7), point(4, 10)]);
-    assert_eq!(beside.moved(point(COORDINATE_LIMIT, 0)), Err(Fault::OutOfRange));
-    assert_eq!(small.turned(point(0, 1)).unwrap().corners(), [point(-4, 3), point(-2, 2), point(-2, 4)]);
-    assert_eq!((small.turned(point(0, 0)), small.turned(point(COORDINATE_LIMIT, 1))), (Err(Fault::ZeroDirection), Err(Fault::OutOfRange)));
+    assert_eq!((polygon.first_meeting(&beside, point(0, 9)), polygon.first_meeting(&none, point(1, 1))), (Ok(None), Ok(None)));
+    assert_eq!(polygon.first_meeting(&small, point(1, 1)).unwrap().unwrap().hit.place, Entry::Start);
+    assert_eq!(polygon.first_meeting(&beside, point(COORDINATE_LIMIT + 1, 0)), Err(Fault::OutOfRange));
+    assert_eq!(beside.translate(point(-8, 4)).unwrap().vertices(), [point(4, 4), point(7, 7), point(4, 10)]);
+    assert_eq!(beside.translate(point(COORDINATE_LIMIT, 0)), Err(Fault::OutOfRange));
+    assert_eq!(small.rotate(point(0, 1)).unwrap().vertices(), [point(-4, 3), point(-2, 2), point(-2, 4)]);
+    assert_eq!((small.rotate(point(0, 0)), small.rotate(point(COORDINATE_LIMIT, 1))), (Err(Fault::ZeroDirection), Err(Fault::OutOfRange)));
     let mut held = Hull::new(5).unwrap();
     assert_eq!(held.nearest_held(point(0, 0)), Ok(None));
     held.add(point(9, 9)).and(held.add(point(-9, 9))).unwrap();
     assert_eq!((held.nearest_held(point(0, 5)), held.nearest_held(point(1, 9))), (Ok(Some((point(-9, 9), 97))), Ok(Some((point(9, 9), 64)))));
     assert_eq!(held.nearest_held(point(COORDINATE_LIMIT + 1, 0)), Err(Fault::OutOfRange));
     let ways = [[point(-1, 1), point(20, 1)], [point(11, 0), point(11, 9)]];
-    assert_eq!((outline.meets_segments(&ways), outline.meets_segments(&[])), (Ok(vec![true, false]), Ok(vec![])));
-    assert_eq!(outline.meets_segments(&[[point(0, 0), point(0, COORDINATE_LIMIT + 1)]]), Err(Fault::OutOfRange));
+    assert_eq!((polygon.intersects_segments(&ways), polygon.intersects_segments(&[])), (Ok(vec![true, false]), Ok(vec![])));
+    assert_eq!(polygon.intersects_segments(&[[point(0, 0), point(0, COORDINATE_LIMIT + 1)]]), Err(Fault::OutOfRange));
     assert_eq!(small.indices(&[point(3, 4), point(9, 9), point(2, 2), point(3, 4)]), Ok(vec![Some(2), None, Some(0)]));
-    let far = Outline::new(&[point(13, 5)]).unwrap();
+    let far = Polygon::new(&[point(13, 5)]).unwrap();
     let edge = [point(10, 0), point(10, 10)];
-    assert_eq!((outline.distance(&small), outline.distance(&none)), (Some(Distance::Zero), None));
-    assert_eq!(outline.distance(&beside), Some(Distance::Corners(point(10, 0), point(12, 0))));
-    assert_eq!(outline.distance(&far), Some(Distance::EdgeAndCorner(edge, point(13, 5))));
-    assert_eq!(far.distance(&outline), Some(Distance::CornerAndEdge(point(13, 5), edge)));
+    assert_eq!((polygon.distance(&small), polygon.distance(&none)), (Some(Distance::Zero), None));
+    assert_eq!(polygon.distance(&beside), Some(Distance::Vertices(point(10, 0), point(12, 0))));
+    assert_eq!(polygon.distance(&far), Some(Distance::EdgeAndVertex(edge, point(13, 5))));
+    assert_eq!(far.distance(&polygon), Some(Distance::VertexAndEdge(point(13, 5), edge)));
     let strip = Strip { from: point(12, 6), to: point(12, 0), farthest: point(15, 3) };
     assert_eq!((beside.least_width(), none.least_width()), (Some(strip), None));
-    let (p, q) = outline.diameter().unwrap();
+    let (p, q) = polygon.diameter().unwrap();
     assert_eq!((p.x - q.x).pow(2) + (p.y - q.y).pow(2), 200);
-    assert_eq!((outline.width_along(point(3, 4)), none.width_along(point(1, 0))), (Ok(Some(70)), Ok(None)));
-    let wide = Outline::new(&[point(-COORDINATE_LIMIT, -COORDINATE_LIMIT), point(COORDINATE_LIMIT, COORDINATE_LIMIT)]).unwrap();
+    assert_eq!((polygon.width_along(point(3, 4)), none.width_along(point(1, 0))), (Ok(Some(70)), Ok(None)));
+    let wide = Polygon::new(&[point(-COORDINATE_LIMIT, -COORDINATE_LIMIT), point(COORDINATE_LIMIT, COORDINATE_LIMIT)]).unwrap();
     assert_eq!(wide.width_along(point(COORDINATE_LIMIT, COORDINATE_LIMIT)), Ok(Some(1 << 82))); // in two words
-    assert_eq!(outline.width_along(point(0, 0)), Err(Fault::ZeroDirection));
-    assert_eq!(outline.width_along(point(0, COORDINATE_LIMIT + 1)), Err(Fault::OutOfRange));
+    assert_eq!(polygon.width_along(point(0, 0)), Err(Fault::ZeroDirection));
+    assert_eq!(polygon.width_along(point(0, COORDINATE_LIMIT + 1)), Err(Fault::OutOfRange));
 }
 
 #[test]
-fn outlines_of_points() {
+fn polygons_of_points() {
     let ring: Vec<Point> = square().vertices().unwrap().collect();
     for first in 0..4 {
-        let mut turned = ring.clone();
-        turned.rotate_left(first);
-        assert_eq!(Outline::of_points(&turned).unwrap().corners(), ring);
-        turned.reverse();
-        assert_eq!(Outline::of_points(&turned).unwrap().corners(), ring);
-        turned.push(point(5, 5));
-        assert_eq!(Outline::of_points(&turned).unwrap().corners(), ring);
+        let mut rotated = ring.clone();
+        rotated.rotate_left(first);
+        assert_eq!(Polygon::of_points(&rotated).unwrap().vertices(), ring);
+        rotated.reverse();
+        assert_eq!(Polygon::of_points(&rotated).unwrap().vertices(), ring);
+        rotated.push(point(5, 5));
+        assert_eq!(Polygon::of_points(&rotated).unwrap().vertices(), ring);
     }
     let parabola: Vec<Point> = (0..500).map(|i| point(i * 7 % 500, (i * 7 % 500) * (i * 7 % 500))).collect();
-    assert_eq!(Outline::of_points(&parabola).unwrap().corners().len(), 500);
-    assert_eq!(Outline::of_points(&[]).unwrap().corners(), []);
-    assert_eq!(Outline::of_points(&[point(0, COORDINATE_LIMIT + 1)]), Err(Fault::OutOfRange));
-    assert_eq!(Outline::of_points(&[point(1, 1); 65536]), Err(Fault::TooMany));
+    assert_eq!(Polygon::of_points(&parabola).unwrap().vertices().len(), 500);
+    assert_eq!(Polygon::of_points(&[]).unwrap().vertices(), []);
+    assert_eq!(Polygon::of_points(&[point(0, COORDINATE_LIMIT + 1)]), Err(Fault::OutOfRange));
+    assert_eq!(Polygon::of_points(&[point(1, 1); 65536]), Err(Fault::TooMany));
 }
 
 #[test]
@@ -278,9 +279,9 @@ fn directions_of_floats() {
     assert_eq!(made(f64::MIN_POSITIVE, f64::MIN_POSITIVE / 2.0), Ok((point(top, top / 2), true)));
     assert_eq!((made(f64::NAN, 0.0), made(1.0, f64::NAN)), (Err(Fault::OutOfRange), Err(Fault::OutOfRange)));
     assert_eq!(made(0.0, f64::NEG_INFINITY), Err(Fault::OutOfRange));
-    let outline = Outline::new(&[point(0, 0), point(10, 0), point(10, 10), point(0, 10)]).unwrap();
-    assert_eq!(outline.extreme_d(0.5, 0.25), Ok(Some(point(10, 10))));
-    assert_eq!(outline.extreme_d(0.0, 0.0), Ok(Some(point(0, 0))));
+    let polygon = Polygon::new(&[point(0, 0), point(10, 0), point(10, 10), point(0, 10)]).unwrap();
+    assert_eq!(polygon.extreme_d(0.5, 0.25), Ok(Some(point(10, 10))));
+    assert_eq!(polygon.extreme_d(0.0, 0.0), Ok(Some(point(0, 0))));
     let mut hull = Hull::new(2).unwrap();
     assert_eq!(hull.extreme_d(0.0, 0.0), Ok(None));
     hull.add(point(1, 2)).unwrap();
@@ -338,12 +339,12 @@ fn questions() {
 }
 
 #[test]
-fn corners() {
+fn vertices() {
     let mut hull = square();
-    let corners = hull.vertices().unwrap();
-    assert_eq!(corners.len(), 4);
-    assert!(corners.clone().eq([point(0, 0), point(10, 0), point(10, 10), point(0, 10)]));
-    assert_eq!(corners.rev().next(), Some(point(0, 10)));
+    let vertices = hull.vertices().unwrap();
+    assert_eq!(vertices.len(), 4);
+    assert!(vertices.clone().eq([point(0, 0), point(10, 0), point(10, 10), point(0, 10)]));
+    assert_eq!(vertices.rev().next(), Some(point(0, 10)));
     hull.remove(point(10, 10)).unwrap();
     assert_eq!(hull.vertices().unwrap().len(), 3);
 }
@@ -369,13 +370,13 @@ fn many_at_once() {
         assert_eq!(hull.remove_all(&far), Err(Fault::OutOfRange));
         assert_eq!((hull.len(), hull.multiplicity(point(5, 25))), before);
     }
-    let outline = hull.outline().unwrap();
+    let polygon = hull.polygon().unwrap();
     let asked: Vec<Point> = (0..600).map(|i| point(i - 300, i * 1200 - 500)).collect();
-    assert_eq!(outline.place_all(&asked), hull.place_all(&asked));
-    assert_eq!(outline.tangents_all(&asked), hull.tangents_all(&asked));
-    assert_eq!(outline.extreme_all(&asked), hull.extreme_all(&asked));
-    assert_eq!(outline.place_all(&[point(0, 0), point(0, i64::MIN)]), Err(Fault::OutOfRange));
-    assert_eq!(outline.extreme_all(&[point(0, 0)]), Err(Fault::ZeroDirection));
+    assert_eq!(polygon.place_all(&asked), hull.place_all(&asked));
+    assert_eq!(polygon.tangents_all(&asked), hull.tangents_all(&asked));
+    assert_eq!(polygon.extreme_all(&asked), hull.extreme_all(&asked));
+    assert_eq!(polygon.place_all(&[point(0, 0), point(0, i64::MIN)]), Err(Fault::OutOfRange));
+    assert_eq!(polygon.extreme_all(&[point(0, 0)]), Err(Fault::ZeroDirection));
     assert_eq!((hull.remove_all(&points), hull.remove_all(&points), hull.remove_all(&[])), (Ok(1000), Ok(2), Ok(0)));
     assert_eq!(hull.len(), 1);
 }
@@ -399,13 +400,13 @@ fn collections() {
     twin.clear();
     assert_eq!((twin.len(), twin.limit(), hull.len()), (0, POINT_LIMIT, 3));
     assert!(Hull::default().is_empty());
-    let outline = hull.outline().unwrap();
-    let many: HashSet<Outline> = [outline.clone(), hull.outline().unwrap(), twin.outline().unwrap()].into_iter().collect();
-    assert_eq!((many.len(), many.contains(&outline)), (2, true));
-    assert_eq!(format!("{outline:?}"), "Outline { corners: [Point { x: 0, y: 0 }, Point { x: 4, y: 0 }, Point { x: 0, y: 3 }] }");
+    let polygon = hull.polygon().unwrap();
+    let many: HashSet<Polygon> = [polygon.clone(), hull.polygon().unwrap(), twin.polygon().unwrap()].into_iter().collect();
+    assert_eq!((many.len(), many.contains(&polygon)), (2, true));
+    assert_eq!(format!("{polygon:?}"), "Polygon { vertices: [Point { x: 0, y: 0 }, Point { x: 4, y: 0 }, Point { x: 0, y: 3 }] }");
     assert_eq!((<(i64, i64)>::from(point(3, -4)), point(3, -4).to_string()), ((3, -4), "(3, -4)".to_string()));
-    let twins: Vec<Outline> = (0..9).map(|_| outline.clone()).collect();
-    drop(outline);
+    let twins: Vec<Polygon> = (0..9).map(|_| polygon.clone()).collect();
+    drop(polygon);
     std::thread::scope(|scope| {
         for twin in &twins {
             scope.spawn(move || assert_eq!(twin.clone().doubled_area(), 12));
@@ -413,28 +414,28 @@ fn collections() {
     });
 }
 
-/// Each request for memory of Rust's own refused in turn: all tell it, and none aborts.
+/// Each request for memory of Rust's own refused in turn: each call returns the fault, and none aborts.
 #[test]
 fn refused_memory() {
     let points: Vec<Point> = (0..300).map(|i| point(i, i * i)).collect();
     let old = "hullbook journal 3 first 5 limit 3 capacity 9\n5 1 add 0 0 = added\nend 1\n";
     let all = || -> Result<usize, Fault> {
         let mut hull = Hull::from_points(1000, &points)?;
-        let outline = hull.outline()?;
-        let same = Outline::new(outline.corners())?;
-        let mut seen = hull.wkt(3)?.len() + hull.held()?.len() + hull.try_clone()?.len() + same.corners().len();
+        let polygon = hull.polygon()?;
+        let same = Polygon::new(polygon.vertices())?;
+        let mut seen = hull.wkt(3)?.len() + hull.held()?.len() + hull.try_clone()?.len() + same.vertices().len();
         seen += hull.place_all(&points)?.len() + hull.add_all(&points)?.len() + same.place_all(&points)?.len();
         seen += hull.vertices()?.len();
         let shared = SharedHull::open(Limits { points: 9, first: 0, capacity: 20, seats: 2 })?;
-        let mut seat = shared.lend(1)?;
+        let mut seat = shared.acquire_seat(1)?;
         seat.add(point(1, 2))?;
         seen += seat.vertices()?.len();
-        let part = seat.drain()?;
-        for piece in part.pieces(50) {
+        let segment = seat.drain()?;
+        for piece in segment.pieces(50) {
             seen += piece?.len();
         }
-        seat.give_back();
-        seen += part.text()?.len() + shared.close()?.len();
+        seat.release();
+        seen += segment.text()?.len() + shared.close()?.len();
         seen += SharedHull::open_without_journal(Limits { points: 9, first: 0, capacity: 1, seats: 1 })?.close()?.len();
         Ok(seen + SharedHull::reopen(old, 4, 2)?.close()?.len())
     };
@@ -442,18 +443,18 @@ fn refused_memory() {
     let mut refused = 0;
     for request in 0..1000 {
         LEFT.set(request);
-        let told = all();
+        let result = all();
         let was_met = LEFT.replace(-1) < 0;
         if !was_met {
             break;
         }
-        assert_eq!(told, Err(Fault::NoMemory), "request {request}");
+        assert_eq!(result, Err(Fault::NoMemory), "request {request}");
         refused += 1;
     }
     assert!(all() == Ok(wanted) && refused > 15 && refused < 900, "{refused}");
 }
 
-/// The table that all languages are tried by.
+/// The table by which all languages are tested.
 #[test]
 fn lattice() {
     let table = std::env::var("LATTICE").unwrap_or("lattice.txt".to_string());
@@ -463,12 +464,12 @@ fn lattice() {
         let words: Vec<&str> = line.split(' ').collect();
         let (v, power) = (f64::from_bits(u64::from_str_radix(words[0], 16).unwrap()), words[1].parse().unwrap());
         let (wanted, steps) = (words[2].parse().unwrap(), Lattice { power });
-        let told = steps.point(v, 0.0).map(|made| (made.point, made.is_exact));
+        let result = steps.point(v, 0.0).map(|made| (made.point, made.is_exact));
         if words[3] == "none" {
-            assert_eq!(told, Err(Fault::OutOfRange), "{line}");
+            assert_eq!(result, Err(Fault::OutOfRange), "{line}");
             assert_eq!(steps.point(0.0, v), Err(Fault::OutOfRange), "{line}");
         } else {
-            assert_eq!(told, Ok((point(wanted, 0), words[3] == "exact")), "{line}");
+            assert_eq!(result, Ok((point(wanted, 0), words[3] == "exact")), "{line}");
             if words[3] == "exact" && power.abs() < 900 {
                 assert_eq!(steps.floats(point(0, wanted)).1, v, "{line}");
             }
@@ -524,7 +525,7 @@ fn a_hull_goes_to_another_thread() {
 }
 
 #[test]
-fn faults_are_told_in_words() {
+fn faults_have_texts() {
     assert_eq!(Fault::ZeroDirection.to_string(), "a direction is zero");
     assert_eq!(format!("{:?}", square()), "Hull { limit: 6, len: 5, .. }");
 }

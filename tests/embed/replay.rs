@@ -1,7 +1,7 @@
-//! Makes the calls of random_calls.py on a hull of `rust/hull` and on its outline: replay FILE. Tells how many were made.
-use hull::{Fault, Hull, Outline, Place, Point};
+//! Makes the calls of random_calls.py on a hull of `rust/hull` and on its polygon: replay FILE. Prints how many it made.
+use hull::{Fault, Hull, Place, Point, Polygon};
 
-fn told(points: &[Point]) -> String {
+fn coordinates(points: &[Point]) -> String {
     points.iter().map(|point| format!(" {} {}", point.x, point.y)).collect()
 }
 
@@ -15,21 +15,21 @@ fn place(place: Place) -> String {
 }
 
 fn tangents(seen: Option<(Point, Point)>) -> String {
-    seen.map_or(String::new(), |(left, right)| told(&[left, right]))
+    seen.map_or(String::new(), |(left, right)| coordinates(&[left, right]))
 }
 
 fn extreme(farthest: Option<Point>) -> String {
-    farthest.map_or(String::new(), |point| told(&[point]))
+    farthest.map_or(String::new(), |point| coordinates(&[point]))
 }
 
-/// What the hull answers, and what its outline does.
-fn questions(hull: &Hull, outline: &Outline, word: &str, at: Point) -> Result<[String; 2], Fault> {
+/// Returns the answer of the hull, and that of its polygon.
+fn questions(hull: &Hull, polygon: &Polygon, word: &str, at: Point) -> Result<[String; 2], Fault> {
     Ok(match word {
-        "place" => [place(hull.place(at)?), place(outline.place(at)?)],
-        "tangents" => [tangents(hull.tangents(at)?), tangents(outline.tangents(at)?)],
-        "extreme" => [extreme(hull.extreme(at)?), extreme(outline.extreme(at)?)],
-        "vertices" => [told(hull.vertices()?.as_slice()), told(outline.corners())],
-        _ => [format!(" {}", hull.doubled_area()), format!(" {}", outline.doubled_area())],
+        "place" => [place(hull.place(at)?), place(polygon.place(at)?)],
+        "tangents" => [tangents(hull.tangents(at)?), tangents(polygon.tangents(at)?)],
+        "extreme" => [extreme(hull.extreme(at)?), extreme(polygon.extreme(at)?)],
+        "vertices" => [coordinates(hull.vertices()?.as_slice()), coordinates(polygon.vertices())],
+        _ => [format!(" {}", hull.doubled_area()), format!(" {}", polygon.doubled_area())],
     })
 }
 
@@ -37,11 +37,11 @@ fn answers(hull: &mut Hull, word: &str, at: Point) -> Result<[String; 2], Fault>
     let number = match word {
         "add" => match hull.add(at) {
             Err(Fault::TooMany) => 0,
-            told => i64::from(told?),
+            result => i64::from(result?),
         },
         "remove" => hull.remove(at)?.map_or(-1, i64::from),
         "multiplicity" => i64::from(hull.multiplicity(at)?),
-        _ => return questions(hull, &hull.outline()?, word, at),
+        _ => return questions(hull, &hull.polygon()?, word, at),
     };
     Ok([format!(" {number}"), format!(" {number}")])
 }

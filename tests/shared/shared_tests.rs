@@ -1,6 +1,6 @@
 //! Each function of a shared hull in `rust/hull`, each of its answers and each of its faults; and eight threads at
 //! once, the journal of whose calls goes to the file that JOURNAL names.
-use hull::{Fault, Limits, Outline, Place, Point, Relation, Seat, SharedHull};
+use hull::{Fault, Limits, Place, Point, Polygon, Relation, Seat, SharedHull};
 use hull::{CAPACITY_LIMIT, COORDINATE_LIMIT, POINT_LIMIT, READER_LIMIT, SEAT_LIMIT};
 use std::sync::atomic::{AtomicUsize, Ordering};
 use std::sync::{Arc, Mutex};
@@ -32,7 +32,7 @@ fn limits() {
 #[test]
 fn calls() {
     let hull = SharedHull::open(SMALL).unwrap();
-    let mut seat = hull.lend(1).unwrap();
+    let mut seat = hull.acquire_seat(1).unwrap();
     assert_eq!((seat.number(), seat.turn()), (1, None));
     assert_eq!(seat.extreme(point(1, 0)), Ok(None));
     assert_eq!((seat.turn(), seat.place(point(0, 0))), (Some(7), Ok(Place::Outside)));
@@ -45,27 +45,27 @@ fn calls() {
     assert_eq!((seat.place(point(5, 5)), seat.place(point(10, 5))), (Ok(Place::Inside), Ok(Place::On)));
     assert_eq!(seat.tangents(point(20, 5)), Ok(Some((point(10, 0), point(10, 10)))));
     assert_eq!(seat.extreme(point(0, 1)), Ok(Some(point(0, 10))));
-    assert_eq!((seat.corners(), seat.doubled_area(), seat.count()), (Ok(4), Ok(200), Ok(4)));
+    assert_eq!((seat.vertex_count(), seat.doubled_area(), seat.count()), (Ok(4), Ok(200), Ok(4)));
     assert_eq!(seat.turn(), Some(25));
 }
 
 #[test]
-fn parts() {
+fn segments() {
     let hull = SharedHull::open(Limits { points: 6, first: 7, capacity: 3, seats: 1 }).unwrap();
-    let mut seat = hull.lend(0).unwrap();
+    let mut seat = hull.acquire_seat(0).unwrap();
     seat.add(point(1, 2)).unwrap();
-    let part = seat.drain().unwrap();
+    let segment = seat.drain().unwrap();
     let head = "hullbook journal 3 first 7 limit 6 capacity 4\n";
-    assert_eq!(part.text().unwrap(), format!("{head}7 0 add 1 2 = added\n8 0 count = count 1\nend 2\n"));
-    assert_eq!(part.lines().unwrap().last().unwrap(), "end 2");
+    assert_eq!(segment.text().unwrap(), format!("{head}7 0 add 1 2 = added\n8 0 count = count 1\nend 2\n"));
+    assert_eq!(segment.lines().unwrap().last().unwrap(), "end 2");
     for bytes in [0, 1, 20, 46, 47, 66, 67, 1000] {
-        let pieces: Vec<String> = part.pieces(bytes).map(Result::unwrap).collect();
-        assert_eq!(pieces.concat(), part.text().unwrap(), "{bytes}");
+        let pieces: Vec<String> = segment.pieces(bytes).map(Result::unwrap).collect();
+        assert_eq!(pieces.concat(), segment.text().unwrap(), "{bytes}");
         assert!(pieces.iter().all(|piece| piece.len() <= bytes.max(46) && piece.ends_with('\n')), "{pieces:?}");
     }
     let mut written = Vec::new();
-    part.write_to(&mut written).unwrap();
-    assert_eq!(written, part.text().unwrap().into_bytes());
+    segment.write_to(&mut written).unwrap();
+    assert_eq!(written, segment.text().unwrap().into_bytes());
     seat.add(point(1, 2)).unwrap();
     seat.drain().unwrap();
     for x in 0..3 {
@@ -76,19 +76,19 @@ fn parts() {
     let lines = "11 0 add 0 5 = added\n12 0 add 1 5 = added\n13 0 add 2 5 = added\n14 0 count = count 4\nend 4\n";
     assert_eq!(seat.drain().unwrap().text().unwrap(), format!("{head}{lines}"));
     assert_eq!((seat.add(point(0, 0)), seat.turn()), (Ok(1), Some(15)));
-    seat.give_back();
+    seat.release();
     let head = "hullbook journal 3 first 15 limit 6 capacity 3\n";
     assert_eq!(hull.close().unwrap(), format!("{head}15 0 add 0 0 = added\nend 1\n"));
     written.clear();
     hull.close_to(&mut written).unwrap();
     assert_eq!(written, hull.close().unwrap().into_bytes());
     let hull = SharedHull::open(SMALL).unwrap();
-    let _seat = hull.lend(0).unwrap();
-    let told = hull.close_to(&mut written).unwrap_err().into_inner().unwrap();
-    assert_eq!(told.downcast_ref::<Fault>(), Some(&Fault::SeatsOut));
+    let _seat = hull.acquire_seat(0).unwrap();
+    let fault = hull.close_to(&mut written).unwrap_err().into_inner().unwrap();
+    assert_eq!(fault.downcast_ref::<Fault>(), Some(&Fault::SeatsOut));
 }
 
-/// Each reason why a text is not gone on with, and one that is.
+/// Each reason why a text can't be continued, and a text that is continued.
 #[test]
 fn reopened() {
     let head = "hullbook journal 3 first 5 limit 3 capacity 9\n";
@@ -105,9 +105,9 @@ fn reopened() {
     let old = format!("{head}5 1 add 0 0 = added\n6 0 add 4 0 = added\nend 2\n");
     assert_eq!(SharedHull::reopen(&old, 0, 2).unwrap_err(), Fault::BadLimit);
     let hull = SharedHull::reopen(&old, 4, 2).unwrap();
-    let mut seat = hull.lend(1).unwrap();
+    let mut seat = hull.acquire_seat(1).unwrap();
     assert_eq!((seat.add(point(0, 0)), seat.turn(), seat.count()), (Ok(2), Some(7), Ok(2)));
-    seat.give_back();
+    seat.release();
     let new = "hullbook journal 3 first 7 limit 3 capacity 4\n7 1 add 0 0 = again 2\n8 1 count = count 2\nend 2\n";
     assert_eq!(hull.close().unwrap(), new);
 }
@@ -115,53 +115,53 @@ fn reopened() {
 #[test]
 fn readers() {
     let limits = Limits { points: 10, first: 7, capacity: 20, seats: 1 };
-    assert_eq!(SharedHull::open(limits).unwrap().lend_reader().unwrap_err(), Fault::NoSeat);
+    assert_eq!(SharedHull::open(limits).unwrap().acquire_reader().unwrap_err(), Fault::NoSeat);
     for wrong in [0, READER_LIMIT + 1] {
         assert_eq!(SharedHull::for_readers(wrong).err(), Some(Fault::BadLimit));
     }
     let hull = SharedHull::for_readers(2).unwrap().open(limits).unwrap();
-    let (mut one, mut two) = (hull.lend_reader().unwrap(), hull.lend_reader().unwrap());
-    assert_eq!(hull.lend_reader().unwrap_err(), Fault::NoSeat);
-    assert!(one.view().corners().is_empty() && one.line().is_none() && one.is_newest());
-    let mut seat = hull.lend(0).unwrap();
+    let (mut one, mut two) = (hull.acquire_reader().unwrap(), hull.acquire_reader().unwrap());
+    assert_eq!(hull.acquire_reader().unwrap_err(), Fault::NoSeat);
+    assert!(one.snapshot().vertices().is_empty() && one.line().is_none() && one.is_newest());
+    let mut seat = hull.acquire_seat(0).unwrap();
     for (x, y) in [(0, 0), (8, 0), (0, 8)] {
         seat.add(point(x, y)).unwrap();
     }
     assert!(!one.is_newest());
-    assert_eq!(one.newest().unwrap().corners(), [point(0, 0), point(8, 0), point(0, 8)]);
+    assert_eq!(one.newest().unwrap().vertices(), [point(0, 0), point(8, 0), point(0, 8)]);
     assert_eq!((one.is_newest(), one.line(), seat.turn()), (true, Some(9), Some(9)));
-    assert_eq!((one.view().place(point(1, 1)), one.view().doubled_area()), (Ok(Place::Inside), 64));
+    assert_eq!((one.snapshot().place(point(1, 1)), one.snapshot().doubled_area()), (Ok(Place::Inside), 64));
     seat.remove(point(8, 0)).unwrap();
     assert_eq!(two.read(), Ok(true));
-    assert!(one.view().contains(two.view()) && !two.view().contains(one.view()));
-    assert_eq!(one.view().relation(&Outline::new(&[point(0, 0), point(8, 0), point(0, 8)]).unwrap()), Relation::Equal);
+    assert!(one.snapshot().contains(two.snapshot()) && !two.snapshot().contains(one.snapshot()));
+    assert_eq!(one.snapshot().relation(&Polygon::new(&[point(0, 0), point(8, 0), point(0, 8)]).unwrap()), Relation::Equal);
     drop(seat);
     assert_eq!(hull.close().unwrap_err(), Fault::SeatsOut);
     thread::spawn(move || drop((one, two))).join().unwrap();
     let text = hull.close().unwrap();
-    assert_eq!(hull.lend_reader().unwrap_err(), Fault::NotOpen);
+    assert_eq!(hull.acquire_reader().unwrap_err(), Fault::NotOpen);
     let again = SharedHull::for_readers(1).unwrap().reopen(&text, 20, 1).unwrap();
-    assert_eq!(again.lend_reader().unwrap().view().corners(), [point(0, 0), point(0, 8)]);
+    assert_eq!(again.acquire_reader().unwrap().snapshot().vertices(), [point(0, 0), point(0, 8)]);
     let answering = SharedHull::for_readers(READER_LIMIT).unwrap().open_answering(limits).unwrap();
-    assert!(answering.lend_reader().unwrap().view().corners().is_empty());
+    assert!(answering.acquire_reader().unwrap().snapshot().vertices().is_empty());
 }
 
 #[test]
 fn readers_beside_changes() {
     let limits = Limits { points: 1000, first: 0, capacity: 1, seats: 1 };
     let hull = SharedHull::for_readers(4).unwrap().open_without_journal(limits).unwrap();
-    let mut seat = hull.lend(0).unwrap();
+    let mut seat = hull.acquire_seat(0).unwrap();
     let returned = AtomicUsize::new(0);
     thread::scope(|scope| {
         for _ in 0..4 {
-            let (mut reader, returned) = (hull.lend_reader().unwrap(), &returned);
+            let (mut reader, returned) = (hull.acquire_reader().unwrap(), &returned);
             scope.spawn(move || {
                 let mut most = 0;
                 while most < 500 {
-                    let told = returned.load(Ordering::SeqCst);
-                    let corners = reader.newest().unwrap().corners().len();
-                    assert!(corners >= told && corners >= most, "{corners} corners, {told} told, {most} before");
-                    most = corners;
+                    let added = returned.load(Ordering::SeqCst);
+                    let vertices = reader.newest().unwrap().vertices().len();
+                    assert!(vertices >= added && vertices >= most, "{vertices} vertices, {added} added, {most} before");
+                    most = vertices;
                 }
             });
         }
@@ -175,31 +175,31 @@ fn readers_beside_changes() {
 #[test]
 fn no_journal() {
     let hull = SharedHull::open_without_journal(SMALL).unwrap();
-    let mut seat = hull.lend(0).unwrap();
+    let mut seat = hull.acquire_seat(0).unwrap();
     for times in 1..1000 {
         assert_eq!(seat.add(point(1, 2)), Ok(times));
     }
-    seat.give_back();
+    seat.release();
     assert_eq!(hull.close().unwrap(), "hullbook journal 3 first 1006 limit 6 capacity 1\nend 0\n");
 }
 
 #[test]
-fn corners() {
+fn vertices() {
     let hull = SharedHull::open(Limits { points: 1000, capacity: 2000, first: 0, seats: 1 }).unwrap();
-    let mut seat = hull.lend(0).unwrap();
-    assert_eq!((seat.vertices().unwrap().len(), seat.corners(), seat.turn()), (0, Ok(0), Some(1)));
+    let mut seat = hull.acquire_seat(0).unwrap();
+    assert_eq!((seat.vertices().unwrap().len(), seat.vertex_count(), seat.turn()), (0, Ok(0), Some(1)));
     for x in 0..100 {
         seat.add(point(x, x * x)).unwrap();
     }
     assert!(seat.vertices().unwrap().eq((0..100).map(|x| point(x, x * x))));
-    assert_eq!(seat.turn(), Some(103)); // there was no room at first
-    assert_eq!((seat.vertices().unwrap().len(), seat.corners(), seat.turn()), (100, Ok(100), Some(105)));
+    assert_eq!(seat.turn(), Some(103)); // the array was too short at first
+    assert_eq!((seat.vertices().unwrap().len(), seat.vertex_count(), seat.turn()), (100, Ok(100), Some(105)));
 }
 
 #[test]
 fn faults_of_calls() {
     let hull = SharedHull::open(Limits { points: 1, capacity: 3, ..SMALL }).unwrap();
-    let mut seat = hull.lend(0).unwrap();
+    let mut seat = hull.acquire_seat(0).unwrap();
     assert_eq!(seat.add(point(COORDINATE_LIMIT + 1, 0)), Err(Fault::OutOfRange));
     assert_eq!(seat.extreme(point(0, 0)), Err(Fault::ZeroDirection));
     assert_eq!((seat.turn(), seat.add(point(1, 1))), (None, Ok(1)));
@@ -207,7 +207,7 @@ fn faults_of_calls() {
     assert_eq!((seat.turn(), seat.count(), seat.turn()), (Some(9), Err(Fault::Full), Some(9)));
     assert_eq!(format!("{seat:?} at {hull:?}"), "Seat { number: 0, turn: Some(9), .. } at SharedHull { .. }");
     let hull = SharedHull::open_answering(Limits { points: 1, capacity: 1, ..SMALL }).unwrap();
-    let mut seat = hull.lend(0).unwrap();
+    let mut seat = hull.acquire_seat(0).unwrap();
     assert_eq!((seat.add(point(1, 1)), seat.count(), seat.turn()), (Ok(1), Ok(1), Some(7)));
     assert_eq!(seat.remove(point(1, 1)), Err(Fault::Full));
 }
@@ -215,30 +215,30 @@ fn faults_of_calls() {
 #[test]
 fn seats_and_the_journal() {
     let hull = SharedHull::open(SMALL).unwrap();
-    let mut seat = hull.lend(0).unwrap();
-    assert_eq!(hull.lend(0).unwrap_err(), Fault::NoSeat);
-    assert_eq!(hull.lend(2).unwrap_err(), Fault::NoSeat);
+    let mut seat = hull.acquire_seat(0).unwrap();
+    assert_eq!(hull.acquire_seat(0).unwrap_err(), Fault::NoSeat);
+    assert_eq!(hull.acquire_seat(2).unwrap_err(), Fault::NoSeat);
     assert_eq!(seat.add(point(3, 4)), Ok(1));
     assert_eq!(hull.close().unwrap_err(), Fault::SeatsOut);
-    drop(hull.lend(1).unwrap());
-    seat.give_back();
+    drop(hull.acquire_seat(1).unwrap());
+    seat.release();
     let text = hull.close().unwrap();
     assert!(text.contains("add 3 4"), "{text}");
     assert_eq!(hull.close().unwrap(), text);
-    assert_eq!(hull.lend(0).unwrap_err(), Fault::NotOpen);
+    assert_eq!(hull.acquire_seat(0).unwrap_err(), Fault::NotOpen);
 }
 
-/// A hull that drains by itself and waits for room, by threads with no thought of that; the parts are all lines.
+/// A hull that drains by itself and waits for space, while its threads only make calls; the segments are all lines.
 #[test]
 fn drains_by_itself() {
     let mut hull = SharedHull::open(Limits { points: 2000, first: 0, capacity: 20, seats: 4 }).unwrap();
     let texts = Arc::new(Mutex::new(String::new()));
-    let kept = texts.clone();
-    hull.wait_for_room(true).unwrap();
-    hull.on_half_full(move |part| kept.lock().unwrap().push_str(&part.text().unwrap())).unwrap();
+    let written = texts.clone();
+    hull.wait_for_space(true).unwrap();
+    hull.on_half_full(move |segment| written.lock().unwrap().push_str(&segment.text().unwrap())).unwrap();
     thread::scope(|scope| {
         for number in 0..4 {
-            let mut seat = hull.lend(number).unwrap();
+            let mut seat = hull.acquire_seat(number).unwrap();
             scope.spawn(move || (0..500).for_each(|x| assert!(seat.add(point(x, i64::from(number))).unwrap() > 0)));
         }
     });
@@ -247,27 +247,27 @@ fn drains_by_itself() {
     assert_eq!(hull.stats().seat, None);
 }
 
-/// What a hook panics with, its call panics with; the next drains again.
+/// A call panics with what its hook panics with; the next call drains again.
 #[test]
 fn hooks_that_panic() {
     let mut hull = SharedHull::open(Limits { points: 9, first: 0, capacity: 4, seats: 1 }).unwrap();
-    let parts = Arc::new(AtomicUsize::new(0));
-    let count = parts.clone();
-    hull.on_half_full(move |_| assert!(count.fetch_add(1, Ordering::SeqCst) != 1, "the second part")).unwrap();
-    let mut seat = hull.lend(0).unwrap();
-    let told = std::panic::catch_unwind(std::panic::AssertUnwindSafe(|| (0..100).for_each(|_| assert_eq!(seat.count(), Ok(0)))));
-    assert_eq!(*told.unwrap_err().downcast::<&str>().unwrap(), "the second part");
+    let segments = Arc::new(AtomicUsize::new(0));
+    let count = segments.clone();
+    hull.on_half_full(move |_| assert!(count.fetch_add(1, Ordering::SeqCst) != 1, "the second segment")).unwrap();
+    let mut seat = hull.acquire_seat(0).unwrap();
+    let result = std::panic::catch_unwind(std::panic::AssertUnwindSafe(|| (0..100).for_each(|_| assert_eq!(seat.count(), Ok(0)))));
+    assert_eq!(*result.unwrap_err().downcast::<&str>().unwrap(), "the second segment");
     assert_eq!((seat.count(), seat.count(), seat.count()), (Ok(0), Ok(0), Ok(0)));
-    assert_eq!(parts.load(Ordering::SeqCst), 3);
-    assert_eq!((hull.wait_for_room(true), hull.on_half_full(|_| ())), (Err(Fault::SeatsOut), Err(Fault::SeatsOut)));
+    assert_eq!(segments.load(Ordering::SeqCst), 3);
+    assert_eq!((hull.wait_for_space(true), hull.on_half_full(|_| ())), (Err(Fault::SeatsOut), Err(Fault::SeatsOut)));
 }
 
-/// A call waits no longer than its seat is to: for room, and until it comes in.
+/// A call waits no longer than its seat is set to: for space, and for admission.
 #[test]
 fn deadlines() {
     let mut hull = SharedHull::open(Limits { points: 9, first: 7, capacity: 2, seats: 2 }).unwrap();
-    hull.wait_for_room(true).unwrap();
-    let (mut one, mut two) = (hull.lend(0).unwrap(), hull.lend(1).unwrap());
+    hull.wait_for_space(true).unwrap();
+    let (mut one, mut two) = (hull.acquire_seat(0).unwrap(), hull.acquire_seat(1).unwrap());
     one.wait_at_most(Some(Duration::ZERO));
     assert_eq!((one.count(), two.count(), one.count()), (Ok(0), Ok(0), Err(Fault::Full)));
     let begun = Instant::now();
@@ -275,60 +275,59 @@ fn deadlines() {
     assert_eq!(one.count(), Err(Fault::Full));
     assert!(begun.elapsed() >= Duration::from_millis(20));
     let stats = hull.stats();
-    assert_eq!((stats.inside, stats.sleepers, stats.for_room, stats.held, stats.seat, stats.drainer), (0, 0, 0, 2, None, None));
+    assert_eq!((stats.inside, stats.sleepers, stats.for_space, stats.held, stats.seat, stats.drainer), (0, 0, 0, 2, None, None));
     one.wait_at_most(None);
     let waiting = thread::spawn(move || one.count());
-    while hull.stats().for_room == 0 {
+    while hull.stats().for_space == 0 {
         thread::yield_now();
     }
     assert_eq!(two.drain().unwrap().lines().unwrap().count(), 5);
     assert_eq!(waiting.join().unwrap(), Ok(0));
 }
 
-/// A hull that keeps its journal in a file, and others that go on with it.
+/// A hull whose journal is in a file, and others that continue it.
 #[test]
-fn keeps_a_file() {
+fn opens_a_journal() {
     let path = std::env::temp_dir().join(format!("hull-journal-{}", std::process::id()));
     let limits = Limits { points: 2000, first: 0, capacity: 50, seats: 4 };
     let mut lines = 0;
     for round in 1..4 {
-        let mut hull = SharedHull::keep(&path, limits, (round == 2).then(|| Duration::from_millis(1))).unwrap();
-        assert_eq!((hull.safe(), hull.wait_for_room(false)), (Ok(lines), Err(Fault::SeatsOut)));
+        let mut hull = SharedHull::open_journal(&path, limits, (round == 2).then(|| Duration::from_millis(1))).unwrap();
+        assert_eq!((hull.durable(), hull.wait_for_space(false)), (Ok(lines), Err(Fault::SeatsOut)));
         thread::scope(|scope| {
             for number in 0..4 {
-                let mut seat = hull.lend(number).unwrap();
+                let mut seat = hull.acquire_seat(number).unwrap();
                 let hull = &hull;
                 scope.spawn(move || {
-                    assert_eq!(seat.wait_safe(), Ok(()));
+                    assert_eq!(seat.wait_durable(), Ok(()));
                     for x in 0..20 {
                         assert_eq!(seat.add(point(x, i64::from(number))), Ok(round));
-                        seat.wait_safe().unwrap();
-                        assert!(hull.safe().unwrap() > seat.turn().unwrap());
+                        seat.wait_durable().unwrap();
+                        assert!(hull.durable().unwrap() > seat.turn().unwrap());
                     }
                 });
             }
         });
-        assert_eq!(SharedHull::keep(&path, limits, None).unwrap_err(), Fault::NoFile { errno: 11 });
-        let seat = hull.lend(0).unwrap();
+        assert_eq!(SharedHull::open_journal(&path, limits, None).unwrap_err(), Fault::NoFile { errno: 11 });
+        let seat = hull.acquire_seat(0).unwrap();
         assert_eq!((hull.close().unwrap_err(), hull.sync().is_ok()), (Fault::SeatsOut, true));
         drop(seat);
         if round < 3 {
             let text = hull.close().unwrap();
             let first: u64 = text.split(' ').nth(4).unwrap().parse().unwrap();
             lines = first + text.lines().count() as u64 - 2;
-            assert_eq!(hull.safe(), Err(Fault::NotOpen));
+            assert_eq!(hull.durable(), Err(Fault::NotOpen));
             assert_eq!((SharedHull::compact(&path), std::fs::read_to_string(&path).unwrap().lines().count()), (Ok(lines), 2 + 80 * round as usize));
         }
     }
     std::fs::write(&path, "somebody's\n").unwrap();
-    assert_eq!(SharedHull::keep(&path, limits, None).unwrap_err(), Fault::Damaged { line: 1 });
+    assert_eq!(SharedHull::open_journal(&path, limits, None).unwrap_err(), Fault::Damaged { line: 1 });
     std::fs::remove_file(&path).unwrap();
-    assert_eq!(SharedHull::keep("a\0b", limits, None).unwrap_err(), Fault::NoFile { errno: 22 });
-    assert_eq!(SharedHull::open(limits).unwrap().safe(), Err(Fault::NotOpen));
+    assert_eq!(SharedHull::open_journal("a\0b", limits, None).unwrap_err(), Fault::NoFile { errno: 22 });
+    assert_eq!(SharedHull::open(limits).unwrap().durable(), Err(Fault::NotOpen));
 }
 
-/// A seat outlives the hull that it was lent by.
-/// A folder that goes with the test.
+/// A folder that is removed at the end of the test.
 struct Folder(std::path::PathBuf);
 
 impl Folder {
@@ -353,59 +352,59 @@ impl Drop for Folder {
     }
 }
 
-/// A close is refused while a reader is out, and then the hull goes on and keeps its lines; however it ends, all of them are there.
+/// A close fails while a reader is acquired, and then the hull and its file go on; however it ends, the file has all lines.
 #[test]
-fn keeps_a_file_while_a_reader_is_out() {
+fn stays_open_while_a_reader_is_acquired() {
     let folder = Folder::new("reader");
     let limits = Limits { points: 1000, first: 0, capacity: 50, seats: 2 };
-    let hull = SharedHull::for_readers(1).unwrap().keep(folder.file(), limits, None).unwrap();
-    let reader = hull.lend_reader().unwrap();
-    let mut seat = hull.lend(0).unwrap();
+    let hull = SharedHull::for_readers(1).unwrap().open_journal(folder.file(), limits, None).unwrap();
+    let reader = hull.acquire_reader().unwrap();
+    let mut seat = hull.acquire_seat(0).unwrap();
     (0..10).for_each(|x| assert_eq!(seat.add(point(x, 1)), Ok(1)));
-    seat.give_back();
+    seat.release();
     for _ in 0..3 {
         assert_eq!(hull.close(), Err(Fault::SeatsOut));
     }
-    let mut seat = hull.lend(1).unwrap();
+    let mut seat = hull.acquire_seat(1).unwrap();
     (0..100).for_each(|x| assert_eq!(seat.add(point(x, 2)), Ok(1)));
     seat.wait_at_most(Some(Duration::from_secs(10)));
-    assert_eq!(seat.wait_safe(), Ok(()));
-    seat.give_back();
+    assert_eq!(seat.wait_durable(), Ok(()));
+    seat.release();
     drop(reader);
     hull.close().unwrap();
     assert_eq!(folder.additions(), 110);
-    let hull = SharedHull::keep(folder.file(), limits, None).unwrap();
-    let mut seat = hull.lend(0).unwrap();
+    let hull = SharedHull::open_journal(folder.file(), limits, None).unwrap();
+    let mut seat = hull.acquire_seat(0).unwrap();
     drop(hull);
     assert_eq!(seat.add(point(0, 3)), Ok(1));
-    drop(seat); // the last that has the hull closes its file
+    drop(seat); // the last owner of the hull closes its file
     assert_eq!(folder.additions(), 111);
-    let hull = SharedHull::keep(folder.file(), limits, None).unwrap();
-    let mut seat = hull.lend(0).unwrap();
+    let hull = SharedHull::open_journal(folder.file(), limits, None).unwrap();
+    let mut seat = hull.acquire_seat(0).unwrap();
     std::fs::remove_file(folder.file()).unwrap();
     assert_eq!(seat.add(point(0, 4)), Ok(1));
     const ESTALE: i32 = 116;
-    assert_eq!(seat.wait_safe(), Err(Fault::NoFile { errno: ESTALE }));
-    seat.give_back();
+    assert_eq!(seat.wait_durable(), Err(Fault::NoFile { errno: ESTALE }));
+    seat.release();
     assert_eq!(hull.close(), Err(Fault::NoFile { errno: ESTALE }));
 }
 
-/// Threads that wait for what is safe while another closes the hull are answered.
+/// Threads that wait for a durable line while another thread closes the hull get their result.
 #[test]
 fn closes_beside_threads_that_wait() {
     let folder = Folder::new("waiters");
     for again in 0..10 {
         let limits = Limits { points: 100_000, first: 0, capacity: 5000, seats: 3 };
-        let hull = Arc::new(SharedHull::keep(folder.file(), limits, None).unwrap());
+        let hull = Arc::new(SharedHull::open_journal(folder.file(), limits, None).unwrap());
         let begun = Arc::new(AtomicUsize::new(0));
         let threads: Vec<_> = (0..3)
             .map(|k| {
                 let (hull, begun) = (hull.clone(), begun.clone());
                 thread::spawn(move || {
-                    let mut seat = hull.lend(k).unwrap();
+                    let mut seat = hull.acquire_seat(k).unwrap();
                     (0..100).for_each(|x| assert_eq!(seat.add(point(x, i64::from(3 * again + k))), Ok(1)));
-                    seat.wait_safe().unwrap();
-                    seat.give_back();
+                    seat.wait_durable().unwrap();
+                    seat.release();
                     begun.fetch_add(1, Ordering::SeqCst);
                     while hull.sync().is_ok() {}
                     hull.sync()
@@ -425,17 +424,18 @@ fn closes_beside_threads_that_wait() {
 #[test]
 fn numbers_of_two_words() {
     let hull = SharedHull::open(Limits { capacity: CAPACITY_LIMIT, ..SMALL }).unwrap();
-    let mut seat = hull.lend(0).unwrap();
+    let mut seat = hull.acquire_seat(0).unwrap();
     for (x, y) in [(-1, -1), (1, -1), (1, 1), (-1, 1)] {
         seat.add(point(x * COORDINATE_LIMIT, y * COORDINATE_LIMIT)).unwrap();
     }
     assert_eq!(seat.doubled_area(), Ok(8 << 80));
 }
 
+/// A seat outlives the hull from which it was acquired.
 #[test]
-fn the_last_seat_keeps_the_hull() {
+fn the_last_seat_owns_the_hull() {
     let hull = SharedHull::open(SMALL).unwrap();
-    let mut seat = hull.lend(0).unwrap();
+    let mut seat = hull.acquire_seat(0).unwrap();
     drop(hull);
     assert_eq!((seat.add(point(3, 4)), seat.count()), (Ok(1), Ok(1)));
 }
@@ -461,7 +461,7 @@ fn make_calls(seat: &mut Seat, calls: u64) {
             3 => assert!(seat.remove(at).unwrap() != Some(u32::MAX)),
             4 => assert!(seat.extreme(at).is_ok()),
             5 => assert!(seat.tangents(at).is_ok()),
-            6 => assert!(seat.corners().unwrap() <= 8 * calls as usize),
+            6 => assert!(seat.vertex_count().unwrap() <= 8 * calls as usize),
             _ => assert!(seat.place(at).is_ok()),
         }
         assert!(seat.turn() > last);
@@ -476,7 +476,7 @@ fn eight_threads() {
     let hull = SharedHull::open(limits).unwrap();
     thread::scope(|scope| {
         for number in 0..8 {
-            let mut seat = hull.lend(number).unwrap();
+            let mut seat = hull.acquire_seat(number).unwrap();
             scope.spawn(move || make_calls(&mut seat, calls));
         }
     });
@@ -487,7 +487,7 @@ fn eight_threads() {
     }
 }
 
-/// Seats that come and go in several threads: no two calls on their desk overlap. Linked with overlaps.c, which counts them.
+/// Several threads acquire and release seats: no two calls on their shared hull overlap. Linked with overlaps.c, which counts them.
 #[cfg(hull_overlaps)]
 #[test]
 fn lendings() {
@@ -501,8 +501,8 @@ fn lendings() {
             let hull = &hull;
             scope.spawn(move || {
                 for _ in 0..25 {
-                    let mut seat = hull.lend(number).unwrap();
-                    hull.lend(number + 4).unwrap().give_back();
+                    let mut seat = hull.acquire_seat(number).unwrap();
+                    hull.acquire_seat(number + 4).unwrap().release();
                     seat.add(point(1, 2)).unwrap();
                     assert_eq!(hull.close().unwrap_err(), Fault::SeatsOut);
                 }

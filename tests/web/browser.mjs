@@ -15,18 +15,18 @@ export const wait = (milliseconds) => new Promise((done) => setTimeout(done, mil
 export class Tab {
     /** Opens a page. `how` has the browser ("chromium"), its program, whether it is a phone, and words and prefs for it. */
     static async open(url, size, { browser = "chromium", program = process.env[browser.toUpperCase()] || browser, ...how } = {}) {
-        const tab = new Tab(), Link = LINKS[browser], room = mkdtempSync(`${tmpdir()}/page-`);
-        Object.assign(tab, { browser, room, isPhone: how.isPhone ?? false });
-        const { words, stdio } = Link.command(room, size, how);
-        tab.process = spawn(program, words, { stdio, env: { ...process.env, HOME: room, MOZ_HEADLESS: "1" } });
-        tab.link = await Link.to(tab.process, room);
+        const tab = new Tab(), Link = LINKS[browser], folder = mkdtempSync(`${tmpdir()}/page-`);
+        Object.assign(tab, { browser, folder, isPhone: how.isPhone ?? false });
+        const { words, stdio } = Link.command(folder, size, how);
+        tab.process = spawn(program, words, { stdio, env: { ...process.env, HOME: folder, MOZ_HEADLESS: "1" } });
+        tab.link = await Link.to(tab.process, folder);
         await tab.size(size);
         await tab.link.navigate(url);
         if (!how.isDead) await tab.until("Boolean(globalThis.page)");
         return tab;
     }
 
-    /** The value of an expression in the page, where it is a promise what that comes to. */
+    /** Returns the value of an expression in the page, awaited if it is a promise. */
     value(expression) {
         return this.link.value(expression);
     }
@@ -158,6 +158,6 @@ export class Tab {
         await Promise.race([ended, wait(3000)]);
         this.process.kill("SIGKILL");
         await wait(200);
-        rmSync(this.room, { recursive: true, force: true, maxRetries: 10, retryDelay: 100 });
+        rmSync(this.folder, { recursive: true, force: true, maxRetries: 10, retryDelay: 100 });
     }
 }

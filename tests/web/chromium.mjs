@@ -8,8 +8,8 @@ export class ChromiumLink {
     #sent = 0;
     #kept = Buffer.alloc(0);
 
-    static command(room, [width, height], { words = [] }) {
-        const all = [...WORDS, `--user-data-dir=${room}`, `--window-size=${width},${height}`, ...words];
+    static command(folder, [width, height], { words = [] }) {
+        const all = [...WORDS, `--user-data-dir=${folder}`, `--window-size=${width},${height}`, ...words];
         return { words: all, stdio: ["ignore", "ignore", "ignore", "pipe", "pipe"] };
     }
 

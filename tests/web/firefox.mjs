@@ -1,4 +1,4 @@
-// Firefox by Marionette: arrays of JSON over a socket, each behind its length and a colon.
+// Firefox by Marionette: arrays of JSON over a socket, each after its length and a colon.
 import { readFileSync, writeFileSync } from "node:fs";
 import { connect } from "node:net";
 
@@ -17,19 +17,19 @@ export class FirefoxLink {
     #sent = 0;
     #kept = Buffer.alloc(0);
 
-    static command(room, [width, height], { words = [], prefs = {} }) {
-        const all = Object.entries({ ...PREFS, "browser.download.dir": room, ...prefs });
-        writeFileSync(`${room}/user.js`, all.map(([name, value]) => `user_pref(${JSON.stringify(name)}, ${JSON.stringify(value)});\n`).join(""));
-        const opened = ["--headless", "--no-remote", "--profile", room, "--marionette", "--remote-allow-system-access", "--width", width, "--height", height];
+    static command(folder, [width, height], { words = [], prefs = {} }) {
+        const all = Object.entries({ ...PREFS, "browser.download.dir": folder, ...prefs });
+        writeFileSync(`${folder}/user.js`, all.map(([name, value]) => `user_pref(${JSON.stringify(name)}, ${JSON.stringify(value)});\n`).join(""));
+        const opened = ["--headless", "--no-remote", "--profile", folder, "--marionette", "--remote-allow-system-access", "--width", width, "--height", height];
         return { words: [...opened.map(String), ...words, "about:blank"], stdio: ["ignore", "ignore", "ignore"] };
     }
 
     /** Joins the browser once it has written the number of its port. */
-    static async to(process, room) {
+    static async to(process, folder) {
         const link = new FirefoxLink();
         for (let i = 0; ; i++) {
             try {
-                const port = Number(readFileSync(`${room}/MarionetteActivePort`, "utf8"));
+                const port = Number(readFileSync(`${folder}/MarionetteActivePort`, "utf8"));
                 if (port) {
                     await link.#join(port);
                     break;

@@ -10,7 +10,7 @@ const { load } = faults, FAR = 2 ** 40, MEMORY = 2 ** 24;
 const STRAY = process.env.MODULE === "hull32.wasm" ? 0xfffffff0n : 1n << 60n;
 // the module that is tried: hull.wasm, or the name in MODULE
 const module = new URL(`../../web/out/${process.env.MODULE ?? "hull.wasm"}`, import.meta.url), cases = new URL("../cli/cases/", import.meta.url);
-const { Hull, Outline } = await load(module);
+const { Hull, Polygon } = await load(module);
 let passed = 0, failed = 0;
 async function tried(name, run) {
     try {
@@ -39,7 +39,7 @@ const stored = readdirSync(cases).filter((it) => it.endsWith(".case")).map((it) 
 
 await tried("the program's stored reports", () => {
     let compared = 0;
-    // one worker, whose calls stand in the report in the order in which they were made
+    // one worker, whose calls are in the report in the order in which they were made
     for (const { name, output } of stored.filter((it) => it.words === "run INPUT" && it.status === "0")) {
         const hull = new Hull(), lines = output.split("\n").filter((it) => / = /.test(it));
         if (lines.some((it) => !it.startsWith("0 "))) continue;
@@ -52,7 +52,7 @@ await tried("the program's stored reports", () => {
     assert.ok(compared > 50, `${compared} answers`);
     return `${compared} answers`;
 });
-await tried("what is held, and the stored bridges", () => {
+await tried("the points with their multiplicities, and the stored bridges", () => {
     const hull = new Hull(), random = random_of(7), wanted = new Map();
     assert.deepEqual([hull.held(), hull.bridges(0)], [[], []]);
     for (let i = 0; i < 700; i++) {
@@ -76,8 +76,8 @@ await tried("what is held, and the stored bridges", () => {
     const side = ([x, y], [u, v], [p, q]) => BigInt(u - x) * BigInt(q - y) - BigInt(v - y) * BigInt(p - x);
     assert.ok(held.every(({ point }) => side(a, b, point) <= 0n && side(c, d, point) >= 0n));
     for (const level of [-1, 0.5, 2 ** 32, "1", 1n]) assert.throws(() => hull.bridges(level), faults.OutOfRange);
-    const outline = new Outline(hull.vertices()), asked = held.map(({ point }) => point).concat([[FAR, FAR]]);
-    assert.deepEqual(outline.placeAll(asked), hull.placeAll(asked));
+    const polygon = new Polygon(hull.vertices()), asked = held.map(({ point }) => point).concat([[FAR, FAR]]);
+    assert.deepEqual(polygon.placeAll(asked), hull.placeAll(asked));
     hull.free();
     assert.throws(() => hull.held(), faults.Ended);
     return `${forks} forks`;
@@ -107,7 +107,7 @@ await tried("each refusal of a number", () => {
     }
     for (const bad of [0, -1, 2 ** 20 + 1, 1.5, "3"]) assert.throws(() => new Hull(bad), faults.OutOfRange);
     assert.throws(() => hull.extreme(0, 0), faults.ZeroDirection);
-    assert.throws(() => new Outline([[0, 0], [1, 0], [2, 0]]), faults.NoOutline);
+    assert.throws(() => new Polygon([[0, 0], [1, 0], [2, 0]]), faults.NoPolygon);
     assert.deepEqual(hull.vertices(), [[0, 0], [1, 0]]);
 });
 await tried("too many, and the ends of the range", () => {
@@ -129,26 +129,26 @@ await tried("memory that grows in the middle of a call on many", () => {
     assert.deepEqual([hull.count(), hull.multiplicity(59999, 59999 % 251), hull.removeAll(points)], [60000, 1, 60000]);
 });
 await tried("a freed hull serves nothing", () => {
-    const hull = new Hull(), outline = hull.outline();
+    const hull = new Hull(), polygon = hull.polygon();
     hull.free();
     hull[Symbol.dispose]?.();
-    outline.free();
+    polygon.free();
     for (const call of ["add", "remove", "place", "tangents", "extreme", "multiplicity"]) assert.throws(() => hull[call](1, 1), faults.Ended);
     for (const call of ["vertices", "count", "limit", "clear", "doubledArea"]) assert.throws(() => hull[call](), faults.Ended);
-    assert.throws(() => outline.place(0, 0), faults.Ended);
+    assert.throws(() => polygon.place(0, 0), faults.Ended);
 });
 await tried("ten thousand calls beside the plain way", () => {
     let calls = 0;
     for (let seed = 1; seed <= 10; seed++) {
-        const random = random_of(seed), apart = [3, 8, 40, 2 ** 41][seed % 4], limit = [5, 30, 60][seed % 3];
-        const hull = new Hull(limit), plain = new Plain(limit), any = () => random(apart) - Math.floor(apart / 2);
+        const random = random_of(seed), range = [3, 8, 40, 2 ** 41][seed % 4], limit = [5, 30, 60][seed % 3];
+        const hull = new Hull(limit), plain = new Plain(limit), any = () => random(range) - Math.floor(range / 2);
         for (let i = 0; i < 1000; i++, calls++) {
             const word = ["add", "add", "remove", "place", "tangents", "extreme", "multiplicity", "vertices", "doubledArea", "count"][random(10)];
             const [x, y] = [any(), any()];
             if (word === "extreme" && x === 0 && y === 0) continue;
             const answer = word === "add" ? hull.addAll([[x, y]])[0] : hull[word](x, y);
             assert.deepEqual(answer, plain[word](x, y), `${word} ${x} ${y}, seed ${seed}`);
-            if (i % 100 === 99) assert.deepEqual(hull.outline().tangents(x, y), plain.tangents(x, y));
+            if (i % 100 === 99) assert.deepEqual(hull.polygon().tangents(x, y), plain.tangents(x, y));
         }
         hull.free();
     }
@@ -199,7 +199,7 @@ function toSegment([x, y], [[ax, ay], [bx, by]]) {
     if (along >= length) return [(px - dx) ** 2n + (py - dy) ** 2n, 1n];
     return [(dx * py - dy * px) ** 2n, length];
 }
-await tried("outlines beside one another", () => {
+await tried("polygons beside one another", () => {
     const random = random_of(7), number = () => random(9) - 4;
     const less = ([a, b], [c, d]) => a * d < c * b;
     let compared = 0;
@@ -209,21 +209,21 @@ await tried("outlines beside one another", () => {
             hull.addAll(Array.from({ length: 1 + random(6) }, () => [number() + 4 * shift, number()]));
             return hull;
         });
-        const [ours, theirs] = [one.outline(), two.outline()], [a, b] = [one.vertices(), two.vertices()];
-        const edges = (corners) => corners.map((it, i) => [it, corners[(i + 1) % corners.length]]);
-        const meets = ours.meets(theirs), { numerator, denominator } = ours.squaredDistance(theirs);
-        assert.equal(numerator === 0n, meets);
-        assert.equal(ours.witness(theirs).shows !== "apart", meets);
+        const [ours, theirs] = [one.polygon(), two.polygon()], [a, b] = [one.vertices(), two.vertices()];
+        const edges = (vertices) => vertices.map((it, i) => [it, vertices[(i + 1) % vertices.length]]);
+        const intersects = ours.intersects(theirs), { numerator, denominator } = ours.squaredDistance(theirs);
+        assert.equal(numerator === 0n, intersects);
+        assert.equal(ours.witness(theirs).shows !== "disjoint", intersects);
         assert.equal(ours.contains(theirs), b.every(([x, y]) => ours.place(x, y) !== "outside"));
         const all = [...a.flatMap((it) => edges(b).map((edge) => toSegment(it, edge))), ...b.flatMap((it) => edges(a).map((edge) => toSegment(it, edge)))];
         const least = all.reduce((p, q) => (less(q, p) ? q : p));
-        if (!meets) assert.equal(numerator * least[1], least[0] * denominator);
-        const [x, y] = [number(), number()], to = ours.squaredDistanceTo(x, y);
+        if (!intersects) assert.equal(numerator * least[1], least[0] * denominator);
+        const [x, y] = [number(), number()], to = ours.squaredDistanceToPoint(x, y);
         const nearest = edges(a).map((edge) => toSegment([x, y], edge)).reduce((p, q) => (less(q, p) ? q : p));
         const wanted = ours.place(x, y) === "outside" ? nearest : [0n, 1n];
         assert.equal(to.numerator * wanted[1], wanted[0] * to.denominator);
-        assert.equal(ours.meetsSegment(x, y, x, y), ours.place(x, y) !== "outside");
-        assert.equal(ours.apartFromSegment(x, y, number(), y) === null || !ours.meetsSegment(x, y, x, y), true);
+        assert.equal(ours.intersectsSegment(x, y, x, y), ours.place(x, y) !== "outside");
+        assert.equal(ours.separationFromSegment(x, y, number(), y) === null || !ours.intersectsSegment(x, y, x, y), true);
         const xs = a.map((it) => it[0]), ys = a.map((it) => it[1]);
         assert.deepEqual(ours.boundingBox(), [[Math.min(...xs), Math.min(...ys)], [Math.max(...xs), Math.max(...ys)]]);
         assert.equal(ours.widthAlong(1, 0), BigInt(Math.max(...xs) - Math.min(...xs)));
@@ -232,7 +232,7 @@ await tried("outlines beside one another", () => {
         assert.deepEqual(ours.extremeAll([[1, 0], [0, -1]]), [ours.extreme(1, 0), ours.extreme(0, -1)]);
         assert.deepEqual(ours.tangentsAll([[9, 9], [0, 0]]), [ours.tangents(9, 9), ours.tangents(0, 0)]);
         if (a.length === 1) assert.equal(ours.leastWidth(), null);
-        const any = Outline.of([...one.held().map((it) => it.point)].reverse());
+        const any = Polygon.of([...one.held().map((it) => it.point)].reverse());
         assert.deepEqual(any.vertices(), a);
         any.free();
         for (const it of [ours, theirs, one, two]) it.free();
@@ -240,40 +240,59 @@ await tried("outlines beside one another", () => {
     }
     return `${compared} pairs`;
 });
-/** How two hulls stand to one another, by their corners: a line that divides them can be turned until it runs along two corners' way. */
-function standing(ours, theirs, a, b) {
-    const [holds, held] = [b.every((it) => ours.place(...it) !== "outside"), a.every((it) => theirs.place(...it) !== "outside")];
-    if (holds || held) return holds && held ? "equal" : holds ? "covers" : "within";
-    if (ours.squaredDistance(theirs).numerator > 0n) return "apart";
+/** Returns how two hulls are related, by their vertices: a line with the hulls on its two sides can be rotated until its direction is that
+ * from one vertex to another. */
+function relationOf(ours, theirs, a, b) {
+    const [covers, isWithin] = [b.every((it) => ours.place(...it) !== "outside"), a.every((it) => theirs.place(...it) !== "outside")];
+    if (covers || isWithin) return covers && isWithin ? "equal" : covers ? "covers" : "within";
+    if (ours.squaredDistance(theirs).numerator > 0n) return "disjoint";
     const ways = a.flatMap(([x, y]) => b.flatMap(([p, q]) => [[q - y, x - p], [y - q, p - x]])).filter(([x, y]) => x !== 0 || y !== 0);
     const along = ([x, y]) => ([p, q]) => x * p + y * q;
     const divides = (way) => Math.max(...a.map(along(way))) <= Math.min(...b.map(along(way)));
     return ways.some(divides) ? "touching" : "overlapping";
 }
-await tried("relations of outlines, and lengths", () => {
+await tried("relations of polygons, and lengths", () => {
     const random = random_of(11), number = () => random(7) - 3, seen = {};
     for (let round = 0; round < 600; round++) {
-        const [ours, theirs] = [0, 1].map((shift) => Outline.of(Array.from({ length: 1 + random(4) }, () => [number() + 2 * shift, number()])));
-        const [a, b] = [ours.vertices(), theirs.vertices()], relation = standing(ours, theirs, a, b);
+        const [ours, theirs] = [0, 1].map((shift) => Polygon.of(Array.from({ length: 1 + random(4) }, () => [number() + 2 * shift, number()])));
+        const [a, b] = [ours.vertices(), theirs.vertices()], relation = relationOf(ours, theirs, a, b);
         assert.equal(ours.relation(theirs), relation);
         seen[relation] = (seen[relation] ?? 0) + 1;
         assert.equal(ours.containsInside(theirs), b.every((it) => ours.place(...it) === "inside"));
         const { numerator, denominator } = ours.squaredDistance(theirs);
         for (const [n, d] of [[0, 1], [random(9), 1], [random(30), 1 + random(9)], [2 ** 53 - 1, 1], [1, 2 ** 32 - 1]]) {
-            assert.equal(ours.within(theirs, n, d), numerator * BigInt(d) ** 2n <= BigInt(n) ** 2n * denominator);
+            assert.equal(ours.withinDistance(theirs, n, d), numerator * BigInt(d) ** 2n <= BigInt(n) ** 2n * denominator);
         }
         for (const it of [ours, theirs]) it.free();
     }
     assert.equal(Object.keys(seen).length, 6);
-    const [square, flush] = [new Outline([[0, 0], [4, 0], [4, 4], [0, 4]]), new Outline([[4, 1], [9, 1], [9, 3]])], none = new Outline([]);
+    const [square, flush] = [new Polygon([[0, 0], [4, 0], [4, 4], [0, 4]]), new Polygon([[4, 1], [9, 1], [9, 3]])], none = new Polygon([]);
     assert.deepEqual([square.relation(flush), square.relation(none), none.relation(square)], ["touching", "covers", "within"]);
-    assert.deepEqual([square.within(none, 9), square.within(new Outline([[7, 8]]), 5), square.within(new Outline([[7, 8]]), 499, 100)], [false, true, false]);
+    assert.deepEqual([square.withinDistance(none, 9), square.withinDistance(new Polygon([[7, 8]]), 5), square.withinDistance(new Polygon([[7, 8]]), 499, 100)], [false, true, false]);
     const lengths = [[-1], [0.5], [NaN], [2 ** 53], ["1"], [1n], [1, 0], [1, 2 ** 32], [1, 0.5]];
-    for (const length of lengths) assert.throws(() => square.within(flush, ...length), faults.OutOfRange);
-    assert.throws(() => square.relation([[0, 0]]), faults.NoOutline);
+    for (const length of lengths) assert.throws(() => square.withinDistance(flush, ...length), faults.OutOfRange);
+    assert.throws(() => square.relation([[0, 0]]), faults.NoPolygon);
     flush.free();
     assert.throws(() => square.containsInside(flush), faults.Ended);
     return Object.entries(seen).map(([word, times]) => `${times} ${word}`).join(", ");
+});
+await tried("rays, segments and bounds of distances", () => {
+    const square = new Polygon([[0, 0], [10, 0], [10, 10], [0, 10]]), line = new Polygon([[0, 0], [4, 4]]), none = new Polygon([]);
+    const beside = new Polygon([[12, 0], [15, 3], [12, 6]]), isPart = ({ part: { numerator, denominator } }, n, d) => numerator * d === denominator * n;
+    const entry = square.raycast(-2, 1, 3, 1), exit = square.raycastExit(-2, 1, 3, 1), way = square.raycastSegment(14, 3, -6, 3);
+    assert.deepEqual([entry.points, exit.points, way.points], [[[0, 10], [0, 0]], [[10, 0], [10, 10]], [[10, 0], [10, 10]]]);
+    assert.ok(isPart(entry, 2n, 3n) && isPart(exit, 4n, 1n) && isPart(way, 1n, 5n));
+    assert.deepEqual([square.raycast(3, 3, 1, 0).points, line.raycast(7, 7, -1, -1).points], [[], [[4, 4]]]);
+    assert.deepEqual([square.raycast(-2, 1, -3, 1), square.raycastExit(-2, 1, -3, 1), square.raycastSegment(14, 3, 11, 3), none.raycast(0, 0, 1, 0)], [null, null, null, null]);
+    assert.throws(() => square.raycast(0, 0, 0, 0), faults.ZeroDirection);
+    assert.throws(() => square.raycastSegment(0, 0, 0, FAR + 1), faults.OutOfRange);
+    assert.deepEqual([square.distanceBounds(beside), square.distanceBoundsToSegment(13, 14, 13, 14), none.distanceBounds(square)], [[2, 2], [5, 5], null]);
+    const [down, up] = square.distanceBoundsToSegment(11, 11, 11, 11), squared = square.squaredDistanceToSegment(11, 11, 11, 11);
+    assert.ok(down < Math.SQRT2 && up === Math.SQRT2 && squared.numerator === 2n * squared.denominator);
+    assert.deepEqual([square.withinDistanceOfSegment(13, 14, 13, 20, 5), square.withinDistanceOfSegment(13, 14, 13, 14, 4999, 1000)], [true, false]);
+    assert.deepEqual([square.relationToSegment(10, 12, 10, 3), square.relationToSegment(9, 9, 2, 2), square.relationToSegment(11, 0, 11, 9)], ["touching", "covers", "disjoint"]);
+    assert.deepEqual(square.separationFromSegment(-5, 6, 5, 16), { vertex: [0, 10], direction: [-10, 10] });
+    assert.equal(square.separationFromSegment(-5, 5, 5, 15), null);
 });
 await tried("bytes that are no module, and texts that are no journal", async () => {
     await assert.rejects(load(new Uint8Array(8)), faults.Unsupported);

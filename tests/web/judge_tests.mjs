@@ -1,5 +1,5 @@
 // The page's judge beside the program's, over a plain hull: judge_tests.mjs [PROGRAM]. Each journal has the verdict that the rules
-// give it, by hand; where the program is named, its `check` says the same of each.
+// give it, by hand; if the program is named, its `check` gives the same.
 import { strict as assert } from "node:assert";
 import { execFileSync } from "node:child_process";
 import { mkdtempSync, rmSync, writeFileSync } from "node:fs";
@@ -19,8 +19,8 @@ class Refusing extends Plain {
 
 const head = (version, more = "first 0 limit 3 capacity 9") => `hullbook journal ${version} ${more}\n`;
 const text = (start, ...lines) => `${start}${lines.map((it, i) => `${i} ${it}\n`).join("")}end ${lines.length}\n`;
-// a name, the journal, and the verdict: legal, illegal with the line of the text from 1, or nothing where the text is none. The program
-// takes a text for none, too, where a reply is a word of other versions, which the judge calls wrong: it has a verdict of its own then
+// a name, the journal, and the verdict: legal, illegal with the line of the text from 1, or null if the text is no journal. To the program
+// a text with a reply of another version is no journal either, but to the judge it is wrong: such a row has the program's verdict, too
 const journals = [
     ["an empty one", text(head(3)), "legal"],
     ["a point twice, counted", text(head(3), "0 add 1 1 = added", "0 add 1 1 = again 2", "0 count = count 1"), "legal"],
@@ -31,8 +31,8 @@ const journals = [
     ["memory refused to a new point", text(head(3), "0 add 1 1 = nomemory", "0 count = count 0"), "legal"],
     ["memory refused to one that is there", text(head(3), "0 add 1 1 = added", "0 add 1 1 = nomemory"), "illegal 3"],
     ["memory refused at the limit", text(head(3, "first 0 limit 1 capacity 9"), "0 add 1 1 = added", "0 add 2 2 = nomemory"), "illegal 3"],
-    ["memory refused to corners", text(head(3), "0 add 1 1 = added", "0 vertices = nomemory"), "legal"],
-    ["memory refused to no corners", text(head(3), "0 vertices = nomemory"), "illegal 2"],
+    ["memory refused to vertices", text(head(3), "0 add 1 1 = added", "0 vertices = nomemory"), "legal"],
+    ["memory refused to no vertices", text(head(3), "0 vertices = nomemory"), "illegal 2"],
     ["memory refused to a count", text(head(3), "0 add 1 1 = added", "0 count = nomemory"), "illegal 3"],
     ["a full one", text(head(3, "first 0 limit 3 capacity 2"), "0 count = count 0", "0 count = count 0"), "legal"],
     ["one line too many", text(head(3, "first 0 limit 3 capacity 2"), "0 count = count 0", "0 count = count 0", "0 count = count 0"), "illegal 4"],
@@ -40,8 +40,8 @@ const journals = [
     ["a seat too many", text(head(3), "64 count = count 0"), null],
     ["a number left out", `${head(3)}0 0 count = count 0\n2 0 count = count 0\nend 2\n`, "illegal 3"],
     ["numbers that begin anew", `${head(3, `first ${2n ** 64n - 1n} limit 3 capacity 9`)}${2n ** 64n - 1n} 0 count = count 0\n0 0 count = count 0\nend 2\n`, "legal"],
-    ["too many told", text(head(3, "first 0 limit 1 capacity 9"), "0 add 1 1 = added", "0 add 2 2 = toomany", "0 place 2 2 = outside"), "legal"],
-    ["a wrong corner", text(head(3), "0 add 1 1 = added", "0 vertices = list 1 1 2"), "illegal 3"],
+    ["too many points", text(head(3, "first 0 limit 1 capacity 9"), "0 add 1 1 = added", "0 add 2 2 = toomany", "0 place 2 2 = outside"), "legal"],
+    ["a wrong vertex", text(head(3), "0 add 1 1 = added", "0 vertices = list 1 1 2"), "illegal 3"],
     ["a coordinate too great", text(head(3), "0 add 1099511627777 0 = added"), null],
     ["no end line", head(3), null],
 ];
@@ -70,9 +70,9 @@ function verdict(journal) {
 for (const [name, journal, wanted] of journals) {
     tried(name, () => assert.equal(verdict(journal), wanted));
 }
-// a wrong line leaves no trace: what stands before it is there, and the replay goes back and forward again
+// a wrong line leaves no trace: what was before it is there, and the replay goes back and forward again
 for (const line of ["0 add 2 2 = again 2", "0 add 1 1 = added", "0 remove 1 1 = left 4", "0 remove 5 5 = removed"]) {
-    tried(`behind the wrong line ${line}`, () => {
+    tried(`after the wrong line ${line}`, () => {
         const journal = readJournal(text(head(3), "0 add 1 1 = added", "0 add 1 1 = again 2", line, "0 count = count 1"));
         const hull = new Refusing(3), replay = new Replay(hull, journal);
         for (let round = 0; round < 3; round++) {

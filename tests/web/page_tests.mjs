@@ -12,7 +12,7 @@ const PATIENCE = 60000; // milliseconds for a try
 const LIMITS = { 1000: 4, 100000: 16 }; // of so many points, milliseconds from a move of the pointer to its picture
 const TRAP = '<script>globalThis.escaped = []; addEventListener("error", (it) => escaped.push(it.message)); addEventListener("unhandledrejection", (it) => escaped.push(String(it.reason)));</script>';
 
-// the page, with a word of each fault that escapes its code
+// the page, which records each error that escapes its code
 const shown = `${folder}/page.html`, url = pathToFileURL(shown).href;
 writeFileSync(shown, readFileSync(page, "utf8").replace("<title>", `${TRAP}<title>`));
 
@@ -41,7 +41,7 @@ const at = (point) => value(`(() => {
 const journal = () => value("page.text()");
 const calls = async () => (await journal()).split("\n").slice(1, -2).map((it) => it.replace(/^\d+ 0 /, ""));
 const held = async () => JSON.parse(await value("JSON.stringify([...page.replay.held].sort())"));
-const corners = () => value("page.hull.vertices().join(' ')");
+const vertices = () => value("page.hull.vertices().join(' ')");
 const click = async (point, how) => tab.click(await at(point), how);
 /** Presses "New" where the plane is drawn on, with what it shows as it was at first. */
 async function anew() {
@@ -54,9 +54,9 @@ const file = (name, said) => {
     return `${folder}/${name}`;
 };
 const choose = async (...files) => {
-    const before = await value("page.work.state + page.work.told");
+    const before = await value("page.work.state + page.work.message");
     await tab.choose("open", files);
-    await tab.until(`page.work.state + page.work.told !== ${JSON.stringify(before)}`);
+    await tab.until(`page.work.state + page.work.message !== ${JSON.stringify(before)}`);
     await tab.settled();
 };
 /** The text of the file that "Save" writes. */
@@ -80,8 +80,8 @@ async function tryExample() {
     await tried("it opens on an example that moves, with three sentences and a link", async () => {
         assert.equal(await value("page.mode"), "example");
         const before = [await text("shown-points"), await text("shown-distance"), await text("shown-segment")];
-        assert.match(before[0], /^\d+, \d+ of them corners$/);
-        assert.match(before[1], /^(√\(\d+(\/\d+)?\) ≈ [\d.]+|0: the hulls meet)$/);
+        assert.match(before[0], /^\d+, \d+ of them vertices$/);
+        assert.match(before[1], /^(√\(\d+(\/\d+)?\) ≈ [\d.]+|0: the hulls intersect)$/);
         assert.match(before[2], /^(is free|hits )/);
         const points = await value("page.example.points.join(' ')");
         await tab.until(`page.example.points.join(" ") !== ${JSON.stringify(points)}`);
@@ -93,13 +93,13 @@ async function tryExample() {
     });
     await tried("the readings are of the points that are shown", async () => {
         await press("pause");
-        const [count, square, meets] = await value(`(() => {
+        const [count, square, intersects] = await value(`(() => {
             const { points, square, witness } = page.example;
-            return [new Set(points.map(String)).size, String(square.numerator), witness.shows !== "apart"];
+            return [new Set(points.map(String)).size, String(square.numerator), witness.shows !== "disjoint"];
         })()`);
         assert.equal((await text("shown-points")).split(",")[0], String(count));
-        assert.equal(square === "0", meets);
-        assert.equal((await text("shown-distance")).includes(square === "0" ? "meet" : square), true);
+        assert.equal(square === "0", intersects);
+        assert.equal((await text("shown-distance")).includes(square === "0" ? "intersect" : square), true);
     });
     await tried("the segment is asked of the module as it is dragged", async () => {
         const place = (of) => value(`(() => { const { left, top } = document.getElementById("plane").getBoundingClientRect(), [x, y] = page.view.toScreen(${of}); return [left + x, top + y]; })()`);
@@ -124,7 +124,7 @@ async function tryMouse() {
         assert.deepEqual(await calls(), ["add -20 -10 = added", "add 20 -10 = added", "add 20 10 = added", "add -20 10 = added", "remove 20 10 = removed"]);
         await click([20, -10], { shift: true });
         assert.equal((await calls()).at(-1), "add 20 -10 = again 2");
-        assert.equal(await text("count"), "3, 3 of them corners");
+        assert.equal(await text("count"), "3, 3 of them vertices");
         assert.equal(await text("area"), "400");
     });
     await tried("answers follow the pointer", async () => {
@@ -134,7 +134,7 @@ async function tryMouse() {
         }
         assert.deepEqual([await text("left"), await text("right")], ["left (-20, -10)", "right (20, -10)"]);
     });
-    await tried("a drag moves a point; undo takes it back as one, and redo does it again", async () => {
+    await tried("a drag moves a point; undo and redo take it as one deed", async () => {
         const before = await held();
         await tab.drag(await at([-20, 10]), await at([10, 20]));
         const after = await held();
@@ -183,9 +183,9 @@ async function tryMouse() {
         assert.equal(await text("spoken"), "");
         await tab.key("s");
         await tab.settled();
-        assert.match(await text("spoken"), /1, 1 of them corners.*\(1, 10\) is on/);
+        assert.match(await text("spoken"), /1, 1 of them vertices.*\(1, 10\) is on/);
         assert.deepEqual(await value('["role", "aria-live"].map((it) => document.getElementById("spoken").getAttribute(it))'), ["status", "polite"]);
-        assert.equal(await value('document.querySelectorAll("#told [aria-live], #told[aria-live], #told[role]").length'), 0);
+        assert.equal(await value('document.querySelectorAll("#drawn [aria-live], #drawn[aria-live], #drawn[role]").length'), 0);
     });
     await tried("the list has only what is seen, and a line that is pressed is gone to", async () => {
         await anew();
@@ -217,17 +217,17 @@ async function tryDeeds() {
     await tried("the slider goes back and forth, and undo goes back to where it was", async () => {
         await anew();
         for (const point of [[0, 0], [9, 0], [9, 9], [0, 9]]) await click(point);
-        const before = await corners();
+        const before = await vertices();
         await value('document.getElementById("step").focus()');
         const states = [];
         for (const key of ["Home", "ArrowRight", "ArrowRight", "End", "ArrowLeft"]) {
             await tab.key(key);
             await tab.settled();
-            states.push(await corners());
+            states.push(await vertices());
         }
         assert.deepEqual(states, ["", "0,0", "0,0 9,0", before, "0,0 9,0 9,9"]);
         await press("undo");
-        assert.deepEqual([await corners(), await text("place")], [before, "4 of 4 calls"]);
+        assert.deepEqual([await vertices(), await text("place")], [before, "4 of 4 calls"]);
     });
     await tried("a call from an earlier place cuts the rest off, and undo brings it back", async () => {
         await press("back");
@@ -298,39 +298,39 @@ async function tryFiles() {
     await tried("the saved file is the journal", async () => {
         await press("circle");
         await press("some");
-        const told = await saved("journal");
-        assert.equal(told, await journal());
-        writeFileSync(`${folder}/${browser}-saved.journal`, told);
+        const written = await saved("journal");
+        assert.equal(written, await journal());
+        writeFileSync(`${folder}/${browser}-saved.journal`, written);
     });
-    await tried("a wrong line is told: which, what stands there and what should", async () => {
+    await tried("a wrong line is shown: which, what is there and what should be", async () => {
         const wrong = "hullbook journal 3 first 7 limit 2 capacity 9\n7 1 add 1 1 = added\n8 2 place 1 1 = inside\nend 2\n";
         await choose(file("wrong.journal", wrong));
-        assert.deepEqual([await text("wrong-where"), await text("wrong-stands"), await text("wrong-should")],
+        assert.deepEqual([await text("wrong-where"), await text("wrong-found"), await text("wrong-expected")],
             ["line 3 of wrong.journal", "8 2 place 1 1 = inside", "8 2 place 1 1 = on"]);
         assert.equal(await text("place"), "1 of 2 calls");
         assert.match(await value('document.querySelector("#lines .wrong").textContent'), /^✗ 8 2 place 1 1 = inside \(should be: 8 2 place 1 1 = on\)$/);
     });
-    await tried("a text that is no journal is told by its line, and nothing changes", async () => {
+    await tried("of a text that is no journal the wrong line is shown, and nothing changes", async () => {
         const before = await journal();
         await choose(file("text.journal", "hullbook journal 3 first 0 limit 2 capacity 9\n0 0 push 1 1 = added\nend 1\n"));
-        assert.deepEqual([await text("wrong-where"), await text("wrong-stands")], ["line 2 of text.journal", "0 0 push 1 1 = added"]);
+        assert.deepEqual([await text("wrong-where"), await text("wrong-found")], ["line 2 of text.journal", "0 0 push 1 1 = added"]);
         const words = ["add", "area", "count", "extreme", "place", "remove", "tangents", "vertices"]; // in whatever order
-        assert.deepEqual((await text("wrong-should")).match(/[a-z]+/g).filter((it) => words.includes(it)).sort(), words);
+        assert.deepEqual((await text("wrong-expected")).match(/[a-z]+/g).filter((it) => words.includes(it)).sort(), words);
         await choose(file("points.csv", "1,2\n3,x\n"));
-        assert.deepEqual([await text("wrong-where"), await text("wrong-stands")], ["line 2 of points.csv", "3,x"]);
+        assert.deepEqual([await text("wrong-where"), await text("wrong-found")], ["line 2 of points.csv", "3,x"]);
         assert.equal(await journal(), before);
     });
-    await tried("the parts of a journal are opened together, in whatever order, and one that is missing is told", async () => {
-        const part = (first, ...lines) => `hullbook journal 3 first ${first} limit 9 capacity 4\n${lines.map((it, i) => `${first + i} 0 ${it}\n`).join("")}end ${lines.length}\n`;
-        const parts = [part(0, "add 0 0 = added", "add 9 0 = added"), part(2, "add 0 9 = added"), part(3, "place 1 1 = inside", "count = count 4")];
-        const files = parts.map((it, i) => file(`part${i}.journal`, it));
+    await tried("the segments of a journal are opened together, in whatever order, and a missing one is reported", async () => {
+        const segment = (first, ...lines) => `hullbook journal 3 first ${first} limit 9 capacity 4\n${lines.map((it, i) => `${first + i} 0 ${it}\n`).join("")}end ${lines.length}\n`;
+        const segments = [segment(0, "add 0 0 = added", "add 9 0 = added"), segment(2, "add 0 9 = added"), segment(3, "place 1 1 = inside", "count = count 4")];
+        const files = segments.map((it, i) => file(`segment${i}.journal`, it));
         await choose(files[1], files[0]);
-        assert.match(await text("last"), /2 parts are a legal journal/);
-        assert.deepEqual([await text("place"), await corners()], ["3 of 3 calls", "0,0 9,0 0,9"]);
+        assert.match(await text("last"), /2 segments are a legal journal/);
+        assert.deepEqual([await text("place"), await vertices()], ["3 of 3 calls", "0,0 9,0 0,9"]);
         await choose(files[2], files[0], files[1]);
-        assert.deepEqual([await text("wrong-where"), await text("wrong-should")], ["line 3 of part2.journal", "4 0 count = count 3"]);
+        assert.deepEqual([await text("wrong-where"), await text("wrong-expected")], ["line 3 of segment2.journal", "4 0 count = count 3"]);
         await choose(files[2], files[0]);
-        assert.match(await text("last"), /a part is missing: those before end at 2, and part2.journal begins at 3/);
+        assert.match(await text("last"), /a segment is missing: those before end at 2, and segment2.journal begins at 3/);
     });
     await tried("points come from CSV, GeoJSON and SVG, and go out so that they come back the same", async () => {
         await choose(file("in.csv", "x;y;times\n0;0;2\n0.5;8\n8;0.25\n8;8\n"));
@@ -354,16 +354,16 @@ async function tryFiles() {
         await press("anew");
         await tab.drop({ "one.csv": "1,1\n", "two.csv": "5,5\n9,1\n" });
         await tab.until("page.hull.count() === 3");
-        assert.equal(await corners(), "1,1 9,1 5,5");
+        assert.equal(await vertices(), "1,1 9,1 5,5");
     });
-    await tried("the address holds the points, and opens them", async () => {
+    await tried("the address contains the points, and opens them", async () => {
         await tab.until(`location.hash === "#points=1,1;5,5;9,1"`);
         await tab.go(`${url}#points=0,0;7,0*2;0,7`);
         await tab.until("page.hull.count() === 3 && page.hull.multiplicity(7, 0) === 2");
         await press("undo");
-        assert.equal(await corners(), "1,1 9,1 5,5");
+        assert.equal(await vertices(), "1,1 9,1 5,5");
         await tab.go(`${url}#points=0,0;7`);
-        await tab.until('document.getElementById("wrong-stands").textContent === "7"');
+        await tab.until('document.getElementById("wrong-found").textContent === "7"');
     });
 }
 
@@ -455,7 +455,7 @@ async function tryMany() {
         assert.equal(await value('document.getElementById("lines").scrollTop'), 0);
         await press("fit");
     });
-    await tried("150,000 corners fit the view", async () => {
+    await tried("150,000 vertices fit the view", async () => {
         await value("(page.work.openCalls(Array.from({ length: 150000 }, (_, i) => `add ${i - 50000} ${(i - 50000) ** 2}`), 0), page.show())");
         await press("fit");
         assert.deepEqual(await value("[page.hull.vertices().length, Math.round(page.view.middle[0])]"), [150000, 25000]);
@@ -503,7 +503,7 @@ async function tryFingers() {
         await press("many");
         assert.deepEqual([await outside(), (await calls()).length], [0, 1000]);
     });
-    await tried("the answers are in sight without scrolling", async () => assert.ok(await isInSight("plane", "told")));
+    await tried("the answers are in sight without scrolling", async () => assert.ok(await isInSight("plane", "drawn")));
 }
 
 async function drawn() {
@@ -521,7 +521,7 @@ async function tryDesktop() {
     await tab.link.downloadsTo(folder);
     await tryExample();
     await tryMouse();
-    await tried("the answers are in sight without scrolling", async () => assert.ok(await isInSight("plane", "told", "lines")));
+    await tried("the answers are in sight without scrolling", async () => assert.ok(await isInSight("plane", "drawn", "lines")));
     await tryDeeds();
     await tryFiles();
     await tryKeeping();
@@ -543,7 +543,7 @@ async function tryPhone() {
 async function tryStill() {
     const words = browser === "chromium" ? ["--force-prefers-reduced-motion"] : [], prefs = { "ui.prefersReducedMotion": 1 };
     tab = await Tab.open(url, DESKTOP, { browser, words, prefs });
-    await tried("where motion is not wanted the example stands still until it is asked to go on", async () => {
+    await tried("if motion is not wanted the example is still until it is asked to go on", async () => {
         const points = async () => (await text("shown-points"), value("page.example.ticks"));
         const before = await points();
         await wait(900);
@@ -555,7 +555,7 @@ async function tryStill() {
 }
 
 async function tryDead() {
-    await tried("without WebAssembly there is a word in place of the page", async () => {
+    await tried("without WebAssembly there is a message in place of the page", async () => {
         tab = await Tab.open(url, DESKTOP, { browser, isDead: true, words: browser === "chromium" ? ["--js-flags=--jitless"] : [], prefs: { "javascript.options.wasm": false } });
         await tab.until('!document.getElementById("fault").hidden');
         assert.match(await value('document.getElementById("fault").textContent'), /^The page can't start: this browser has no WebAssembly/);

@@ -1,6 +1,6 @@
-// The plain way, slow and simple: points counted in a map, the chain of Andrew (1979) anew for each question, in BigInt.
+// The plain way, slow and simple: points with their multiplicities in a map, the chain of Andrew (1979) computed for each question, in BigInt.
 
-/** Whole numbers below a bound, the same for the same seed. */
+/** Returns a function of integers below a bound, the same for the same seed. */
 export function random_of(seed) {
     let state = seed >>> 0;
     return (bound) => {
@@ -9,7 +9,7 @@ export function random_of(seed) {
     };
 }
 
-/** Twice the area of a, b, c: positive where c is left of the line from a to b. */
+/** Returns twice the area of a, b, c: positive if c is left of the line from a to b. */
 function turn([ax, ay], [bx, by], [cx, cy]) {
     return (bx - ax) * (cy - ay) - (by - ay) * (cx - ax);
 }
@@ -27,7 +27,7 @@ function half(points) {
 
 const within = ([x, y], [ax, ay], [bx, by]) => (x - ax) * (x - bx) <= 0n && (y - ay) * (y - by) <= 0n;
 const farther = (from, a, b) => (a[0] - from[0]) ** 2n + (a[1] - from[1]) ** 2n > (b[0] - from[0]) ** 2n + (b[1] - from[1]) ** 2n;
-const told = (point) => point.map(Number);
+const toNumbers = (point) => point.map(Number);
 
 /** A hull with the questions of hull.js, each answered from all points. */
 export class Plain {
@@ -37,7 +37,7 @@ export class Plain {
         this.held = new Map();
     }
 
-    /** How often the point is held now, or 0 where it was refused. */
+    /** Returns the multiplicity of the point now, or 0 if it was refused. */
     add(x, y) {
         const times = this.multiplicity(x, y);
         if (times === 0 ? this.held.size >= this.limit : times >= this.most) return 0;
@@ -61,18 +61,18 @@ export class Plain {
         return this.held.size;
     }
 
-    corners() {
+    exactVertices() {
         const points = [...this.held.keys()].map((it) => it.split(" ").map(BigInt)).sort(before);
         return points.length < 2 ? points : [...half(points), ...half(points.toReversed?.() ?? [...points].reverse())];
     }
 
     vertices() {
-        return this.corners().map(told);
+        return this.exactVertices().map(toNumbers);
     }
 
     edges() {
-        const corners = this.corners();
-        return corners.map((corner, i) => [corner, corners[(i + 1) % corners.length]]);
+        const vertices = this.exactVertices();
+        return vertices.map((vertex, i) => [vertex, vertices[(i + 1) % vertices.length]]);
     }
 
     doubledArea() {
@@ -87,17 +87,17 @@ export class Plain {
 
     extreme(x, y) {
         const far = ([px, py]) => px * BigInt(x) + py * BigInt(y);
-        const found = this.corners().reduce((best, it) => (best && (far(it) < far(best) || (far(it) === far(best) && before(it, best) > 0)) ? best : it), null);
-        return found && told(found);
+        const found = this.exactVertices().reduce((best, it) => (best && (far(it) < far(best) || (far(it) === far(best) && before(it, best) > 0)) ? best : it), null);
+        return found && toNumbers(found);
     }
 
     tangents(x, y) {
-        const from = [BigInt(x), BigInt(y)], corners = this.corners();
-        if (corners.length === 0 || this.place(x, y) !== "outside") return null;
-        const side = (sign) => corners.reduce((best, it) => {
+        const from = [BigInt(x), BigInt(y)], vertices = this.exactVertices();
+        if (vertices.length === 0 || this.place(x, y) !== "outside") return null;
+        const farthest = (sign) => vertices.reduce((best, it) => {
             const across = sign * turn(from, best, it);
             return across > 0n || (across === 0n && farther(from, it, best)) ? it : best;
         });
-        return { left: told(side(1n)), right: told(side(-1n)) };
+        return { left: toNumbers(farthest(1n)), right: toNumbers(farthest(-1n)) };
     }
 }

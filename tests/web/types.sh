@@ -20,10 +20,10 @@ for target in ES2020 ES2021 ES2022 ESNext; do
         [ "$look" = node16 ] && kind=node16 || kind=$target
         [ "$kind" = ES2021 ] && kind=ES2020
         for skip in true false; do
-            if told=$(compiled "$target" "$kind" "$look" "$skip" typed.ts); then
+            if output=$(compiled "$target" "$kind" "$look" "$skip" typed.ts); then
                 said "types, $target, $look, skipLibCheck $skip" ok
             else
-                said "types, $target, $look, skipLibCheck $skip" "FAILED, $(echo "$told" | head -5)"
+                said "types, $target, $look, skipLibCheck $skip" "FAILED, $(echo "$output" | head -5)"
             fi
         done
     done

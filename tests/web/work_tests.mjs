@@ -1,9 +1,9 @@
-// What stands below the page, in Node: texts of points, doubles, deeds and what takes them back, parts of journals, and colors.
+// What the page is made of, in Node: texts of points, doubles, deeds and their undoing, segments of journals, and colors.
 import { strict as assert } from "node:assert";
 import { readFileSync } from "node:fs";
 import { OutOfRange, ZeroDirection, load } from "../../web/hull.js";
 import { directionOf, fromFloat, fromFloats, toFloat, wkt } from "../../web/exchange.js";
-import { firstMeeting, indices, meetsSegments, moved, nearestHeld, pairsWithin, relations, turned } from "../../web/many.js";
+import { firstMeeting, indices, intersectsSegments, nearestHeld, pairsWithinDistance, relations, rotate, translate } from "../../web/many.js";
 import { Replay, TextError, emptyJournal, joinJournals, journalText, readJournal } from "../../web/journal.js";
 import { addressOf, callsOf, kindOf, powerFor, readAddress, readRows, writeRows } from "../../web/texts.js";
 import { Heap } from "../../web/heap.js";
@@ -12,7 +12,7 @@ import { Work } from "../../web/work.js";
 import { random_of } from "./plain.mjs";
 
 const web = (name) => new URL(`../../web/${name}`, import.meta.url);
-const { Hull, Outline } = await load(web(`out/${process.env.MODULE ?? "hull.wasm"}`));
+const { Hull, Polygon } = await load(web(`out/${process.env.MODULE ?? "hull.wasm"}`));
 
 let passed = 0, failed = 0;
 async function tried(name, run) {
@@ -26,7 +26,7 @@ async function tried(name, run) {
     }
 }
 
-await tried("many outlines, and outlines that move", () => {
+await tried("many polygons, and polygons that move", () => {
     const chance = random_of(5), whole = (most) => chance(2 * most + 1) - most;
     let hits = 0, near = 0;
     for (let trial = 0; trial < 30; trial++) {
@@ -34,85 +34,85 @@ await tried("many outlines, and outlines that move", () => {
             const x = whole(20), y = whole(20);
             return Array.from({ length: count }, () => [x + whole(size), y + whole(size)]);
         };
-        const inputs = Array.from({ length: 12 }, (_, k) => points(k % 6, 1 + (k % 3) * 3)), all = inputs.map((input) => Outline.of(input));
+        const inputs = Array.from({ length: 12 }, (_, k) => points(k % 6, 1 + (k % 3) * 3)), all = inputs.map((input) => Polygon.of(input));
         for (const [numerator, denominator] of [[0, 1], [5, 2], [9, 1], [2 ** 53 - 1, 1]]) {
             const pairs = [];
-            for (let i = 0; i < 12; i++) for (let j = i + 1; j < 12; j++) if (all[i].within(all[j], numerator, denominator)) pairs.push([i, j]);
-            assert.deepEqual(pairsWithin(all, numerator, denominator), pairs);
+            for (let i = 0; i < 12; i++) for (let j = i + 1; j < 12; j++) if (all[i].withinDistance(all[j], numerator, denominator)) pairs.push([i, j]);
+            assert.deepEqual(pairsWithinDistance(all, numerator, denominator), pairs);
             near += pairs.length;
         }
         assert.deepEqual(relations(all[1], all), all.map((other) => all[1].relation(other)));
         const ways = Array.from({ length: 20 }, () => [whole(40), whole(40), whole(40), whole(40)]);
-        assert.deepEqual(meetsSegments(all[5], ways), ways.map((way) => all[5].meetsSegment(...way)));
+        assert.deepEqual(intersectsSegments(all[5], ways), ways.map((way) => all[5].intersectsSegment(...way)));
         assert.deepEqual(indices(all[5], inputs[5]).map((at) => inputs[5][at]), all[5].vertices());
         const [dx, dy] = [whole(60), whole(60)], met = firstMeeting(all[5], all[4], dx, dy);
-        const meet = (part, parts) => {
-            const large = (outline, x, y) => new Outline(outline.vertices().map(([a, b]) => [a * parts + part * x, b * parts + part * y]));
-            return large(all[5], 0, 0).meets(large(all[4], dx, dy));
+        const intersects = (part, parts) => {
+            const large = (polygon, x, y) => new Polygon(polygon.vertices().map(([a, b]) => [a * parts + part * x, b * parts + part * y]));
+            return large(all[5], 0, 0).intersects(large(all[4], dx, dy));
         };
         const [part, parts] = met ? [Number(met.part.numerator), Number(met.part.denominator)] : [61, 60];
-        for (let k = 0; k <= 60; k++) if (k * parts < part * 60) assert.ok(!meet(k, 60), `${k} of 60`);
-        if (met) assert.ok(meet(part, parts));
-        hits += met && met.corner ? 1 : 0;
-        assert.deepEqual(new Outline(moved(all[5], 7, -3)).vertices(), all[5].vertices().map(([x, y]) => [x + 7, y - 3]));
-        assert.equal(new Outline(turned(all[5], 3, -4)).doubledArea(), 25n * all[5].doubledArea());
+        for (let k = 0; k <= 60; k++) if (k * parts < part * 60) assert.ok(!intersects(k, 60), `${k} of 60`);
+        if (met) assert.ok(intersects(part, parts));
+        hits += met && met.vertex ? 1 : 0;
+        assert.deepEqual(new Polygon(translate(all[5], 7, -3)).vertices(), all[5].vertices().map(([x, y]) => [x + 7, y - 3]));
+        assert.equal(new Polygon(rotate(all[5], 3, -4)).doubledArea(), 25n * all[5].doubledArea());
         const hull = new Hull();
         hull.addAll(inputs[5]);
         const least = Math.min(...inputs[5].map(([x, y]) => (x - 1) ** 2 + (y - 2) ** 2));
         assert.equal(nearestHeld(hull, 1, 2).squared, BigInt(least));
         hull.free();
-        all.forEach((outline) => outline.free());
+        all.forEach((polygon) => polygon.free());
     }
     assert.ok(hits > 3 && near > 100);
-    const far = Outline.of([[2 ** 40, 0]]);
-    assert.throws(() => moved(far, 1, 0), OutOfRange);
-    assert.throws(() => turned(far, 3, 4), OutOfRange);
-    assert.throws(() => turned(far, 0, 0), ZeroDirection);
-    assert.deepEqual([nearestHeld(new Hull(), 0, 0), firstMeeting(far, Outline.of([]), 1, 1), pairsWithin([])], [null, null, []]);
+    const far = Polygon.of([[2 ** 40, 0]]);
+    assert.throws(() => translate(far, 1, 0), OutOfRange);
+    assert.throws(() => rotate(far, 3, 4), OutOfRange);
+    assert.throws(() => rotate(far, 0, 0), ZeroDirection);
+    assert.deepEqual([nearestHeld(new Hull(), 0, 0), firstMeeting(far, Polygon.of([]), 1, 1), pairsWithinDistance([])], [null, null, []]);
     return `${near} pairs, ${hits} meetings`;
 });
 
-await tried("numbers of many outlines, judged as those of add", () => {
-    const far = 2 ** 40, one = new Outline([[0, 0], [4, 0], [0, 4]]), other = new Outline([[9, 0], [12, 0], [9, 4]]), none = new Outline([]), hull = new Hull();
+await tried("numbers of many polygons, judged as those of add", () => {
+    const far = 2 ** 40, one = new Polygon([[0, 0], [4, 0], [0, 4]]), other = new Polygon([[9, 0], [12, 0], [9, 4]]), none = new Polygon([]), hull = new Hull();
     hull.add(1, 1);
     for (const wrong of [NaN, Infinity, -Infinity, 0.5, "1", "", null, undefined, 1n, [1], {}, true]) {
         assert.throws(() => hull.add(wrong, 0), OutOfRange);
-        for (const outline of [one, none]) {
-            assert.throws(() => moved(outline, wrong, 0), OutOfRange, `moved by ${String(wrong)}`);
-            assert.throws(() => moved(outline, 0, wrong), OutOfRange);
-            assert.throws(() => turned(outline, wrong, 1), OutOfRange, `turned by ${String(wrong)}`);
-            assert.throws(() => turned(outline, 0, wrong), OutOfRange);
-            assert.throws(() => firstMeeting(one, outline, wrong, 0), OutOfRange, `meeting by ${String(wrong)}`);
-            assert.throws(() => firstMeeting(outline, other, 0, wrong), OutOfRange);
+        for (const polygon of [one, none]) {
+            assert.throws(() => translate(polygon, wrong, 0), OutOfRange, `translated by ${String(wrong)}`);
+            assert.throws(() => translate(polygon, 0, wrong), OutOfRange);
+            assert.throws(() => rotate(polygon, wrong, 1), OutOfRange, `rotated by ${String(wrong)}`);
+            assert.throws(() => rotate(polygon, 0, wrong), OutOfRange);
+            assert.throws(() => firstMeeting(one, polygon, wrong, 0), OutOfRange, `meeting by ${String(wrong)}`);
+            assert.throws(() => firstMeeting(polygon, other, 0, wrong), OutOfRange);
         }
         assert.throws(() => firstMeeting(one, one, wrong, 0), OutOfRange);
         assert.throws(() => nearestHeld(hull, wrong, 0), OutOfRange, `nearest to ${String(wrong)}`);
         assert.throws(() => nearestHeld(hull, 0, wrong), OutOfRange);
         assert.throws(() => nearestHeld(new Hull(), 0, wrong), OutOfRange);
         assert.throws(() => indices(one, [[0, wrong]]), OutOfRange);
-        assert.throws(() => meetsSegments(one, [[0, 0, 1, wrong]]), OutOfRange);
+        assert.throws(() => intersectsSegments(one, [[0, 0, 1, wrong]]), OutOfRange);
         if (wrong !== undefined) {
-            assert.throws(() => pairsWithin([one, other], wrong), OutOfRange, `within ${String(wrong)}`);
-            assert.throws(() => pairsWithin([], 1, wrong), OutOfRange);
+            assert.throws(() => pairsWithinDistance([one, other], wrong), OutOfRange, `within ${String(wrong)}`);
+            assert.throws(() => pairsWithinDistance([], 1, wrong), OutOfRange);
         }
     }
     for (const [numerator, denominator] of [[-1, 1], [1.5, 1], [1, 0], [1, -1], [1, 2 ** 32], [2 ** 53, 1]]) {
-        assert.throws(() => pairsWithin([one, other], numerator, denominator), OutOfRange);
+        assert.throws(() => pairsWithinDistance([one, other], numerator, denominator), OutOfRange);
     }
-    for (const row of [[0, 0, 1], [0, 0, 1, 1, 1], [], null]) assert.throws(() => meetsSegments(one, [row]), OutOfRange);
+    for (const row of [[0, 0, 1], [0, 0, 1, 1, 1], [], null]) assert.throws(() => intersectsSegments(one, [row]), OutOfRange);
     for (const [x, y] of [[2 ** 45, 0], [far + 1, 0], [0, -far - 1]]) {
         assert.throws(() => nearestHeld(hull, x, y), OutOfRange);
         assert.throws(() => firstMeeting(one, other, x, y), OutOfRange);
-        assert.throws(() => turned(one, x, y), OutOfRange);
+        assert.throws(() => rotate(one, x, y), OutOfRange);
     }
-    for (const [x, y] of [[2 * far + 1, 0], [0, -2 * far - 1], [far, 0]]) assert.throws(() => moved(one, x, y), OutOfRange);
-    assert.deepEqual(moved(Outline.of([[-far, 0]]), 2 * far, -0), [[far, 0]]);
-    assert.deepEqual([pairsWithin([one, other], 5), pairsWithin([one, other], 49, 10)], [[[0, 1]], []]);
+    for (const [x, y] of [[2 * far + 1, 0], [0, -2 * far - 1], [far, 0]]) assert.throws(() => translate(one, x, y), OutOfRange);
+    assert.deepEqual(translate(Polygon.of([[-far, 0]]), 2 * far, -0), [[far, 0]]);
+    assert.deepEqual([pairsWithinDistance([one, other], 5), pairsWithinDistance([one, other], 49, 10)], [[[0, 1]], []]);
     assert.deepEqual(nearestHeld(hull, far, -far).point, [1, 1]);
     hull.free();
 });
 await tried("equal points, and a contact at the very end of the way", () => {
-    const one = new Outline([[0, 0], [4, 0], [4, 4], [0, 4]]), other = new Outline([[9, 0], [12, 0], [12, 4], [9, 4]]);
+    const one = new Polygon([[0, 0], [4, 0], [4, 4], [0, 4]]), other = new Polygon([[9, 0], [12, 0], [12, 4], [9, 4]]);
     assert.deepEqual(indices(one, [[4, 4], [0, 0], [4, 4], [9, 9], [0, 0], [0, 4]]), [1, -1, 0, 5]);
     for (const [standing, moving, dx] of [[one, other, -5], [other, one, 5]]) {
         const met = firstMeeting(standing, moving, dx, 0);
@@ -121,7 +121,7 @@ await tried("equal points, and a contact at the very end of the way", () => {
         assert.equal(firstMeeting(standing, moving, dx - Math.sign(dx), 0), null);
     }
 });
-await tried("blocks that are given back are taken again, all of them", () => {
+await tried("blocks that are freed are taken again, all of them", () => {
     const heap = new Heap(), memory = { buffer: new ArrayBuffer(2 ** 20), grow: () => assert.fail("it grows") };
     heap.begin(memory, 4096);
     for (const bytes of [1, 16, 100, 512, 513, 5000]) {
@@ -133,7 +133,7 @@ await tried("blocks that are given back are taken again, all of them", () => {
         }
     }
 });
-await tried("a journal that is opened lets the hull of the one before go", () => {
+await tried("the hull of a journal is freed when another is opened", () => {
     const alive = new Set();
     const Counted = class extends Hull {
         constructor(limit) {
@@ -154,7 +154,7 @@ await tried("a journal that is opened lets the hull of the one before go", () =>
     }
     assert.deepEqual([...alive], [work.hull]);
 });
-await tried("the first lines of a long journal are laid in the data base once", async () => {
+await tried("the first lines of a long journal are stored in the database once", async () => {
     const puts = [], bases = new Map(), later = (result) => {
         const request = { result };
         queueMicrotask(() => request.onsuccess());
@@ -230,14 +230,14 @@ await tried("the power by which numbers are whole", () => {
     assert.deepEqual([calls, power, rounded], [["add 2 4", "add 2 4", "add 0 -1"], 2, 0]);
     assert.throws(() => callsOf(Array(100).fill([1, 1, 65535])), RangeError);
 });
-await tried("an address holds the points, and a wrong or a long one none", () => {
+await tried("an address contains the points, and a wrong or a long one none", () => {
     const held = new Map([["0 0", 1], ["-7 8", 12]]), address = addressOf(held, 3);
     assert.equal(address, "#points=-7,8*12;0,0&power=3");
     assert.deepEqual(readAddress(address), { calls: [...Array(12).fill("add -7 8"), "add 0 0"], power: 3 });
     assert.deepEqual([addressOf(new Map(), 0), addressOf(new Map(Array.from({ length: 9000 }, (_, i) => [`${i} 0`, 1])), 0), readAddress("#proved"), readAddress("")], ["", "", null, null]);
     for (const bad of ["#points=1", "#points=1,2*0", "#points=1,1099511627777", "#points=1,2;;3,4", "#points=1,2*70000"]) assert.throws(() => readAddress(bad), TextError, bad);
 });
-await tried("deeds at random, all taken back and all done again", () => {
+await tried("deeds at random, all undone and all redone", () => {
     const random = random_of(11);
     let deeds = 0;
     for (let round = 0; round < 60; round++) {
@@ -274,36 +274,36 @@ await tried("deeds at random, all taken back and all done again", () => {
     }
     return `${deeds} turns`;
 });
-await tried("a call that a journal takes none of leaves its later lines", () => {
+await tried("a call that a journal refuses leaves its later lines", () => {
     const journal = readJournal("hullbook journal 2 first 0 limit 9 capacity 9\n0 0 add 0 0 = added\n1 0 add 1 1 = added\nend 2\n");
     const work = new Work(Hull, { journal, power: 0 });
     work.go(1);
     work.do(["add 5 5"]);
-    assert.match(work.told, /takes no more lines/);
+    assert.match(work.message, /takes no more lines/);
     assert.equal(work.replay.journal.lines.length, 2);
     work.undo();
     assert.equal(work.replay.at, 2);
 });
-await tried("the coordinates of what is held, beside a map", () => {
+await tried("the coordinates of the points, beside a map", () => {
     const work = new Work(Hull), random = random_of(3);
     for (let i = 0; i < 3000; i++) work.do([`${random(5) > 1 ? "add" : "remove"} ${random(12)} ${random(12)}`]);
     const { coordinates, size } = work.replay.held, keys = Array.from({ length: size }, (_, i) => `${coordinates[2 * i]} ${coordinates[2 * i + 1]}`);
     assert.deepEqual(keys.sort(), [...work.replay.held.keys()].sort());
     assert.deepEqual(keys, work.hull.held().map((it) => it.point.join(" ")).sort());
 });
-await tried("parts of a journal, in any order and round the last number", () => {
+await tried("segments of a journal, in any order and round the last number", () => {
     const first = 2n ** 64n - 2n, lines = ["add 0 0 = added", "add 9 0 = added", "add 0 9 = added", "count = count 3"];
-    const part = (from, to) => readJournal(`hullbook journal 3 first ${(first + BigInt(from)) % 2n ** 64n} limit 9 capacity 9\n${lines.slice(from, to).map((it, i) => `${(first + BigInt(from + i)) % 2n ** 64n} 0 ${it}\n`).join("")}end ${to - from}\n`);
-    const parts = [part(3, 4), part(0, 1), part(1, 3)].map((journal, i) => ({ name: `part ${i}`, journal }));
+    const segment = (from, to) => readJournal(`hullbook journal 3 first ${(first + BigInt(from)) % 2n ** 64n} limit 9 capacity 9\n${lines.slice(from, to).map((it, i) => `${(first + BigInt(from + i)) % 2n ** 64n} 0 ${it}\n`).join("")}end ${to - from}\n`);
+    const segments = [segment(3, 4), segment(0, 1), segment(1, 3)].map((journal, i) => ({ name: `segment ${i}`, journal }));
     for (const order of [[0, 1, 2], [2, 0, 1], [1, 2, 0]]) {
-        const joined = joinJournals(order.map((it) => parts[it]));
+        const joined = joinJournals(order.map((it) => segments[it]));
         assert.deepEqual(joined.lines.map((it) => `${it.call} = ${it.reply}`), lines);
-        assert.deepEqual(joined.parts, [{ name: "part 1", from: 0 }, { name: "part 2", from: 1 }, { name: "part 0", from: 3 }]);
+        assert.deepEqual(joined.segments, [{ name: "segment 1", from: 0 }, { name: "segment 2", from: 1 }, { name: "segment 0", from: 3 }]);
         assert.equal(readJournal(journalText(joined)).lines.length, 4);
     }
-    assert.throws(() => joinJournals([parts[0], parts[1]]), RangeError);
-    assert.throws(() => joinJournals([parts[1], { ...parts[2], journal: { ...parts[2].journal, limit: 8 } }]), /another version or limit/);
-    assert.throws(() => joinJournals([parts[1], { ...parts[2], journal: { ...parts[2].journal, capacity: 1 } }]), /more lines than its capacity/);
+    assert.throws(() => joinJournals([segments[0], segments[1]]), RangeError);
+    assert.throws(() => joinJournals([segments[1], { ...segments[2], journal: { ...segments[2].journal, limit: 8 } }]), /another version or limit/);
+    assert.throws(() => joinJournals([segments[1], { ...segments[2], journal: { ...segments[2].journal, capacity: 1 } }]), /more lines than its capacity/);
 });
 
 /** The colors of the page by their names, light and dark. */
@@ -333,15 +333,15 @@ function labOf(color, eyes) {
     const root = (it) => (it > 216 / 24389 ? Math.cbrt(it) : (24389 / 27 * it + 16) / 116);
     return [116 * root(y) - 16, 500 * (root(x) - root(y)), 200 * (root(y) - root(z))];
 }
-await tried("colors that red-green blind people tell apart, and contrast of borders, lines and words", () => {
-    const schemes = colorsOf(readFileSync(web("page.html"), "utf8")), told = [];
+await tried("colors that red-green blind people can distinguish, and contrast of borders, lines and words", () => {
+    const schemes = colorsOf(readFileSync(web("page.html"), "utf8")), distances = [];
     assert.equal(schemes.length, 2);
     for (const colors of schemes) {
         for (const [one, other] of [["left", "right"], ["left", "hull"], ["right", "hull"], ["hull", "other"], ["upper", "lower"], ["point", "hull"], ["inside", "within"]]) {
             for (const eyes of Object.keys(EYES)) {
-                const apart = Math.hypot(...labOf(colors[one], eyes).map((it, i) => it - labOf(colors[other], eyes)[i]));
-                assert.ok(apart >= (one === "inside" ? 10 : 20), `${one} and ${other} for ${eyes}: ${apart.toFixed(1)}`);
-                told.push(apart);
+                const distance = Math.hypot(...labOf(colors[one], eyes).map((it, i) => it - labOf(colors[other], eyes)[i]));
+                assert.ok(distance >= (one === "inside" ? 10 : 20), `${one} and ${other} for ${eyes}: ${distance.toFixed(1)}`);
+                distances.push(distance);
             }
         }
         for (const name of ["line", "hull", "left", "right", "upper", "lower", "other", "point"]) {
@@ -351,7 +351,7 @@ await tried("colors that red-green blind people tell apart, and contrast of bord
             for (const ground of ["plane", "ground"]) assert.ok(contrast(colors[name], colors[ground]) >= 4.5, `${name} on ${ground}: ${contrast(colors[name], colors[ground]).toFixed(2)}`);
         }
     }
-    return `${told.length} pairs`;
+    return `${distances.length} pairs`;
 });
 console.log(`${passed} passed, ${failed} failed`);
 process.exit(failed ? 1 : 0);

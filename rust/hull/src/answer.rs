@@ -1,9 +1,9 @@
 //! Replies in numbers, as types of Rust. Both libraries use the same numbers.
-use crate::raw::{code, ClearanceTold, HitTold, Reply, WitnessTold};
-use crate::{Clearance, Distance, Entry, Fault, Hit, Nearest, Place, Point, Relation, Separation, Strip, Witness};
+use crate::raw::{code, DistanceBoundsReply, HitReply, Reply, WitnessReply};
+use crate::{Distance, DistanceBounds, Entry, Fault, Hit, Nearest, Place, Point, Relation, Separation, Strip, Witness};
 
 /// The multiplicity of a point that was added.
-pub(crate) fn times_added(reply: Reply) -> Result<u32, Fault> {
+pub(crate) fn multiplicity_added(reply: Reply) -> Result<u32, Fault> {
     match reply.code {
         code::ADDED => Ok(1),
         code::AGAIN => Ok(reply.number as u32),
@@ -12,7 +12,7 @@ pub(crate) fn times_added(reply: Reply) -> Result<u32, Fault> {
 }
 
 /// The multiplicity that is left of a point that was removed; `None` if it was not there.
-pub(crate) fn times_left(reply: Reply) -> Result<Option<u32>, Fault> {
+pub(crate) fn multiplicity_left(reply: Reply) -> Result<Option<u32>, Fault> {
     match reply.code {
         code::REMOVED => Ok(Some(0)),
         code::LEFT => Ok(Some(reply.number as u32)),
@@ -48,8 +48,8 @@ pub(crate) fn extreme(reply: Reply) -> Result<Option<Point>, Fault> {
 
 pub(crate) fn separation(reply: Reply) -> Result<Option<Separation>, Fault> {
     match reply.code {
-        code::APART => Ok(Some(Separation { farthest: reply.point(), direction: reply.other_point() })),
-        code::MEETING | code::EMPTY => Ok(None),
+        code::DISJOINT => Ok(Some(Separation { farthest: reply.point(), direction: reply.other_point() })),
+        code::INTERSECTING | code::EMPTY => Ok(None),
         other => Err(fault_of(other)),
     }
 }
@@ -57,7 +57,7 @@ pub(crate) fn separation(reply: Reply) -> Result<Option<Separation>, Fault> {
 pub(crate) fn nearest(reply: Reply) -> Result<Option<Nearest>, Fault> {
     match reply.code {
         code::COVERED => Ok(Some(Nearest::Covered)),
-        code::CORNER => Ok(Some(Nearest::Corner(reply.point()))),
+        code::VERTEX => Ok(Some(Nearest::Vertex(reply.point()))),
         code::EDGE => Ok(Some(Nearest::Edge(reply.point(), reply.other_point()))),
         code::EMPTY => Ok(None),
         other => Err(fault_of(other)),
@@ -81,29 +81,29 @@ pub(crate) fn width(reply: Reply) -> Result<Option<u128>, Fault> {
     }
 }
 
-pub(crate) fn witness(told: WitnessTold) -> Option<Witness> {
-    match told.code {
-        code::COVERED => Some(Witness::Covered(told.a)),
-        code::WITHIN => Some(Witness::Within(told.a)),
-        code::CROSSING => Some(Witness::Crossing([told.a, told.b], [told.c, told.d])),
-        code::APART => Some(Witness::Apart(Separation { farthest: told.a, direction: told.b })),
+pub(crate) fn witness(reply: WitnessReply) -> Option<Witness> {
+    match reply.code {
+        code::COVERED => Some(Witness::Covered(reply.a)),
+        code::WITHIN => Some(Witness::Within(reply.a)),
+        code::CROSSING => Some(Witness::Crossing([reply.a, reply.b], [reply.c, reply.d])),
+        code::DISJOINT => Some(Witness::Disjoint(Separation { farthest: reply.a, direction: reply.b })),
         _ => None,
     }
 }
 
-pub(crate) fn distance(told: WitnessTold) -> Option<Distance> {
-    match told.code {
-        code::MEETING => Some(Distance::Zero),
-        code::POINTS => Some(Distance::Corners(told.a, told.b)),
-        code::CORNER => Some(Distance::CornerAndEdge(told.a, [told.b, told.c])),
-        code::EDGE => Some(Distance::EdgeAndCorner([told.a, told.b], told.c)),
+pub(crate) fn distance(reply: WitnessReply) -> Option<Distance> {
+    match reply.code {
+        code::INTERSECTING => Some(Distance::Zero),
+        code::POINTS => Some(Distance::Vertices(reply.a, reply.b)),
+        code::VERTEX => Some(Distance::VertexAndEdge(reply.a, [reply.b, reply.c])),
+        code::EDGE => Some(Distance::EdgeAndVertex([reply.a, reply.b], reply.c)),
         _ => None,
     }
 }
 
-pub(crate) fn clearance(told: ClearanceTold) -> Result<Option<Clearance>, Fault> {
-    match told.code {
-        code::NUMBER => Ok(Some(Clearance::new(told))),
+pub(crate) fn distance_bounds(reply: DistanceBoundsReply) -> Result<Option<DistanceBounds>, Fault> {
+    match reply.code {
+        code::NUMBER => Ok(Some(DistanceBounds::new(reply))),
         code::EMPTY => Ok(None),
         other => Err(fault_of(other)),
     }
@@ -112,7 +112,7 @@ pub(crate) fn clearance(told: ClearanceTold) -> Result<Option<Clearance>, Fault>
 pub(crate) fn relation(number: u64) -> Relation {
     match number {
         // written by tools/table.py: relations
-        0 => Relation::Apart,
+        0 => Relation::Disjoint,
         1 => Relation::Touching,
         2 => Relation::Overlapping,
         3 => Relation::Within,
@@ -123,26 +123,26 @@ pub(crate) fn relation(number: u64) -> Relation {
     }
 }
 
-pub(crate) fn hit(told: HitTold) -> Result<Option<Hit>, Fault> {
-    let place = match told.code {
+pub(crate) fn hit(reply: HitReply) -> Result<Option<Hit>, Fault> {
+    let place = match reply.code {
         code::COVERED => Entry::Start,
-        code::EDGE => Entry::Edge(told.a, told.b),
-        code::CORNER => Entry::Corner(told.a),
-        code::APART | code::EMPTY => return Ok(None),
+        code::EDGE => Entry::Edge(reply.a, reply.b),
+        code::VERTEX => Entry::Vertex(reply.a),
+        code::DISJOINT | code::EMPTY => return Ok(None),
         other => return Err(fault_of(other)),
     };
     let number = |high, low| u128::from(high) << 64 | u128::from(low);
-    Ok(Some(Hit { place, part: number(told.high, told.low), whole: number(told.divisor_high, told.divisor_low) }))
+    Ok(Some(Hit { place, part: number(reply.high, reply.low), whole: number(reply.divisor_high, reply.divisor_low) }))
 }
 
-pub(crate) fn strip(told: WitnessTold) -> Option<Strip> {
-    (told.code == code::EDGE).then_some(Strip { from: told.a, to: told.b, farthest: told.c })
+pub(crate) fn strip(reply: WitnessReply) -> Option<Strip> {
+    (reply.code == code::EDGE).then_some(Strip { from: reply.a, to: reply.b, farthest: reply.c })
 }
 
 /// A number in a reply: of points, of vertices, also if those do not fit, or twice the area.
 pub(crate) fn number(reply: Reply) -> Result<u128, Fault> {
     match reply.code {
-        code::NUMBER | code::CORNERS | code::TOO_SMALL => Ok(u128::from(reply.high) << 64 | u128::from(reply.number)),
+        code::NUMBER | code::VERTICES | code::TOO_SMALL => Ok(u128::from(reply.high) << 64 | u128::from(reply.number)),
         other => Err(fault_of(other)),
     }
 }

@@ -19,8 +19,8 @@ unsafe impl<T: Send + Sync> Sync for Counted<T> {}
 impl<T> Counted<T> {
     pub(crate) fn new(value: T) -> Result<Counted<T>, Fault> {
         // SAFETY: the layout has a size of more than 0.
-        let room = unsafe { alloc(Layout::new::<Owned<T>>()) };
-        let at = NonNull::new(room.cast::<Owned<T>>()).ok_or(Fault::NoMemory)?;
+        let storage = unsafe { alloc(Layout::new::<Owned<T>>()) };
+        let at = NonNull::new(storage.cast::<Owned<T>>()).ok_or(Fault::NoMemory)?;
         // SAFETY: the memory is of this layout, and nobody else's.
         unsafe { at.as_ptr().write(Owned { owners: AtomicUsize::new(1), value }) };
         Ok(Counted(at))
@@ -40,7 +40,7 @@ impl<T> Counted<T> {
 impl<T> Clone for Counted<T> {
     fn clone(&self) -> Counted<T> {
         let owners = self.owned().owners.fetch_add(1, Ordering::Relaxed);
-        assert!(owners <= usize::MAX / 2, "so many owners have no room in memory");
+        assert!(owners <= usize::MAX / 2, "so many owners do not fit into memory");
         Counted(self.0)
     }
 }

@@ -104,15 +104,15 @@ impl Write for Text {
     }
 }
 
-fn write_wkt(text: &mut Text, corners: &[Point], power: i32) -> fmt::Result {
-    let (begin, end, points) = match corners.len() {
+fn write_wkt(text: &mut Text, vertices: &[Point], power: i32) -> fmt::Result {
+    let (begin, end, points) = match vertices.len() {
         0 => return text.write_str("POLYGON EMPTY"),
         1 => ("POINT (", ")", 1),
         2 => ("LINESTRING (", ")", 2),
         more => ("POLYGON ((", "))", more + 1),
     };
     text.write_str(begin)?;
-    for (i, &point) in corners.iter().cycle().take(points).enumerate() {
+    for (i, &point) in vertices.iter().cycle().take(points).enumerate() {
         text.write_str(if i == 0 { "" } else { ", " })?;
         if power == 0 {
             write!(text, "{} {}", point.x, point.y)?;
@@ -125,15 +125,15 @@ fn write_wkt(text: &mut Text, corners: &[Point], power: i32) -> fmt::Result {
 }
 
 /// [`wkt`], or [`Fault::NoMemory`].
-pub(crate) fn try_wkt(corners: &[Point], power: i32) -> Result<String, Fault> {
+pub(crate) fn try_wkt(vertices: &[Point], power: i32) -> Result<String, Fault> {
     let mut text = Text(String::new());
-    write_wkt(&mut text, corners, power).map_err(|_| Fault::NoMemory)?;
+    write_wkt(&mut text, vertices, power).map_err(|_| Fault::NoMemory)?;
     Ok(text.0)
 }
 
 /// Returns vertices as well-known text (OGC 06-103r4), which GEOS, PostGIS and QGIS read: `POLYGON EMPTY`, a `POINT`, a
 /// `LINESTRING`, or a `POLYGON` whose ring is closed and runs counterclockwise. Coordinates are divided by 2^`power`, and written
 /// with the fewest digits that give that float again. Panics if memory is refused.
-pub fn wkt(corners: &[Point], power: i32) -> String {
-    try_wkt(corners, power).unwrap_or_else(|fault| panic!("{fault}"))
+pub fn wkt(vertices: &[Point], power: i32) -> String {
+    try_wkt(vertices, power).unwrap_or_else(|fault| panic!("{fault}"))
 }

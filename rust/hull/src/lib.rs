@@ -15,13 +15,13 @@
 //! A [`Hull`] may go to another thread (`Send`), but be used by one at a time: share it as `Mutex<Hull>`, or open a [`SharedHull`]
 //! (over `libhull_shared.a`), of which each thread has a [`Seat`] and whose calls have their lines in a journal.
 mod answer;
-mod clearance;
 mod counted;
+mod distance_bounds;
 mod exchange;
 mod many;
 mod motions;
-mod outline;
 mod pairs;
+mod polygon;
 mod raw;
 mod reader;
 mod shared;
@@ -31,14 +31,14 @@ use std::alloc::{alloc, dealloc, Layout};
 use std::fmt;
 use std::ptr::NonNull;
 
-pub use clearance::Clearance;
+pub use distance_bounds::DistanceBounds;
 pub use exchange::{direction_of, wkt, Lattice, Rounded};
 pub use motions::Motion;
-pub use outline::{Corners, Distance, Entry, Hit, Nearest, Outline, Relation, Separation, Strip, Witness};
-pub use pairs::pairs_within;
+pub use pairs::pairs_within_distance;
+pub use polygon::{Distance, Entry, Hit, Nearest, Polygon, PolygonQuestions, Relation, Separation, Strip, Witness};
 pub use raw::{Held, Point};
 pub use reader::Reader;
-pub use shared::{JournalPart, Limits, Opening, Seat, SharedHull, Stats, CAPACITY_LIMIT, READER_LIMIT, SEAT_LIMIT};
+pub use shared::{JournalSegment, Limits, Opening, Seat, SharedHull, Stats, CAPACITY_LIMIT, READER_LIMIT, SEAT_LIMIT};
 
 /// The greatest size of a coordinate, of a point and of a direction: 2^40.
 pub const COORDINATE_LIMIT: i64 = 1 << 40;
@@ -68,7 +68,7 @@ pub enum Fault {
     /// The seat is acquired, or the shared hull has none of this number.
     NoSeat,
     /// The points are not a convex polygon.
-    NoOutline,
+    NoPolygon,
     /// The shared hull is closed.
     NotOpen,
     /// A seat or a reader of the shared hull is acquired.
@@ -109,7 +109,7 @@ impl fmt::Display for Fault {
             Fault::NoMemory => "memory was refused",
             Fault::OutOfOrder => "the points are not in order",
             Fault::BadLimit => "a limit of a hull is out of range",
-            Fault::NoOutline => "the points are not a convex polygon",
+            Fault::NoPolygon => "the points are not a convex polygon",
             Fault::NoSeat => "there is no such seat at the hull",
             Fault::NotOpen => "the hull is closed",
             Fault::SeatsOut => "a seat of the hull is acquired",
@@ -134,11 +134,11 @@ pub enum Place {
 
 /// A set of points, each with a multiplicity. Questions are about their convex hull.
 pub struct Hull {
-    room: NonNull<u8>,
+    storage: NonNull<u8>,
 }
 
 // SAFETY: the set is `Send`, which `hulls_go_to_any_thread` of `hull_c` asks for by a bound: plain data, and boxes from `malloc`. It is
-// not `Sync`, since a question too lends the library the whole hull.
+// not `Sync`, since the library needs the whole hull for a question too.
 unsafe impl Send for Hull {}
 
 impl Hull {
@@ -148,10 +148,10 @@ impl Hull {
             return Err(Fault::BadLimit);
         }
         // SAFETY: the layout has a size of more than 0.
-        let room = NonNull::new(unsafe { alloc(Self::layout()) }).ok_or(Fault::NoMemory)?;
-        // SAFETY: the room has the size and the alignment that the library asks for, and is nobody else's.
-        unsafe { raw::hull_make(limit, room.as_ptr()) };
-        Ok(Hull { room })
+        let storage = NonNull::new(unsafe { alloc(Self::layout()) }).ok_or(Fault::NoMemory)?;
+        // SAFETY: the storage has the size and the alignment that the library asks for, and is nobody else's.
+        unsafe { raw::hull_make(limit, storage.as_ptr()) };
+        Ok(Hull { storage })
     }
 
     /// Returns a set of some points in any order, with their multiplicities, for at most `limit` different points: as adding them
@@ -166,7 +166,7 @@ impl Hull {
     /// the set as it was.
     pub fn load(&mut self, points: &[Point]) -> Result<usize, Fault> {
         // SAFETY: as in `call`; the points are a slice's own, and a slice's pointer is not null.
-        let reply = unsafe { raw::hull_load(self.room.as_ptr(), points.as_ptr(), points.len()) };
+        let reply = unsafe { raw::hull_load(self.storage.as_ptr(), points.as_ptr(), points.len()) };
         answer::number(reply).map(|number| number as usize)
     }
 
@@ -174,7 +174,7 @@ impl Hull {
     /// as it was; a multiplicity of 0 or above [`MULTIPLICITY_LIMIT`] is out of range.
     pub fn load_held(&mut self, held: &[Held]) -> Result<(), Fault> {
         // SAFETY: as in `load`.
-        let reply = unsafe { raw::hull_load_held(self.room.as_ptr(), held.as_ptr(), held.len()) };
+        let reply = unsafe { raw::hull_load_held(self.storage.as_ptr(), held.as_ptr(), held.len()) };
         answer::number(reply).map(|_| ())
     }
 
@@ -183,7 +183,7 @@ impl Hull {
     pub fn held_from(&self, start: Point, out: &mut [Held]) -> Result<usize, Fault> {
         // SAFETY: as in `call`; the array is a slice's own.
         let reply =
-            unsafe { raw::hull_held_from(self.room.as_ptr(), start.x, start.y, out.as_mut_ptr(), out.len()) };
+            unsafe { raw::hull_held_from(self.storage.as_ptr(), start.x, start.y, out.as_mut_ptr(), out.len()) };
         answer::number(reply).map(|number| number as usize)
     }
 
@@ -202,7 +202,7 @@ impl Hull {
     /// if there is none. It reads all points that are not much farther along x.
     pub fn nearest_held(&self, point: Point) -> Result<Option<(Point, u128)>, Fault> {
         // SAFETY: as in `call`.
-        let reply = unsafe { raw::hull_nearest_held(self.room.as_ptr(), point.x, point.y) };
+        let reply = unsafe { raw::hull_nearest_held(self.storage.as_ptr(), point.x, point.y) };
         let squared = u128::from(reply.high) << 64 | u128::from(reply.number);
         Ok(answer::extreme(reply)?.map(|nearest| (nearest, squared)))
     }
@@ -217,49 +217,49 @@ impl Hull {
     fn layout() -> Layout {
         // SAFETY: these two read nothing.
         let (size, alignment) = unsafe { (raw::hull_size(), raw::hull_alignment()) };
-        Layout::from_size_align(size, alignment).expect("the room of a hull has a layout")
+        Layout::from_size_align(size, alignment).expect("the storage of a hull has a layout")
     }
 
     /// Makes a call by its kind. Only a `&mut self` makes those that change the set.
     fn call(&self, kind: u32, at: Point) -> Reply {
-        // SAFETY: a hull lies in the room, from `new` to `drop`; since `Hull` is not `Sync`, no other call is under way.
-        unsafe { raw::hull_call(self.room.as_ptr(), kind, at.x, at.y) }
+        // SAFETY: a hull is in the storage, from `new` to `drop`; since `Hull` is not `Sync`, no other call is under way.
+        unsafe { raw::hull_call(self.storage.as_ptr(), kind, at.x, at.y) }
     }
 
     /// The set, after a hint that a question follows: its vertices are gathered once questions are many.
-    fn settled(&self) -> *mut u8 {
+    fn prepared(&self) -> *mut u8 {
         // SAFETY: as in `call`.
-        unsafe { raw::hull_prepare(self.room.as_ptr()) };
-        self.room.as_ptr()
+        unsafe { raw::hull_prepare(self.storage.as_ptr()) };
+        self.storage.as_ptr()
     }
 
     /// Adds a point, and returns its multiplicity now: 1 if it is new.
     pub fn add(&mut self, point: Point) -> Result<u32, Fault> {
-        answer::times_added(self.call(kind::ADD, point))
+        answer::multiplicity_added(self.call(kind::ADD, point))
     }
 
     /// Removes a point once, and returns the multiplicity that is left: 0 if it is gone; `None` if it was not there.
     pub fn remove(&mut self, point: Point) -> Result<Option<u32>, Fault> {
-        answer::times_left(self.call(kind::REMOVE, point))
+        answer::multiplicity_left(self.call(kind::REMOVE, point))
     }
 
-    /// The location of a point.
+    /// Returns the location of a point.
     pub fn place(&self, point: Point) -> Result<Place, Fault> {
         // SAFETY: as in `call`.
-        answer::place(unsafe { raw::hull_place(self.settled(), point.x, point.y) })
+        answer::place(unsafe { raw::hull_place(self.prepared(), point.x, point.y) })
     }
 
     /// Returns the left and the right tangent point seen from `point`, of several on one line the farthest; `None` if there is no
     /// point, or the hull covers the one asked about.
     pub fn tangents(&self, point: Point) -> Result<Option<(Point, Point)>, Fault> {
         // SAFETY: as in `call`.
-        answer::tangents(unsafe { raw::hull_tangents(self.settled(), point.x, point.y) })
+        answer::tangents(unsafe { raw::hull_tangents(self.prepared(), point.x, point.y) })
     }
 
     /// Returns the farthest point in a direction, of several the first by x and then by y; `None` if there is none.
     pub fn extreme(&self, direction: Point) -> Result<Option<Point>, Fault> {
         // SAFETY: as in `call`.
-        answer::extreme(unsafe { raw::hull_extreme(self.settled(), direction.x, direction.y) })
+        answer::extreme(unsafe { raw::hull_extreme(self.prepared(), direction.x, direction.y) })
     }
 
     /// The same for a direction of two floats, scaled to integers by [`direction_of`]; for the direction (0, 0) the first point by
@@ -276,7 +276,7 @@ impl Hull {
     /// Returns twice the area, 0 for a point and a segment.
     pub fn doubled_area(&self) -> u128 {
         // SAFETY: as in `call`.
-        let reply = unsafe { raw::hull_call(self.settled(), kind::AREA, NOWHERE.x, NOWHERE.y) };
+        let reply = unsafe { raw::hull_call(self.prepared(), kind::AREA, NOWHERE.x, NOWHERE.y) };
         u128::from(reply.high) << 64 | u128::from(reply.number)
     }
 
@@ -293,15 +293,15 @@ impl Hull {
     /// Returns how many different points the set may have.
     pub fn limit(&self) -> u32 {
         // SAFETY: as in `call`.
-        unsafe { raw::hull_limit(self.room.as_ptr()) }.number as u32
+        unsafe { raw::hull_limit(self.storage.as_ptr()) }.number as u32
     }
 
     /// Makes the calls of some requests, and returns how many it made.
     fn serve(&self, requests: &[raw::Request], replies: &mut [Reply]) -> usize {
-        // SAFETY: as in `call`; both arrays were written, and are as long as is told.
+        // SAFETY: as in `call`; both arrays were written, and are as long as is stated.
         unsafe {
             raw::hull_calls(
-                self.room.as_ptr(),
+                self.storage.as_ptr(),
                 requests.as_ptr(),
                 requests.len(),
                 replies.as_mut_ptr(),
@@ -314,9 +314,9 @@ impl Hull {
         &self,
         kind: u32,
         points: &[Point],
-        told: impl Fn(Reply) -> Result<T, Fault>,
+        read: impl Fn(Reply) -> Result<T, Fault>,
     ) -> Result<Vec<T>, Fault> {
-        many::all(kind, points, |requests, replies| self.serve(requests, replies), told)
+        many::all(kind, points, |requests, replies| self.serve(requests, replies), read)
     }
 
     /// Returns the location of each of the points.
@@ -338,9 +338,9 @@ impl Hull {
     /// for want of memory; those after it are still added. [`Fault::OutOfRange`] for any of them leaves the set as it was.
     pub fn add_all(&mut self, points: &[Point]) -> Result<Vec<u32>, Fault> {
         check_all(points)?;
-        self.ask_all(kind::ADD, points, |reply| match answer::times_added(reply) {
+        self.ask_all(kind::ADD, points, |reply| match answer::multiplicity_added(reply) {
             Err(Fault::TooMany | Fault::NoMemory) => Ok(0),
-            told => told,
+            result => result,
         })
     }
 
@@ -351,7 +351,7 @@ impl Hull {
         let mut there = 0;
         let serve = |requests: &[raw::Request], replies: &mut [Reply]| self.serve(requests, replies);
         many::at_each(kind::REMOVE, points, serve, |reply| {
-            there += usize::from(answer::times_left(reply)?.is_some());
+            there += usize::from(answer::multiplicity_left(reply)?.is_some());
             Ok(())
         })?;
         Ok(there)
@@ -359,28 +359,28 @@ impl Hull {
 
     /// Returns the hull as well-known text, its coordinates divided by 2^`power`: see [`wkt`].
     pub fn wkt(&self, power: i32) -> Result<String, Fault> {
-        exchange::try_wkt(&self.corners()?, power)
+        exchange::try_wkt(&self.vertex_list()?, power)
     }
 
     /// Removes all points. The limit stays.
     pub fn clear(&mut self) {
         // SAFETY: as in `call`.
-        unsafe { raw::hull_clear(self.room.as_ptr()) };
+        unsafe { raw::hull_clear(self.storage.as_ptr()) };
     }
 
     /// Returns the vertices, counterclockwise from the first by x and then by y, each once and none inside an edge.
     pub fn vertices(&self) -> Result<Vertices, Fault> {
-        self.corners().map(Vertices::of)
+        self.vertex_list().map(Vertices::of)
     }
 
-    fn corners(&self) -> Result<Vec<Point>, Fault> {
+    fn vertex_list(&self) -> Result<Vec<Point>, Fault> {
         // SAFETY: as in `call`; the array is a slice's own, and all of it was written.
-        outline::written_corners(|out| unsafe { raw::hull_vertices(self.room.as_ptr(), out.as_mut_ptr(), out.len()) })
+        polygon::written_vertices(|out| unsafe { raw::hull_vertices(self.storage.as_ptr(), out.as_mut_ptr(), out.len()) })
     }
 
     /// Returns the convex polygon of the hull now, which any number of threads may query at once.
-    pub fn outline(&self) -> Result<Outline, Fault> {
-        Outline::of(self.corners()?)
+    pub fn polygon(&self) -> Result<Polygon, Fault> {
+        Polygon::of(self.vertex_list()?)
     }
 }
 
@@ -436,10 +436,10 @@ impl Clone for Hull {
 
 impl Drop for Hull {
     fn drop(&mut self) {
-        // SAFETY: a hull lies in the room, which came from `alloc` with this layout, and nothing uses either any more.
+        // SAFETY: a hull is in the storage, which came from `alloc` with this layout, and nothing uses either any more.
         unsafe {
-            raw::hull_end(self.room.as_ptr());
-            dealloc(self.room.as_ptr(), Self::layout());
+            raw::hull_end(self.storage.as_ptr());
+            dealloc(self.storage.as_ptr(), Self::layout());
         }
     }
 }
@@ -455,8 +455,8 @@ impl fmt::Debug for Hull {
 pub struct Vertices(std::vec::IntoIter<Point>);
 
 impl Vertices {
-    pub(crate) fn of(corners: Vec<Point>) -> Vertices {
-        Vertices(corners.into_iter())
+    pub(crate) fn of(vertices: Vec<Point>) -> Vertices {
+        Vertices(vertices.into_iter())
     }
 
     /// The vertices that are left.

@@ -24,15 +24,15 @@ pub(crate) fn at_each(
     Ok(())
 }
 
-/// What `told` makes of each of the replies.
+/// Returns what `read` makes of each of the replies.
 pub(crate) fn all<T>(
     kind: u32,
     points: &[Point],
     serve: impl Fn(&[Request], &mut [Reply]) -> usize,
-    told: impl Fn(Reply) -> Result<T, Fault>,
+    read: impl Fn(Reply) -> Result<T, Fault>,
 ) -> Result<Vec<T>, Fault> {
     let mut answers = Vec::new();
     answers.try_reserve_exact(points.len()).map_err(|_| Fault::NoMemory)?;
-    at_each(kind, points, serve, |reply| told(reply).map(|answer| answers.push(answer)))?;
+    at_each(kind, points, serve, |reply| read(reply).map(|answer| answers.push(answer)))?;
     Ok(answers)
 }

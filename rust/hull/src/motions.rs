@@ -1,52 +1,52 @@
 //! Polygons that move straight.
 use crate::answer;
 use crate::counted::Counted;
-use crate::outline::{Corners, Outline};
+use crate::polygon::{Polygon, PolygonQuestions};
 use crate::raw::{self, code, Reply};
 use crate::{Fault, Hit, Point};
 
-/// When a polygon that moves straight first intersects one that does not move ([`Corners::first_meeting`]).
+/// When a polygon that moves straight first intersects one that does not move ([`PolygonQuestions::first_meeting`]).
 #[derive(Clone, Copy, Debug, PartialEq, Eq)]
 pub struct Motion {
     /// Where the vertex arrives, and how far along; [`Entry::Start`](crate::Entry::Start) if they intersect before it moves.
     pub hit: Hit,
     /// A vertex that arrives first,
-    pub corner: Point,
+    pub vertex: Point,
     /// of the polygon that moves; else of the other, at the moving one as it was before.
     pub moves: bool,
 }
 
-impl Corners {
+impl PolygonQuestions {
     /// Returns when the other polygon, which moves straight by `way`, each component at most
     /// [`COORDINATE_LIMIT`](crate::COORDINATE_LIMIT) in size, first intersects this one; `None` if they never do, and if one of
     /// them has no vertices.
-    pub fn first_meeting(&self, other: &Corners, way: Point) -> Result<Option<Motion>, Fault> {
-        let (these, those) = (self.corners(), other.corners());
-        // SAFETY: both are outlines, which nobody writes.
-        let told = unsafe {
+    pub fn first_meeting(&self, other: &PolygonQuestions, way: Point) -> Result<Option<Motion>, Fault> {
+        let (these, those) = (self.vertices(), other.vertices());
+        // SAFETY: both are convex polygons, which nobody writes.
+        let reply = unsafe {
             raw::hull_polygon_first_meeting(these.as_ptr(), these.len(), those.as_ptr(), those.len(), way.x, way.y)
         };
-        let (corner, moves) = (told.corner, told.moves == 1);
-        Ok(answer::hit(told.hit)?.map(|hit| Motion { hit, corner, moves }))
+        let (vertex, moves) = (reply.vertex, reply.moves == 1);
+        Ok(answer::hit(reply.hit)?.map(|hit| Motion { hit, vertex, moves }))
     }
 }
 
-impl Outline {
+impl Polygon {
     /// Another polygon of as many vertices, which a call writes.
-    fn rewritten(&self, write: impl Fn(&[Point], &mut [Point]) -> Reply) -> Result<Outline, Fault> {
-        let mut corners = Vec::new();
-        corners.try_reserve_exact(self.corners().len()).map_err(|_| Fault::NoMemory)?;
-        corners.extend_from_slice(self.corners());
-        let told = write(self.corners(), &mut corners);
-        match told.code {
-            code::CORNERS => Ok(Outline { corners: Counted::new(corners)? }),
+    fn rewritten(&self, write: impl Fn(&[Point], &mut [Point]) -> Reply) -> Result<Polygon, Fault> {
+        let mut vertices = Vec::new();
+        vertices.try_reserve_exact(self.vertices().len()).map_err(|_| Fault::NoMemory)?;
+        vertices.extend_from_slice(self.vertices());
+        let reply = write(self.vertices(), &mut vertices);
+        match reply.code {
+            code::VERTICES => Ok(Polygon { vertices: Counted::new(vertices)? }),
             other => Err(answer::fault_of(other)),
         }
     }
 
     /// Returns the polygon translated by a vector. Fails with [`Fault::OutOfRange`] if a coordinate would be.
-    pub fn moved(&self, by: Point) -> Result<Outline, Fault> {
-        // SAFETY: the corners are an outline, and the array has as many, which were written.
+    pub fn translate(&self, by: Point) -> Result<Polygon, Fault> {
+        // SAFETY: the vertices are a convex polygon, and the array has as many, which were written.
         self.rewritten(|these, out| unsafe {
             raw::hull_polygon_translate(these.as_ptr(), these.len(), by.x, by.y, out.as_mut_ptr())
         })
@@ -55,7 +55,7 @@ impl Outline {
     /// Returns the polygon rotated about the origin by the angle of `by`, and scaled by its length. Fails with
     /// [`Fault::OutOfRange`] if a coordinate would be, and [`Fault::ZeroDirection`]. For a rational angle, as of (3, 4), scale all
     /// others alike, which (5, 0) does.
-    pub fn turned(&self, by: Point) -> Result<Outline, Fault> {
+    pub fn rotate(&self, by: Point) -> Result<Polygon, Fault> {
         // SAFETY: the same.
         self.rewritten(|these, out| unsafe {
             raw::hull_polygon_rotate(these.as_ptr(), these.len(), by.x, by.y, out.as_mut_ptr())

@@ -1,7 +1,7 @@
 //! Many polygons at once.
 use crate::answer;
-use crate::outline::{Corners, Outline};
-use crate::raw::{self, code, CornersAt};
+use crate::polygon::{Polygon, PolygonQuestions};
+use crate::raw::{self, code, VertexArray};
 use crate::{Fault, Point, Relation};
 
 /// A vector of so many of these.
@@ -13,59 +13,59 @@ fn many<T: Clone>(one: T, count: usize) -> Result<Vec<T>, Fault> {
 }
 
 /// The vertices of polygons.
-fn places(outlines: &[Outline]) -> Result<Vec<CornersAt>, Fault> {
+fn vertex_arrays(polygons: &[Polygon]) -> Result<Vec<VertexArray>, Fault> {
     let mut all = Vec::new();
-    all.try_reserve_exact(outlines.len()).map_err(|_| Fault::NoMemory)?;
-    all.extend(outlines.iter().map(|it| CornersAt { corners: it.corners().as_ptr(), count: it.corners().len() }));
+    all.try_reserve_exact(polygons.len()).map_err(|_| Fault::NoMemory)?;
+    all.extend(polygons.iter().map(|it| VertexArray { vertices: it.vertices().as_ptr(), count: it.vertices().len() }));
     Ok(all)
 }
 
 /// Returns which polygons have a distance of at most `numerator / denominator`, exactly, or, with 0 / 1, intersect: the pairs of
 /// their indices, the lesser first, in order. By a sweep over their boxes.
-pub fn pairs_within(outlines: &[Outline], numerator: u64, denominator: u32) -> Result<Vec<(usize, usize)>, Fault> {
-    let all = places(outlines)?;
-    let mut room = outlines.len();
+pub fn pairs_within_distance(polygons: &[Polygon], numerator: u64, denominator: u32) -> Result<Vec<(usize, usize)>, Fault> {
+    let all = vertex_arrays(polygons)?;
+    let mut capacity = polygons.len();
     loop {
-        let mut pairs = many([0; 2], room)?;
-        // SAFETY: the corners are outlines, which nobody writes; the array was written, and is as long as is told.
-        let told = unsafe {
+        let mut pairs = many([0; 2], capacity)?;
+        // SAFETY: the arrays of vertices are convex polygons, which nobody writes; the array was written, and is as long as is stated.
+        let reply = unsafe {
             raw::hull_pairs_within_distance(all.as_ptr(), all.len(), numerator, denominator, pairs.as_mut_ptr(), pairs.len())
         };
-        match told.code {
-            code::NUMBER => return Ok(pairs[..told.number as usize].iter().map(|&[a, b]| (a, b)).collect()),
-            code::TOO_SMALL => room = told.number as usize,
+        match reply.code {
+            code::NUMBER => return Ok(pairs[..reply.number as usize].iter().map(|&[a, b]| (a, b)).collect()),
+            code::TOO_SMALL => capacity = reply.number as usize,
             other => return Err(answer::fault_of(other)),
         }
     }
 }
 
-impl Corners {
+impl PolygonQuestions {
     /// Returns how this polygon is related to each of the others, in order.
-    pub fn relations(&self, others: &[Outline]) -> Result<Vec<Relation>, Fault> {
-        let (these, all) = (self.corners(), places(others)?);
-        let mut told = many(0, all.len())?;
-        // SAFETY: all are outlines, which nobody writes; the array was written, and has a place for each.
-        unsafe { raw::hull_polygon_relations(these.as_ptr(), these.len(), all.as_ptr(), all.len(), told.as_mut_ptr()) };
-        Ok(told.iter().map(|&relation| answer::relation(relation.into())).collect())
+    pub fn relations(&self, others: &[Polygon]) -> Result<Vec<Relation>, Fault> {
+        let (these, all) = (self.vertices(), vertex_arrays(others)?);
+        let mut numbers = many(0, all.len())?;
+        // SAFETY: all are convex polygons, which nobody writes; the array was written, and has an element for each.
+        unsafe { raw::hull_polygon_relations(these.as_ptr(), these.len(), all.as_ptr(), all.len(), numbers.as_mut_ptr()) };
+        Ok(numbers.iter().map(|&number| answer::relation(number.into())).collect())
     }
 
     /// Returns whether the polygon intersects each of the segments, in order.
-    pub fn meets_segments(&self, segments: &[[Point; 2]]) -> Result<Vec<bool>, Fault> {
-        let these = self.corners();
-        let mut told = many(0, segments.len())?;
+    pub fn intersects_segments(&self, segments: &[[Point; 2]]) -> Result<Vec<bool>, Fault> {
+        let these = self.vertices();
+        let mut answers = many(0, segments.len())?;
         // SAFETY: the same.
         let asked = unsafe {
-            raw::hull_polygon_intersects_segments(these.as_ptr(), these.len(), segments.as_ptr(), segments.len(), told.as_mut_ptr())
+            raw::hull_polygon_intersects_segments(these.as_ptr(), these.len(), segments.as_ptr(), segments.len(), answers.as_mut_ptr())
         };
-        (asked == segments.len()).then(|| told.iter().map(|&meets| meets == 1).collect()).ok_or(Fault::OutOfRange)
+        (asked == segments.len()).then(|| answers.iter().map(|&answer| answer == 1).collect()).ok_or(Fault::OutOfRange)
     }
 
     /// Returns for each vertex the index of the first of the points that is equal to it: which input it is. `None` if none is.
     pub fn indices(&self, points: &[Point]) -> Result<Vec<Option<usize>>, Fault> {
-        let these = self.corners();
-        let mut told = many(0, these.len())?;
+        let these = self.vertices();
+        let mut indices = many(0, these.len())?;
         // SAFETY: the same.
-        unsafe { raw::hull_polygon_indices(these.as_ptr(), these.len(), points.as_ptr(), points.len(), told.as_mut_ptr()) };
-        Ok(told.into_iter().map(|place| Some(place).filter(|&place| place < points.len())).collect())
+        unsafe { raw::hull_polygon_indices(these.as_ptr(), these.len(), points.as_ptr(), points.len(), indices.as_mut_ptr()) };
+        Ok(indices.into_iter().map(|index| Some(index).filter(|&index| index < points.len())).collect())
     }
 }

@@ -75,7 +75,7 @@ pub(crate) struct Request {
 #[repr(C)]
 #[derive(Clone, Copy)]
 pub(crate) struct SeatReply {
-    pub told: Reply,
+    pub reply: Reply,
     pub turn: u64,
     pub line: u64,
     pub held: u32,
@@ -84,14 +84,14 @@ pub(crate) struct SeatReply {
 
 /// The vertices of a polygon, and their number.
 #[repr(C)]
-pub(crate) struct CornersAt {
-    pub corners: *const Point,
+pub(crate) struct VertexArray {
+    pub vertices: *const Point,
     pub count: usize,
 }
 
 /// A reader's snapshot.
 #[repr(C)]
-pub(crate) struct View {
+pub(crate) struct Snapshot {
     pub count: usize,
     pub lines: u64,
     pub line: u64,
@@ -99,17 +99,17 @@ pub(crate) struct View {
     pub code: u32,
 }
 
-/// Where the calls of a desk wait: all zero, it is ready.
+/// The gate at which the calls of a shared hull wait: all zero, it is ready.
 #[repr(C, align(64))]
-pub(crate) struct Line {
-    words: std::cell::UnsafeCell<[u64; LINE_WORDS]>,
+pub(crate) struct Gate {
+    words: std::cell::UnsafeCell<[u64; GATE_WORDS]>,
 }
 
-const LINE_WORDS: usize = 1088;
+const GATE_WORDS: usize = 1088;
 
-impl Line {
-    pub const fn new() -> Line {
-        Line { words: std::cell::UnsafeCell::new([0; LINE_WORDS]) }
+impl Gate {
+    pub const fn new() -> Gate {
+        Gate { words: std::cell::UnsafeCell::new([0; GATE_WORDS]) }
     }
 
     pub fn at(&self) -> *mut u8 {
@@ -117,42 +117,42 @@ impl Line {
     }
 }
 
-// SAFETY: calls from several threads on one line are what it is for; none moves it.
-unsafe impl Sync for Line {}
+// SAFETY: the calls on a gate are for several threads at once; none moves it.
+unsafe impl Sync for Gate {}
 
-/// Where a call writes to: an array for vertices, or a part; neither, if both are null.
+/// Where a call writes to: an array for vertices, or a segment; neither, if both are null.
 #[repr(C)]
 pub(crate) struct Target {
     pub out: *mut Point,
-    pub room: usize,
-    pub part: *mut u8,
+    pub capacity: usize,
+    pub segment: *mut u8,
 }
 
 /// The deadline of a call that waits for ever.
 pub(crate) const NEVER: u64 = u64::MAX;
 
-/// The state of a line.
+/// The state of a gate.
 #[repr(C)]
 pub(crate) struct State {
     pub out: u32,
     pub inside: u32,
     pub sleepers: u32,
-    pub for_room: u32,
+    pub for_space: u32,
     pub held: u32,
     pub turn: u64,
     pub seat: u32,
-    pub named: u32,
+    pub designated: u32,
     pub drainer: u32,
     pub seat_for: u64,
     pub drains_for: u64,
 }
 
-pub(crate) type Hook = extern "C" fn(context: *mut u8, part: *mut u8);
+pub(crate) type Hook = extern "C" fn(context: *mut u8, segment: *mut u8);
 
 /// A witness of how polygons are related.
 #[repr(C)]
 #[derive(Clone, Copy)]
-pub(crate) struct WitnessTold {
+pub(crate) struct WitnessReply {
     pub code: u32,
     pub a: Point,
     pub b: Point,
@@ -163,7 +163,7 @@ pub(crate) struct WitnessTold {
 /// A distance of polygons.
 #[repr(C)]
 #[derive(Clone, Copy, Debug)]
-pub(crate) struct ClearanceTold {
+pub(crate) struct DistanceBoundsReply {
     pub code: u32,
     pub shift: u32,
     pub lower: u64,
@@ -175,7 +175,7 @@ pub(crate) struct ClearanceTold {
 /// Where a segment or a ray enters a polygon.
 #[repr(C)]
 #[derive(Clone, Copy)]
-pub(crate) struct HitTold {
+pub(crate) struct HitReply {
     pub code: u32,
     pub a: Point,
     pub b: Point,
@@ -186,9 +186,9 @@ pub(crate) struct HitTold {
 }
 
 #[repr(C)]
-pub(crate) struct MotionTold {
-    pub hit: HitTold,
-    pub corner: Point,
+pub(crate) struct MotionReply {
+    pub hit: HitReply,
+    pub vertex: Point,
     pub moves: u32,
 }
 
@@ -214,15 +214,15 @@ pub(crate) mod code {
     pub const TANGENTS: u32 = 15;
     pub const NO_TANGENT: u32 = 16;
     pub const NUMBER: u32 = 17;
-    pub const CORNERS: u32 = 18;
+    pub const VERTICES: u32 = 18;
     pub const TOO_SMALL: u32 = 19;
     pub const CLEARED: u32 = 20;
     pub const OUT_OF_ORDER: u32 = 21;
     pub const UNKNOWN_KIND: u32 = 22;
-    pub const MEETING: u32 = 23;
-    pub const APART: u32 = 24;
+    pub const INTERSECTING: u32 = 23;
+    pub const DISJOINT: u32 = 24;
     pub const COVERED: u32 = 25;
-    pub const CORNER: u32 = 26;
+    pub const VERTEX: u32 = 26;
     pub const EDGE: u32 = 27;
     pub const BOX: u32 = 28;
     pub const WITHIN: u32 = 29;
@@ -231,14 +231,14 @@ pub(crate) mod code {
     pub const OPEN: u32 = 32;
     pub const OUT_OF_LIMITS: u32 = 33;
     pub const WAS_OPENED: u32 = 34;
-    pub const LENT: u32 = 35;
+    pub const ACQUIRED: u32 = 35;
     pub const NO_SEAT: u32 = 36;
-    pub const ROOM_IN_USE: u32 = 37;
+    pub const STORAGE_IN_USE: u32 = 37;
     pub const NOT_OPEN: u32 = 38;
-    pub const RETURNED: u32 = 39;
+    pub const RELEASED: u32 = 39;
     pub const VACANT: u32 = 40;
     pub const WAITING: u32 = 41;
-    pub const PLACE_IN_USE: u32 = 42;
+    pub const SLOT_IN_USE: u32 = 42;
     pub const TAKEN: u32 = 43;
     pub const NOT_YET: u32 = 44;
     pub const NO_NUMBER: u32 = 45;
@@ -250,21 +250,21 @@ pub(crate) mod code {
     pub const ENDED: u32 = 51;
     pub const IN_USE: u32 = 52;
     pub const RESERVED: u32 = 53;
-    pub const PART_IN_USE: u32 = 54;
-    pub const NO_ROOM: u32 = 55;
+    pub const SEGMENT_IN_USE: u32 = 54;
+    pub const NO_SPACE: u32 = 55;
     pub const NO_LINES: u32 = 56;
     pub const NO_JOURNAL: u32 = 57;
     pub const OLD_RULES: u32 = 58;
     pub const ILLEGAL: u32 = 59;
     pub const TOO_FEW_SEATS: u32 = 60;
-    pub const NO_OUTLINE: u32 = 61;
+    pub const NO_POLYGON: u32 = 61;
     pub const BUSY: u32 = 62;
-    pub const OTHER_LINE: u32 = 63;
+    pub const OTHER_GATE: u32 = 63;
     pub const NO_FILE: u32 = 64;
     pub const DAMAGED: u32 = 65;
-    pub const SAFE: u32 = 66;
-    pub const ADMITTED: u32 = 67;
-    pub const VIEWED: u32 = 68;
+    pub const DURABLE: u32 = 66;
+    pub const READERS_SET: u32 = 67;
+    pub const SNAPSHOT_TAKEN: u32 = 68;
     pub const OLD: u32 = 69;
     // end of what tools/table.py writes
 }
@@ -288,7 +288,7 @@ pub(crate) mod kind {
 extern "C" {
     pub(crate) fn hull_size() -> usize;
     pub(crate) fn hull_alignment() -> usize;
-    pub(crate) fn hull_make(limit: u32, room: *mut u8);
+    pub(crate) fn hull_make(limit: u32, storage: *mut u8);
     pub(crate) fn hull_end(hull: *mut u8) -> u32;
     pub(crate) fn hull_call(hull: *mut u8, kind: u32, x: i64, y: i64) -> Reply;
     pub(crate) fn hull_place(hull: *const u8, x: i64, y: i64) -> Reply;
@@ -298,58 +298,58 @@ extern "C" {
     pub(crate) fn hull_limit(hull: *mut u8) -> Reply;
     pub(crate) fn hull_clear(hull: *mut u8) -> Reply;
     pub(crate) fn hull_pairs_within_distance(
-        outlines: *const CornersAt,
+        polygons: *const VertexArray,
         count: usize,
         numerator: u64,
         denominator: u32,
         out: *mut [usize; 2],
-        room: usize,
+        capacity: usize,
     ) -> Reply;
     pub(crate) fn hull_polygon_first_meeting(
-        corners: *const Point,
+        vertices: *const Point,
         count: usize,
         others: *const Point,
         other_count: usize,
         dx: i64,
         dy: i64,
-    ) -> MotionTold;
-    pub(crate) fn hull_polygon_rotate(corners: *const Point, count: usize, a: i64, b: i64, out: *mut Point) -> Reply;
+    ) -> MotionReply;
+    pub(crate) fn hull_polygon_rotate(vertices: *const Point, count: usize, a: i64, b: i64, out: *mut Point) -> Reply;
     pub(crate) fn hull_nearest_held(hull: *mut u8, x: i64, y: i64) -> Reply;
-    pub(crate) fn hull_polygon_translate(corners: *const Point, count: usize, dx: i64, dy: i64, out: *mut Point) -> Reply;
+    pub(crate) fn hull_polygon_translate(vertices: *const Point, count: usize, dx: i64, dy: i64, out: *mut Point) -> Reply;
     pub(crate) fn hull_polygon_relations(
-        corners: *const Point,
+        vertices: *const Point,
         count: usize,
-        others: *const CornersAt,
+        others: *const VertexArray,
         other_count: usize,
         out: *mut u8,
     );
     pub(crate) fn hull_polygon_intersects_segments(
-        corners: *const Point,
+        vertices: *const Point,
         count: usize,
         segments: *const [Point; 2],
         segment_count: usize,
         out: *mut u8,
     ) -> usize;
     pub(crate) fn hull_polygon_indices(
-        corners: *const Point,
+        vertices: *const Point,
         count: usize,
         points: *const Point,
         point_count: usize,
         out: *mut usize,
     ) -> usize;
     pub(crate) fn hull_is_polygon(points: *const Point, count: usize) -> Reply;
-    pub(crate) fn hull_polygon_of(points: *const Point, count: usize, out: *mut Point, room: usize) -> Reply;
-    pub(crate) fn hull_polygon_call(corners: *const Point, count: usize, kind: u32, x: i64, y: i64) -> Reply;
+    pub(crate) fn hull_polygon_of(points: *const Point, count: usize, out: *mut Point, capacity: usize) -> Reply;
+    pub(crate) fn hull_polygon_call(vertices: *const Point, count: usize, kind: u32, x: i64, y: i64) -> Reply;
     pub(crate) fn hull_polygon_calls(
-        corners: *const Point,
+        vertices: *const Point,
         count: usize,
         requests: *const Request,
         request_count: usize,
         replies: *mut Reply,
-        reply_room: usize,
+        reply_capacity: usize,
     ) -> usize;
     pub(crate) fn hull_polygon_intersects_segment(
-        corners: *const Point,
+        vertices: *const Point,
         count: usize,
         ax: i64,
         ay: i64,
@@ -357,24 +357,24 @@ extern "C" {
         by: i64,
     ) -> Reply;
     pub(crate) fn hull_polygon_separation(
-        corners: *const Point,
+        vertices: *const Point,
         count: usize,
         ax: i64,
         ay: i64,
         bx: i64,
         by: i64,
     ) -> Reply;
-    pub(crate) fn hull_polygon_nearest(corners: *const Point, count: usize, x: i64, y: i64) -> Reply;
-    pub(crate) fn hull_polygon_box(corners: *const Point, count: usize) -> Reply;
-    pub(crate) fn hull_polygon_width(corners: *const Point, count: usize, x: i64, y: i64) -> Reply;
-    pub(crate) fn hull_polygon_diameter(corners: *const Point, count: usize) -> Reply;
-    pub(crate) fn hull_polygon_least_width(corners: *const Point, count: usize) -> WitnessTold;
-    pub(crate) fn hull_polygon_intersects(corners: *const Point, count: usize, others: *const Point, other_count: usize) -> Reply;
-    pub(crate) fn hull_polygon_contains(corners: *const Point, count: usize, others: *const Point, other_count: usize) -> Reply;
-    pub(crate) fn hull_polygon_relation(corners: *const Point, count: usize, others: *const Point, other_count: usize) -> Reply;
-    pub(crate) fn hull_polygon_contains_inside(corners: *const Point, count: usize, others: *const Point, other_count: usize) -> Reply;
+    pub(crate) fn hull_polygon_nearest(vertices: *const Point, count: usize, x: i64, y: i64) -> Reply;
+    pub(crate) fn hull_polygon_box(vertices: *const Point, count: usize) -> Reply;
+    pub(crate) fn hull_polygon_width(vertices: *const Point, count: usize, x: i64, y: i64) -> Reply;
+    pub(crate) fn hull_polygon_diameter(vertices: *const Point, count: usize) -> Reply;
+    pub(crate) fn hull_polygon_least_width(vertices: *const Point, count: usize) -> WitnessReply;
+    pub(crate) fn hull_polygon_intersects(vertices: *const Point, count: usize, others: *const Point, other_count: usize) -> Reply;
+    pub(crate) fn hull_polygon_contains(vertices: *const Point, count: usize, others: *const Point, other_count: usize) -> Reply;
+    pub(crate) fn hull_polygon_relation(vertices: *const Point, count: usize, others: *const Point, other_count: usize) -> Reply;
+    pub(crate) fn hull_polygon_contains_inside(vertices: *const Point, count: usize, others: *const Point, other_count: usize) -> Reply;
     pub(crate) fn hull_polygon_within_distance(
-        corners: *const Point,
+        vertices: *const Point,
         count: usize,
         others: *const Point,
         other_count: usize,
@@ -382,22 +382,22 @@ extern "C" {
         denominator: u32,
     ) -> Reply;
     pub(crate) fn hull_polygon_distance_bounds(
-        corners: *const Point,
+        vertices: *const Point,
         count: usize,
         others: *const Point,
         other_count: usize,
-    ) -> ClearanceTold;
+    ) -> DistanceBoundsReply;
     pub(crate) fn hull_polygon_distance_bounds_to_segment(
-        corners: *const Point,
+        vertices: *const Point,
         count: usize,
         ax: i64,
         ay: i64,
         bx: i64,
         by: i64,
-    ) -> ClearanceTold;
-    pub(crate) fn hull_distance_bounds_compare(this: *const ClearanceTold, that: *const ClearanceTold) -> i32;
+    ) -> DistanceBoundsReply;
+    pub(crate) fn hull_distance_bounds_compare(this: *const DistanceBoundsReply, that: *const DistanceBoundsReply) -> i32;
     pub(crate) fn hull_polygon_within_distance_of_segment(
-        corners: *const Point,
+        vertices: *const Point,
         count: usize,
         ax: i64,
         ay: i64,
@@ -407,7 +407,7 @@ extern "C" {
         denominator: u32,
     ) -> Reply;
     pub(crate) fn hull_polygon_relation_to_segment(
-        corners: *const Point,
+        vertices: *const Point,
         count: usize,
         ax: i64,
         ay: i64,
@@ -415,52 +415,52 @@ extern "C" {
         by: i64,
     ) -> Reply;
     pub(crate) fn hull_polygon_raycast(
-        corners: *const Point,
+        vertices: *const Point,
         count: usize,
         x: i64,
         y: i64,
         dx: i64,
         dy: i64,
-    ) -> HitTold;
+    ) -> HitReply;
     pub(crate) fn hull_polygon_raycast_exit(
-        corners: *const Point,
+        vertices: *const Point,
         count: usize,
         x: i64,
         y: i64,
         dx: i64,
         dy: i64,
-    ) -> HitTold;
+    ) -> HitReply;
     pub(crate) fn hull_polygon_raycast_segment(
-        corners: *const Point,
+        vertices: *const Point,
         count: usize,
         ax: i64,
         ay: i64,
         bx: i64,
         by: i64,
-    ) -> HitTold;
+    ) -> HitReply;
     pub(crate) fn hull_polygon_witness(
-        corners: *const Point,
+        vertices: *const Point,
         count: usize,
         others: *const Point,
         other_count: usize,
-    ) -> WitnessTold;
+    ) -> WitnessReply;
     pub(crate) fn hull_polygon_distance(
-        corners: *const Point,
+        vertices: *const Point,
         count: usize,
         others: *const Point,
         other_count: usize,
-    ) -> WitnessTold;
+    ) -> WitnessReply;
     pub(crate) fn hull_load(hull: *mut u8, points: *const Point, count: usize) -> Reply;
-    pub(crate) fn hull_held_from(hull: *mut u8, x: i64, y: i64, out: *mut Held, room: usize) -> Reply;
+    pub(crate) fn hull_held_from(hull: *mut u8, x: i64, y: i64, out: *mut Held, capacity: usize) -> Reply;
     pub(crate) fn hull_load_held(hull: *mut u8, held: *const Held, count: usize) -> Reply;
     pub(crate) fn hull_calls(
         hull: *mut u8,
         requests: *const Request,
         request_count: usize,
         replies: *mut Reply,
-        reply_room: usize,
+        reply_capacity: usize,
     ) -> usize;
-    pub(crate) fn hull_vertices(hull: *mut u8, out: *mut Point, room: usize) -> Reply;
+    pub(crate) fn hull_vertices(hull: *mut u8, out: *mut Point, capacity: usize) -> Reply;
 }
 
 #[link(name = "hull_shared", kind = "static")]
@@ -469,32 +469,32 @@ extern "C" {
     pub(crate) fn hull_shared_alignment() -> usize;
     pub(crate) fn hull_shared_seat_size() -> usize;
     pub(crate) fn hull_shared_seat_alignment() -> usize;
-    pub(crate) fn hull_shared_make(room: *mut u8);
-    pub(crate) fn hull_shared_make_seat(room: *mut u8);
-    pub(crate) fn hull_shared_open(desk: *mut u8, limit: u32, first: u64, capacity: u32, seats: u32) -> u32;
-    pub(crate) fn hull_shared_reopen(desk: *mut u8, text: *const u8, length: usize, capacity: u32, seats: u32) -> Reply;
-    pub(crate) fn hull_shared_acquire_seat(desk: *mut u8, line: *mut u8, room: *mut u8, number: u32) -> u32;
-    pub(crate) fn hull_shared_release_seat(desk: *mut u8, room: *mut u8) -> u32;
-    pub(crate) fn hull_shared_call_into(line: *mut u8, seat: *mut u8, kind: u32, x: i64, y: i64, to: Target, until: u64) -> SeatReply;
+    pub(crate) fn hull_shared_make(storage: *mut u8);
+    pub(crate) fn hull_shared_make_seat(storage: *mut u8);
+    pub(crate) fn hull_shared_open(hull: *mut u8, limit: u32, first: u64, capacity: u32, seats: u32) -> u32;
+    pub(crate) fn hull_shared_reopen(hull: *mut u8, text: *const u8, length: usize, capacity: u32, seats: u32) -> Reply;
+    pub(crate) fn hull_shared_acquire_seat(hull: *mut u8, gate: *mut u8, storage: *mut u8, number: u32) -> u32;
+    pub(crate) fn hull_shared_release_seat(hull: *mut u8, storage: *mut u8) -> u32;
+    pub(crate) fn hull_shared_call_into(gate: *mut u8, seat: *mut u8, kind: u32, x: i64, y: i64, to: Target, until: u64) -> SeatReply;
     pub(crate) fn hull_shared_reader_size() -> usize;
     pub(crate) fn hull_shared_reader_alignment() -> usize;
-    pub(crate) fn hull_shared_make_reader(room: *mut u8);
-    pub(crate) fn hull_shared_set_max_readers(desk: *mut u8, readers: u32) -> u32;
-    pub(crate) fn hull_shared_acquire_reader(desk: *mut u8, room: *mut u8) -> u32;
-    pub(crate) fn hull_shared_release_reader(desk: *mut u8, room: *mut u8) -> u32;
-    pub(crate) fn hull_shared_read(reader: *mut u8) -> View;
-    pub(crate) fn hull_shared_snapshot_vertices(reader: *mut u8, out: *mut Point, room: usize) -> Reply;
+    pub(crate) fn hull_shared_make_reader(storage: *mut u8);
+    pub(crate) fn hull_shared_set_max_readers(hull: *mut u8, readers: u32) -> u32;
+    pub(crate) fn hull_shared_acquire_reader(hull: *mut u8, storage: *mut u8) -> u32;
+    pub(crate) fn hull_shared_release_reader(hull: *mut u8, storage: *mut u8) -> u32;
+    pub(crate) fn hull_shared_read(reader: *mut u8) -> Snapshot;
+    pub(crate) fn hull_shared_snapshot_vertices(reader: *mut u8, out: *mut Point, capacity: usize) -> Reply;
     pub(crate) fn hull_shared_is_newest(reader: *mut u8) -> u32;
     pub(crate) fn hull_shared_now() -> u64;
-    pub(crate) fn hull_shared_gate_wait_for_space(line: *mut u8, waits: i32);
-    pub(crate) fn hull_shared_gate_on_half_full(line: *mut u8, hook: Hook, context: *mut u8) -> i32;
-    pub(crate) fn hull_shared_gate_end(line: *mut u8);
-    pub(crate) fn hull_shared_stats(line: *mut u8) -> State;
+    pub(crate) fn hull_shared_gate_wait_for_space(gate: *mut u8, waits: i32);
+    pub(crate) fn hull_shared_gate_on_half_full(gate: *mut u8, hook: Hook, context: *mut u8) -> i32;
+    pub(crate) fn hull_shared_gate_end(gate: *mut u8);
+    pub(crate) fn hull_shared_stats(gate: *mut u8) -> State;
     pub(crate) fn hull_shared_journal_open(path: *const std::os::raw::c_char, journal: *mut *mut u8) -> Reply;
     pub(crate) fn hull_shared_journal_start(
         journal: *mut u8,
-        desk: *mut u8,
-        line: *mut u8,
+        hull: *mut u8,
+        gate: *mut u8,
         limit: u32,
         capacity: u32,
         seats: u32,
@@ -507,16 +507,16 @@ extern "C" {
     pub(crate) fn hull_shared_journal_close(journal: *mut u8) -> Reply;
     pub(crate) fn hull_shared_segment_size() -> usize;
     pub(crate) fn hull_shared_segment_alignment() -> usize;
-    pub(crate) fn hull_shared_make_segment(room: *mut u8);
+    pub(crate) fn hull_shared_make_segment(storage: *mut u8);
     pub(crate) fn hull_shared_capacity(seat: *mut u8) -> u32;
-    pub(crate) fn hull_shared_segment_reserve(part: *mut u8, lines: u32) -> u32;
-    pub(crate) fn hull_shared_segment_text(part: *mut u8, out: *mut u8, length: usize) -> Reply;
-    pub(crate) fn hull_shared_segment_text_from(part: *mut u8, line: u64, out: *mut u8, length: usize) -> Reply;
-    pub(crate) fn hull_shared_segment_end(part: *mut u8) -> u32;
-    pub(crate) fn hull_shared_open_without_journal(desk: *mut u8, limit: u32, first: u64, seats: u32) -> u32;
-    pub(crate) fn hull_shared_open_answering(desk: *mut u8, limit: u32, first: u64, capacity: u32, seats: u32) -> u32;
-    pub(crate) fn hull_shared_close(desk: *mut u8) -> u32;
-    pub(crate) fn hull_shared_text_from(desk: *mut u8, line: u64, out: *mut u8, length: usize) -> Reply;
-    pub(crate) fn hull_shared_text(desk: *mut u8, out: *mut u8, length: usize) -> Reply;
-    pub(crate) fn hull_shared_end(desk: *mut u8) -> u32;
+    pub(crate) fn hull_shared_segment_reserve(segment: *mut u8, lines: u32) -> u32;
+    pub(crate) fn hull_shared_segment_text(segment: *mut u8, out: *mut u8, length: usize) -> Reply;
+    pub(crate) fn hull_shared_segment_text_from(segment: *mut u8, line: u64, out: *mut u8, length: usize) -> Reply;
+    pub(crate) fn hull_shared_segment_end(segment: *mut u8) -> u32;
+    pub(crate) fn hull_shared_open_without_journal(hull: *mut u8, limit: u32, first: u64, seats: u32) -> u32;
+    pub(crate) fn hull_shared_open_answering(hull: *mut u8, limit: u32, first: u64, capacity: u32, seats: u32) -> u32;
+    pub(crate) fn hull_shared_close(hull: *mut u8) -> u32;
+    pub(crate) fn hull_shared_text_from(hull: *mut u8, line: u64, out: *mut u8, length: usize) -> Reply;
+    pub(crate) fn hull_shared_text(hull: *mut u8, out: *mut u8, length: usize) -> Reply;
+    pub(crate) fn hull_shared_end(hull: *mut u8) -> u32;
 }

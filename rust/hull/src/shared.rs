@@ -1,7 +1,7 @@
 //! One hull for many threads, each with a seat of its own: safe Rust over `libhull_shared.a`.
 use crate::answer;
 use crate::counted::Counted;
-use crate::raw::{self, code, kind, Line, Reply, Target};
+use crate::raw::{self, code, kind, Gate, Reply, Target};
 use crate::{Fault, Place, Point, Reader, Vertices, NOWHERE};
 use std::alloc::{alloc, dealloc, Layout};
 use std::any::Any;
@@ -37,21 +37,21 @@ pub struct Limits {
 /// The greatest number of readers of a shared hull.
 pub const READER_LIMIT: u32 = 64;
 
-/// The storage of a desk, a seat, a reader or a part, which is freed when it is dropped.
-pub(crate) struct Room {
+/// The storage of a shared hull, a seat, a reader or a segment, which is freed when it is dropped.
+pub(crate) struct Storage {
     at: NonNull<u8>,
     layout: Layout,
 }
 
-// SAFETY: what lies in a room owns no more than memory from `malloc` and a share of the lock, and is tied to no thread.
-unsafe impl Send for Room {}
+// SAFETY: what is in a storage owns no more than memory from `malloc` and a share of the lock, and is tied to no thread.
+unsafe impl Send for Storage {}
 
-impl Room {
-    pub(crate) fn new(size: usize, alignment: usize) -> Result<Room, Fault> {
-        let layout = Layout::from_size_align(size, alignment).expect("a room has a layout");
+impl Storage {
+    pub(crate) fn new(size: usize, alignment: usize) -> Result<Storage, Fault> {
+        let layout = Layout::from_size_align(size, alignment).expect("a storage has a layout");
         // SAFETY: the layout has a size of more than 0.
         let at = NonNull::new(unsafe { alloc(layout) }).ok_or(Fault::NoMemory)?;
-        Ok(Room { at, layout })
+        Ok(Storage { at, layout })
     }
 
     pub(crate) fn at(&self) -> *mut u8 {
@@ -59,36 +59,36 @@ impl Room {
     }
 }
 
-impl Drop for Room {
+impl Drop for Storage {
     fn drop(&mut self) {
         // SAFETY: the memory came from `alloc` with this layout, and nothing uses it any more.
         unsafe { dealloc(self.at(), self.layout) };
     }
 }
 
-/// What drains when half of the lines are used.
-type Keep = Box<dyn FnMut(&JournalPart) + Send>;
+/// The hook that gets each segment of a hull that drains itself.
+type DrainHook = Box<dyn FnMut(&JournalSegment) + Send>;
 
 thread_local! {
     /// What a hook panicked with: the call in which it ran panics with it.
     static PANIC: Cell<Option<Box<dyn Any + Send>>> = const { Cell::new(None) };
 }
 
-/// A desk, on which there is one call at a time, and the line in which the calls of its seats wait. The hull and each acquired
-/// seat own it together.
-pub(crate) struct Desk {
-    room: Mutex<Room>,
-    line: Line,
-    keep: Mutex<Option<Keep>>,
-    journal: RwLock<Option<Journal>>,
+/// A shared hull with its gate, its hook and its journal file. A [`SharedHull`], its seats and its readers own it together.
+pub(crate) struct Shared {
+    // locked by the calls that are not a seat's
+    hull: Mutex<Storage>,
+    gate: Gate,
+    hook: Mutex<Option<DrainHook>>,
+    journal: RwLock<Option<JournalFile>>,
 }
 
 /// The journal file, which is closed when it is taken out of this; a thread that asks what is durable reads it.
-struct Journal(NonNull<u8>);
+struct JournalFile(NonNull<u8>);
 
 // SAFETY: its calls may be made by any thread, but for the last, which ends it.
-unsafe impl Send for Journal {}
-unsafe impl Sync for Journal {}
+unsafe impl Send for JournalFile {}
+unsafe impl Sync for JournalFile {}
 
 /// A path as C takes it.
 fn name_of(path: &Path) -> Result<CString, Fault> {
@@ -97,82 +97,82 @@ fn name_of(path: &Path) -> Result<CString, Fault> {
 }
 
 /// The fault of a call on the journal file.
-fn fault_of_file(told: &Reply, errno: u64) -> Fault {
-    match told.code {
+fn fault_of_file(reply: &Reply, errno: u64) -> Fault {
+    match reply.code {
         code::NO_FILE => Fault::NoFile { errno: errno as i32 },
-        code::DAMAGED => Fault::Damaged { line: told.number },
-        code::ILLEGAL => Fault::Illegal { line: told.number },
+        code::DAMAGED => Fault::Damaged { line: reply.number },
+        code::ILLEGAL => Fault::Illegal { line: reply.number },
         other => answer::fault_of(other),
     }
 }
 
-impl Desk {
-    fn new() -> Result<Desk, Fault> {
-        // SAFETY: the two that are asked read nothing; the room is of that size and alignment, and nobody else's.
+impl Shared {
+    fn new() -> Result<Shared, Fault> {
+        // SAFETY: the two that are asked read nothing; the storage is of that size and alignment, and nobody else's.
         unsafe {
-            let room = Room::new(raw::hull_shared_size(), raw::hull_shared_alignment())?;
-            raw::hull_shared_make(room.at());
-            Ok(Desk { room: Mutex::new(room), line: Line::new(), keep: Mutex::new(None), journal: RwLock::new(None) })
+            let storage = Storage::new(raw::hull_shared_size(), raw::hull_shared_alignment())?;
+            raw::hull_shared_make(storage.at());
+            Ok(Shared { hull: Mutex::new(storage), gate: Gate::new(), hook: Mutex::new(None), journal: RwLock::new(None) })
         }
     }
 
     /// Which lines of the journal are durable in the file, as a call on it returns it.
-    fn safe(&self, ask: impl FnOnce(*mut u8) -> Reply) -> Result<u64, Fault> {
+    fn durable(&self, ask: impl FnOnce(*mut u8) -> Reply) -> Result<u64, Fault> {
         let journal = self.journal.read().unwrap_or_else(PoisonError::into_inner);
-        let told = ask(journal.as_ref().ok_or(Fault::NotOpen)?.0.as_ptr());
-        match told.code {
-            code::SAFE => Ok(told.number),
-            _ => Err(fault_of_file(&told, told.high)),
+        let reply = ask(journal.as_ref().ok_or(Fault::NotOpen)?.0.as_ptr());
+        match reply.code {
+            code::DURABLE => Ok(reply.number),
+            _ => Err(fault_of_file(&reply, reply.high)),
         }
     }
 
-    /// Ends the journal file, if there is one, and with it the desk, which is locked.
-    fn end_journal(&self, _: &MutexGuard<'_, Room>) -> Result<(), Fault> {
+    /// Ends the journal file, if there is one, and with it the shared hull, which is locked.
+    fn end_journal(&self, _: &MutexGuard<'_, Storage>) -> Result<(), Fault> {
         let mut journal = self.journal.write().unwrap_or_else(PoisonError::into_inner);
         let at = match *journal {
-            Some(Journal(at)) => at,
+            Some(JournalFile(at)) => at,
             None => return Ok(()),
         };
-        // SAFETY: nobody else has it or the desk, since both locks are taken; it is used no more but where it goes on.
-        let told = unsafe { raw::hull_shared_journal_close(at.as_ptr()) };
-        if told.code == code::SEATS_OUT || told.code == code::IN_USE {
+        // SAFETY: no other thread has it or the shared hull, since both locks are taken; it is used again only if it was not closed.
+        let reply = unsafe { raw::hull_shared_journal_close(at.as_ptr()) };
+        if reply.code == code::SEATS_OUT || reply.code == code::IN_USE {
             return Err(Fault::SeatsOut);
         }
         *journal = None;
-        match told.code {
+        match reply.code {
             code::CLOSED => Ok(()),
-            _ => Err(fault_of_file(&told, told.high)),
+            _ => Err(fault_of_file(&reply, reply.high)),
         }
     }
 
-    pub(crate) fn lock(&self) -> MutexGuard<'_, Room> {
-        self.room.lock().unwrap_or_else(PoisonError::into_inner)
+    pub(crate) fn lock(&self) -> MutexGuard<'_, Storage> {
+        self.hull.lock().unwrap_or_else(PoisonError::into_inner)
     }
 }
 
-impl Drop for Desk {
+impl Drop for Shared {
     fn drop(&mut self) {
-        let room = self.lock();
-        let _ = self.end_journal(&room);
-        // SAFETY: the desk lies in the room. All seats are back, since each owns the desk until then.
+        let hull = self.lock();
+        let _ = self.end_journal(&hull);
+        // SAFETY: a shared hull is in the storage. All seats are released, since each owns the shared hull until then.
         unsafe {
-            raw::hull_shared_close(room.at());
-            raw::hull_shared_end(room.at());
-            raw::hull_shared_gate_end(self.line.at());
+            raw::hull_shared_close(hull.at());
+            raw::hull_shared_end(hull.at());
+            raw::hull_shared_gate_end(self.gate.at());
         }
     }
 }
 
-/// The hook of a line: passes the part to what the hull was given.
-extern "C" fn keep_part(context: *mut u8, part: *mut u8) {
-    // SAFETY: the context is a desk, which its seat owns meanwhile; the part lies at its place, and is the line's: it is not dropped.
-    let (desk, part) = unsafe {
-        let room = Room { at: NonNull::new_unchecked(part), layout: Layout::new::<u8>() };
-        (&*context.cast::<Desk>(), ManuallyDrop::new(JournalPart { room }))
+/// The hook of a gate: passes the segment to the hook that the hull was given.
+extern "C" fn pass_segment(context: *mut u8, segment: *mut u8) {
+    // SAFETY: the context is a shared hull, which the seat owns meanwhile; the segment is the gate's, and so it is not dropped.
+    let (shared, segment) = unsafe {
+        let storage = Storage { at: NonNull::new_unchecked(segment), layout: Layout::new::<u8>() };
+        (&*context.cast::<Shared>(), ManuallyDrop::new(JournalSegment { storage }))
     };
-    let mut keep = desk.keep.lock().unwrap_or_else(PoisonError::into_inner);
-    if let Some(keep) = keep.as_mut() {
-        if let Err(fault) = catch_unwind(AssertUnwindSafe(|| keep(&part))) {
+    let mut hook = shared.hook.lock().unwrap_or_else(PoisonError::into_inner);
+    if let Some(hook) = hook.as_mut() {
+        if let Err(fault) = catch_unwind(AssertUnwindSafe(|| hook(&segment))) {
             PANIC.with(|panic| panic.set(Some(fault)));
         }
     }
@@ -188,7 +188,7 @@ pub struct Stats {
     /// How many sleep and wait for admission.
     pub sleepers: u32,
     /// How many sleep and wait for space in the journal.
-    pub for_room: u32,
+    pub for_space: u32,
     /// How many lines the journal had after the last call.
     pub held: u32,
     /// The number that is served now, the one after that call's; 0 before the first.
@@ -196,7 +196,7 @@ pub struct Stats {
     /// The seat whose call has that number, and how long it has been admitted, to some milliseconds.
     pub seat: Option<(u32, Duration)>,
     /// The seat that is designated to enter next.
-    pub named: Option<u32>,
+    pub designated: Option<u32>,
     /// The seat that drains for [`SharedHull::on_half_full`], and for how long it has.
     pub drainer: Option<(u32, Duration)>,
 }
@@ -208,13 +208,13 @@ pub struct Stats {
 /// use hull::{Limits, Point, SharedHull};
 ///
 /// let hull = SharedHull::open(Limits { points: 1000, first: 0, capacity: 4096, seats: 2 })?;
-/// let mut seat = hull.lend(0)?;
+/// let mut seat = hull.acquire_seat(0)?;
 /// std::thread::spawn(move || seat.add(Point { x: 3, y: 4 })).join().unwrap()?;
 /// let journal = hull.close()?; // which `hullbook check` judges
 /// # Ok::<(), hull::Fault>(())
 /// ```
 pub struct SharedHull {
-    desk: Counted<Desk>,
+    shared: Counted<Shared>,
 }
 
 impl SharedHull {
@@ -243,19 +243,19 @@ impl SharedHull {
         Opening::new()?.reopen(text, capacity, seats)
     }
 
-    /// Opens a hull whose journal is kept in a file, which is made, or read: then the hull has the points that it left, and its
-    /// limit. A thread writes the lines to the file when a thread waits for one ([`SharedHull::sync`], [`Seat::wait_safe`]), each
+    /// Opens a hull whose journal is in a file, which is made, or read: then the hull has the points that the file left, and its
+    /// limit. A thread writes the lines to the file when a thread waits for one ([`SharedHull::sync`], [`Seat::wait_durable`]), each
     /// `every` if that is given, and when half of `limits.capacity` are used; calls wait for space. `limits.first` is not read,
     /// and `limits.seats` is at most one less than [`SEAT_LIMIT`]. Do not drain a seat of such a hull: no later line would be
     /// durable.
     ///
     /// Fails with [`Fault::NoFile`], [`Fault::Damaged`] and [`Fault::Illegal`], with the line of the file, and those of opening.
-    pub fn keep(path: impl AsRef<Path>, limits: Limits, every: Option<Duration>) -> Result<SharedHull, Fault> {
-        Opening::new()?.keep(path, limits, every)
+    pub fn open_journal(path: impl AsRef<Path>, limits: Limits, every: Option<Duration>) -> Result<SharedHull, Fault> {
+        Opening::new()?.open_journal(path, limits, every)
     }
 
     /// A hull that you open in one of these ways, and that has up to so many readers, 1 to [`READER_LIMIT`]
-    /// ([`SharedHull::lend_reader`]). Fails with [`Fault::BadLimit`] and [`Fault::NoMemory`].
+    /// ([`SharedHull::acquire_reader`]). Fails with [`Fault::BadLimit`] and [`Fault::NoMemory`].
     ///
     /// ```
     /// # let limits = hull::Limits { points: 1000, first: 0, capacity: 4096, seats: 2 };
@@ -264,10 +264,10 @@ impl SharedHull {
     /// ```
     pub fn for_readers(readers: u32) -> Result<Opening, Fault> {
         let opening = Opening::new()?;
-        // SAFETY: the desk lies in its room, and nobody else has it yet.
-        let told = unsafe { raw::hull_shared_set_max_readers(opening.desk.lock().at(), readers) };
-        match told {
-            code::ADMITTED => Ok(opening),
+        // SAFETY: a shared hull is in its storage, and nobody else has it yet.
+        let code = unsafe { raw::hull_shared_set_max_readers(opening.shared.lock().at(), readers) };
+        match code {
+            code::READERS_SET => Ok(opening),
             other => Err(answer::fault_of(other)),
         }
     }
@@ -278,86 +278,86 @@ impl SharedHull {
     pub fn compact(path: impl AsRef<Path>) -> Result<u64, Fault> {
         let path = name_of(path.as_ref())?;
         // SAFETY: the path ends with a 0.
-        let told = unsafe { raw::hull_shared_journal_compact(path.as_ptr()) };
-        match told.code {
-            code::SAFE => Ok(told.number),
-            _ => Err(fault_of_file(&told, told.number)),
+        let reply = unsafe { raw::hull_shared_journal_compact(path.as_ptr()) };
+        match reply.code {
+            code::DURABLE => Ok(reply.number),
+            _ => Err(fault_of_file(&reply, reply.number)),
         }
     }
 
     /// Returns the number of the first line that is not durable. Fails with [`Fault::NotOpen`] if the hull has no file or is
     /// closed; [`Fault::NoFile`] if a write failed: no later line will be durable.
-    pub fn safe(&self) -> Result<u64, Fault> {
+    pub fn durable(&self) -> Result<u64, Fault> {
         // SAFETY: the journal is there as long as it is read.
-        self.desk.safe(|at| unsafe { raw::hull_shared_journal_durable(at) })
+        self.shared.durable(|at| unsafe { raw::hull_shared_journal_durable(at) })
     }
 
     /// Waits until the lines of all calls that have returned are durable, and returns the number of the first line that is not.
     pub fn sync(&self) -> Result<u64, Fault> {
         // SAFETY: as above.
-        self.desk.safe(|at| unsafe { raw::hull_shared_journal_sync(at, raw::NEVER) })
+        self.shared.durable(|at| unsafe { raw::hull_shared_journal_sync(at, raw::NEVER) })
     }
 
     /// Decides whether a call that finds the journal full waits until a seat has drained it, and is made then, instead of failing
     /// with [`Fault::Full`]. Fails with [`Fault::SeatsOut`] if a seat is acquired.
-    pub fn wait_for_room(&mut self, waits: bool) -> Result<(), Fault> {
-        self.unused()?;
-        // SAFETY: no seat is out, and so no call is under way.
-        unsafe { raw::hull_shared_gate_wait_for_space(self.desk.line.at(), waits.into()) };
+    pub fn wait_for_space(&mut self, waits: bool) -> Result<(), Fault> {
+        self.check_unused()?;
+        // SAFETY: no seat is acquired, and so no call is under way.
+        unsafe { raw::hull_shared_gate_wait_for_space(self.shared.gate.at(), waits.into()) };
         Ok(())
     }
 
     /// Has the hull drain itself: the thread whose call finds half of the lines used, or no space, drains by its seat, asking how
-    /// many points there are, and passes the part to `keep`, beside the calls of others. One thread does so at a time, so that the
-    /// parts come in order. If calls outrun it, they fail with [`Fault::Full`], or wait ([`SharedHull::wait_for_room`]). If `keep`
-    /// panics, so does the call in which it ran, which was made; `keep` makes no call by a seat of its thread.
+    /// many points there are, and passes the segment to `hook`, beside the calls of others. One thread does so at a time, so that
+    /// the segments come in order. If calls outrun it, they fail with [`Fault::Full`], or wait ([`SharedHull::wait_for_space`]).
+    /// If `hook` panics, so does the call in which it ran, which was made; `hook` makes no call by a seat of its thread.
     ///
     /// Fails with [`Fault::SeatsOut`] if a seat is acquired, and [`Fault::NoMemory`].
-    pub fn on_half_full(&mut self, keep: impl FnMut(&JournalPart) + Send + 'static) -> Result<(), Fault> {
-        self.unused()?;
-        *self.desk.keep.lock().unwrap_or_else(PoisonError::into_inner) = Some(Box::new(keep));
-        let context: *const Desk = &*self.desk;
-        // SAFETY: no seat is out; the desk lies in one place as long as one is, and what it was given is `Send`.
-        match unsafe { raw::hull_shared_gate_on_half_full(self.desk.line.at(), keep_part, context as *mut u8) } {
+    pub fn on_half_full(&mut self, hook: impl FnMut(&JournalSegment) + Send + 'static) -> Result<(), Fault> {
+        self.check_unused()?;
+        *self.shared.hook.lock().unwrap_or_else(PoisonError::into_inner) = Some(Box::new(hook));
+        let context: *const Shared = &*self.shared;
+        // SAFETY: no seat is acquired; the shared hull does not move as long as one is, and the hook is `Send`.
+        match unsafe { raw::hull_shared_gate_on_half_full(self.shared.gate.at(), pass_segment, context as *mut u8) } {
             0 => Err(Fault::NoMemory),
             _ => Ok(()),
         }
     }
 
-    /// No seat is acquired: neither by you, nor by the thread of the journal file.
-    fn unused(&self) -> Result<(), Fault> {
-        let keeps = self.desk.journal.read().unwrap_or_else(PoisonError::into_inner).is_some();
-        (!keeps && self.desk.is_alone()).then_some(()).ok_or(Fault::SeatsOut)
+    /// Fails with [`Fault::SeatsOut`] if a seat is acquired, by you or by the thread of the journal file.
+    fn check_unused(&self) -> Result<(), Fault> {
+        let has_file = self.shared.journal.read().unwrap_or_else(PoisonError::into_inner).is_some();
+        (!has_file && self.shared.is_alone()).then_some(()).ok_or(Fault::SeatsOut)
     }
 
     /// Returns the state of the hull's calls. It waits for nothing; while calls go on, its numbers may be of different moments.
     pub fn stats(&self) -> Stats {
-        // SAFETY: the line lies with the desk, and all that is read is read by atomic steps.
-        let told = unsafe { raw::hull_shared_stats(self.desk.line.at()) };
+        // SAFETY: the gate is as old as the shared hull, and all that is read is read by atomic steps.
+        let state = unsafe { raw::hull_shared_stats(self.shared.gate.at()) };
         let seat = |number, time| (number < SEAT_LIMIT).then(|| (number, Duration::from_nanos(time)));
         Stats {
-            out: told.out,
-            inside: told.inside,
-            sleepers: told.sleepers,
-            for_room: told.for_room,
-            held: told.held,
-            turn: told.turn,
-            seat: seat(told.seat, told.seat_for),
-            named: Some(told.named).filter(|named| *named < SEAT_LIMIT),
-            drainer: seat(told.drainer, told.drains_for),
+            out: state.out,
+            inside: state.inside,
+            sleepers: state.sleepers,
+            for_space: state.for_space,
+            held: state.held,
+            turn: state.turn,
+            seat: seat(state.seat, state.seat_for),
+            designated: Some(state.designated).filter(|seat| *seat < SEAT_LIMIT),
+            drainer: seat(state.drainer, state.drains_for),
         }
     }
 
     /// Acquires the seat of a number, 0 and up. Fails with [`Fault::NoSeat`] if it is acquired or there is none, and
     /// [`Fault::NotOpen`] after the hull is closed.
-    pub fn lend(&self, number: u32) -> Result<Seat, Fault> {
-        // SAFETY: the two that are asked read nothing; the room is of that size and alignment, and nobody else's; the
-        // desk lies in its own, and its lock keeps other calls away.
+    pub fn acquire_seat(&self, number: u32) -> Result<Seat, Fault> {
+        // SAFETY: the two that are asked read nothing; the storage is of that size and alignment, and nobody else's; the shared hull
+        // is in its own, and its lock keeps other calls away.
         unsafe {
-            let room = Room::new(raw::hull_shared_seat_size(), raw::hull_shared_seat_alignment())?;
-            raw::hull_shared_make_seat(room.at());
-            match raw::hull_shared_acquire_seat(self.desk.lock().at(), self.desk.line.at(), room.at(), number) {
-                code::LENT => Ok(Seat { room, desk: self.desk.clone(), number, turn: None, corners: 64, patience: None }),
+            let storage = Storage::new(raw::hull_shared_seat_size(), raw::hull_shared_seat_alignment())?;
+            raw::hull_shared_make_seat(storage.at());
+            match raw::hull_shared_acquire_seat(self.shared.lock().at(), self.shared.gate.at(), storage.at(), number) {
+                code::ACQUIRED => Ok(Seat { storage, shared: self.shared.clone(), number, turn: None, vertex_capacity: 64, patience: None }),
                 other => Err(answer::fault_of(other)),
             }
         }
@@ -365,8 +365,8 @@ impl SharedHull {
 
     /// Acquires a reader, of those that the hull was opened for ([`SharedHull::for_readers`]). Fails with [`Fault::NoSeat`] if as
     /// many are acquired, and [`Fault::NotOpen`] after the hull is closed.
-    pub fn lend_reader(&self) -> Result<Reader, Fault> {
-        Reader::new(&self.desk)
+    pub fn acquire_reader(&self) -> Result<Reader, Fault> {
+        Reader::new(&self.shared)
     }
 
     /// Closes the hull, unless it is closed, and returns the text of its journal, of the lines that were not drained, which
@@ -376,24 +376,24 @@ impl SharedHull {
     /// [`Fault::NoMemory`], which says that there is none for the text, you may call it again: the hull is closed. If the hull has
     /// a file, the text is its last segment; [`Fault::NoFile`] if it could not be written: the hull is closed.
     pub fn close(&self) -> Result<String, Fault> {
-        let desk = self.end()?;
-        text_of(&desk)
+        let hull = self.end()?;
+        text_of(&hull)
     }
 
     /// The same, and writes that text to a writer, some thousand bytes at a time. A fault is the error's inner one.
     pub fn close_to(&self, out: &mut impl std::io::Write) -> std::io::Result<()> {
-        let desk = self.end().map_err(told_as_io)?;
-        // SAFETY: the desk lies in the room, which is locked; the array was written.
-        all_to(out, pieces_of(1 << 16, |line, text| unsafe { raw::hull_shared_text_from(desk.at(), line, text.as_mut_ptr(), text.len()) }))
+        let hull = self.end().map_err(io_error)?;
+        // SAFETY: a shared hull is in the storage, which is locked; the array was written.
+        all_to(out, pieces_of(1 << 16, |line, text| unsafe { raw::hull_shared_text_from(hull.at(), line, text.as_mut_ptr(), text.len()) }))
     }
 
-    /// Closes the desk and its file, unless they are closed.
-    fn end(&self) -> Result<MutexGuard<'_, Room>, Fault> {
-        let desk = self.desk.lock();
-        self.desk.end_journal(&desk)?;
-        // SAFETY: the desk lies in the room, and its lock keeps other calls away.
-        match unsafe { raw::hull_shared_close(desk.at()) } {
-            code::CLOSED | code::NOT_OPEN => Ok(desk),
+    /// Closes the hull and its file, unless they are closed.
+    fn end(&self) -> Result<MutexGuard<'_, Storage>, Fault> {
+        let hull = self.shared.lock();
+        self.shared.end_journal(&hull)?;
+        // SAFETY: a shared hull is in the storage, and its lock keeps other calls away.
+        match unsafe { raw::hull_shared_close(hull.at()) } {
+            code::CLOSED | code::NOT_OPEN => Ok(hull),
             other => Err(answer::fault_of(other)),
         }
     }
@@ -402,18 +402,18 @@ impl SharedHull {
 /// A shared hull that is not open yet: each of its functions opens it as that of [`SharedHull`] with the same name
 /// ([`SharedHull::for_readers`]).
 pub struct Opening {
-    desk: Counted<Desk>,
+    shared: Counted<Shared>,
 }
 
 impl Opening {
     fn new() -> Result<Opening, Fault> {
-        Ok(Opening { desk: Counted::new(Desk::new()?)? })
+        Ok(Opening { shared: Counted::new(Shared::new()?)? })
     }
 
-    /// The hull, if its desk was opened.
-    fn opened(self, told: u32) -> Result<SharedHull, Fault> {
-        match told {
-            code::OPEN => Ok(SharedHull { desk: self.desk }),
+    /// Returns the hull, if this is the code of one that is open.
+    fn opened(self, code: u32) -> Result<SharedHull, Fault> {
+        match code {
+            code::OPEN => Ok(SharedHull { shared: self.shared }),
             other => Err(answer::fault_of(other)),
         }
     }
@@ -421,70 +421,70 @@ impl Opening {
     /// As [`SharedHull::open`].
     pub fn open(self, limits: Limits) -> Result<SharedHull, Fault> {
         let Limits { points, first, capacity, seats } = limits;
-        // SAFETY: the desk lies in its room, and nobody else has it yet.
-        let told = unsafe { raw::hull_shared_open(self.desk.lock().at(), points, first, capacity, seats) };
-        self.opened(told)
+        // SAFETY: a shared hull is in its storage, and nobody else has it yet.
+        let code = unsafe { raw::hull_shared_open(self.shared.lock().at(), points, first, capacity, seats) };
+        self.opened(code)
     }
 
     /// As [`SharedHull::open_answering`].
     pub fn open_answering(self, limits: Limits) -> Result<SharedHull, Fault> {
         let Limits { points, first, capacity, seats } = limits;
         // SAFETY: as above.
-        let told = unsafe { raw::hull_shared_open_answering(self.desk.lock().at(), points, first, capacity, seats) };
-        self.opened(told)
+        let code = unsafe { raw::hull_shared_open_answering(self.shared.lock().at(), points, first, capacity, seats) };
+        self.opened(code)
     }
 
     /// As [`SharedHull::open_without_journal`].
     pub fn open_without_journal(self, limits: Limits) -> Result<SharedHull, Fault> {
         // SAFETY: as above.
-        let told = unsafe {
-            raw::hull_shared_open_without_journal(self.desk.lock().at(), limits.points, limits.first, limits.seats)
+        let code = unsafe {
+            raw::hull_shared_open_without_journal(self.shared.lock().at(), limits.points, limits.first, limits.seats)
         };
-        self.opened(told)
+        self.opened(code)
     }
 
     /// As [`SharedHull::reopen`].
     pub fn reopen(self, text: &str, capacity: u32, seats: u32) -> Result<SharedHull, Fault> {
-        // SAFETY: the desk lies in its room, and nobody else has it yet; the text is not written meanwhile.
-        let told =
-            unsafe { raw::hull_shared_reopen(self.desk.lock().at(), text.as_ptr(), text.len(), capacity, seats) };
-        match told.code {
-            code::NO_JOURNAL => Err(Fault::NoJournal { line: told.number, fault: told.high as u8 }),
+        // SAFETY: a shared hull is in its storage, and nobody else has it yet; the text is not written meanwhile.
+        let reply =
+            unsafe { raw::hull_shared_reopen(self.shared.lock().at(), text.as_ptr(), text.len(), capacity, seats) };
+        match reply.code {
+            code::NO_JOURNAL => Err(Fault::NoJournal { line: reply.number, fault: reply.high as u8 }),
             code::OLD_RULES => Err(Fault::OldRules),
-            code::ILLEGAL => Err(Fault::Illegal { line: told.number }),
-            code::TOO_FEW_SEATS => Err(Fault::TooFewSeats { wanted: told.number as u32 }),
+            code::ILLEGAL => Err(Fault::Illegal { line: reply.number }),
+            code::TOO_FEW_SEATS => Err(Fault::TooFewSeats { wanted: reply.number as u32 }),
             other => self.opened(other),
         }
     }
 
-    /// As [`SharedHull::keep`].
-    pub fn keep(self, path: impl AsRef<Path>, limits: Limits, every: Option<Duration>) -> Result<SharedHull, Fault> {
-        let desk = self.desk;
+    /// As [`SharedHull::open_journal`].
+    pub fn open_journal(self, path: impl AsRef<Path>, limits: Limits, every: Option<Duration>) -> Result<SharedHull, Fault> {
+        let shared = self.shared;
         let path = name_of(path.as_ref())?;
         let every = every.map_or(0, |time| u64::try_from(time.as_nanos()).unwrap_or(u64::MAX / 2).min(u64::MAX / 2));
         let mut journal = null_mut();
         // SAFETY: the path ends with a 0.
-        let told = unsafe { raw::hull_shared_journal_open(path.as_ptr(), &mut journal) };
-        let at = NonNull::new(journal).ok_or_else(|| fault_of_file(&told, told.number))?;
+        let reply = unsafe { raw::hull_shared_journal_open(path.as_ptr(), &mut journal) };
+        let at = NonNull::new(journal).ok_or_else(|| fault_of_file(&reply, reply.number))?;
         let Limits { points, capacity, seats, .. } = limits;
-        // SAFETY: desk and line lie in their places as long as the journal is there, and nobody else has them yet.
-        let told = unsafe {
-            raw::hull_shared_journal_start(at.as_ptr(), desk.lock().at(), desk.line.at(), points, capacity, seats, every)
+        // SAFETY: the shared hull and its gate do not move as long as the journal is there, and nobody else has them yet.
+        let reply = unsafe {
+            raw::hull_shared_journal_start(at.as_ptr(), shared.lock().at(), shared.gate.at(), points, capacity, seats, every)
         };
-        if told.code != code::OPEN {
+        if reply.code != code::OPEN {
             // SAFETY: it was not started, and is used no more.
             unsafe { raw::hull_shared_journal_close(at.as_ptr()) };
-            return Err(fault_of_file(&told, told.number));
+            return Err(fault_of_file(&reply, reply.number));
         }
-        *desk.journal.write().unwrap_or_else(PoisonError::into_inner) = Some(Journal(at));
-        Ok(SharedHull { desk })
+        *shared.journal.write().unwrap_or_else(PoisonError::into_inner) = Some(JournalFile(at));
+        Ok(SharedHull { shared })
     }
 }
 
-/// The text of a closed desk's journal.
-fn text_of(desk: &Room) -> Result<String, Fault> {
-    // SAFETY: the desk lies in the room, which is locked; the array was written.
-    written(|text| unsafe { raw::hull_shared_text(desk.at(), text.as_mut_ptr(), text.len()) })
+/// The text of a closed hull's journal.
+fn text_of(hull: &Storage) -> Result<String, Fault> {
+    // SAFETY: a shared hull is in the storage, which is locked; the array was written.
+    written(|text| unsafe { raw::hull_shared_text(hull.at(), text.as_mut_ptr(), text.len()) })
 }
 
 /// The text that a call writes to an array, which may be too short for it.
@@ -493,24 +493,24 @@ fn written(write: impl Fn(&mut [u8]) -> Reply) -> Result<String, Fault> {
 }
 
 fn zeros(bytes: usize) -> Result<Vec<u8>, Fault> {
-    let mut room = Vec::new();
-    room.try_reserve_exact(bytes).map_err(|_| Fault::NoMemory)?;
-    room.resize(bytes, 0);
-    Ok(room)
+    let mut all = Vec::new();
+    all.try_reserve_exact(bytes).map_err(|_| Fault::NoMemory)?;
+    all.resize(bytes, 0);
+    Ok(all)
 }
 
 /// The same, into this array first.
 fn written_into(mut text: Vec<u8>, mut write: impl FnMut(&mut [u8]) -> Reply) -> Result<String, Fault> {
     loop {
-        let told = write(&mut text);
-        match told.code {
+        let reply = write(&mut text);
+        match reply.code {
             code::TEXT => {
-                text.truncate(told.number as usize);
+                text.truncate(reply.number as usize);
                 return Ok(String::from_utf8(text).expect("a journal is a text"));
             }
             code::TOO_SMALL => {
-                text.try_reserve_exact(told.number as usize - text.len()).map_err(|_| Fault::NoMemory)?;
-                text.resize(told.number as usize, 0);
+                text.try_reserve_exact(reply.number as usize - text.len()).map_err(|_| Fault::NoMemory)?;
+                text.resize(reply.number as usize, 0);
             }
             other => return Err(answer::fault_of(other)),
         }
@@ -518,31 +518,31 @@ fn written_into(mut text: Vec<u8>, mut write: impl FnMut(&mut [u8]) -> Reply) ->
 }
 
 /// A segment of a journal: lines that a seat drained ([`Seat::drain`]). They are kept until it is dropped.
-pub struct JournalPart {
-    room: Room,
+pub struct JournalSegment {
+    storage: Storage,
 }
 
-impl JournalPart {
-    /// A part with space for so many lines.
-    fn new(lines: u32) -> Result<JournalPart, Fault> {
-        // SAFETY: the two that are asked read nothing; the room is of that size and alignment, and nobody else's.
+impl JournalSegment {
+    /// A segment with space for so many lines.
+    fn new(lines: u32) -> Result<JournalSegment, Fault> {
+        // SAFETY: the two that are asked read nothing; the storage is of that size and alignment, and nobody else's.
         unsafe {
-            let room = Room::new(raw::hull_shared_segment_size(), raw::hull_shared_segment_alignment())?;
-            raw::hull_shared_make_segment(room.at());
-            let part = JournalPart { room };
-            match raw::hull_shared_segment_reserve(part.room.at(), lines) {
-                code::RESERVED => Ok(part),
+            let storage = Storage::new(raw::hull_shared_segment_size(), raw::hull_shared_segment_alignment())?;
+            raw::hull_shared_make_segment(storage.at());
+            let segment = JournalSegment { storage };
+            match raw::hull_shared_segment_reserve(segment.storage.at(), lines) {
+                code::RESERVED => Ok(segment),
                 other => Err(answer::fault_of(other)),
             }
         }
     }
 
     /// Returns the text of the lines: a journal with the number of the first of them as its own first number. `hullbook check`
-    /// judges the texts of all parts in order.
+    /// judges the texts of all segments in order.
     pub fn text(&self) -> Result<String, Fault> {
-        // SAFETY: the part lies in the room, and writing its text leaves it as it is; no other thread has it, since it is not
+        // SAFETY: a segment is in the storage, and writing its text leaves it as it is; no other thread has it, since it is not
         // `Sync`; the array was written.
-        written(|text| unsafe { raw::hull_shared_segment_text(self.room.at(), text.as_mut_ptr(), text.len()) })
+        written(|text| unsafe { raw::hull_shared_segment_text(self.storage.at(), text.as_mut_ptr(), text.len()) })
     }
 
     /// Returns the lines of that text, from the header to the end line.
@@ -561,7 +561,7 @@ impl JournalPart {
     pub fn pieces(&self, bytes: usize) -> impl Iterator<Item = Result<String, Fault>> + '_ {
         // SAFETY: as in `text`.
         pieces_of(bytes, |line, text| unsafe {
-            raw::hull_shared_segment_text_from(self.room.at(), line, text.as_mut_ptr(), text.len())
+            raw::hull_shared_segment_text_from(self.storage.at(), line, text.as_mut_ptr(), text.len())
         })
     }
 
@@ -576,40 +576,40 @@ fn pieces_of<'a>(bytes: usize, write: impl Fn(u64, &mut [u8]) -> Reply + 'a) -> 
     let mut next = Some(0);
     std::iter::from_fn(move || {
         let line = next?;
-        let mut behind = 0;
-        let piece = zeros(bytes).and_then(|room| {
-            written_into(room, |text| {
-                let told = write(line, text);
-                behind = told.high;
-                told
+        let mut after = 0;
+        let piece = zeros(bytes).and_then(|array| {
+            written_into(array, |text| {
+                let reply = write(line, text);
+                after = reply.high;
+                reply
             })
         });
-        next = Some(behind).filter(|_| matches!(&piece, Ok(text) if !text.is_empty()));
+        next = Some(after).filter(|_| matches!(&piece, Ok(text) if !text.is_empty()));
         Some(piece).filter(|piece| !matches!(piece, Ok(text) if text.is_empty()))
     })
 }
 
 fn all_to(out: &mut impl std::io::Write, pieces: impl Iterator<Item = Result<String, Fault>>) -> std::io::Result<()> {
     for piece in pieces {
-        out.write_all(piece.map_err(told_as_io)?.as_bytes())?;
+        out.write_all(piece.map_err(io_error)?.as_bytes())?;
     }
     Ok(())
 }
 
-fn told_as_io(fault: Fault) -> std::io::Error {
+fn io_error(fault: Fault) -> std::io::Error {
     std::io::Error::new(std::io::ErrorKind::Other, fault)
 }
 
-impl Drop for JournalPart {
+impl Drop for JournalSegment {
     fn drop(&mut self) {
-        // SAFETY: the part lies in its room, and nothing else uses it.
-        unsafe { raw::hull_shared_segment_end(self.room.at()) };
+        // SAFETY: a segment is in its storage, and nothing else uses it.
+        unsafe { raw::hull_shared_segment_end(self.storage.at()) };
     }
 }
 
-impl fmt::Debug for JournalPart {
+impl fmt::Debug for JournalSegment {
     fn fmt(&self, f: &mut fmt::Formatter<'_>) -> fmt::Result {
-        f.debug_struct("JournalPart").finish_non_exhaustive()
+        f.debug_struct("JournalSegment").finish_non_exhaustive()
     }
 }
 
@@ -626,11 +626,11 @@ impl fmt::Debug for SharedHull {
 /// [`Fault::Busy`] if it waits for less ([`wait_at_most`](Seat::wait_at_most)). It fails with [`Fault::Full`] if the journal is
 /// full: the call is not made, and there is space again after a [`drain`](Seat::drain), which never fails so.
 pub struct Seat {
-    room: Room,
-    desk: Counted<Desk>,
+    storage: Storage,
+    shared: Counted<Shared>,
     number: u32,
     turn: Option<u64>,
-    corners: usize,
+    vertex_capacity: usize,
     patience: Option<Duration>,
 }
 
@@ -661,29 +661,29 @@ impl Seat {
         }
     }
 
-    /// Waits until the lines of all calls of the seat are durable in the journal file ([`SharedHull::keep`]), for as long as calls
-    /// of the seat wait. Fails with [`Fault::Busy`] if they are not by then, and the faults of [`SharedHull::safe`].
-    pub fn wait_safe(&self) -> Result<(), Fault> {
+    /// Waits until the lines of all calls of the seat are durable in the journal file ([`SharedHull::open_journal`]), for as long
+    /// as calls of the seat wait. Fails with [`Fault::Busy`] if they are not by then, and the faults of [`SharedHull::durable`].
+    pub fn wait_durable(&self) -> Result<(), Fault> {
         let until = self.until();
         // SAFETY: the journal is there as long as it is read.
-        let told = self.desk.safe(|at| match self.turn {
+        let reply = self.shared.durable(|at| match self.turn {
             Some(line) => unsafe { raw::hull_shared_journal_wait(at, line, until) },
             None => unsafe { raw::hull_shared_journal_durable(at) },
         });
-        told.map(|_| ())
+        reply.map(|_| ())
     }
 
     /// Releases the seat, as dropping it does.
-    pub fn give_back(self) {}
+    pub fn release(self) {}
 
     /// Adds a point, and returns its multiplicity now: 1 if it is new.
     pub fn add(&mut self, point: Point) -> Result<u32, Fault> {
-        self.call(kind::ADD, point).and_then(answer::times_added)
+        self.call(kind::ADD, point).and_then(answer::multiplicity_added)
     }
 
     /// Removes a point once, and returns the multiplicity that is left: 0 if it is gone; `None` if it was not there.
     pub fn remove(&mut self, point: Point) -> Result<Option<u32>, Fault> {
-        self.call(kind::REMOVE, point).and_then(answer::times_left)
+        self.call(kind::REMOVE, point).and_then(answer::multiplicity_left)
     }
 
     /// Returns the location of a point.
@@ -704,26 +704,26 @@ impl Seat {
     /// Returns the vertices, as [`Hull::vertices`](crate::Hull::vertices). It asks with space for as many as there were before,
     /// and again if there are more: each question has its line in the journal.
     pub fn vertices(&mut self) -> Result<Vertices, Fault> {
-        let mut corners = Vec::new();
+        let mut vertices = Vec::new();
         loop {
-            corners.try_reserve_exact(self.corners).map_err(|_| Fault::NoMemory)?;
-            corners.resize(self.corners, NOWHERE);
-            let reply = self.call_into(kind::VERTICES, NOWHERE, &mut corners)?;
+            vertices.try_reserve_exact(self.vertex_capacity).map_err(|_| Fault::NoMemory)?;
+            vertices.resize(self.vertex_capacity, NOWHERE);
+            let reply = self.call_into(kind::VERTICES, NOWHERE, &mut vertices)?;
             let number = reply.number as usize;
             match reply.code {
-                code::CORNERS => {
-                    corners.truncate(number);
-                    return Ok(Vertices::of(corners));
+                code::VERTICES => {
+                    vertices.truncate(number);
+                    return Ok(Vertices::of(vertices));
                 }
-                code::TOO_SMALL => self.corners = number + number / 8,
+                code::TOO_SMALL => self.vertex_capacity = number + number / 8,
                 other => return Err(answer::fault_of(other)),
             }
         }
     }
 
     /// Returns how many vertices there are.
-    pub fn corners(&mut self) -> Result<usize, Fault> {
-        self.call(kind::VERTICES, NOWHERE).and_then(answer::number).map(|corners| corners as usize)
+    pub fn vertex_count(&mut self) -> Result<usize, Fault> {
+        self.call(kind::VERTICES, NOWHERE).and_then(answer::number).map(|vertices| vertices as usize)
     }
 
     /// Returns twice the area, 0 for a point and a segment.
@@ -740,11 +740,11 @@ impl Seat {
     /// lists are exchanged.
     ///
     /// Fails with [`Fault::NoMemory`] if there is none for the lines: no call is made then.
-    pub fn drain(&mut self) -> Result<JournalPart, Fault> {
-        // SAFETY: a seat lies in the room, and `&mut self` keeps other calls away.
-        let part = JournalPart::new(unsafe { raw::hull_shared_capacity(self.room.at()) })?;
-        self.call_to(kind::COUNT, NOWHERE, Target { out: null_mut(), room: 0, part: part.room.at() })?;
-        Ok(part)
+    pub fn drain(&mut self) -> Result<JournalSegment, Fault> {
+        // SAFETY: a seat is in the storage, and `&mut self` keeps other calls away.
+        let segment = JournalSegment::new(unsafe { raw::hull_shared_capacity(self.storage.at()) })?;
+        self.call_to(kind::COUNT, NOWHERE, Target { out: null_mut(), capacity: 0, segment: segment.storage.at() })?;
+        Ok(segment)
     }
 
     fn call(&mut self, kind: u32, at: Point) -> Result<Reply, Fault> {
@@ -753,29 +753,29 @@ impl Seat {
 
     /// Makes a call; vertices are written to the array, all of which was written.
     fn call_into(&mut self, kind: u32, at: Point, out: &mut [Point]) -> Result<Reply, Fault> {
-        self.call_to(kind, at, Target { out: out.as_mut_ptr(), room: out.len(), part: null_mut() })
+        self.call_to(kind, at, Target { out: out.as_mut_ptr(), capacity: out.len(), segment: null_mut() })
     }
 
-    /// Makes a call in the line of the desk; what it writes to is only the caller's.
+    /// Makes a call at the gate of the hull; what it writes to is only the caller's.
     fn call_to(&mut self, kind: u32, at: Point, to: Target) -> Result<Reply, Fault> {
         let until = self.until();
-        // SAFETY: a seat lies in the room, which was lent with this line, and `&mut self` keeps other calls away.
-        let reply = unsafe { raw::hull_shared_call_into(self.desk.line.at(), self.room.at(), kind, at.x, at.y, to, until) };
+        // SAFETY: a seat is in the storage, which was acquired with this gate, and `&mut self` keeps other calls away.
+        let reply = unsafe { raw::hull_shared_call_into(self.shared.gate.at(), self.storage.at(), kind, at.x, at.y, to, until) };
         self.turn = if reply.has_line == 1 { Some(reply.line) } else { self.turn };
         if let Some(fault) = PANIC.with(Cell::take) {
             resume_unwind(fault);
         }
-        match reply.told.code {
-            code::OUT_OF_RANGE | code::ZERO_DIRECTION | code::FULL | code::BUSY => Err(answer::fault_of(reply.told.code)),
-            _ => Ok(reply.told),
+        match reply.reply.code {
+            code::OUT_OF_RANGE | code::ZERO_DIRECTION | code::FULL | code::BUSY => Err(answer::fault_of(reply.reply.code)),
+            _ => Ok(reply.reply),
         }
     }
 }
 
 impl Drop for Seat {
     fn drop(&mut self) {
-        // SAFETY: the seat lies in its room and went out of this desk, whose lock keeps other calls away.
-        unsafe { raw::hull_shared_release_seat(self.desk.lock().at(), self.room.at()) };
+        // SAFETY: the seat is in its storage and was acquired from this hull, whose lock keeps other calls away.
+        unsafe { raw::hull_shared_release_seat(self.shared.lock().at(), self.storage.at()) };
     }
 }
 

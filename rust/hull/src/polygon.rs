@@ -3,43 +3,43 @@ use crate::counted::Counted;
 use crate::exchange::asked_along;
 use crate::raw::{self, code, kind, Reply, Request};
 use crate::{answer, many};
-use crate::{Clearance, Fault, Place, Point, NOWHERE};
+use crate::{DistanceBounds, Fault, Place, Point, NOWHERE};
 use std::fmt;
 use std::hash::{Hash, Hasher};
 use std::ops::Deref;
 
 /// A convex polygon: the vertices of a hull, as [`Hull::vertices`](crate::Hull::vertices) returns them, which answers as that hull
-/// did then ([`Corners`] has the questions). Nothing of it is ever written, so threads share it without a lock; a clone shares the
-/// vertices.
+/// did then ([`PolygonQuestions`] has the questions). Nothing of it is ever written, so threads share it without a lock; a clone
+/// shares the vertices.
 #[derive(Clone)]
-pub struct Outline {
-    pub(crate) corners: Counted<Vec<Point>>,
+pub struct Polygon {
+    pub(crate) vertices: Counted<Vec<Point>>,
 }
 
-/// The questions of a convex polygon, wherever its vertices are: in an [`Outline`], or in the snapshot of a reader of a shared
-/// hull.
+/// The questions of a convex polygon. A [`Polygon`] dereferences to them, as a `String` to a `str`, and the snapshot of a reader
+/// of a shared hull is one.
 #[repr(transparent)]
-pub struct Corners {
-    points: [Point],
+pub struct PolygonQuestions {
+    vertices: [Point],
 }
 
-impl PartialEq for Outline {
-    fn eq(&self, other: &Outline) -> bool {
-        self.corners() == other.corners()
+impl PartialEq for Polygon {
+    fn eq(&self, other: &Polygon) -> bool {
+        self.vertices() == other.vertices()
     }
 }
 
-impl Eq for Outline {}
+impl Eq for Polygon {}
 
-impl Hash for Outline {
+impl Hash for Polygon {
     fn hash<H: Hasher>(&self, state: &mut H) {
-        self.corners().hash(state);
+        self.vertices().hash(state);
     }
 }
 
-impl fmt::Debug for Outline {
+impl fmt::Debug for Polygon {
     fn fmt(&self, f: &mut fmt::Formatter<'_>) -> fmt::Result {
-        f.debug_struct("Outline").field("corners", &self.corners()).finish()
+        f.debug_struct("Polygon").field("vertices", &self.vertices()).finish()
     }
 }
 
@@ -59,7 +59,7 @@ pub enum Nearest {
     /// The polygon covers the point, which is its own nearest.
     Covered,
     /// At a vertex.
-    Corner(Point),
+    Vertex(Point),
     /// At its foot on the edge from one vertex to the next, strictly between them.
     Edge(Point, Point),
 }
@@ -69,7 +69,7 @@ pub enum Nearest {
 pub enum Relation {
     // written by tools/table.py: relations
     /// They are disjoint.
-    Apart,
+    Disjoint,
     /// They intersect, and a line has them on its two sides: nothing inside the one is covered by the other.
     Touching,
     /// They intersect, and no line has them on its two sides.
@@ -84,7 +84,7 @@ pub enum Relation {
 }
 
 /// A strip that contains a polygon, between the line of an edge and its parallel through a vertex farthest from it. Its width is
-/// the side of that vertex, up to 84 bits, divided by the length of the edge.
+/// twice the area of the triangle of these three points, up to 84 bits, divided by the length of the edge.
 #[derive(Clone, Copy, Debug, PartialEq, Eq)]
 pub struct Strip {
     /// The vertex at which the edge begins; the polygon is left of it.
@@ -105,21 +105,22 @@ pub enum Witness {
     /// The segment between two vertices of the first crosses the one between two vertices of the second.
     Crossing([Point; 2], [Point; 2]),
     /// This separates the first from the second: each vertex of that has a greater product with the direction than the farthest.
-    Apart(Separation),
+    Disjoint(Separation),
 }
 
 /// Where two polygons are nearest to one another. Between two vertices the squared distance is that of the two; between a vertex
-/// and an edge it is the square of the side of the vertex at the edge, up to 84 bits, divided by the squared length of the edge.
+/// and an edge it is the square of twice the area of the triangle of these three points, up to 84 bits, divided by the squared
+/// length of the edge.
 #[derive(Clone, Copy, Debug, PartialEq, Eq)]
 pub enum Distance {
     /// They intersect.
     Zero,
     /// At a vertex of the first and a vertex of the second.
-    Corners(Point, Point),
+    Vertices(Point, Point),
     /// At a vertex of the first and its foot on an edge of the second, strictly between the ends of that.
-    CornerAndEdge(Point, [Point; 2]),
+    VertexAndEdge(Point, [Point; 2]),
     /// At the foot on an edge of the first, strictly between its ends, of a vertex of the second.
-    EdgeAndCorner([Point; 2], Point),
+    EdgeAndVertex([Point; 2], Point),
 }
 
 /// Where a segment or a ray enters a polygon.
@@ -130,7 +131,7 @@ pub enum Entry {
     /// Across the edge from one vertex to the next, or at an end of it.
     Edge(Point, Point),
     /// At this vertex, of a polygon that is on its line.
-    Corner(Point),
+    Vertex(Point),
 }
 
 /// Where a segment or a ray enters a polygon, or a ray leaves it, and how far along that is: `part / whole`, exactly, of a
@@ -146,84 +147,84 @@ pub struct Hit {
 }
 
 /// The vertices that a call writes to an array, which may be too short for them.
-pub(crate) fn written_corners(write: impl Fn(&mut [Point]) -> Reply) -> Result<Vec<Point>, Fault> {
-    let mut corners = Vec::new();
+pub(crate) fn written_vertices(write: impl Fn(&mut [Point]) -> Reply) -> Result<Vec<Point>, Fault> {
+    let mut vertices = Vec::new();
     loop {
-        let reply = write(&mut corners);
+        let reply = write(&mut vertices);
         let number = reply.number as usize;
         match reply.code {
-            code::CORNERS => {
-                corners.truncate(number);
-                return Ok(corners);
+            code::VERTICES => {
+                vertices.truncate(number);
+                return Ok(vertices);
             }
             code::TOO_SMALL => {
-                corners.try_reserve_exact(number - corners.len()).map_err(|_| Fault::NoMemory)?;
-                corners.resize(number, NOWHERE);
+                vertices.try_reserve_exact(number - vertices.len()).map_err(|_| Fault::NoMemory)?;
+                vertices.resize(number, NOWHERE);
             }
             other => return Err(answer::fault_of(other)),
         }
     }
 }
 
-impl Outline {
+impl Polygon {
     /// Returns the polygon of these vertices: counterclockwise from the first by x and then by y, and none inside an edge. Fails
-    /// with [`Fault::NoOutline`] if they are not.
-    pub fn new(corners: &[Point]) -> Result<Outline, Fault> {
+    /// with [`Fault::NoPolygon`] if they are not.
+    pub fn new(vertices: &[Point]) -> Result<Polygon, Fault> {
         let mut own = Vec::new();
-        own.try_reserve_exact(corners.len()).map_err(|_| Fault::NoMemory)?;
-        own.extend_from_slice(corners);
-        Outline::of(own)
+        own.try_reserve_exact(vertices.len()).map_err(|_| Fault::NoMemory)?;
+        own.extend_from_slice(vertices);
+        Polygon::of(own)
     }
 
     /// Returns the convex polygon of any points. Fails with [`Fault::OutOfRange`], and [`Fault::TooMany`] as
     /// [`Hull::load`](crate::Hull::load). If they are the vertices of a convex polygon in order, from any vertex on and in either
     /// sense, it makes a few passes over them; else it sorts them.
-    pub fn of_points(points: &[Point]) -> Result<Outline, Fault> {
-        let corners = written_corners(|out| {
+    pub fn of_points(points: &[Point]) -> Result<Polygon, Fault> {
+        let vertices = written_vertices(|out| {
             // SAFETY: both arrays are slices' own and were written.
             unsafe { raw::hull_polygon_of(points.as_ptr(), points.len(), out.as_mut_ptr(), out.len()) }
         })?;
-        Ok(Outline { corners: Counted::new(corners)? })
+        Ok(Polygon { vertices: Counted::new(vertices)? })
     }
 
-    pub(crate) fn of(corners: Vec<Point>) -> Result<Outline, Fault> {
+    pub(crate) fn of(vertices: Vec<Point>) -> Result<Polygon, Fault> {
         // SAFETY: the points are a vector's own, whose pointer is not null.
-        let told = unsafe { raw::hull_is_polygon(corners.as_ptr(), corners.len()) };
-        match answer::number(told)? {
-            1 => Ok(Outline { corners: Counted::new(corners)? }),
-            _ => Err(Fault::NoOutline),
+        let reply = unsafe { raw::hull_is_polygon(vertices.as_ptr(), vertices.len()) };
+        match answer::number(reply)? {
+            1 => Ok(Polygon { vertices: Counted::new(vertices)? }),
+            _ => Err(Fault::NoPolygon),
         }
     }
 }
 
-impl Deref for Outline {
-    type Target = Corners;
+impl Deref for Polygon {
+    type Target = PolygonQuestions;
 
-    fn deref(&self) -> &Corners {
-        // SAFETY: they are an outline, as `new` saw.
-        unsafe { Corners::of(&self.corners) }
+    fn deref(&self) -> &PolygonQuestions {
+        // SAFETY: they are a convex polygon, as `new` saw.
+        unsafe { PolygonQuestions::of(&self.vertices) }
     }
 }
 
-impl Corners {
-    /// The vertices, as what is asked of them.
+impl PolygonQuestions {
+    /// The questions of these vertices.
     ///
     /// # Safety
     ///
     /// They are a convex polygon: the vertices of a hull from the first by x and then by y, counterclockwise.
-    pub(crate) unsafe fn of(points: &[Point]) -> &Corners {
+    pub(crate) unsafe fn of(vertices: &[Point]) -> &PolygonQuestions {
         // SAFETY: it has the layout of the slice, and lives as long.
-        unsafe { &*(points as *const [Point] as *const Corners) }
+        unsafe { &*(vertices as *const [Point] as *const PolygonQuestions) }
     }
 
-    /// The vertices.
-    pub fn corners(&self) -> &[Point] {
-        &self.points
+    /// Returns the vertices.
+    pub fn vertices(&self) -> &[Point] {
+        &self.vertices
     }
 
     fn ask(&self, kind: u32, at: Point) -> Reply {
-        // SAFETY: the corners are an outline, as `Outline::new` saw, and nobody writes them.
-        unsafe { raw::hull_polygon_call(self.points.as_ptr(), self.points.len(), kind, at.x, at.y) }
+        // SAFETY: the vertices are a convex polygon, as `Polygon::new` saw, and nobody writes them.
+        unsafe { raw::hull_polygon_call(self.vertices.as_ptr(), self.vertices.len(), kind, at.x, at.y) }
     }
 
     /// Returns the location of a point.
@@ -251,15 +252,15 @@ impl Corners {
         &self,
         kind: u32,
         points: &[Point],
-        told: impl Fn(Reply) -> Result<T, Fault>,
+        read: impl Fn(Reply) -> Result<T, Fault>,
     ) -> Result<Vec<T>, Fault> {
         let serve = |requests: &[Request], replies: &mut [Reply]| {
-            let corners = &self.points;
-            // SAFETY: the corners are an outline, as `Outline::new` saw; the arrays were written, and are as long as is told.
+            let vertices = &self.vertices;
+            // SAFETY: the vertices are a convex polygon, as `Polygon::new` saw; the arrays were written, and are as long as is stated.
             unsafe {
                 raw::hull_polygon_calls(
-                    corners.as_ptr(),
-                    corners.len(),
+                    vertices.as_ptr(),
+                    vertices.len(),
                     requests.as_ptr(),
                     requests.len(),
                     replies.as_mut_ptr(),
@@ -267,7 +268,7 @@ impl Corners {
                 )
             }
         };
-        many::all(kind, points, serve, told)
+        many::all(kind, points, serve, read)
     }
 
     /// Returns the location of each of the points.
@@ -275,12 +276,12 @@ impl Corners {
         self.ask_all(kind::PLACE, points, answer::place)
     }
 
-    /// Returns the tangent points seen from each of the points, as [`tangents`](Corners::tangents).
+    /// Returns the tangent points seen from each of the points, as [`tangents`](PolygonQuestions::tangents).
     pub fn tangents_all(&self, points: &[Point]) -> Result<Vec<Option<(Point, Point)>>, Fault> {
         self.ask_all(kind::TANGENTS, points, answer::tangents)
     }
 
-    /// Returns the farthest point in each of the directions, as [`extreme`](Corners::extreme).
+    /// Returns the farthest point in each of the directions, as [`extreme`](PolygonQuestions::extreme).
     pub fn extreme_all(&self, directions: &[Point]) -> Result<Vec<Option<Point>>, Fault> {
         self.ask_all(kind::EXTREME, directions, answer::extreme)
     }
@@ -292,167 +293,166 @@ impl Corners {
     }
 
     /// Returns whether the polygon intersects the segment from `a` to `b`, which may be one point.
-    pub fn meets_segment(&self, a: Point, b: Point) -> Result<bool, Fault> {
-        let corners = &self.points;
-        // SAFETY: the corners are an outline, as `Outline::new` saw, and nobody writes them.
-        let told = unsafe { raw::hull_polygon_intersects_segment(corners.as_ptr(), corners.len(), a.x, a.y, b.x, b.y) };
-        answer::number(told).map(|number| number == 1)
+    pub fn intersects_segment(&self, a: Point, b: Point) -> Result<bool, Fault> {
+        let vertices = &self.vertices;
+        // SAFETY: the vertices are a convex polygon, as `Polygon::new` saw, and nobody writes them.
+        let reply = unsafe { raw::hull_polygon_intersects_segment(vertices.as_ptr(), vertices.len(), a.x, a.y, b.x, b.y) };
+        answer::number(reply).map(|number| number == 1)
     }
 
     /// Returns what separates the polygon from the segment from `a` to `b`; `None` if they intersect, and for a polygon without
     /// vertices.
-    pub fn apart_from_segment(&self, a: Point, b: Point) -> Result<Option<Separation>, Fault> {
-        let corners = &self.points;
+    pub fn separation_from_segment(&self, a: Point, b: Point) -> Result<Option<Separation>, Fault> {
+        let vertices = &self.vertices;
         // SAFETY: the same.
-        let told = unsafe { raw::hull_polygon_separation(corners.as_ptr(), corners.len(), a.x, a.y, b.x, b.y) };
-        answer::separation(told)
+        let reply = unsafe { raw::hull_polygon_separation(vertices.as_ptr(), vertices.len(), a.x, a.y, b.x, b.y) };
+        answer::separation(reply)
     }
 
     /// Returns where the point is that is nearest to `point`; `None` for a polygon without vertices.
     pub fn nearest(&self, point: Point) -> Result<Option<Nearest>, Fault> {
         // SAFETY: the same.
-        let told = unsafe { raw::hull_polygon_nearest(self.points.as_ptr(), self.points.len(), point.x, point.y) };
-        answer::nearest(told)
+        let reply = unsafe { raw::hull_polygon_nearest(self.vertices.as_ptr(), self.vertices.len(), point.x, point.y) };
+        answer::nearest(reply)
     }
 
     /// Returns the least and the greatest point of the bounding box; `None` for a polygon without vertices.
     pub fn bounding_box(&self) -> Option<(Point, Point)> {
         // SAFETY: the same.
-        answer::bounds(unsafe { raw::hull_polygon_box(self.points.as_ptr(), self.points.len()) })
+        answer::bounds(unsafe { raw::hull_polygon_box(self.vertices.as_ptr(), self.vertices.len()) })
     }
 
     /// Returns the extent of the polygon in a direction: the greatest product of a vertex with it less the least; `None` for a
     /// polygon without vertices. Divide it by the length of the direction for the width along it.
     pub fn width_along(&self, direction: Point) -> Result<Option<u128>, Fault> {
         // SAFETY: the same.
-        let told = unsafe { raw::hull_polygon_width(self.points.as_ptr(), self.points.len(), direction.x, direction.y) };
-        answer::width(told)
+        let reply = unsafe { raw::hull_polygon_width(self.vertices.as_ptr(), self.vertices.len(), direction.x, direction.y) };
+        answer::width(reply)
     }
 
     /// Returns the two vertices that are farthest from one another; `None` for a polygon without vertices.
     pub fn diameter(&self) -> Option<(Point, Point)> {
         // SAFETY: the same.
-        answer::points(unsafe { raw::hull_polygon_diameter(self.points.as_ptr(), self.points.len()) })
+        answer::points(unsafe { raw::hull_polygon_diameter(self.vertices.as_ptr(), self.vertices.len()) })
     }
 
     /// Returns where the polygon is least wide: no direction has a narrower strip; `None` if there are fewer than two vertices.
     pub fn least_width(&self) -> Option<Strip> {
         // SAFETY: the same.
-        answer::strip(unsafe { raw::hull_polygon_least_width(self.points.as_ptr(), self.points.len()) })
+        answer::strip(unsafe { raw::hull_polygon_least_width(self.vertices.as_ptr(), self.vertices.len()) })
     }
 
     /// Returns whether the two polygons intersect, boundaries included.
-    pub fn meets(&self, other: &Corners) -> bool {
-        let (these, those) = (&self.points, &other.points);
+    pub fn intersects(&self, other: &PolygonQuestions) -> bool {
+        let (these, those) = (&self.vertices, &other.vertices);
         // SAFETY: the same, of both.
         unsafe { raw::hull_polygon_intersects(these.as_ptr(), these.len(), those.as_ptr(), those.len()) }.number == 1
     }
 
     /// Returns whether this polygon contains the other one.
-    pub fn contains(&self, other: &Corners) -> bool {
-        let (these, those) = (&self.points, &other.points);
+    pub fn contains(&self, other: &PolygonQuestions) -> bool {
+        let (these, those) = (&self.vertices, &other.vertices);
         // SAFETY: the same.
         unsafe { raw::hull_polygon_contains(these.as_ptr(), these.len(), those.as_ptr(), those.len()) }.number == 1
     }
 
     /// Returns how this polygon is related to the other one.
-    pub fn relation(&self, other: &Corners) -> Relation {
-        let (these, those) = (&self.points, &other.points);
+    pub fn relation(&self, other: &PolygonQuestions) -> Relation {
+        let (these, those) = (&self.vertices, &other.vertices);
         // SAFETY: the same.
         answer::relation(unsafe { raw::hull_polygon_relation(these.as_ptr(), these.len(), those.as_ptr(), those.len()) }.number)
     }
 
     /// Returns whether this polygon contains the other one with no point of it on the boundary.
-    pub fn contains_inside(&self, other: &Corners) -> bool {
-        let (these, those) = (&self.points, &other.points);
+    pub fn contains_inside(&self, other: &PolygonQuestions) -> bool {
+        let (these, those) = (&self.vertices, &other.vertices);
         // SAFETY: the same.
         unsafe { raw::hull_polygon_contains_inside(these.as_ptr(), these.len(), those.as_ptr(), those.len()) }.number == 1
     }
 
     /// Returns whether their distance is at most `numerator / denominator`, exactly; false if one of them has no vertices. A
     /// length with the denominator 0 is longer than any distance.
-    pub fn within(&self, other: &Corners, numerator: u64, denominator: u32) -> bool {
-        let (these, those) = (&self.points, &other.points);
+    pub fn within_distance(&self, other: &PolygonQuestions, numerator: u64, denominator: u32) -> bool {
+        let (these, those) = (&self.vertices, &other.vertices);
         // SAFETY: the same.
         unsafe { raw::hull_polygon_within_distance(these.as_ptr(), these.len(), those.as_ptr(), those.len(), numerator, denominator) }.number == 1
     }
 
     /// The same for the segment from `a` to `b`, which may be one point.
-    pub fn within_segment(&self, a: Point, b: Point, numerator: u64, denominator: u32) -> Result<bool, Fault> {
-        let corners = &self.points;
+    pub fn within_distance_of_segment(&self, a: Point, b: Point, numerator: u64, denominator: u32) -> Result<bool, Fault> {
+        let vertices = &self.vertices;
         // SAFETY: the same.
-        let told = unsafe {
-            raw::hull_polygon_within_distance_of_segment(corners.as_ptr(), corners.len(), a.x, a.y, b.x, b.y, numerator, denominator)
+        let reply = unsafe {
+            raw::hull_polygon_within_distance_of_segment(vertices.as_ptr(), vertices.len(), a.x, a.y, b.x, b.y, numerator, denominator)
         };
-        answer::number(told).map(|number| number == 1)
+        answer::number(reply).map(|number| number == 1)
     }
 
     /// The same for a point.
-    pub fn within_point(&self, point: Point, numerator: u64, denominator: u32) -> Result<bool, Fault> {
-        self.within_segment(point, point, numerator, denominator)
+    pub fn within_distance_of_point(&self, point: Point, numerator: u64, denominator: u32) -> Result<bool, Fault> {
+        self.within_distance_of_segment(point, point, numerator, denominator)
     }
 
     /// Returns how this polygon is related to the segment from `a` to `b`, which may be one point.
     pub fn relation_to_segment(&self, a: Point, b: Point) -> Result<Relation, Fault> {
-        let corners = &self.points;
+        let vertices = &self.vertices;
         // SAFETY: the same.
-        let told = unsafe { raw::hull_polygon_relation_to_segment(corners.as_ptr(), corners.len(), a.x, a.y, b.x, b.y) };
-        answer::number(told).map(|number| answer::relation(number as u64))
+        let reply = unsafe { raw::hull_polygon_relation_to_segment(vertices.as_ptr(), vertices.len(), a.x, a.y, b.x, b.y) };
+        answer::number(reply).map(|number| answer::relation(number as u64))
     }
 
-    /// Returns the distance of the two polygons; `None` if one of them has no vertices.
-    pub fn clearance(&self, other: &Corners) -> Option<Clearance> {
-        let (these, those) = (&self.points, &other.points);
+    /// Returns the distance of the two polygons, as bounds that compare exactly; `None` if one of them has no vertices.
+    pub fn distance_bounds(&self, other: &PolygonQuestions) -> Option<DistanceBounds> {
+        let (these, those) = (&self.vertices, &other.vertices);
         // SAFETY: the same.
-        let told = unsafe { raw::hull_polygon_distance_bounds(these.as_ptr(), these.len(), those.as_ptr(), those.len()) };
-        answer::clearance(told).ok().flatten()
+        let reply = unsafe { raw::hull_polygon_distance_bounds(these.as_ptr(), these.len(), those.as_ptr(), those.len()) };
+        answer::distance_bounds(reply).ok().flatten()
     }
 
-    /// Returns the distance of the polygon and the segment from `a` to `b`, which may be one point; `None` for a polygon without
-    /// vertices.
-    pub fn clearance_to_segment(&self, a: Point, b: Point) -> Result<Option<Clearance>, Fault> {
-        let corners = &self.points;
+    /// The same of the polygon and the segment from `a` to `b`, which may be one point; `None` for a polygon without vertices.
+    pub fn distance_bounds_to_segment(&self, a: Point, b: Point) -> Result<Option<DistanceBounds>, Fault> {
+        let vertices = &self.vertices;
         // SAFETY: the same.
-        answer::clearance(unsafe { raw::hull_polygon_distance_bounds_to_segment(corners.as_ptr(), corners.len(), a.x, a.y, b.x, b.y) })
+        answer::distance_bounds(unsafe { raw::hull_polygon_distance_bounds_to_segment(vertices.as_ptr(), vertices.len(), a.x, a.y, b.x, b.y) })
     }
 
-    /// Returns the distance of the polygon and a point; `None` for a polygon without vertices.
-    pub fn clearance_to_point(&self, point: Point) -> Result<Option<Clearance>, Fault> {
-        self.clearance_to_segment(point, point)
+    /// The same of the polygon and a point; `None` for a polygon without vertices.
+    pub fn distance_bounds_to_point(&self, point: Point) -> Result<Option<DistanceBounds>, Fault> {
+        self.distance_bounds_to_segment(point, point)
     }
 
     /// Returns where the ray from `from` in a direction enters; `None` if it misses.
-    pub fn cast_ray(&self, from: Point, direction: Point) -> Result<Option<Hit>, Fault> {
-        let corners = &self.points;
+    pub fn raycast(&self, from: Point, direction: Point) -> Result<Option<Hit>, Fault> {
+        let vertices = &self.vertices;
         // SAFETY: the same.
-        answer::hit(unsafe { raw::hull_polygon_raycast(corners.as_ptr(), corners.len(), from.x, from.y, direction.x, direction.y) })
+        answer::hit(unsafe { raw::hull_polygon_raycast(vertices.as_ptr(), vertices.len(), from.x, from.y, direction.x, direction.y) })
     }
 
     /// Returns the last point of that ray in the polygon; `None` if it misses.
-    pub fn last_on_ray(&self, from: Point, direction: Point) -> Result<Option<Hit>, Fault> {
-        let corners = &self.points;
+    pub fn raycast_exit(&self, from: Point, direction: Point) -> Result<Option<Hit>, Fault> {
+        let vertices = &self.vertices;
         // SAFETY: the same.
-        answer::hit(unsafe { raw::hull_polygon_raycast_exit(corners.as_ptr(), corners.len(), from.x, from.y, direction.x, direction.y) })
+        answer::hit(unsafe { raw::hull_polygon_raycast_exit(vertices.as_ptr(), vertices.len(), from.x, from.y, direction.x, direction.y) })
     }
 
     /// Returns where the segment from `a` to `b` enters; `None` if it misses. Its last point in the polygon is where that from `b`
     /// to `a` enters.
-    pub fn cast_segment(&self, a: Point, b: Point) -> Result<Option<Hit>, Fault> {
-        let corners = &self.points;
+    pub fn raycast_segment(&self, a: Point, b: Point) -> Result<Option<Hit>, Fault> {
+        let vertices = &self.vertices;
         // SAFETY: the same.
-        answer::hit(unsafe { raw::hull_polygon_raycast_segment(corners.as_ptr(), corners.len(), a.x, a.y, b.x, b.y) })
+        answer::hit(unsafe { raw::hull_polygon_raycast_segment(vertices.as_ptr(), vertices.len(), a.x, a.y, b.x, b.y) })
     }
 
     /// Returns where the two polygons intersect, or what separates them; `None` if one of them has no vertices.
-    pub fn witness(&self, other: &Corners) -> Option<Witness> {
-        let (these, those) = (&self.points, &other.points);
+    pub fn witness(&self, other: &PolygonQuestions) -> Option<Witness> {
+        let (these, those) = (&self.vertices, &other.vertices);
         // SAFETY: the same.
         answer::witness(unsafe { raw::hull_polygon_witness(these.as_ptr(), these.len(), those.as_ptr(), those.len()) })
     }
 
     /// Returns where the two polygons are nearest to one another; `None` if one of them has no vertices.
-    pub fn distance(&self, other: &Corners) -> Option<Distance> {
-        let (these, those) = (&self.points, &other.points);
+    pub fn distance(&self, other: &PolygonQuestions) -> Option<Distance> {
+        let (these, those) = (&self.vertices, &other.vertices);
         // SAFETY: the same.
         answer::distance(unsafe { raw::hull_polygon_distance(these.as_ptr(), these.len(), those.as_ptr(), those.len()) })
     }
