@@ -15,7 +15,7 @@ use Rattle.published_snapshots.proofs.AddedLines.{shown, moved}
 raises_goes : (log v : List Rise) (e : Rise) (from to : ℕ) → from ≤ to → e.by ≡ to - from → IsPrefix v log
     → (b : Bool) → (height log == from) ≡ b
     → Goes IsRaised shown moved 0 (v, (no_nib, None)) (λ n. either (n == from) to n)
-    (RaisesOrHears (step 0 from to e) (v, (no_nib, None))) ((height log, true) ∷ (0, true) ∷ []) log
+    (RaisesOrObserves (step 0 from to e) (v, (no_nib, None))) ((height log, true) ∷ (0, true) ∷ []) log
 raises_goes log v e from to le by pre true is =
     let here : height log ≡ from = grind (arith, nat_tests) in
     let sum : height (log ++ e ∷ []) ≡ to = omega (arith, sum_by-append (λ (r : Rise). r.by) log (e ∷ []), here, le, by) in
@@ -43,10 +43,10 @@ raises_goes log v e from to le by pre false is =
 -- for any word, the exchange raises it from the expected value, or finds the value that it has
 pub raises_moves : (v : List Rise) (e : Rise) (from to : ℕ) → from ≤ to → e.by ≡ to - from
     → Moves IsRaised shown moved 0 (v, (no_nib, None)) (λ n. either (n == from) to n)
-    (RaisesOrHears (step 0 from to e) (v, (no_nib, None)))
+    (RaisesOrObserves (step 0 from to e) (v, (no_nib, None)))
 raises_moves v e from to le by cs log kept pre away =
     let P : List Cell → Type 0 =
     λ c. (0 < length c) × ((cell c 0).1 ≡ true)
     × Goes IsRaised shown moved 0 (v, (no_nib, None)) (λ n. either (n == from) to n)
-    (RaisesOrHears (step 0 from to e) (v, (no_nib, None))) c log in
+    (RaisesOrObserves (step 0 from to e) (v, (no_nib, None))) c log in
     subst P (sym kept.words) (omega arith, refl, raises_goes log v e from to le by pre (height log == from) refl)

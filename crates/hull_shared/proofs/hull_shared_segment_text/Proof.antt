@@ -11,5 +11,5 @@ use Rattle.hull_shared.proofs.segments.text.Met.{met}
 pub hull_shared_segment_text_spec : {M : Type 1} → statement M
 hull_shared_segment_text_spec 𝓤 𝓛 𝓜 𝓡 wired =
     lends 𝓤 𝓛 𝓜 𝓡 1 (relent 0 tt u8 ∷ []) tt the_row (reply 𝓛)
-    (λ κs a t new ws u. HasWrittenPart t new a.0.now ws.0 u) (code.unfolded 𝓤 𝓛.H 𝓜 𝓡 wired)
+    (λ κs a t new ws u. HasWrittenSegment t new a.0.now ws.0 u) (code.unfolded 𝓤 𝓛.H 𝓜 𝓡 wired)
     (λ x. met 𝓤 𝓛 𝓜 𝓡 (code.calls-hull_shared::segments::text 𝓡.env wired) (x, tt))
