@@ -354,7 +354,7 @@ hull_reply hull_polygon_contains(const hull_point *vertices, size_t count, const
 /* How the first polygon is related to the second. */
 typedef enum hull_relation {
     /* written by tools/table.py: relations */
-    HULL_RELATION_DISJOINT = 0,       /* they are disjoint */
+    HULL_RELATION_DISJOINT = 0,    /* they are disjoint */
     HULL_RELATION_TOUCHING = 1,    /* they intersect, and a line has them on its two sides: nothing inside the one is covered by the
                                     * other */
     HULL_RELATION_OVERLAPPING = 2, /* they intersect, and no line has them on its two sides */

@@ -29,7 +29,7 @@ typedef enum hull_kind {
     HULL_KIND_PLACE = 3,       /* the location of the point: INSIDE, ON, OUTSIDE */
     HULL_KIND_TANGENTS = 4,    /* the tangent points seen from the point: TANGENTS, NO_TANGENT */
     HULL_KIND_EXTREME = 5,     /* the first of the farthest points in the direction: POINT, EMPTY */
-    HULL_KIND_VERTICES = 6,    /* how many vertices there are: CORNERS, NO_MEMORY; `x` and `y` are not read */
+    HULL_KIND_VERTICES = 6,    /* how many vertices there are: VERTICES, NO_MEMORY; `x` and `y` are not read */
     HULL_KIND_AREA = 7,        /* twice the area: NUMBER; `x` and `y` are not read */
     HULL_KIND_COUNT = 8,       /* how many different points there are: NUMBER; `x` and `y` are not read */
     HULL_KIND_MULTIPLICITY = 9 /* the multiplicity of the point, 0 if it is not there: NUMBER; a seat can't ask for it */
@@ -39,91 +39,91 @@ typedef enum hull_kind {
 /* What a call returns. The numbers will not change. If a code does not say otherwise, nothing changed. */
 typedef enum hull_code {
     /* written by tools/table.py: codes */
-    HULL_OK = 0,             /* there is an empty set in the storage; or the set was ended */
-    HULL_OUT_OF_RANGE = 1,   /* a coordinate is larger than 2^40 in size, or a double is not finite */
-    HULL_ZERO_DIRECTION = 2, /* both components of the direction are 0 */
-    HULL_ADDED = 3,          /* the point is new, and is there now */
-    HULL_AGAIN = 4,          /* the point was there, and now has multiplicity `number`, at least 2 */
-    HULL_TOO_MANY = 5,       /* the point is new and there are as many as the limit, or its multiplicity is 65,535 */
-    HULL_NO_MEMORY = 6,      /* malloc refused; the call may be made again */
-    HULL_REMOVED = 7,        /* the point had multiplicity 1, and is gone */
-    HULL_LEFT = 8,           /* the point is still there, with multiplicity `number` */
-    HULL_ABSENT = 9,         /* the point is not there */
-    HULL_POINT = 10,         /* the point (`x`, `y`) */
-    HULL_EMPTY = 11,         /* there is no point */
-    HULL_INSIDE = 12,        /* the hull covers the point, which is not on its boundary */
-    HULL_ON = 13,            /* the point is on the boundary: a vertex, on an edge, or on a hull that is a point or a segment */
-    HULL_OUTSIDE = 14,       /* the hull does not cover the point */
-    HULL_TANGENTS = 15,      /* the left point (`x`, `y`) and the right one (`other_x`, `other_y`) */
-    HULL_NO_TANGENT = 16,    /* there is no point, or the hull covers the one asked about */
-    HULL_NUMBER = 17,        /* `number`; an area is 2^64 times `high` more */
+    HULL_OK = 0,              /* there is an empty set in the storage; or the set was ended */
+    HULL_OUT_OF_RANGE = 1,    /* a coordinate is larger than 2^40 in size, or a double is not finite */
+    HULL_ZERO_DIRECTION = 2,  /* both components of the direction are 0 */
+    HULL_ADDED = 3,           /* the point is new, and is there now */
+    HULL_AGAIN = 4,           /* the point was there, and now has multiplicity `number`, at least 2 */
+    HULL_TOO_MANY = 5,        /* the point is new and there are as many as the limit, or its multiplicity is 65,535 */
+    HULL_NO_MEMORY = 6,       /* malloc refused; the call may be made again */
+    HULL_REMOVED = 7,         /* the point had multiplicity 1, and is gone */
+    HULL_LEFT = 8,            /* the point is still there, with multiplicity `number` */
+    HULL_ABSENT = 9,          /* the point is not there */
+    HULL_POINT = 10,          /* the point (`x`, `y`) */
+    HULL_EMPTY = 11,          /* there is no point */
+    HULL_INSIDE = 12,         /* the hull covers the point, which is not on its boundary */
+    HULL_ON = 13,             /* the point is on the boundary: a vertex, on an edge, or on a hull that is a point or a segment */
+    HULL_OUTSIDE = 14,        /* the hull does not cover the point */
+    HULL_TANGENTS = 15,       /* the left point (`x`, `y`) and the right one (`other_x`, `other_y`) */
+    HULL_NO_TANGENT = 16,     /* there is no point, or the hull covers the one asked about */
+    HULL_NUMBER = 17,         /* `number`; an area is 2^64 times `high` more */
     HULL_VERTICES = 18,       /* there are `number` vertices, which are at the front of the array if one was passed */
-    HULL_TOO_SMALL = 19,     /* the array is too small for the `number` vertices or bytes that are to be written */
-    HULL_CLEARED = 20,       /* there is no point any more */
-    HULL_OUT_OF_ORDER = 21,  /* a point of an array in order does not follow the one before it, by x and then y */
-    HULL_UNKNOWN_KIND = 22,  /* no kind that can be asked here has this number */
+    HULL_TOO_SMALL = 19,      /* the array is too small for the `number` vertices or bytes that are to be written */
+    HULL_CLEARED = 20,        /* there is no point any more */
+    HULL_OUT_OF_ORDER = 21,   /* a point of an array in order does not follow the one before it, by x and then y */
+    HULL_UNKNOWN_KIND = 22,   /* no kind that can be asked here has this number */
 
     /* of convex polygons only */
-    HULL_INTERSECTING = 23,       /* they have a point in common */
-    HULL_DISJOINT = 24,         /* a direction (`other_x`, `other_y`), at most 2^41 in size, separates them: of the one, no vertex is farther
-                              * in it than (`x`, `y`), and each vertex of the other is */
-    HULL_COVERED = 25,       /* the polygon covers the point, which is its own nearest */
-    HULL_VERTEX = 26,        /* the vertex (`x`, `y`) is the nearest */
-    HULL_EDGE = 27,          /* the foot on the edge from (`x`, `y`) to the next vertex, (`other_x`, `other_y`), is the nearest */
-    HULL_BOX = 28,           /* the box from its least point (`x`, `y`) to its greatest, (`other_x`, `other_y`) */
-    HULL_WITHIN = 29,        /* the other polygon covers a vertex of this one */
-    HULL_CROSSING = 30,      /* a segment between two vertices of this polygon crosses one between two of the other */
-    HULL_POINTS = 31,        /* the two vertices (`x`, `y`) and (`other_x`, `other_y`) */
+    HULL_INTERSECTING = 23,   /* they have a point in common */
+    HULL_DISJOINT = 24,       /* a direction (`other_x`, `other_y`), at most 2^41 in size, separates them: of the one, no vertex is farther
+                               * in it than (`x`, `y`), and each vertex of the other is */
+    HULL_COVERED = 25,        /* the polygon covers the point, which is its own nearest */
+    HULL_VERTEX = 26,         /* the vertex (`x`, `y`) is the nearest */
+    HULL_EDGE = 27,           /* the foot on the edge from (`x`, `y`) to the next vertex, (`other_x`, `other_y`), is the nearest */
+    HULL_BOX = 28,            /* the box from its least point (`x`, `y`) to its greatest, (`other_x`, `other_y`) */
+    HULL_WITHIN = 29,         /* the other polygon covers a vertex of this one */
+    HULL_CROSSING = 30,       /* a segment between two vertices of this polygon crosses one between two of the other */
+    HULL_POINTS = 31,         /* the two vertices (`x`, `y`) and (`other_x`, `other_y`) */
 
     /* of shared hulls and seats only */
-    HULL_OPEN = 32,          /* the shared hull is open now */
-    HULL_OUT_OF_LIMITS = 33, /* a limit, a capacity or a number of seats is 0 or too great (a limit in hull_init, too) */
-    HULL_WAS_OPENED = 34,    /* the shared hull was opened before */
-    HULL_ACQUIRED = 35,          /* the seat is in the storage now */
-    HULL_NO_SEAT = 36,       /* no seat of this number is free: it is acquired, or there never was one */
-    HULL_STORAGE_IN_USE = 37,   /* the storage has a seat already */
-    HULL_NOT_OPEN = 38,      /* the shared hull is not open */
-    HULL_RELEASED = 39,      /* the seat is released, and the storage has none */
-    HULL_VACANT = 40,        /* the storage has no seat */
-    HULL_WAITING = 41,       /* the seat has a number, whose call is not finished */
-    HULL_SLOT_IN_USE = 42,  /* the seat's slot of the shared hull is not free */
-    HULL_TAKEN = 43,         /* the seat has a number now */
-    HULL_NOT_YET = 44,       /* another number is served: look again */
-    HULL_NO_NUMBER = 45,     /* the seat has no number to look for */
-    HULL_FULL = 46,          /* the journal has as many lines as it may have until it is drained: the call was not made, and the seat has no
-                              * number any more */
-    HULL_SEATS_OUT = 47,     /* a seat is acquired: the shared hull stays open */
-    HULL_CLOSED = 48,        /* the shared hull is closed, and has its journal */
-    HULL_NOT_CLOSED = 49,    /* the shared hull is not closed */
-    HULL_TEXT = 50,          /* the text was written to the front of the array: `number` bytes */
-    HULL_ENDED = 51,         /* the shared hull is ended */
-    HULL_IN_USE = 52,        /* no seat is acquired, but a call on the shared hull or a seat is under way: it stays open */
-    HULL_RESERVED = 53,      /* the segment has space for lines now */
-    HULL_SEGMENT_IN_USE = 54,   /* the segment has space or lines already */
+    HULL_OPEN = 32,           /* the shared hull is open now */
+    HULL_OUT_OF_LIMITS = 33,  /* a limit, a capacity or a number of seats is 0 or too great (a limit in hull_init, too) */
+    HULL_WAS_OPENED = 34,     /* the shared hull was opened before */
+    HULL_ACQUIRED = 35,       /* the seat is in the storage now */
+    HULL_NO_SEAT = 36,        /* no seat of this number is free: it is acquired, or there never was one */
+    HULL_STORAGE_IN_USE = 37, /* the storage has a seat already */
+    HULL_NOT_OPEN = 38,       /* the shared hull is not open */
+    HULL_RELEASED = 39,       /* the seat is released, and the storage has none */
+    HULL_VACANT = 40,         /* the storage has no seat */
+    HULL_WAITING = 41,        /* the seat has a number, whose call is not finished */
+    HULL_SLOT_IN_USE = 42,    /* the seat's slot of the shared hull is not free */
+    HULL_TAKEN = 43,          /* the seat has a number now */
+    HULL_NOT_YET = 44,        /* another number is served: look again */
+    HULL_NO_NUMBER = 45,      /* the seat has no number to look for */
+    HULL_FULL = 46,           /* the journal has as many lines as it may have until it is drained: the call was not made, and the seat has
+                               * no number any more */
+    HULL_SEATS_OUT = 47,      /* a seat is acquired: the shared hull stays open */
+    HULL_CLOSED = 48,         /* the shared hull is closed, and has its journal */
+    HULL_NOT_CLOSED = 49,     /* the shared hull is not closed */
+    HULL_TEXT = 50,           /* the text was written to the front of the array: `number` bytes */
+    HULL_ENDED = 51,          /* the shared hull is ended */
+    HULL_IN_USE = 52,         /* no seat is acquired, but a call on the shared hull or a seat is under way: it stays open */
+    HULL_RESERVED = 53,       /* the segment has space for lines now */
+    HULL_SEGMENT_IN_USE = 54, /* the segment has space or lines already */
     HULL_NO_SPACE = 55,       /* the segment has too little space for the lines that the journal may have: no look was made */
-    HULL_NO_LINES = 56,      /* the segment has no lines */
-    HULL_NO_JOURNAL = 57,    /* the text is not a journal: line `number` of it, from 1, has the first fault, `high`: 1 its form, 2 a number,
-                              * 3 a coordinate, 4 a seat, 5 a word, 6 the text ends before its end line, 7 no header */
-    HULL_OLD_RULES = 58,     /* the journal is of version 1 or 2, which does not count points, so it can't be continued */
-    HULL_ILLEGAL = 59,       /* the journal is not a legal history: line `number` of its text, from 1, is the first that is wrong */
-    HULL_TOO_FEW_SEATS = 60, /* the journal has lines by `number` seats (0 to `number` - 1), more than were asked for */
+    HULL_NO_LINES = 56,       /* the segment has no lines */
+    HULL_NO_JOURNAL = 57,     /* the text is not a journal: line `number` of it, from 1, has the first fault, `high`: 1 its form, 2 a
+                               * number, 3 a coordinate, 4 a seat, 5 a word, 6 the text ends before its end line, 7 no header */
+    HULL_OLD_RULES = 58,      /* the journal is of version 1 or 2, which does not count points, so it can't be continued */
+    HULL_ILLEGAL = 59,        /* the journal is not a legal history: line `number` of its text, from 1, is the first that is wrong */
+    HULL_TOO_FEW_SEATS = 60,  /* the journal has lines by `number` seats (0 to `number` - 1), more than were asked for */
 
     /* of checked arrays only */
-    HULL_NO_POLYGON = 61,    /* the array is not a convex polygon (only if arrays are checked) */
+    HULL_NO_POLYGON = 61,     /* the array is not a convex polygon (only if arrays are checked) */
 
     /* of admission, in which calls of seats wait, only */
-    HULL_BUSY = 62,          /* the call was not admitted in time: no number was taken, and no call made */
-    HULL_OTHER_GATE = 63,    /* the line is that of another desk, or the seat was acquired with another: no call was made */
+    HULL_BUSY = 62,           /* the call was not admitted in time: no number was taken, and no call made */
+    HULL_OTHER_GATE = 63,     /* the gate is that of another shared hull, or the seat was acquired with another: no call was made */
 
     /* of journal files only */
-    HULL_NO_FILE = 64,       /* the system refused a call on the file, for the reason in errno */
-    HULL_DAMAGED = 65,       /* line `number` of the file, from 1, is wrong, and it is not the torn end of a segment */
-    HULL_DURABLE = 66,          /* the lines before line `number` are durable */
+    HULL_NO_FILE = 64,        /* the system refused a call on the file, for the reason in errno */
+    HULL_DAMAGED = 65,        /* line `number` of the file, from 1, is wrong, and it is not the torn end of a segment */
+    HULL_DURABLE = 66,        /* the lines before line `number` are durable */
 
     /* of readers only */
-    HULL_READERS_SET = 67,      /* the shared hull takes so many readers */
-    HULL_SNAPSHOT_TAKEN = 68,        /* the reader has this snapshot, which was the newest */
-    HULL_OLD = 69            /* the reader has the snapshot that it had before: others delayed a newer one */
+    HULL_READERS_SET = 67,    /* the shared hull takes so many readers */
+    HULL_SNAPSHOT_TAKEN = 68, /* the reader has this snapshot, which was the newest */
+    HULL_OLD = 69             /* the reader has the snapshot that it had before: others delayed a newer one */
     /* end of what tools/table.py writes */
 } hull_code;
 
