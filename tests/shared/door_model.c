@@ -1,9 +1,9 @@
-/* door_model THREADS CALLS INSIDE MODES [FAULT]: every order of the single steps of the door of archive/line.c, by so many threads of so
+/* door_model THREADS CALLS INSIDE MODES [FAULT]: every order of the single steps of the door of c/gate.c, by so many threads of so
  * many calls each, of which so many may be inside at once. MODES has a letter for each thread: c a call that waits for ever, u one with
  * a deadline, t one that does not wait. A time may be over at any step, and a sleeper may wake early at any step.
  *
  * A step is one change or one look of what threads share: the door, the lock of the queue, a sleeper's word. What is done under the lock
- * beside the door (the queue) is one step with the change of the door before it. The names are those of archive/line.c.
+ * beside the door (the queue) is one step with the change of the door before it. The names are those of c/gate.c.
  *
  * Told is whether in some order more are inside than may be; all that are left sleep, or turn for ever, where no sleeper wakes early; one
  * who does not sleep passes the first of the sleepers more than twice once the turn is over; the door tells of one that is named where

@@ -1,6 +1,6 @@
-/* Each step of the door of archive/line.c, by one thread, in the file itself: the status is 0 only where each leaves the door as it
+/* Each step of the door of c/gate.c, by one thread, in the file itself: the status is 0 only where each leaves the door as it
  * should. */
-#include "../../archive/line.c"
+#include "../../c/gate.c"
 
 #include <stdio.h>
 #include <time.h>

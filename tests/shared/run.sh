@@ -31,13 +31,13 @@ build() {
         -o "$room/$(basename "$source" .c)"
 }
 
-# the same over archive/line.c compiled anew: whose threads are held up between two steps, and which sleep without futex
+# the same over c/gate.c compiled anew: whose threads are held up between two steps, and which sleep without futex
 build_slow() {
-    build "$@" -DSLOW -include "$here/steps.h" "$top/archive/line.c"
+    build "$@" -DSLOW -include "$here/steps.h" "$top/c/gate.c"
 }
 
 build_by_pthreads() {
-    build "$@" -DHULL_SHARED_BY_PTHREADS "$top/archive/line.c"
+    build "$@" -DHULL_SHARED_BY_PTHREADS "$top/c/gate.c"
 }
 
 # rustc with the edition of the wrapper, and warnings refused
@@ -253,7 +253,7 @@ edges() {
         count "a journal's file: $edge" $?
     done
     rm -rf "$room/edge" && mkdir "$room/edge"
-    build "$here/edges.c" "$top/archive/journal.c" -fsanitize=address,undefined -fno-sanitize-recover=all \
+    build "$here/edges.c" "$top/c/journal.c" -fsanitize=address,undefined -fno-sanitize-recover=all \
         "-Wl,--wrap=pwrite,--wrap=pread,--wrap=fsync,--wrap=ftruncate,--wrap=renameat,--wrap=flock" \
         -Wl,--wrap=pthread_create,--wrap=malloc,--wrap=realloc
     for edge in $(sed -n 's/^    {"\([a-z_]*\)", [a-z_]*},$/\1/p' "$here/edges.c" | grep -v bears_); do
@@ -270,9 +270,9 @@ apart() {
 
 # the same with a fault, which has to be seen: NAME, and a script of sed for the file
 killed_wrongly() {
-    sed -E "$2" "$top/archive/journal.c" >"$room/journal.c"
-    ! cmp -s "$room/journal.c" "$top/archive/journal.c" || echo "nothing is changed by $2"
-    build "$here/kills.c" "$room/journal.c" -I"$top/archive" -Wl,--wrap=pwrite,--wrap=fsync,--wrap=ftruncate &&
+    sed -E "$2" "$top/c/journal.c" >"$room/journal.c"
+    ! cmp -s "$room/journal.c" "$top/c/journal.c" || echo "nothing is changed by $2"
+    build "$here/kills.c" "$room/journal.c" -I"$top/c" -Wl,--wrap=pwrite,--wrap=fsync,--wrap=ftruncate &&
         ! "$room/kills" 300 "$room/wrong.journal" 2 >"$room/told" 2>&1
     count "$1: seen ($(tail -n 1 "$room/told"))" $?
 }
@@ -289,9 +289,9 @@ services() {
 
 # the same with a fault, which has to be seen: NAME, and a script of sed for the file
 served_wrongly() {
-    sed -E "$2" "$top/archive/journal.c" >"$room/journal.c"
-    ! cmp -s "$room/journal.c" "$top/archive/journal.c" || echo "nothing is changed by $2"
-    build "$here/service.c" "$room/journal.c" -I"$top/archive" &&
+    sed -E "$2" "$top/c/journal.c" >"$room/journal.c"
+    ! cmp -s "$room/journal.c" "$top/c/journal.c" || echo "nothing is changed by $2"
+    build "$here/service.c" "$room/journal.c" -I"$top/c" &&
         ! "$room/service" 6000000 120 "$room/wrong.journal" "$top/bin/hullbook" >"$room/told" 2>&1
     count "$1, beneath a service: seen ($(tail -n 1 "$room/told"))" $?
 }
@@ -319,7 +319,7 @@ by_helgrind() {
     build "$here/full.c" && mkdir -p "$room/parts"
     valgrind --tool=helgrind -q --error-exitcode=9 "$room/full" 4 200 50 "$room/parts" >"$room/said" 2>"$room/told"
     count "helgrind finds nothing in full.c" $?
-    build "$here/full.c" -DHULL_SHARED_UNWATCHED "$top/archive/line.c"
+    build "$here/full.c" -DHULL_SHARED_UNWATCHED "$top/c/gate.c"
     valgrind --tool=helgrind -q --error-exitcode=9 "$room/full" 4 200 50 "$room/parts" >"$room/said" 2>"$room/told"
     [ $? -eq 9 ]
     count "and much where it is told nothing" $?
@@ -365,8 +365,8 @@ in_rust() {
         "$room/overlap_tests" lendings >"$room/told" 2>&1
     count "calls on one desk from several threads of Rust wait for each other" $?
     mkdir "$room/slow" && cp "$prefix/lib/libhull.a" "$prefix/lib/libhull_shared.a" "$room/slow/" &&
-        cc -std=gnu11 -O2 -fPIC -DSLOW -include "$here/steps.h" -I"$prefix/include" -c "$top/archive/line.c" -o "$room/slow/line.o" &&
-        ar r "$room/slow/libhull_shared.a" "$room/slow/line.o" &&
+        cc -std=gnu11 -O2 -fPIC -DSLOW -include "$here/steps.h" -I"$prefix/include" -c "$top/c/gate.c" -o "$room/slow/gate.o" &&
+        ar r "$room/slow/libhull_shared.a" "$room/slow/gate.o" &&
         rustc --edition 2021 -O -D warnings -L "native=$room/slow" -C extra-filename=_slow --crate-type rlib --crate-name hull \
             --out-dir "$room" "$top/rust/hull/src/lib.rs" &&
         rust --test --extern hull="$room/libhull_slow.rlib" --crate-name slow_tests "$here/shared_tests.rs" &&

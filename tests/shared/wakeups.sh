@@ -1,5 +1,5 @@
 #!/bin/sh
-# Tests that no wake-up of archive/line.c is lost, and that a file that loses one is found: storm.c and full.c run with threads delayed
+# Tests that no wake-up of c/gate.c is lost, and that a file that loses one is found: storm.c and full.c run with threads delayed
 # between the steps of going to sleep and of waking (steps.h), with the file unchanged, and with copies of it in which one step is out of
 # order or missing. Each right one must end; each wrong one must hang, and is killed after LIMIT seconds. run.sh runs it:
 #
@@ -14,7 +14,7 @@ limit=${2:-10}
 
 # a copy of the file and what it includes, as they stand
 copy() {
-    cp "$here"/../../archive/*.c "$here"/../../archive/*.h "$room/"
+    cp "$here"/../../c/*.c "$here"/../../c/*.h "$room/"
 }
 
 # changes the copy: a script of sed, which has to change something, and the file where it is another
