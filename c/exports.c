@@ -211,7 +211,8 @@ hull_reply hull_polygon_within_distance(const hull_point *vertices, size_t count
                                         uint64_t numerator, uint32_t denominator) {
     const uint32_t fault = fault_of_both(vertices, count, others, other_count);
     return fault != HULL_OK ? hull_refusal(fault)
-                            : hull_proved_polygon_within_distance(vertices_at(vertices, count), count, vertices_at(others, other_count), other_count, numerator, denominator);
+                            : hull_proved_polygon_within_distance(vertices_at(vertices, count), count, vertices_at(others, other_count),
+                                                                  other_count, numerator, denominator);
 }
 
 hull_witness hull_polygon_witness(const hull_point *vertices, size_t count, const hull_point *others, size_t other_count) {
@@ -244,7 +245,8 @@ hull_reply hull_polygon_within_distance_of_segment(const hull_point *vertices, s
                                                    int64_t by, uint64_t numerator, uint32_t denominator) {
     const uint32_t fault = fault_of(vertices, count);
     return fault != HULL_OK ? hull_refusal(fault)
-                            : hull_proved_polygon_within_distance_of_segment(vertices_at(vertices, count), count, ax, ay, bx, by, numerator, denominator);
+                            : hull_proved_polygon_within_distance_of_segment(vertices_at(vertices, count), count, ax, ay, bx, by, numerator,
+                                                                             denominator);
 }
 
 hull_reply hull_polygon_relation_to_segment(const hull_point *vertices, size_t count, int64_t ax, int64_t ay, int64_t bx,
