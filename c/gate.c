@@ -506,7 +506,7 @@ static hull_shared_reply look_and_wake(struct gate *gate, hull_shared_seat *seat
     hull_shared_reply reply = to.segment != NULL ? hull_shared_look_and_drain(seat, to.segment)
                               : to.out != NULL ? hull_shared_look_into(seat, to.out, to.capacity)
                                                : hull_shared_look(seat);
-    switch (reply.told.code) {
+    switch (reply.answer.code) {
     case HULL_NOT_YET:
     case HULL_NO_NUMBER:
     case HULL_VACANT:
@@ -515,7 +515,7 @@ static hull_shared_reply look_and_wake(struct gate *gate, hull_shared_seat *seat
     HULL_SHARED_STEP("served");
     __atomic_store_n(&gate->held, reply.held, __ATOMIC_RELAXED);
     hull_shared_handed_on((hull_shared_gate *)gate, reply.turn + 1);
-    if (to.segment != NULL && reply.told.code != HULL_FULL) {
+    if (to.segment != NULL && reply.answer.code != HULL_FULL) {
         announce_space(gate);
     }
     return reply;
@@ -530,7 +530,7 @@ static hull_shared_reply look_and_sleep(struct gate *gate, hull_shared_seat *sea
     epoch = __atomic_load_n(&slot->epoch, __ATOMIC_SEQ_CST);
     HULL_SHARED_STEP("announced");
     reply = look_and_wake(gate, seat, to);
-    if (reply.told.code == HULL_NOT_YET) {
+    if (reply.answer.code == HULL_NOT_YET) {
         HULL_SHARED_STEP("looked");
         hull_sleep(&slot->epoch, epoch, HULL_NEVER);
     }
@@ -542,7 +542,7 @@ static hull_shared_reply look_and_sleep(struct gate *gate, hull_shared_seat *sea
 static hull_shared_reply wait_for_turn(struct gate *gate, hull_shared_seat *seat, hull_shared_target to) {
     hull_shared_reply reply = look_and_wake(gate, seat, to);
     unsigned looks = 0;
-    while (reply.told.code == HULL_NOT_YET) {
+    while (reply.answer.code == HULL_NOT_YET) {
         uint64_t before = reply.turn - __atomic_load_n(&gate->turn, __ATOMIC_RELAXED);
         if (before <= NEAR && looks < LOOKS) {
             hull_pause(looks++);
@@ -570,7 +570,7 @@ struct call {
 static hull_shared_reply refusal(uint32_t code) {
     hull_shared_reply none;
     memset(&none, 0, sizeof none);
-    none.told.code = code;
+    none.answer.code = code;
     return none;
 }
 
@@ -585,7 +585,7 @@ static hull_shared_reply make_once(const struct call *call, hull_shared_target t
     __atomic_store_n(&node->since, hull_now_coarse(), __ATOMIC_RELAXED);
     hull_mark_after(&gate->state);
     reply = hull_shared_take(call->seat, call->kind, call->x, call->y);
-    if (reply.told.code == HULL_TAKEN) {
+    if (reply.answer.code == HULL_TAKEN) {
         __atomic_store_n(&node->turn, reply.turn, __ATOMIC_RELAXED);
         __atomic_store_n(&node->has_turn, 1, __ATOMIC_RELEASE);
         reply = wait_for_turn(gate, call->seat, to);
@@ -661,10 +661,10 @@ static hull_shared_reply make(const struct call *call, hull_shared_target to) {
     for (;;) {
         uint32_t drains = __atomic_load_n(&gate->drains, __ATOMIC_SEQ_CST);
         hull_shared_reply reply = make_once(call, to);
-        if (to.segment != NULL || reply.told.code == HULL_BUSY) {
+        if (to.segment != NULL || reply.answer.code == HULL_BUSY) {
             return reply;
         }
-        if (reply.told.code != HULL_FULL) {
+        if (reply.answer.code != HULL_FULL) {
             if (gate->hook != NULL && reply.held > 0 && reply.held >= hull_shared_capacity(call->seat) / 2) {
                 (void)(become_drainer(call) && drain_for_hook(call));
             }
@@ -786,11 +786,11 @@ hull_shared_state hull_shared_stats(const hull_shared_gate *opaque) {
     stats.out = __atomic_load_n(&gate->out, __ATOMIC_RELAXED);
     stats.inside = state & INSIDE;
     stats.sleepers = state / PARKED;
-    stats.for_room = __atomic_load_n(&gate->for_space, __ATOMIC_RELAXED);
+    stats.for_space = __atomic_load_n(&gate->for_space, __ATOMIC_RELAXED);
     stats.held = __atomic_load_n(&gate->held, __ATOMIC_RELAXED);
     stats.turn = __atomic_load_n(&gate->turn, __ATOMIC_RELAXED);
     stats.seat = HULL_SHARED_SEATS_MAX;
-    stats.named = (state & DESIGNATED) == 0 ? HULL_SHARED_SEATS_MAX : __atomic_load_n(&gate->designated, __ATOMIC_RELAXED) - 1;
+    stats.designated = (state & DESIGNATED) == 0 ? HULL_SHARED_SEATS_MAX : __atomic_load_n(&gate->designated, __ATOMIC_RELAXED) - 1;
     stats.drainer = drainer == 0 ? HULL_SHARED_SEATS_MAX : drainer - 1;
     stats.drains_for = drainer == 0 ? 0 : elapsed(now, __atomic_load_n(&gate->drainer_since, __ATOMIC_RELAXED));
     since = find_holder(gate, stats.turn, &stats.seat);

@@ -12,11 +12,11 @@ struct boxed {
 };
 
 /* Stores the boxes of the polygons that have vertices; returns how many they are. */
-static size_t boxes_of(const hull_corners *polygons, size_t count, struct boxed *boxes) {
+static size_t boxes_of(const hull_polygon *polygons, size_t count, struct boxed *boxes) {
     size_t found = 0;
     for (size_t i = 0; i < count; i++) {
         if (polygons[i].count != 0) {
-            const hull_reply box = hull_polygon_box(polygons[i].corners, polygons[i].count);
+            const hull_reply box = hull_polygon_box(polygons[i].vertices, polygons[i].count);
             boxes[found++] = (struct boxed){box.x, box.other_x, box.y, box.other_y, i};
         }
     }
@@ -43,14 +43,14 @@ static int64_t round_up(uint64_t numerator, uint32_t denominator) {
 }
 
 /* Whether the distance of the two is at most that. */
-static int are_near(const hull_corners *a, const hull_corners *b, uint64_t numerator, uint32_t denominator) {
+static int are_near(const hull_polygon *a, const hull_polygon *b, uint64_t numerator, uint32_t denominator) {
     const hull_reply reply = numerator == 0 && denominator != 0
-                                ? hull_polygon_intersects(a->corners, a->count, b->corners, b->count)
-                                : hull_polygon_within_distance(a->corners, a->count, b->corners, b->count, numerator, denominator);
+                                 ? hull_polygon_intersects(a->vertices, a->count, b->vertices, b->count)
+                                 : hull_polygon_within_distance(a->vertices, a->count, b->vertices, b->count, numerator, denominator);
     return reply.code == HULL_NUMBER && reply.number == 1;
 }
 
-hull_reply hull_pairs_within_distance(const hull_corners *polygons, size_t count, uint64_t numerator, uint32_t denominator,
+hull_reply hull_pairs_within_distance(const hull_polygon *polygons, size_t count, uint64_t numerator, uint32_t denominator,
                                       hull_pair *out, size_t capacity) {
     const int64_t length = round_up(numerator, denominator);
     struct boxed *boxes = count > SIZE_MAX / sizeof *boxes ? NULL : (struct boxed *)malloc((count + 1) * sizeof *boxes);
@@ -80,10 +80,10 @@ hull_reply hull_pairs_within_distance(const hull_corners *polygons, size_t count
     return reply;
 }
 
-void hull_polygon_relations(const hull_point *vertices, size_t count, const hull_corners *others, size_t other_count,
+void hull_polygon_relations(const hull_point *vertices, size_t count, const hull_polygon *others, size_t other_count,
                             uint8_t *out) {
     for (size_t i = 0; i < other_count; i++) {
-        out[i] = (uint8_t)hull_polygon_relation(vertices, count, others[i].corners, others[i].count).number;
+        out[i] = (uint8_t)hull_polygon_relation(vertices, count, others[i].vertices, others[i].count).number;
     }
 }
 

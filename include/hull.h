@@ -389,19 +389,19 @@ hull_witness hull_polygon_witness(const hull_point *vertices, size_t count, cons
  * HULL_NUMBER with how many there are; HULL_TOO_SMALL with the same, and then `out` contains some of them; or HULL_NO_MEMORY
  * (it allocates 40 bytes for each polygon). Polygons without vertices are in no pair. Boxes are swept in the order of their
  * left sides, so that pairs that are far apart along x or y cost nothing or a comparison. */
-typedef struct hull_corners {
-    const hull_point *corners;
+typedef struct hull_polygon {
+    const hull_point *vertices;
     size_t count;
-} hull_corners;
+} hull_polygon;
 typedef struct hull_pair {
     size_t first;
     size_t second;
 } hull_pair;
-hull_reply hull_pairs_within_distance(const hull_corners *polygons, size_t count, uint64_t numerator, uint32_t denominator,
+hull_reply hull_pairs_within_distance(const hull_polygon *polygons, size_t count, uint64_t numerator, uint32_t denominator,
                                       hull_pair *out, size_t capacity);
 
 /* Writes the hull_relation of the polygon to each of the others, as hull_polygon_relation. */
-void hull_polygon_relations(const hull_point *vertices, size_t count, const hull_corners *others, size_t other_count,
+void hull_polygon_relations(const hull_point *vertices, size_t count, const hull_polygon *others, size_t other_count,
                             uint8_t *out);
 
 /* Writes for each segment 1 if the polygon intersects it, else 0, up to the end or the first segment with a coordinate out of
@@ -524,7 +524,7 @@ hull_hit hull_polygon_raycast_segment(const hull_point *vertices, size_t count, 
 typedef struct hull_motion {
     hull_hit hit;      /* HULL_COVERED: they intersect before it moves. HULL_EDGE or HULL_VERTEX: where the vertex arrives, and how far
                         * along. HULL_DISJOINT: they never do. HULL_EMPTY: one of them has no vertices. HULL_OUT_OF_RANGE */
-    hull_point corner; /* with HULL_EDGE or HULL_VERTEX, a vertex that arrives first, */
+    hull_point vertex; /* with HULL_EDGE or HULL_VERTEX, a vertex that arrives first, */
     uint32_t moves;    /* of the second polygon, if this is 1, at the first one; else of the first, at the second one as it was before
                         * it moved */
 } hull_motion;

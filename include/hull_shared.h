@@ -67,7 +67,7 @@ extern "C" {
  * `has_line` is 1; after HULL_FULL, and after a question that was answered with no line (hull_shared_open_answering), both are
  * 0. `held` is how many lines the journal has after the call: none after a drain. */
 typedef struct hull_shared_reply {
-    hull_reply told;
+    hull_reply answer;
     uint64_t turn;
     uint64_t line;
     uint32_t held;
@@ -252,15 +252,15 @@ static inline hull_reply hull_shared_segment_text_size(const hull_shared_segment
 
 /* ---- readers
  *
- * A thread that asks more than it changes has a reader, beside the seats. It takes snapshots, each the vertices as
- * of one line of the journal, with no lock, no gate and no turn, in a few atomic steps. No call waits for a reader, and a
- * reader for no call. A snapshot never changes while the reader has it; its vertices are written to an array, a convex
- * polygon, for all calls of include/hull.h on polygons.
+ * A thread that asks more than it changes has a reader, beside the seats. It takes snapshots, each the vertices as of one line
+ * of the journal, with no lock, no gate and no turn, in a few atomic steps. No call waits for a reader, and a reader for no
+ * call. A snapshot never changes while the reader has it; its vertices are written to an array, a convex polygon, for all calls
+ * of include/hull.h on polygons.
  *
  *     hull_shared_set_max_readers(shared, 8);                   // before it is opened
  *     hull_shared_reader *reader = hull_shared_reader_new();    // one for each thread
  *     hull_shared_acquire_reader(shared, reader);
- *     hull_shared_view snapshot = hull_shared_read(reader);     // in that thread, as often as you like
+ *     hull_shared_snapshot snapshot = hull_shared_read(reader); // in that thread, as often as you like
  *     hull_shared_snapshot_vertices(reader, vertices, 1000);    // if it is another one
  *     hull_polygon_place(vertices, snapshot.count, 3, 4);       // true after line snapshot.line
  *
@@ -275,13 +275,13 @@ typedef struct hull_shared_reader hull_shared_reader;
 /* A reader's snapshot: `code` is HULL_SNAPSHOT_TAKEN, or HULL_OLD if it is the one before, since other threads were in the way
  * a thousand times. It has `count` vertices, as of `lines` lines of the whole journal; `line` is the number of the last of
  * these, if `has_line` is 1. HULL_VACANT, and no vertices, if the storage has no reader. */
-typedef struct hull_shared_view {
+typedef struct hull_shared_snapshot {
     size_t count;
     uint64_t lines;
     uint64_t line;
     uint32_t has_line;
     uint32_t code;
-} hull_shared_view;
+} hull_shared_snapshot;
 
 /* Return the size and the alignment of the storage of a reader; and make it, with no reader. */
 size_t hull_shared_reader_size(void);
@@ -315,7 +315,7 @@ uint32_t hull_shared_acquire_reader(hull_shared *shared, hull_shared_reader *sto
 uint32_t hull_shared_release_reader(hull_shared *shared, hull_shared_reader *storage);
 
 /* Takes the newest snapshot, if the reader does not have it, and drops the one before. */
-hull_shared_view hull_shared_read(hull_shared_reader *reader);
+hull_shared_snapshot hull_shared_read(hull_shared_reader *reader);
 
 /* Writes the vertices of the reader's snapshot to the front of the array, as hull_vertices writes them: returns VERTICES with
  * their `number`; VACANT; TOO_SMALL with their `number` if they do not fit, and the array is unchanged. */
@@ -427,16 +427,16 @@ void hull_shared_handed_on(hull_shared_gate *gate, uint64_t number);
 
 /* The state of a gate at one moment, to watch a service; while calls go on, its numbers may be of different moments. */
 typedef struct hull_shared_state {
-    uint32_t out;       /* how many seats are acquired with it */
-    uint32_t inside;    /* how many calls are admitted */
-    uint32_t sleepers;  /* how many sleep and wait for admission */
-    uint32_t for_room;  /* how many sleep and wait for space */
-    uint32_t held;      /* how many lines the journal had after the last call at this gate */
-    uint64_t turn;      /* the number that is served now, the one after that call's; 0 before the first, and if no seat is acquired */
-    uint32_t seat;      /* the seat whose admitted call has that number, or is to take it; HULL_SHARED_SEATS_MAX if there is none */
-    uint32_t named;     /* the seat that is designated to enter next; HULL_SHARED_SEATS_MAX if there is none */
-    uint32_t drainer;   /* the seat that drains for the hook; HULL_SHARED_SEATS_MAX if none does */
-    uint64_t seat_for;  /* how many nanoseconds that seat's call has been admitted, to some milliseconds */
+    uint32_t out;        /* how many seats are acquired with it */
+    uint32_t inside;     /* how many calls are admitted */
+    uint32_t sleepers;   /* how many sleep and wait for admission */
+    uint32_t for_space;  /* how many sleep and wait for space */
+    uint32_t held;       /* how many lines the journal had after the last call at this gate */
+    uint64_t turn;       /* the number that is served now, the one after that call's; 0 before the first, and if no seat is acquired */
+    uint32_t seat;       /* the seat whose admitted call has that number, or is to take it; HULL_SHARED_SEATS_MAX if there is none */
+    uint32_t designated; /* the seat that is designated to enter next; HULL_SHARED_SEATS_MAX if there is none */
+    uint32_t drainer;    /* the seat that drains for the hook; HULL_SHARED_SEATS_MAX if none does */
+    uint64_t seat_for;   /* how many nanoseconds that seat's call has been admitted, to some milliseconds */
     uint64_t drains_for; /* how many nanoseconds that one has drained, to some milliseconds */
 } hull_shared_state;
 

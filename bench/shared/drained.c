@@ -45,11 +45,11 @@ static void *work(void *own) {
         int64_t x = (int64_t)(next(&state) % 101) - 50, y = (int64_t)(next(&state) % 101) - 50;
         uint32_t kind = next(&state) % 2 == 0 ? HULL_KIND_ADD : HULL_KIND_REMOVE;
         hull_shared_reply reply = hull_shared_call(&gate, seats[me], kind, x, y);
-        wrong[me] |= reply.told.code < HULL_ADDED || reply.told.code > HULL_ABSENT;
+        wrong[me] |= reply.answer.code < HULL_ADDED || reply.answer.code > HULL_ABSENT;
         if (drains && me == 0 && reply.turn - out >= EVERY) {
             wrong[0] |= hull_shared_segment_reserve(segment, hull_shared_capacity(seats[0])) != HULL_RESERVED;
             reply = hull_shared_drain(&gate, seats[0], segment, HULL_KIND_COUNT, 0, 0);
-            wrong[0] |= reply.told.code != HULL_NUMBER || (writes && !write_out(segment));
+            wrong[0] |= reply.answer.code != HULL_NUMBER || (writes && !write_out(segment));
             hull_shared_segment_end(segment);
             out = reply.turn;
         }

@@ -56,7 +56,7 @@ static void by_mutex(unsigned me, uint32_t kind, int64_t x, int64_t y) {
 }
 
 static void by_seat(unsigned me, uint32_t kind, int64_t x, int64_t y) {
-    if (hull_shared_call(&gate, seats[me], kind, x, y).told.code == HULL_FULL) {
+    if (hull_shared_call(&gate, seats[me], kind, x, y).answer.code == HULL_FULL) {
         abort();
     }
 }

@@ -56,7 +56,7 @@ int main(int count, char **words) {
         pthread_join(threads[i], &one);
         failed = one != NULL ? one : failed;
     }
-    printf("%d points\n", (int)hull_shared_call(&gate, seats[0], HULL_KIND_COUNT, 0, 0).told.number);
+    printf("%d points\n", (int)hull_shared_call(&gate, seats[0], HULL_KIND_COUNT, 0, 0).answer.number);
     for (int i = 0; i < SEATS; i++) {
         hull_shared_release_seat(shared, seats[i]);
         hull_shared_seat_free(seats[i]);

@@ -25,7 +25,7 @@ static void *ask(void *free_looks) {
     while (*looks < ROUNDS) {
         hull_shared_reply reply = hull_shared_call(&gate, seats[INSERTING], HULL_KIND_PLACE, 5, 50);
         ++*looks;
-        if (reply.told.code == HULL_INSIDE) {
+        if (reply.answer.code == HULL_INSIDE) {
             break;
         }
     }

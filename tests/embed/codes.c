@@ -656,7 +656,7 @@ static void check_two_polygons(void) {
 enum { MANY = 40 };
 
 /* Forty polygons, shifted by chance over a square of this size; some without vertices. */
-static void scatter(hull_point vertices[MANY][4], hull_corners *all, uint64_t *state, int64_t size) {
+static void scatter(hull_point vertices[MANY][4], hull_polygon *all, uint64_t *state, int64_t size) {
     static const hull_point shapes[][4] = {{{0, 0}, {3, -1}, {5, 2}, {1, 3}}, {{0, 0}, {8, 0}, {0, 6}}, {{0, 0}, {2, 1}}, {{0, 0}}, {{0, 0}}};
     static const size_t counts[] = {4, 3, 2, 1, 0};
     for (int i = 0; i < MANY; i++) {
@@ -668,19 +668,19 @@ static void scatter(hull_point vertices[MANY][4], hull_corners *all, uint64_t *s
         for (int j = 0; j < 4; j++) {
             vertices[i][j].x = shapes[i % 5][j].x + shift[0], vertices[i][j].y = shapes[i % 5][j].y + shift[1];
         }
-        all[i].corners = vertices[i], all[i].count = counts[i % 5];
+        all[i].vertices = vertices[i], all[i].count = counts[i % 5];
     }
 }
 
 /* Whether the pairs that are returned are those that are found one by one, in their order; `found` is how many. */
-static int are_pairs_right(const hull_corners *all, uint64_t numerator, uint32_t denominator, uint64_t *found) {
+static int are_pairs_right(const hull_polygon *all, uint64_t numerator, uint32_t denominator, uint64_t *found) {
     hull_pair pairs[MANY * MANY];
     const hull_reply answer = hull_pairs_within_distance(all, MANY, numerator, denominator, pairs, MANY * MANY);
     int same = answer.code == HULL_NUMBER;
     *found = 0;
     for (size_t i = 0; i < MANY; i++) {
         for (size_t j = i + 1; j < MANY; j++) {
-            if (hull_polygon_within_distance(all[i].corners, all[i].count, all[j].corners, all[j].count, numerator, denominator).number == 1) {
+            if (hull_polygon_within_distance(all[i].vertices, all[i].count, all[j].vertices, all[j].count, numerator, denominator).number == 1) {
                 same &= *found < answer.number && pairs[*found].first == i && pairs[*found].second == j;
                 ++*found;
             }
@@ -692,7 +692,7 @@ static int are_pairs_right(const hull_corners *all, uint64_t numerator, uint32_t
 /* polygons near one another, and one and many, compared with each pair by itself */
 static void check_many_polygons(void) {
     hull_point vertices[MANY][4];
-    hull_corners all[MANY];
+    hull_polygon all[MANY];
     hull_pair pairs[MANY];
     uint64_t state = 5, found = 0, last = 0;
     int same = 1, grows = 1;
@@ -706,9 +706,9 @@ static void check_many_polygons(void) {
             grows &= found >= last;
             last = found;
         }
-        hull_polygon_relations(all[0].corners, all[0].count, all, MANY, relations);
+        hull_polygon_relations(all[0].vertices, all[0].count, all, MANY, relations);
         for (int i = 0; i < MANY; i++) {
-            same &= relations[i] == hull_polygon_relation(all[0].corners, all[0].count, all[i].corners, all[i].count).number;
+            same &= relations[i] == hull_polygon_relation(all[0].vertices, all[0].count, all[i].vertices, all[i].count).number;
         }
     }
     CHECK(same && grows && last == 32 * 31 / 2);
@@ -761,7 +761,7 @@ static int is_first_moment(const hull_point *a, size_t count, const hull_point *
     const hull_point *from = m.moves ? b : a;
     int is_vertex = 0;
     for (size_t i = 0; i < (m.moves ? other_count : count); i++) {
-        is_vertex |= from[i].x == m.corner.x && from[i].y == m.corner.y;
+        is_vertex |= from[i].x == m.vertex.x && from[i].y == m.vertex.y;
     }
     ++*hits;
     return (m.hit.code == HULL_EDGE || m.hit.code == HULL_VERTEX) && is_vertex && m.hit.high == 0 && part > 0 && part <= whole &&

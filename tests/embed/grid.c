@@ -185,7 +185,7 @@ static void check_motion(const polygon *s, const polygon *t) {
 
 /* the two among many, and among none */
 static void check_many(const polygon *s, const polygon *t, hull_relation how, fraction length, int within) {
-    const hull_corners all[] = {{t->at, t->count}, {NULL, 0}, {s->at, s->count}};
+    const hull_polygon all[] = {{t->at, t->count}, {NULL, 0}, {s->at, s->count}};
     hull_pair found[1];
     uint8_t relations[3];
     const hull_reply near = hull_pairs_within_distance(all, 3, (uint64_t)length.over, (uint32_t)length.under, found, 1);

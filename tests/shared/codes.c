@@ -10,13 +10,13 @@ static void check_vertices(hull_shared_seat *seat) {
     hull_point out[4] = {{9, 9}, {9, 9}, {9, 9}, {9, 9}};
     int64_t far = HULL_COORDINATE_MAX;
     hull_shared_reply reply = hull_shared_vertices(&gate, seat, out, 2);
-    check("an array that is too short for the vertices", reply.told.code, HULL_TOO_SMALL);
-    check("how many there are", reply.told.number, 3);
+    check("an array that is too short for the vertices", reply.answer.code, HULL_TOO_SMALL);
+    check("how many there are", reply.answer.number, 3);
     check("the array is as it was", (uint64_t)out[0].x, 9);
     uint64_t turn = reply.turn;
     reply = hull_shared_vertices(&gate, seat, out, 4);
-    check("an array that is long enough", reply.told.code, HULL_VERTICES);
-    check("how many there are", reply.told.number, 3);
+    check("an array that is long enough", reply.answer.code, HULL_VERTICES);
+    check("how many there are", reply.answer.number, 3);
     check("their turn", reply.turn, turn + 1);
     check("the first", out[0].x == -far && out[0].y == -far, 1);
     check("the second", out[1].x == far && out[1].y == -far, 1);
@@ -41,22 +41,22 @@ static void check_calls(hull_shared_seat *seat) {
     check("inside", call(seat, HULL_KIND_PLACE, 0, 0), HULL_INSIDE);
     check("on", call(seat, HULL_KIND_PLACE, 0, -far), HULL_ON);
     reply = hull_shared_call(&gate, seat, HULL_KIND_AREA, 0, 0);
-    check("area", reply.told.code, HULL_NUMBER);
-    check("its upper half", reply.told.high, 1 << 18);
-    check("its lower half", reply.told.number, 0);
+    check("area", reply.answer.code, HULL_NUMBER);
+    check("its upper half", reply.answer.high, 1 << 18);
+    check("its lower half", reply.answer.number, 0);
     reply = hull_shared_call(&gate, seat, HULL_KIND_EXTREME, 0, 1);
-    check("point", reply.told.code, HULL_POINT);
-    check("its y", (uint64_t)reply.told.y, (uint64_t)far);
+    check("point", reply.answer.code, HULL_POINT);
+    check("its y", (uint64_t)reply.answer.y, (uint64_t)far);
     reply = hull_shared_call(&gate, seat, HULL_KIND_TANGENTS, far, far);
-    check("tangents", reply.told.code, HULL_TANGENTS);
-    check("the right one", (uint64_t)reply.told.other_x, 0);
+    check("tangents", reply.answer.code, HULL_TANGENTS);
+    check("the right one", (uint64_t)reply.answer.other_x, 0);
     reply = hull_shared_call(&gate, seat, HULL_KIND_VERTICES, 0, 0);
-    check("vertices", reply.told.code, HULL_VERTICES);
-    check("how many", reply.told.number, 3);
+    check("vertices", reply.answer.code, HULL_VERTICES);
+    check("how many", reply.answer.number, 3);
     check_vertices(seat);
     check("removed", call(seat, HULL_KIND_REMOVE, -far, -far), HULL_REMOVED);
     reply = hull_shared_call(&gate, seat, HULL_KIND_COUNT, 0, 0);
-    check("count", reply.told.number, 2);
+    check("count", reply.answer.number, 2);
     check("its turn", reply.turn, UINT64_C(18));
     check("out of range", call(seat, HULL_KIND_ADD, far + 1, 0), HULL_OUT_OF_RANGE);
     check("direction out of range", call(seat, HULL_KIND_EXTREME, 0, -far - 1), HULL_OUT_OF_RANGE);
@@ -99,30 +99,30 @@ static void check_codes(hull_shared *shared, hull_shared_seat *one, hull_shared_
     check("seats", hull_shared_open(shared, 3, first, 21, HULL_SHARED_SEATS_MAX + 1), HULL_OUT_OF_LIMITS);
     check("open", hull_shared_open(shared, 3, first, 22, 2), HULL_OPEN);
     check("open again", hull_shared_open(shared, 3, first, 20, 2), HULL_WAS_OPENED);
-    check("take of none", hull_shared_take(one, 1, 0, 0).told.code, HULL_VACANT);
-    check("look of none", hull_shared_look(one).told.code, HULL_VACANT);
+    check("take of none", hull_shared_take(one, 1, 0, 0).answer.code, HULL_VACANT);
+    check("look of none", hull_shared_look(one).answer.code, HULL_VACANT);
     check("release of none", hull_shared_release_seat(shared, one), HULL_VACANT);
     check("seat 2", hull_shared_acquire_seat(shared, &gate, one, 2), HULL_NO_SEAT);
     check("seat 1", hull_shared_acquire_seat(shared, &gate, one, 1), HULL_ACQUIRED);
     check("into storage in use", hull_shared_acquire_seat(shared, &gate, one, 0), HULL_STORAGE_IN_USE);
     check("seat 1 again", hull_shared_acquire_seat(shared, &gate, two, 1), HULL_NO_SEAT);
     check("seat 0", hull_shared_acquire_seat(shared, &gate, two, 0), HULL_ACQUIRED);
-    check("look with no number", hull_shared_look(one).told.code, HULL_NO_NUMBER);
-    check("take", hull_shared_take(one, HULL_KIND_COUNT, 0, 0).told.code, HULL_TAKEN);
-    check("take twice", hull_shared_take(one, HULL_KIND_COUNT, 0, 0).told.code, HULL_WAITING);
+    check("look with no number", hull_shared_look(one).answer.code, HULL_NO_NUMBER);
+    check("take", hull_shared_take(one, HULL_KIND_COUNT, 0, 0).answer.code, HULL_TAKEN);
+    check("take twice", hull_shared_take(one, HULL_KIND_COUNT, 0, 0).answer.code, HULL_WAITING);
     check("its number", hull_shared_take(one, HULL_KIND_COUNT, 0, 0).turn, first);
     check("release while it waits", hull_shared_release_seat(shared, one), HULL_WAITING);
-    check("call while it waits", hull_shared_call(&gate, one, HULL_KIND_ADD, 1, 1).told.code, HULL_WAITING);
+    check("call while it waits", hull_shared_call(&gate, one, HULL_KIND_ADD, 1, 1).answer.code, HULL_WAITING);
     check("its number", hull_shared_call(&gate, one, HULL_KIND_ADD, 1, 1).turn, first);
-    check("vertices while it waits", hull_shared_vertices(&gate, one, NULL, 0).told.code, HULL_WAITING);
+    check("vertices while it waits", hull_shared_vertices(&gate, one, NULL, 0).answer.code, HULL_WAITING);
     check("take after it", hull_shared_take(two, HULL_KIND_COUNT, 0, 0).turn, first + 1);
-    check("not yet", hull_shared_look(two).told.code, HULL_NOT_YET);
+    check("not yet", hull_shared_look(two).answer.code, HULL_NOT_YET);
     check("its number", hull_shared_look(two).turn, first + 1);
     check("served", hull_shared_look(one).turn, first);
     check("served", hull_shared_look(two).turn, first + 1);
     check_calls(one);
     hull_shared_reply full = hull_shared_call(&gate, two, HULL_KIND_COUNT, 0, 0);
-    check("full", full.told.code, HULL_FULL);
+    check("full", full.answer.code, HULL_FULL);
     check("the turn that is skipped", full.turn, first + 22);
     check("no line", full.has_line, 0);
     check("as many lines as may be", full.held, 22);
@@ -150,7 +150,7 @@ static void check_empty(void) {
     hull_shared_state state = hull_shared_stats(&gate);
     check("inside", state.inside, 0);
     check("sleepers", state.sleepers, 0);
-    check("callers that wait for space", state.for_room, 0);
+    check("callers that wait for space", state.for_space, 0);
     check("the seat that is inside", state.seat, HULL_SHARED_SEATS_MAX);
 }
 
@@ -167,13 +167,13 @@ static void wake_by_own_looks(hull_shared *shared, hull_shared_seat *one, hull_s
     check("acquire", hull_shared_acquire_seat(shared, &gate, two, 1), HULL_ACQUIRED);
     for (int i = 0; i < 20; i++) {
         pthread_t thread;
-        check("take", hull_shared_take(one, HULL_KIND_COUNT, 0, 0).told.code, HULL_TAKEN);
+        check("take", hull_shared_take(one, HULL_KIND_COUNT, 0, 0).answer.code, HULL_TAKEN);
         if (pthread_create(&thread, NULL, count_points, two) != 0) {
             exit(1);
         }
         nanosleep(&moment, NULL); /* it sleeps by now */
         hull_shared_reply reply = hull_shared_look(one);
-        check("look", reply.told.code, HULL_NUMBER);
+        check("look", reply.answer.code, HULL_NUMBER);
         check("its number", reply.turn, 7 + 2 * (uint64_t)i);
         hull_shared_handed_on(&gate, reply.turn + 1);
         pthread_join(thread, NULL);
@@ -219,8 +219,8 @@ static void check_pieces(hull_shared_segment *segment, const char *text, size_t 
 static void check_segments(hull_shared *shared, hull_shared_seat *seat, hull_shared_segment *segment) {
     uint8_t text[256];
     hull_shared_reply reply;
-    check("look of none", hull_shared_look_and_drain(seat, segment).told.code, HULL_VACANT);
-    check("drain of none", hull_shared_drain(&gate, seat, segment, HULL_KIND_COUNT, 0, 0).told.code, HULL_VACANT);
+    check("look of none", hull_shared_look_and_drain(seat, segment).answer.code, HULL_VACANT);
+    check("drain of none", hull_shared_drain(&gate, seat, segment, HULL_KIND_COUNT, 0, 0).answer.code, HULL_VACANT);
     check("capacity of none", hull_shared_capacity(seat), 0);
     check("open", hull_shared_open(shared, 3, 7, 4, 1), HULL_OPEN);
     check("acquire", hull_shared_acquire_seat(shared, &gate, seat, 0), HULL_ACQUIRED);
@@ -228,20 +228,20 @@ static void check_segments(hull_shared *shared, hull_shared_seat *seat, hull_sha
     check("space of a bare segment", hull_shared_segment_space(segment), 0);
     check("text of a bare segment", hull_shared_segment_text(segment, text, sizeof text).code, HULL_NO_LINES);
     check("piece of a bare segment", hull_shared_segment_text_from(segment, 0, text, sizeof text).code, HULL_NO_LINES);
-    check("drain without space", hull_shared_drain(&gate, seat, segment, HULL_KIND_COUNT, 0, 0).told.code, HULL_NO_SPACE);
+    check("drain without space", hull_shared_drain(&gate, seat, segment, HULL_KIND_COUNT, 0, 0).answer.code, HULL_NO_SPACE);
     check("space for three", hull_shared_segment_reserve(segment, 3), HULL_RESERVED);
     check("space once more", hull_shared_segment_reserve(segment, 4), HULL_SEGMENT_IN_USE);
     hull_shared_target into = {NULL, 0, segment};
-    check("call into it", hull_shared_call_into(&gate, seat, HULL_KIND_COUNT, 0, 0, into, HULL_SHARED_NEVER).told.code, HULL_NO_SPACE);
-    check("look with no number", hull_shared_look_and_drain(seat, segment).told.code, HULL_NO_NUMBER);
-    check("take", hull_shared_take(seat, HULL_KIND_COUNT, 0, 0).told.code, HULL_TAKEN);
+    check("call into it", hull_shared_call_into(&gate, seat, HULL_KIND_COUNT, 0, 0, into, HULL_SHARED_NEVER).answer.code, HULL_NO_SPACE);
+    check("look with no number", hull_shared_look_and_drain(seat, segment).answer.code, HULL_NO_NUMBER);
+    check("take", hull_shared_take(seat, HULL_KIND_COUNT, 0, 0).answer.code, HULL_TAKEN);
     reply = hull_shared_look_and_drain(seat, segment);
-    check("look with space for three", reply.told.code, HULL_NO_SPACE);
+    check("look with space for three", reply.answer.code, HULL_NO_SPACE);
     check("its number", reply.turn, 7);
     check("the end of a segment", hull_shared_segment_end(segment), HULL_ENDED);
     check("space for five", hull_shared_segment_reserve(segment, 5), HULL_RESERVED);
     check("space of a segment", hull_shared_segment_space(segment), 5);
-    check("look with space", hull_shared_look_and_drain(seat, segment).told.code, HULL_NUMBER);
+    check("look with space", hull_shared_look_and_drain(seat, segment).answer.code, HULL_NUMBER);
     check("space of a segment with lines", hull_shared_segment_space(segment), 0);
     check("space for a segment with lines", hull_shared_segment_reserve(segment, 4), HULL_SEGMENT_IN_USE);
     check("how long its text is", hull_shared_segment_text_size(segment).number, 72);
@@ -257,7 +257,7 @@ static void check_segments(hull_shared *shared, hull_shared_seat *seat, hull_sha
     check("full again", call(seat, HULL_KIND_ADD, 1, 2), HULL_FULL);
     check("space for four", hull_shared_segment_reserve(segment, 4), HULL_RESERVED);
     reply = hull_shared_drain(&gate, seat, segment, HULL_KIND_COUNT, 0, 0);
-    check("a drain of a full shared hull", reply.told.code, HULL_NUMBER);
+    check("a drain of a full shared hull", reply.answer.code, HULL_NUMBER);
     check("its turn", reply.turn, 14);
     check("the number of its line", reply.line, 12);
     check("it has one", reply.has_line, 1);
@@ -265,7 +265,7 @@ static void check_segments(hull_shared *shared, hull_shared_seat *seat, hull_sha
     check("its text", hull_shared_segment_text(segment, text, sizeof text).code, HULL_TEXT);
     check("its end", hull_shared_segment_end(segment), HULL_ENDED);
     reply = hull_shared_call(&gate, seat, HULL_KIND_COUNT, 0, 0);
-    check("served again", reply.told.code, HULL_NUMBER);
+    check("served again", reply.answer.code, HULL_NUMBER);
     check("the number after the drain", reply.line, 13);
     check("one is held", reply.held, 1);
     check("release", hull_shared_release_seat(shared, seat), HULL_RELEASED);
@@ -278,7 +278,7 @@ static void check_segments(hull_shared *shared, hull_shared_seat *seat, hull_sha
     check("served", call(seat, HULL_KIND_ADD, 1, 2), HULL_ADDED);
     check("a change of a full shared hull", call(seat, HULL_KIND_REMOVE, 1, 2), HULL_FULL);
     reply = hull_shared_call(&gate, seat, HULL_KIND_PLACE, 1, 2);
-    check("a question of a full shared hull", reply.told.code, HULL_ON);
+    check("a question of a full shared hull", reply.answer.code, HULL_ON);
     check("it has no line", reply.has_line, 0);
     check("one is held", reply.held, 1);
     check("release", hull_shared_release_seat(shared, seat), HULL_RELEASED);
@@ -294,15 +294,15 @@ static void pass_no_arrays(hull_shared *shared, hull_shared_seat *seat, hull_sha
     check("no text", hull_shared_reopen(shared, NULL, 0, 8, 1).code, HULL_NO_JOURNAL);
     check("open", hull_shared_open(shared, 3, 7, 8, 1), HULL_OPEN);
     check("acquire", hull_shared_acquire_seat(shared, &gate, seat, 0), HULL_ACQUIRED);
-    check("look into nothing with no number", hull_shared_look_into(seat, NULL, 0).told.code, HULL_NO_NUMBER);
-    check("vertices of none", hull_shared_vertices(&gate, seat, NULL, 0).told.code, HULL_VERTICES);
+    check("look into nothing with no number", hull_shared_look_into(seat, NULL, 0).answer.code, HULL_NO_NUMBER);
+    check("vertices of none", hull_shared_vertices(&gate, seat, NULL, 0).answer.code, HULL_VERTICES);
     check("a point", call(seat, HULL_KIND_ADD, 1, 2), HULL_ADDED);
-    check("vertices into no array", hull_shared_vertices(&gate, seat, NULL, 0).told.code, HULL_TOO_SMALL);
+    check("vertices into no array", hull_shared_vertices(&gate, seat, NULL, 0).answer.code, HULL_TOO_SMALL);
     check("it goes", call(seat, HULL_KIND_REMOVE, 1, 2), HULL_REMOVED);
-    check("take", hull_shared_take(seat, HULL_KIND_VERTICES, 0, 0).told.code, HULL_TAKEN);
-    check("look into nothing", hull_shared_look_into(seat, NULL, 0).told.code, HULL_VERTICES);
+    check("take", hull_shared_take(seat, HULL_KIND_VERTICES, 0, 0).answer.code, HULL_TAKEN);
+    check("look into nothing", hull_shared_look_into(seat, NULL, 0).answer.code, HULL_VERTICES);
     check("space", hull_shared_segment_reserve(segment, 8), HULL_RESERVED);
-    check("drain", hull_shared_drain(&gate, seat, segment, HULL_KIND_COUNT, 0, 0).told.code, HULL_NUMBER);
+    check("drain", hull_shared_drain(&gate, seat, segment, HULL_KIND_COUNT, 0, 0).answer.code, HULL_NUMBER);
     check("segment into nothing", hull_shared_segment_text(segment, NULL, 0).code, HULL_TOO_SMALL);
     check("piece into nothing", hull_shared_segment_text_from(segment, 0, NULL, 0).number, 46);
     answer = hull_shared_segment_text(segment, text, 256);
@@ -349,12 +349,12 @@ static void check_reopened(hull_shared *shared, hull_shared_seat *seat, hull_sha
     check("acquire", hull_shared_acquire_seat(shared, &gate, seat, 1), HULL_ACQUIRED);
     check("capacity", hull_shared_capacity(seat), 4);
     reply = hull_shared_call(&gate, seat, HULL_KIND_ADD, 0, 0);
-    check("the point is there", reply.told.code, HULL_AGAIN);
+    check("the point is there", reply.answer.code, HULL_AGAIN);
     check("its number", reply.turn, 7);
     check("limit", call(seat, HULL_KIND_ADD, 0, 4), HULL_ADDED);
     check("limit", call(seat, HULL_KIND_ADD, 5, 4), HULL_TOO_MANY);
     check("space", hull_shared_segment_reserve(segment, 4), HULL_RESERVED);
-    check("drain", hull_shared_drain(&gate, seat, segment, HULL_KIND_COUNT, 0, 0).told.number, 3);
+    check("drain", hull_shared_drain(&gate, seat, segment, HULL_KIND_COUNT, 0, 0).answer.number, 3);
     check("the next number", call(seat, HULL_KIND_COUNT, 0, 0), HULL_NUMBER);
     check("its text", hull_shared_segment_text(segment, text, sizeof text).code, HULL_TEXT);
     check("the first number of the segment", text[25], '7');
@@ -377,7 +377,7 @@ static void reopen_short(hull_shared *shared, hull_shared_seat *seat) {
     }
     check("reopen", answer.code, HULL_OPEN);
     check("acquire", hull_shared_acquire_seat(shared, &gate, seat, 0), HULL_ACQUIRED);
-    check("count", hull_shared_call(&gate, seat, HULL_KIND_COUNT, 0, 0).told.number, 2);
+    check("count", hull_shared_call(&gate, seat, HULL_KIND_COUNT, 0, 0).answer.number, 2);
     check("release", hull_shared_release_seat(shared, seat), HULL_RELEASED);
     check("close", hull_shared_close(shared), HULL_CLOSED);
     check("end", hull_shared_end(shared), HULL_ENDED);
@@ -419,10 +419,10 @@ static void run_short(hull_shared *shared, hull_shared_seat *seat, hull_shared_s
         check("added or refused", code == HULL_ADDED || code == HULL_NO_MEMORY, 1);
     }
     if (hull_shared_segment_reserve(segment, 4) == HULL_NO_MEMORY) {
-        check("drain after a refusal", hull_shared_drain(&gate, seat, segment, 8, 0, 0).told.code, HULL_NO_SPACE);
+        check("drain after a refusal", hull_shared_drain(&gate, seat, segment, 8, 0, 0).answer.code, HULL_NO_SPACE);
         check("space after a refusal", hull_shared_segment_reserve(segment, 4), HULL_RESERVED);
     }
-    check("drain", hull_shared_drain(&gate, seat, segment, 8, 0, 0).told.code, HULL_NUMBER);
+    check("drain", hull_shared_drain(&gate, seat, segment, 8, 0, 0).answer.code, HULL_NUMBER);
     code = hull_shared_segment_text(segment, text, sizeof text).code;
     if (code == HULL_NO_MEMORY) {
         code = hull_shared_segment_text(segment, text, sizeof text).code;

@@ -48,7 +48,7 @@ static int drain(hull_shared_seat *seat, hull_shared_segment *segment) {
     reply = hull_shared_drain(&gate, seat, segment, HULL_KIND_COUNT, 0, 0);
     answer = hull_shared_segment_text_size(segment);
     text = calloc(answer.number, 1);
-    good = good && reply.told.code == HULL_NUMBER && answer.code == HULL_TOO_SMALL && text != NULL;
+    good = good && reply.answer.code == HULL_NUMBER && answer.code == HULL_TOO_SMALL && text != NULL;
     good = good && hull_shared_segment_text(segment, text, answer.number).code == HULL_TEXT &&
            write_next(text, answer.number, drained_to);
     free(text);
@@ -64,7 +64,7 @@ static void *work(void *own) {
         int64_t x = (int64_t)(next(&state) % 2001) - 1000, y = (int64_t)(next(&state) % 2001) - 1000;
         uint32_t kind = next(&state) % 2 == 0 ? HULL_KIND_ADD : HULL_KIND_REMOVE;
         hull_shared_reply reply = hull_shared_call(&gate, seats[me], kind, x, y);
-        wrong[me] |= reply.told.code < HULL_ADDED || reply.told.code > HULL_ABSENT;
+        wrong[me] |= reply.answer.code < HULL_ADDED || reply.answer.code > HULL_ABSENT;
         if (has_journal && me == 0 && reply.turn + 1 - drained_to >= every) {
             wrong[me] |= !drain(seats[me], segment);
         }

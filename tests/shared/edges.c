@@ -244,7 +244,7 @@ static void closes_with_a_reader_out(void) {
     journal = start(0, 50);
     check("acquire a reader", hull_shared_acquire_reader(shared, reader), HULL_ACQUIRED);
     for (int k = 0; k < 10; k++) {
-        check("added", add(k, k * k).told.code, HULL_ADDED);
+        check("added", add(k, k * k).answer.code, HULL_ADDED);
     }
     check("release", hull_shared_release_seat(shared, seat), HULL_RELEASED);
     for (int k = 0; k < 3; k++) {
@@ -253,7 +253,7 @@ static void closes_with_a_reader_out(void) {
     check("acquire", hull_shared_acquire_seat(shared, &gate, seat, 0), HULL_ACQUIRED);
     check("durable", add_durably(journal, 77, 0).code, HULL_DURABLE);
     for (int k = 0; k < 100; k++) {
-        check("added", add(k, 1000 + k * k).told.code, HULL_ADDED);
+        check("added", add(k, 1000 + k * k).answer.code, HULL_ADDED);
     }
     check("release the reader", hull_shared_release_reader(shared, reader), HULL_RELEASED);
     hull_shared_reader_free(reader);
@@ -610,7 +610,7 @@ static void continues_at_each_limit(void) {
     for (size_t k = 0; k < sizeof right / sizeof *right; k++) {
         put_text(right[k].text);
         hull_shared_journal *journal = start(right[k].next, 10);
-        check("its points", hull_shared_call(&gate, seat, HULL_KIND_COUNT, 0, 0).told.number, right[k].count);
+        check("its points", hull_shared_call(&gate, seat, HULL_KIND_COUNT, 0, 0).answer.number, right[k].count);
         stop(journal, HULL_CLOSED);
         check("compact", hull_shared_journal_compact(path).code, HULL_DURABLE);
         journal = open_journal(right[k].next + 1);
@@ -624,7 +624,7 @@ static void continues_at_each_limit(void) {
     fprintf(file, "%d 0 add 7 7 = toomany\nend %d\n", HULL_MULTIPLICITY_MAX, HULL_MULTIPLICITY_MAX + 1);
     fclose(file);
     hull_shared_journal *journal = start(HULL_MULTIPLICITY_MAX + 1, 10);
-    check("the greatest multiplicity", add(7, 7).told.code, HULL_TOO_MANY);
+    check("the greatest multiplicity", add(7, 7).answer.code, HULL_TOO_MANY);
     stop(journal, HULL_CLOSED);
 }
 
@@ -661,7 +661,7 @@ static void reads_what_it_wrote(void) {
         check(answer, has(path, answer), 1);
     }
     journal = start(next, 1000);
-    check("its points", hull_shared_call(&gate, seat, HULL_KIND_COUNT, 0, 0).told.number, 5);
+    check("its points", hull_shared_call(&gate, seat, HULL_KIND_COUNT, 0, 0).answer.number, 5);
     stop(journal, HULL_CLOSED);
 }
 
@@ -846,7 +846,7 @@ static void notices_others(void) {
 
 static void *add_one(void *own) {
     hull_shared_seat *mine = own;
-    check("added once there is memory", hull_shared_call(&gate, mine, HULL_KIND_ADD, 5, 5).told.code, HULL_ADDED);
+    check("added once there is memory", hull_shared_call(&gate, mine, HULL_KIND_ADD, 5, 5).answer.code, HULL_ADDED);
     return NULL;
 }
 
@@ -855,19 +855,19 @@ static void waits_for_memory(void) {
     hull_shared_seat *two = hull_shared_seat_new();
     pthread_t thread;
     hull_shared_journal *journal = start(0, 20000);
-    hull_shared_reply r = {.told = {.code = 0}};
+    hull_shared_reply r = {.answer = {.code = 0}};
     check("acquire", hull_shared_acquire_seat(shared, &gate, two, 1), HULL_ACQUIRED);
     check("durable", add_durably(journal, 1, 1).code, HULL_DURABLE);
     refused_from = 1 << 20; /* the segment that a drain fills */
     refusals = 1000000000;
-    for (int k = 0; k < 60000 && r.told.code != HULL_FULL; k++) {
+    for (int k = 0; k < 60000 && r.answer.code != HULL_FULL; k++) {
         r = hull_shared_try_call(&gate, seat, HULL_KIND_PLACE, 0, 0);
     }
-    check("a drain whose memory is refused", r.told.code, HULL_FULL);
+    check("a drain whose memory is refused", r.answer.code, HULL_FULL);
     pthread_create(&thread, NULL, add_one, two);
     uint64_t begun = processor_time();
     r = hull_shared_call_until(&gate, seat, HULL_KIND_PLACE, 0, 0, hull_shared_now() + 500 * MILLISECOND);
-    check("no space", r.told.code, HULL_FULL);
+    check("no space", r.answer.code, HULL_FULL);
     check("the processor's time", processor_time() - begun < 60 * MILLISECOND, 1);
     refusals = 0;
     pthread_join(thread, NULL);

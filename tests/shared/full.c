@@ -72,7 +72,7 @@ static void *work(void *own) {
         uint32_t kind = next(&state) % 4 == 0 ? HULL_KIND_PLACE : next(&state) % 2 == 0 ? HULL_KIND_ADD : HULL_KIND_REMOVE;
         int64_t x = (int64_t)(next(&state) % 2001) - 1000, y = (int64_t)(next(&state) % 2001) - 1000;
         hull_shared_reply reply = hull_shared_call(&gate, seats[number], kind, x, y);
-        unserved[number] += !reply.has_line || reply.told.code == HULL_FULL;
+        unserved[number] += !reply.has_line || reply.answer.code == HULL_FULL;
     }
     return NULL;
 }

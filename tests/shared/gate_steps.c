@@ -59,7 +59,7 @@ static void check_designation(void) {
     leave(gate);
     check("one is designated", gate->state, DESIGNATED + 2 * PARKED);
     check("the first", gate->nodes[3].is_designated, 1);
-    check("as the statistics say", hull_shared_stats(&storage).named, 3);
+    check("as the statistics say", hull_shared_stats(&storage).designated, 3);
     check("and how many are parked", hull_shared_stats(&storage).sleepers, 2);
     check("not the second", gate->nodes[4].is_designated, 0);
     check("another passes", (uint64_t)try_enter(gate, 0), 1);
@@ -76,7 +76,7 @@ static void check_designation(void) {
     check("the designated one does not", (uint64_t)try_park(gate, 4, 1), 0);
     check("the designated one enters", (uint64_t)try_enter(gate, 1), 1);
     check("it is open again", gate->state, 1 + 3 * PARKED);
-    check("none is designated", hull_shared_stats(&storage).named, HULL_SHARED_SEATS_MAX);
+    check("none is designated", hull_shared_stats(&storage).designated, HULL_SHARED_SEATS_MAX);
     check("a turn has begun", gate->turn_ends > hull_now() && gate->turn_ends <= hull_now() + HULL_SHARED_TURN, 1);
     set_turn_over(1);
     leave(gate);

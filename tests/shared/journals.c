@@ -121,15 +121,15 @@ static void check_continuing(void) {
     check("started", hull_shared_journal_start(journal, shared, &gate, 50, 10, 1, 0).code, HULL_WAS_OPENED);
     for (int k = 0; k < 60; k++) {
         hull_shared_reply reply = call(HULL_KIND_ADD, k / 2, -k / 2);
-        check("added", reply.told.code, k % 2 == 0 ? HULL_ADDED : HULL_AGAIN);
+        check("added", reply.answer.code, k % 2 == 0 ? HULL_ADDED : HULL_AGAIN);
         r = hull_shared_journal_wait(journal, reply.line, HULL_SHARED_NEVER);
         check("durable", r.code, HULL_DURABLE);
         check("its line", r.number > reply.line, 1);
     }
-    check("removed", call(HULL_KIND_REMOVE, 3, -3).told.code, HULL_LEFT);
-    check("removed", call(HULL_KIND_REMOVE, 4, -4).told.code, HULL_LEFT);
-    check("removed", call(HULL_KIND_REMOVE, 4, -4).told.code, HULL_REMOVED);
-    check("vertices", call(HULL_KIND_VERTICES, 0, 0).told.number, 2);
+    check("removed", call(HULL_KIND_REMOVE, 3, -3).answer.code, HULL_LEFT);
+    check("removed", call(HULL_KIND_REMOVE, 4, -4).answer.code, HULL_LEFT);
+    check("removed", call(HULL_KIND_REMOVE, 4, -4).answer.code, HULL_REMOVED);
+    check("vertices", call(HULL_KIND_VERTICES, 0, 0).answer.number, 2);
     r = hull_shared_journal_sync(journal, HULL_SHARED_NEVER);
     check("sync", r.code, HULL_DURABLE);
     uint64_t next = r.number;
@@ -139,11 +139,11 @@ static void check_continuing(void) {
     for (int again = 0; again < 3; again++) {
         journal = open_journal(next, 0);
         start_journal(journal, 20000, again == 1 ? MILLISECOND : 0);
-        check("the points", call(HULL_KIND_COUNT, 0, 0).told.number, again == 2 ? 28 : 29);
+        check("the points", call(HULL_KIND_COUNT, 0, 0).answer.number, again == 2 ? 28 : 29);
         check("their number", call(HULL_KIND_PLACE, 0, 0).line, next + 1);
-        check("a point that is there twice", call(HULL_KIND_REMOVE, 5, -5).told.code,
+        check("a point that is there twice", call(HULL_KIND_REMOVE, 5, -5).answer.code,
            again == 0 ? HULL_LEFT : again == 1 ? HULL_REMOVED : HULL_ABSENT);
-        check("one that was removed", call(HULL_KIND_REMOVE, 4, -4).told.code, HULL_ABSENT);
+        check("one that was removed", call(HULL_KIND_REMOVE, 4, -4).answer.code, HULL_ABSENT);
         while (again == 1 && hull_shared_journal_durable(journal).number < next + 4) {
             sched_yield(); /* its thread drains without a request */
         }
@@ -152,9 +152,9 @@ static void check_continuing(void) {
     journal = open_journal(next, 0);
     start_journal(journal, 100, 0);
     for (int k = 0; k < 22; k++) {
-        check("as many as the file's limit", call(HULL_KIND_ADD, k, 100).told.code, HULL_ADDED);
+        check("as many as the file's limit", call(HULL_KIND_ADD, k, 100).answer.code, HULL_ADDED);
     }
-    check("and no more", call(HULL_KIND_ADD, 1, 101).told.code, HULL_TOO_MANY);
+    check("and no more", call(HULL_KIND_ADD, 1, 101).answer.code, HULL_TOO_MANY);
     close_journal(journal, HULL_CLOSED, next + 23);
 }
 
@@ -180,9 +180,9 @@ static void check_compacting(void) {
     check("its one segment", memcmp(now, "hullbook", 8) == 0 && strstr((char *)now + 8, "hullbook") == NULL && length < 4096, 1);
     journal = open_journal(next, 0);
     start_journal(journal, 100, 0);
-    check("a point that was there twice", call(HULL_KIND_REMOVE, 1, -1).told.code, HULL_LEFT);
+    check("a point that was there twice", call(HULL_KIND_REMOVE, 1, -1).answer.code, HULL_LEFT);
     check("its number", call(HULL_KIND_ADD, 1, -1).line, next + 1);
-    check("the points", call(HULL_KIND_COUNT, 0, 0).told.number, 50);
+    check("the points", call(HULL_KIND_COUNT, 0, 0).answer.number, 50);
     close_journal(journal, HULL_CLOSED, next + 3);
     put_text("another's\n");
     check("no journal", hull_shared_journal_compact(path).code, HULL_DAMAGED);
@@ -295,7 +295,7 @@ static void check_refused(void) {
         check("what is durable", r.number, durable);
         check("why", r.high, syncs ? EIO : ENOSPC);
         for (int k = 0; k < 30; k++) {
-            check("calls are answered", call(HULL_KIND_COUNT, 0, 0).told.code, HULL_NUMBER);
+            check("calls are answered", call(HULL_KIND_COUNT, 0, 0).answer.code, HULL_NUMBER);
         }
         syncs_fail = 0;
         check("it stays so", hull_shared_journal_sync(journal, HULL_SHARED_NEVER).code, HULL_NO_FILE);
@@ -312,7 +312,7 @@ static void check_drained_by_another(void) {
     journal = open_journal(6, 0);
     start_journal(journal, 8, 0);
     check("space", hull_shared_segment_reserve(segment, 8), HULL_RESERVED);
-    check("drain", hull_shared_drain(&gate, seat, segment, HULL_KIND_COUNT, 0, 0).told.code, HULL_NUMBER);
+    check("drain", hull_shared_drain(&gate, seat, segment, HULL_KIND_COUNT, 0, 0).answer.code, HULL_NUMBER);
     check("a gap", hull_shared_journal_wait(journal, 6, HULL_SHARED_NEVER).code, HULL_ILLEGAL);
     hull_shared_segment_end(segment);
     hull_shared_segment_free(segment);

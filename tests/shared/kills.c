@@ -134,7 +134,7 @@ static hull_shared_seat *seats[THREADS];
 /* Records a call whose line is durable, for the process that kills this one. */
 static void record_call(uint32_t seat, uint32_t kind, int64_t x, int64_t y, const hull_shared_reply *reply) {
     uint32_t at = __atomic_fetch_add(&shared->count, 1, __ATOMIC_SEQ_CST);
-    struct record record = {reply->line, x, y, reply->told.number, kind, reply->told.code, seat, 0};
+    struct record record = {reply->line, x, y, reply->answer.number, kind, reply->answer.code, seat, 0};
     if (at < RECORDS) {
         shared->records[at] = record;
         __atomic_store_n(&shared->records[at].is_there, 1, __ATOMIC_SEQ_CST);

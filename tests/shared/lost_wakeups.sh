@@ -76,12 +76,12 @@ done
 
 # at the slots
 copy
-change '/^ +HULL_SHARED_STEP\("announced"\);/{N;s/reply = .*$/memset(\&reply, 0, sizeof reply); reply.told.code = HULL_NOT_YET; reply.turn = number;/}'
+change '/^ +HULL_SHARED_STEP\("announced"\);/{N;s/reply = .*$/memset(\&reply, 0, sizeof reply); reply.answer.code = HULL_NOT_YET; reply.turn = number;/}'
 try 'a seat does not look once more after its announcement' hang 8
 
 copy
 change '/fetch_add\(&slot->waiters/d; s/^( +)HULL_SHARED_STEP\("looked"\);/&\n\1__atomic_fetch_add(\&slot->waiters, 1, __ATOMIC_SEQ_CST);\n\1epoch = __atomic_load_n(\&slot->epoch, __ATOMIC_SEQ_CST);/'
-change 's/^( +)__atomic_fetch_sub\(&slot->waiters, 1/\1if (reply.told.code == HULL_NOT_YET) &/'
+change 's/^( +)__atomic_fetch_sub\(&slot->waiters, 1/\1if (reply.answer.code == HULL_NOT_YET) &/'
 try 'a seat announces itself after its last look' hang 8
 
 copy

@@ -89,7 +89,7 @@ static size_t replay(const world *w, uint64_t lines, hull_point *vertices) {
 
 /* The reader takes a snapshot. */
 static void step_of_reader(world *w) {
-    const hull_shared_view snapshot = hull_shared_read(w->reader);
+    const hull_shared_snapshot snapshot = hull_shared_read(w->reader);
     hull_point shown[MOST_VERTICES], right[MOST_VERTICES];
     memset(shown, 0, sizeof shown);
     memset(right, 0, sizeof right);
@@ -103,7 +103,7 @@ static void step_of_reader(world *w) {
 /* A seat that waits looks: its call is served, which is the next line, or its number is not served yet. */
 static void look(world *w, unsigned me) {
     const hull_shared_reply reply = hull_shared_look(w->seats[me]);
-    const uint32_t code = reply.told.code;
+    const uint32_t code = reply.answer.code;
     if (code == HULL_NOT_YET) {
         w->wrong |= w->first[me] == w->lines;
         w->misses++;
@@ -123,7 +123,7 @@ static void step_of_seat(world *w, unsigned me) {
         return;
     }
     const request *next = &asked[me][w->begun[me]++];
-    w->wrong |= hull_shared_take(w->seats[me], next->kind, next->x, next->y).told.code != HULL_TAKEN;
+    w->wrong |= hull_shared_take(w->seats[me], next->kind, next->x, next->y).answer.code != HULL_TAKEN;
     w->first[me] = w->taken++;
     w->waiting[me] = next;
 }

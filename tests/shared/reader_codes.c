@@ -6,8 +6,8 @@
 static hull_point vertices[8]; /* those of the last snapshot */
 
 /* Takes a snapshot by a reader: so many vertices, as of so many lines, the first of which has this number. */
-static hull_shared_view check_snapshot(const char *what, hull_shared_reader *reader, size_t count, uint64_t lines, uint64_t first) {
-    const hull_shared_view snapshot = hull_shared_read(reader);
+static hull_shared_snapshot check_snapshot(const char *what, hull_shared_reader *reader, size_t count, uint64_t lines, uint64_t first) {
+    const hull_shared_snapshot snapshot = hull_shared_read(reader);
     check(what, snapshot.code, HULL_SNAPSHOT_TAKEN);
     check("its vertices", snapshot.count, count);
     check("an array that is too short for them", hull_shared_snapshot_vertices(reader, vertices, count - (count > 0)).code, count > 0 ? HULL_TOO_SMALL : HULL_VERTICES);
@@ -37,7 +37,7 @@ static void check_codes(hull_shared *shared, hull_shared_reader *one, hull_share
     check("set one instead", hull_shared_set_max_readers(shared, 1), HULL_READERS_SET);
     check("open for it", hull_shared_open(shared, 10, 7, 100, 2), HULL_OPEN);
     check("release of none", hull_shared_release_reader(shared, one), HULL_VACANT);
-    const hull_shared_view none = hull_shared_read(one);
+    const hull_shared_snapshot none = hull_shared_read(one);
     check("storage with no reader", none.code, HULL_VACANT);
     check("has no vertices", none.count, 0);
     check("nor writes any", hull_shared_snapshot_vertices(one, vertices, 8).code, HULL_VACANT);
@@ -111,7 +111,7 @@ static void check_reopened(hull_shared *shared, hull_shared_seat *seat, hull_sha
     hull_shared_segment *segment = hull_shared_segment_new();
     check("space for a drain", hull_shared_segment_reserve(segment, 3), HULL_RESERVED);
     check("acquire", hull_shared_acquire_seat(shared, &gate, seat, 0), HULL_ACQUIRED);
-    check("a drain that changes", hull_shared_drain(&gate, seat, segment, HULL_KIND_ADD, 9, 9).told.code, HULL_ADDED);
+    check("a drain that changes", hull_shared_drain(&gate, seat, segment, HULL_KIND_ADD, 9, 9).answer.code, HULL_ADDED);
     check_snapshot("publishes", two, 3, 10, 7);
     check("added", call(seat, HULL_KIND_ADD, 9, 0), HULL_ADDED);
     check_snapshot("and so does the next call", one, 4, 11, 7);
@@ -144,7 +144,7 @@ static void run_short(hull_shared *shared, hull_shared_seat *seat, hull_shared_r
         for (int64_t i = 0; i < 4; i++) {
             points += call(seat, HULL_KIND_ADD, i, i * i) == HULL_ADDED;
             if (is_acquired) {
-                const hull_shared_view snapshot = hull_shared_read(one);
+                const hull_shared_snapshot snapshot = hull_shared_read(one);
                 check("no more vertices than points", snapshot.count <= points, 1);
                 check("no snapshot goes back", snapshot.lines >= last, 1);
                 last = snapshot.lines;

@@ -75,8 +75,8 @@ static void call(unsigned me, uint64_t *state) {
         __atomic_store_n(&wrong, 1, __ATOMIC_SEQ_CST);
         return;
     }
-    history[reply.line] = (made){kind, reply.told.code, x, y};
-    if (is_change(reply.told.code)) {
+    history[reply.line] = (made){kind, reply.answer.code, x, y};
+    if (is_change(reply.answer.code)) {
         uint64_t known = __atomic_load_n(&changed, __ATOMIC_SEQ_CST);
         while (known < reply.line + 1 &&
                !__atomic_compare_exchange_n(&changed, &known, reply.line + 1, 0, __ATOMIC_SEQ_CST, __ATOMIC_SEQ_CST)) {
@@ -102,9 +102,9 @@ static uint64_t sum_of_snapshot(reader *me) {
 }
 
 /* Takes a snapshot; it is no older than what had returned before, nor than the one before. */
-static hull_shared_view look(reader *me, uint64_t *last) {
+static hull_shared_snapshot look(reader *me, uint64_t *last) {
     const uint64_t returned = __atomic_load_n(&changed, __ATOMIC_SEQ_CST);
-    const hull_shared_view snapshot = hull_shared_read(me->storage);
+    const hull_shared_snapshot snapshot = hull_shared_read(me->storage);
     me->taken++;
     me->old += snapshot.code == HULL_OLD;
     me->wrong |= snapshot.code != HULL_SNAPSHOT_TAKEN && snapshot.code != HULL_OLD;
@@ -122,7 +122,7 @@ static void *read_until_done(void *given) {
     uint64_t last = 0;
     memset(me->vertices, 0, sizeof me->vertices);
     while (__atomic_load_n(&working, __ATOMIC_SEQ_CST) > 0) {
-        const hull_shared_view snapshot = look(me, &last);
+        const hull_shared_snapshot snapshot = look(me, &last);
         if (me->taken % 16 == 0) {
             const uint64_t sum = sum_of_snapshot(me);
             sched_yield();

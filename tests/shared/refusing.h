@@ -41,5 +41,5 @@ static void check(const char *what, uint64_t got, uint64_t wanted) {
 }
 
 static uint32_t call(hull_shared_seat *seat, uint32_t kind, int64_t x, int64_t y) {
-    return hull_shared_call(&gate, seat, kind, x, y).told.code;
+    return hull_shared_call(&gate, seat, kind, x, y).answer.code;
 }

@@ -183,7 +183,7 @@ static uint64_t make_change(uint32_t thread, uint32_t multiplicity[OWN], uint64_
     __atomic_store_n(&t->begun, t->begun + 1, __ATOMIC_SEQ_CST);
     reply = call(thread, kind, points[point].x, points[point].y);
     __atomic_store_n(&change->line, reply.line, __ATOMIC_SEQ_CST);
-    REQUIRE(is_right(kind, before, &reply.told));
+    REQUIRE(is_right(kind, before, &reply.answer));
     return reply.line;
 }
 

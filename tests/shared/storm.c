@@ -67,7 +67,7 @@ static hull_shared_reply ask_vertices(hull_shared_seat *seat, int *wrong) {
     hull_point vertices[64];
     memset(vertices, 7, sizeof vertices);
     hull_shared_reply reply = hull_shared_vertices(&gate, seat, vertices, 40);
-    uint64_t written = reply.told.code == HULL_VERTICES ? reply.told.number : 0;
+    uint64_t written = reply.answer.code == HULL_VERTICES ? reply.answer.number : 0;
     *wrong |= written > 40 || !are_convex(vertices, written);
     for (uint64_t i = written; i < 64; i++) {
         *wrong |= vertices[i].x != INT64_C(0x0707070707070707) || vertices[i].y != INT64_C(0x0707070707070707);
@@ -89,7 +89,7 @@ static void *work(void *own) {
         hull_shared_reply reply = kind == HULL_KIND_VERTICES ? ask_vertices(seats[me], &wrong[me])
                                                              : hull_shared_call(&gate, seats[me], kind, x, y);
         turns[me][i] = reply.turn;
-        wrong[me] |= !is_answer(kind, reply.told.code) || (i > 0 && reply.turn <= turns[me][i - 1]);
+        wrong[me] |= !is_answer(kind, reply.answer.code) || (i > 0 && reply.turn <= turns[me][i - 1]);
     }
     return NULL;
 }
@@ -154,9 +154,9 @@ int main(int count, char **words) {
         bad |= pthread_join(ids[k], NULL) != 0 || wrong[k];
     }
     hull_shared_state state = hull_shared_stats(&gate);
-    bad |= !is_each_once(threads) || state.inside != 0 || state.sleepers != 0 || state.for_room != 0 || state.turn != threads * calls;
+    bad |= !is_each_once(threads) || state.inside != 0 || state.sleepers != 0 || state.for_space != 0 || state.turn != threads * calls;
     bad |= state.seat != HULL_SHARED_SEATS_MAX || (words[3][0] == '1' && words[3][1] == 0 && state.held != threads * calls);
-    bad |= hull_shared_call(&gate, seats[0], HULL_KIND_COUNT, 0, 0).told.code != HULL_FULL;
+    bad |= hull_shared_call(&gate, seats[0], HULL_KIND_COUNT, 0, 0).answer.code != HULL_FULL;
     for (unsigned k = 0; k < threads; k++) {
         bad |= hull_shared_close(shared) != HULL_SEATS_OUT;
         bad |= hull_shared_release_seat(shared, seats[k]) != HULL_RELEASED;

@@ -52,7 +52,7 @@ static void nap(uint64_t nanoseconds) {
 }
 
 static uint32_t count_by(hull_shared_seat *seat) {
-    return hull_shared_call(&gate, seat, HULL_KIND_COUNT, 0, 0).told.code;
+    return hull_shared_call(&gate, seat, HULL_KIND_COUNT, 0, 0).answer.code;
 }
 
 static void open_all(uint32_t capacity, uint32_t inside) {
@@ -90,7 +90,7 @@ static void wait_until_inside(uint32_t inside, uint32_t sleepers) {
 /* Looks with seat 0, which has a number, and wakes the caller that waits for the next. */
 static void look(void) {
     hull_shared_reply reply = hull_shared_look(seats[0]);
-    check("a look", reply.told.code, HULL_NUMBER);
+    check("a look", reply.answer.code, HULL_NUMBER);
     hull_shared_handed_on(&gate, reply.turn + 1);
 }
 
@@ -102,18 +102,18 @@ static void check_other_gates(void) {
     open_all(100, 1);
     check("open", hull_shared_open(second, 10, 0, 10, 1), HULL_OPEN);
     check("one gate for two shared hulls", hull_shared_acquire_seat(second, &gate, seat, 0), HULL_OTHER_GATE);
-    check("storage with no seat", hull_shared_call(&gate, seat, HULL_KIND_COUNT, 0, 0).told.code, HULL_VACANT);
+    check("storage with no seat", hull_shared_call(&gate, seat, HULL_KIND_COUNT, 0, 0).answer.code, HULL_VACANT);
     check("no seat", hull_shared_acquire_seat(second, &other, seat, 5), HULL_NO_SEAT);
     check("acquire", hull_shared_acquire_seat(second, &other, seat, 0), HULL_ACQUIRED);
-    check("another gate", hull_shared_call(&gate, seat, HULL_KIND_COUNT, 0, 0).told.code, HULL_OTHER_GATE);
-    check("another gate", hull_shared_call(&other, seats[0], HULL_KIND_COUNT, 0, 0).told.code, HULL_OTHER_GATE);
-    check("its own gate", hull_shared_call(&other, seat, HULL_KIND_COUNT, 0, 0).told.code, HULL_NUMBER);
+    check("another gate", hull_shared_call(&gate, seat, HULL_KIND_COUNT, 0, 0).answer.code, HULL_OTHER_GATE);
+    check("another gate", hull_shared_call(&other, seats[0], HULL_KIND_COUNT, 0, 0).answer.code, HULL_OTHER_GATE);
+    check("its own gate", hull_shared_call(&other, seat, HULL_KIND_COUNT, 0, 0).answer.code, HULL_NUMBER);
     check("release", hull_shared_release_seat(second, seat), HULL_RELEASED);
     check("with no gate", hull_shared_acquire_seat(second, NULL, seat, 0), HULL_ACQUIRED);
-    check("a call with no gate", hull_shared_call(&other, seat, HULL_KIND_COUNT, 0, 0).told.code, HULL_OTHER_GATE);
-    check("nor a call at none", hull_shared_call(NULL, seat, HULL_KIND_COUNT, 0, 0).told.code, HULL_OTHER_GATE);
-    check("a take and a look", hull_shared_take(seat, HULL_KIND_COUNT, 0, 0).told.code, HULL_TAKEN);
-    check("a take and a look", hull_shared_look(seat).told.code, HULL_NUMBER);
+    check("a call with no gate", hull_shared_call(&other, seat, HULL_KIND_COUNT, 0, 0).answer.code, HULL_OTHER_GATE);
+    check("nor a call at none", hull_shared_call(NULL, seat, HULL_KIND_COUNT, 0, 0).answer.code, HULL_OTHER_GATE);
+    check("a take and a look", hull_shared_take(seat, HULL_KIND_COUNT, 0, 0).answer.code, HULL_TAKEN);
+    check("a take and a look", hull_shared_look(seat).answer.code, HULL_NUMBER);
     check("release", hull_shared_release_seat(second, seat), HULL_RELEASED);
     close_all();
     check("the gate is free again", hull_shared_acquire_seat(second, &gate, seat, 0), HULL_ACQUIRED);
@@ -129,29 +129,29 @@ static void check_deadlines(void) {
     pthread_t thread;
     uint64_t begun, took;
     open_all(100, 1);
-    check("at once, if none is inside", hull_shared_try_call(&gate, seats[1], HULL_KIND_ADD, 3, 4).told.code, HULL_ADDED);
-    check("take", hull_shared_take(seats[0], HULL_KIND_COUNT, 0, 0).told.code, HULL_TAKEN);
+    check("at once, if none is inside", hull_shared_try_call(&gate, seats[1], HULL_KIND_ADD, 3, 4).answer.code, HULL_ADDED);
+    check("take", hull_shared_take(seats[0], HULL_KIND_COUNT, 0, 0).answer.code, HULL_TAKEN);
     pthread_create(&thread, NULL, count_once, seats[2]);
     wait_until_inside(1, 0);
     begun = hull_shared_now();
-    check("at once", hull_shared_try_call(&gate, seats[1], HULL_KIND_COUNT, 0, 0).told.code, HULL_BUSY);
+    check("at once", hull_shared_try_call(&gate, seats[1], HULL_KIND_COUNT, 0, 0).answer.code, HULL_BUSY);
     check("its turn", hull_shared_try_call(&gate, seats[1], HULL_KIND_COUNT, 0, 0).turn, 0);
-    check("by a deadline that has passed", hull_shared_call_until(&gate, seats[1], HULL_KIND_COUNT, 0, 0, begun).told.code, HULL_BUSY);
+    check("by a deadline that has passed", hull_shared_call_until(&gate, seats[1], HULL_KIND_COUNT, 0, 0, begun).answer.code, HULL_BUSY);
     check("they did not wait", hull_shared_now() - begun < 1000 * MILLISECOND, 1);
     begun = hull_shared_now();
-    check("in time", hull_shared_call_until(&gate, seats[1], HULL_KIND_COUNT, 0, 0, begun + 30 * MILLISECOND).told.code, HULL_BUSY);
+    check("in time", hull_shared_call_until(&gate, seats[1], HULL_KIND_COUNT, 0, 0, begun + 30 * MILLISECOND).answer.code, HULL_BUSY);
     took = hull_shared_now() - begun;
     check("it waited", took >= 30 * MILLISECOND, 1);
     check("and not for long", took < 5000 * MILLISECOND, 1);
     check("none is parked", hull_shared_stats(&gate).sleepers, 0);
     look();
     pthread_join(thread, NULL);
-    check("in time", hull_shared_call_until(&gate, seats[1], HULL_KIND_COUNT, 0, 0, hull_shared_now() + 5000 * MILLISECOND).told.code, HULL_NUMBER);
+    check("in time", hull_shared_call_until(&gate, seats[1], HULL_KIND_COUNT, 0, 0, hull_shared_now() + 5000 * MILLISECOND).answer.code, HULL_NUMBER);
     close_all();
 }
 
 static void *add_in_time(void *code) {
-    *(uint32_t *)code = hull_shared_call_until(&gate, seats[1], HULL_KIND_ADD, 1, 1, hull_shared_now() + 50000 * MILLISECOND).told.code;
+    *(uint32_t *)code = hull_shared_call_until(&gate, seats[1], HULL_KIND_ADD, 1, 1, hull_shared_now() + 50000 * MILLISECOND).answer.code;
     return NULL;
 }
 
@@ -165,15 +165,15 @@ static void check_waiting_for_space(void) {
     hull_shared_gate_wait_for_space(&gate, 1);
     check("the only line", count_by(seats[0]), HULL_NUMBER);
     begun = hull_shared_now();
-    check("at once", hull_shared_try_call(&gate, seats[1], HULL_KIND_COUNT, 0, 0).told.code, HULL_FULL);
-    check("in time", hull_shared_call_until(&gate, seats[1], HULL_KIND_COUNT, 0, 0, begun + 20 * MILLISECOND).told.code, HULL_FULL);
+    check("at once", hull_shared_try_call(&gate, seats[1], HULL_KIND_COUNT, 0, 0).answer.code, HULL_FULL);
+    check("in time", hull_shared_call_until(&gate, seats[1], HULL_KIND_COUNT, 0, 0, begun + 20 * MILLISECOND).answer.code, HULL_FULL);
     check("it waited", hull_shared_now() - begun >= 20 * MILLISECOND, 1);
     pthread_create(&thread, NULL, add_in_time, &code);
-    while (hull_shared_stats(&gate).for_room == 0) {
+    while (hull_shared_stats(&gate).for_space == 0) {
         nap(MILLISECOND / 10);
     }
     check("space", hull_shared_segment_reserve(segment, 1), HULL_RESERVED);
-    check("drain", hull_shared_drain(&gate, seats[0], segment, HULL_KIND_COUNT, 0, 0).told.code, HULL_NUMBER);
+    check("drain", hull_shared_drain(&gate, seats[0], segment, HULL_KIND_COUNT, 0, 0).answer.code, HULL_NUMBER);
     pthread_join(thread, NULL);
     check("once there is space", code, HULL_ADDED);
     check("held", hull_shared_stats(&gate).held, 1);
@@ -188,7 +188,7 @@ static void *give_up_often(void *own) {
     hull_shared_seat *seat = *(hull_shared_seat **)own;
     for (int k = 0; k < 3000; k++) {
         drawn ^= drawn << 13, drawn ^= drawn >> 7, drawn ^= drawn << 17;
-        uint32_t code = hull_shared_call_until(&gate, seat, HULL_KIND_COUNT, 0, 0, hull_shared_now() + drawn % 50000).told.code;
+        uint32_t code = hull_shared_call_until(&gate, seat, HULL_KIND_COUNT, 0, 0, hull_shared_now() + drawn % 50000).answer.code;
         check("a call with a deadline", code == HULL_NUMBER || code == HULL_BUSY, 1);
     }
     check("a call with none", count_by(seat), HULL_NUMBER);
@@ -205,7 +205,7 @@ static void check_short_deadlines(uint32_t inside) {
         pthread_join(threads[k], NULL);
     }
     check("the gate is open", hull_shared_stats(&gate).inside + hull_shared_stats(&gate).sleepers, 0);
-    check("none is designated", hull_shared_stats(&gate).named, HULL_SHARED_SEATS_MAX);
+    check("none is designated", hull_shared_stats(&gate).designated, HULL_SHARED_SEATS_MAX);
     close_all();
 }
 
@@ -220,7 +220,7 @@ static void *get_cancelled(void *seat) {
 static void check_cancelled(uint32_t inside) {
     pthread_t threads[3];
     open_all(100, inside);
-    check("take", hull_shared_take(seats[0], HULL_KIND_COUNT, 0, 0).told.code, HULL_TAKEN);
+    check("take", hull_shared_take(seats[0], HULL_KIND_COUNT, 0, 0).answer.code, HULL_TAKEN);
     for (int k = 0; k < 3; k++) {
         pthread_create(&threads[k], NULL, k < 2 ? get_cancelled : count_once, seats[k + 1]);
         wait_until_inside((uint32_t)k + 1 < inside ? (uint32_t)k + 1 : inside, (uint32_t)k + 1 < inside ? 0 : (uint32_t)k + 1 - inside);
@@ -338,8 +338,8 @@ static void check_dead_inside(void) {
     check("its seat", state.seat, 3);
     check("its number", state.turn, 7 + state.held);
     check("for how long", state.seat_for >= 15 * MILLISECOND && state.seat_for < 50000 * MILLISECOND, 1);
-    check("at once", hull_shared_try_call(&gate, seats[1], HULL_KIND_COUNT, 0, 0).told.code, HULL_BUSY);
-    check("in time", hull_shared_call_until(&gate, seats[1], HULL_KIND_COUNT, 0, 0, hull_shared_now() + 5 * MILLISECOND).told.code, HULL_BUSY);
+    check("at once", hull_shared_try_call(&gate, seats[1], HULL_KIND_COUNT, 0, 0).answer.code, HULL_BUSY);
+    check("in time", hull_shared_call_until(&gate, seats[1], HULL_KIND_COUNT, 0, 0, hull_shared_now() + 5 * MILLISECOND).answer.code, HULL_BUSY);
 }
 
 int main(void) {
