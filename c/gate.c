@@ -631,9 +631,9 @@ static int drain_and_call_hook(const struct call *call) {
 /* Makes this seat the one that drains for the hook; returns whether it is. It is not if there is no hook, or another one drains. */
 static int become_drainer(const struct call *call) {
     struct gate *gate = call->gate;
-    uint32_t nobody = 0;
+    uint32_t none = 0;
     return gate->hook != NULL &&
-           __atomic_compare_exchange_n(&gate->drainer, &nobody, call->number, 0, __ATOMIC_SEQ_CST, __ATOMIC_RELAXED);
+           __atomic_compare_exchange_n(&gate->drainer, &none, call->number, 0, __ATOMIC_SEQ_CST, __ATOMIC_RELAXED);
 }
 
 /* Drains for the hook as the only thread that does; returns whether there is space again. After the hook it wakes the threads that
