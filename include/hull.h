@@ -4,9 +4,9 @@
  * Coordinates are from -HULL_COORDINATE_MAX to HULL_COORDINATE_MAX. Answers are exact; an area is returned doubled, so that it
  * is an integer.
  *
- * hull_new makes a set in memory from malloc, and hull_free ends it. Or you give the storage: hull_size() bytes at a multiple of
- * hull_alignment(), which stays yours. Between hull_init and hull_end do not read, write or move it. What a set needs beyond its
- * storage comes from malloc and goes back to free in hull_remove, hull_clear and hull_end.
+ * hull_new makes a set in memory from malloc, and hull_free ends it. Or you give the storage: hull_size() bytes at a multiple
+ * of hull_alignment(), which stays yours. Between hull_init and hull_end do not read, write or move it. What a set needs beyond
+ * its storage comes from malloc and goes back to free in hull_remove, hull_clear and hull_end.
  *
  * You must ensure, and nothing checks:
  * - each set that you pass was made by hull_init, hull_make or hull_new and not yet ended;
@@ -48,15 +48,15 @@ size_t hull_alignment(void);
 
 /* Makes an empty set in the storage, for at most `limit` different points; HULL_LIMIT_MAX if `limit` is 0 or above that. It
  * allocates nothing. The storage is overwritten: it must not contain a set that was not ended. */
-void hull_make(uint32_t limit, hull_set *room);
+void hull_make(uint32_t limit, hull_set *storage);
 
-/* The same, but a limit out of range is reported: returns HULL_OK, and there is a set in the storage; or HULL_OUT_OF_LIMITS, and
- * there is none, so it must not be ended. */
-static inline uint32_t hull_init(uint32_t limit, hull_set *room) {
+/* The same, but a limit out of range is reported: returns HULL_OK, and there is a set in the storage; or HULL_OUT_OF_LIMITS,
+ * and there is none, so it must not be ended. */
+static inline uint32_t hull_init(uint32_t limit, hull_set *storage) {
     if (limit < 1 || limit > HULL_LIMIT_MAX) {
         return HULL_OUT_OF_LIMITS;
     }
-    hull_make(limit, room);
+    hull_make(limit, storage);
     return HULL_OK;
 }
 
@@ -85,8 +85,8 @@ static inline void hull_free(hull_set *h) {
 }
 
 /* Hints that queries will follow; never changes an answer. Once as many hints were given as half of the vertices, the vertices
- * are kept in an array, and questions are answered from it, in less time, until a change moves one. Returns HULL_NUMBER with how
- * many vertices are kept, 0 if none are. It allocates; if memory is refused, nothing is kept. hull_calls does this for each
+ * are kept in an array, and questions are answered from it, in less time, until a change moves one. Returns HULL_NUMBER with
+ * how many vertices are kept, 0 if none are. It allocates; if memory is refused, nothing is kept. hull_calls does this for each
  * place, tangents, extreme and area. */
 hull_reply hull_prepare(hull_set *h);
 
@@ -100,8 +100,8 @@ hull_reply hull_ask(const hull_set *h, uint32_t kind, int64_t x, int64_t y);
 /* Returns the version of the library, to compare with HULL_VERSION of the headers that a program was compiled with. */
 const char *hull_library_version(void);
 
-/* Adds the point (x, y), or 1 to its multiplicity: returns HULL_ADDED, HULL_AGAIN, HULL_TOO_MANY, HULL_NO_MEMORY (only for a new
- * point below the limit) or HULL_OUT_OF_RANGE. */
+/* Adds the point (x, y), or 1 to its multiplicity: returns HULL_ADDED, HULL_AGAIN, HULL_TOO_MANY, HULL_NO_MEMORY (only for a
+ * new point below the limit) or HULL_OUT_OF_RANGE. */
 static inline hull_reply hull_add(hull_set *h, int64_t x, int64_t y) {
     return hull_call(h, HULL_KIND_ADD, x, y);
 }
@@ -115,9 +115,9 @@ static inline hull_reply hull_remove(hull_set *h, int64_t x, int64_t y) {
 /* Locates the point (x, y): returns HULL_INSIDE, HULL_ON, HULL_OUTSIDE (also of an empty set) or HULL_OUT_OF_RANGE. */
 hull_reply hull_place(const hull_set *h, int64_t x, int64_t y);
 
-/* Finds the tangents from (x, y): returns HULL_TANGENTS, HULL_NO_TANGENT or HULL_OUT_OF_RANGE. No point is left of the line from
- * (x, y) through the left tangent point, nor right of the one through the right tangent point; of several points on such a line
- * it is the farthest. */
+/* Finds the tangents from (x, y): returns HULL_TANGENTS, HULL_NO_TANGENT or HULL_OUT_OF_RANGE. No point is left of the line
+ * from (x, y) through the left tangent point, nor right of the one through the right tangent point; of several points on such a
+ * line it is the farthest. */
 hull_reply hull_tangents(const hull_set *h, int64_t x, int64_t y);
 
 /* Finds the farthest point in the direction (x, y), of several the first by x and then y: returns HULL_POINT, HULL_EMPTY,
@@ -129,10 +129,10 @@ static inline hull_reply hull_multiplicity(const hull_set *h, int64_t x, int64_t
     return hull_ask(h, HULL_KIND_MULTIPLICITY, x, y);
 }
 
-/* Writes the vertices to the front of the array of `room` points: counterclockwise from the first by x and then y, each once,
- * none inside an edge. Returns HULL_VERTICES; HULL_TOO_SMALL, and `number` points are needed; or HULL_NO_MEMORY. hull_count
- * points always suffice. `out` is aligned, and its points were written before, to anything (calloc does that). */
-hull_reply hull_vertices(const hull_set *h, hull_point *out, size_t room);
+/* Writes the vertices to the front of the array of `capacity` points: counterclockwise from the first by x and then y, each
+ * once, none inside an edge. Returns HULL_VERTICES; HULL_TOO_SMALL, and `number` points are needed; or HULL_NO_MEMORY.
+ * hull_count points always suffice. `out` is aligned, and its points were written before, to anything (calloc does that). */
+hull_reply hull_vertices(const hull_set *h, hull_point *out, size_t capacity);
 
 /* Returns HULL_NUMBER with twice the area of the hull in `number` and `high`, 0 for a point and a segment. */
 static inline hull_reply hull_area(const hull_set *h) {
@@ -153,19 +153,19 @@ hull_reply hull_limit(const hull_set *h);
  * after it were not, and later replies are unchanged. (HULL_TOO_MANY and HULL_NO_MEMORY do not stop it.) The arrays do not
  * overlap, and were written before (calloc does that). */
 size_t hull_calls(hull_set *h, const hull_request *requests, size_t request_count, hull_reply *replies,
-                  size_t reply_room);
+                  size_t reply_capacity);
 
 /* Replaces all points by those of the array, in any order, each with the multiplicity that it has there: as adding them one by
- * one to an empty set, in a small part of the time. Returns HULL_NUMBER with the number of different points; or fails and leaves
- * the set unchanged: HULL_OUT_OF_RANGE (any of them), else HULL_TOO_MANY (more different points than the limit, or a
+ * one to an empty set, in a small part of the time. Returns HULL_NUMBER with the number of different points; or fails and
+ * leaves the set unchanged: HULL_OUT_OF_RANGE (any of them), else HULL_TOO_MANY (more different points than the limit, or a
  * multiplicity above HULL_MULTIPLICITY_MAX) or HULL_NO_MEMORY (old and new points are both in memory for a while). The array is
  * aligned. */
 hull_reply hull_load(hull_set *h, const hull_point *points, size_t count);
 
-/* Writes the points from (x, y) on, in order by x and then y, each with its multiplicity, to the front of the array of `room`
- * points, until it is full or there are no more. Returns HULL_NUMBER with how many were written; HULL_OUT_OF_RANGE or
- * HULL_NO_MEMORY. All points are those from (-HULL_COORDINATE_MAX, -HULL_COORDINATE_MAX) on, into an array of hull_count, or a
- * block at a time, each from hull_held_after the last point of the one before; the set may change between two blocks:
+/* Writes the points from (x, y) on, in order by x and then y, each with its multiplicity, to the front of the array of
+ * `capacity` points, until it is full or there are no more. Returns HULL_NUMBER with how many were written; HULL_OUT_OF_RANGE
+ * or HULL_NO_MEMORY. All points are those from (-HULL_COORDINATE_MAX, -HULL_COORDINATE_MAX) on, into an array of hull_count, or
+ * a block at a time, each from hull_held_after the last point of the one before; the set may change between two blocks:
  *
  *     hull_held block[1000];
  *     hull_point at = {-HULL_COORDINATE_MAX, -HULL_COORDINATE_MAX};
@@ -177,7 +177,7 @@ hull_reply hull_load(hull_set *h, const hull_point *points, size_t count);
  *     }
  *
  * The array is as for hull_vertices. */
-hull_reply hull_held_from(const hull_set *h, int64_t x, int64_t y, hull_held *out, size_t room);
+hull_reply hull_held_from(const hull_set *h, int64_t x, int64_t y, hull_held *out, size_t capacity);
 
 /* Returns the first place after a point, from which the next block begins. After the last place of all it is out of range,
  * (HULL_COORDINATE_MAX + 1, -HULL_COORDINATE_MAX), and there is no block from there: HULL_OUT_OF_RANGE. */
@@ -190,8 +190,8 @@ static inline hull_point hull_held_after(hull_held last) {
 }
 
 /* Finds the point of the set that is nearest to (x, y), of several the first by x and then y. Returns HULL_POINT with the
- * squared distance, of 84 bits, in `number` and `high`; HULL_EMPTY, HULL_OUT_OF_RANGE, or HULL_NO_MEMORY as hull_held_from. This
- * is C over that listing (archive/nearest.c), tested and not proved: it reads all points whose x differs by no more than a few
+ * squared distance, of 84 bits, in `number` and `high`; HULL_EMPTY, HULL_OUT_OF_RANGE, or HULL_NO_MEMORY as hull_held_from.
+ * This is C over that listing (c/nearest.c), tested and not proved: it reads all points whose x differs by no more than a few
  * times that distance; of n random points in a square some tens of roots of n. */
 hull_reply hull_nearest_held(const hull_set *h, int64_t x, int64_t y);
 
@@ -236,15 +236,15 @@ typedef struct hull_bridge {
     hull_point lower_right;
 } hull_bridge;
 
-/* Writes the bridges of the forks on a level to the front of the array of `room` bridges, from left to right. Returns
- * HULL_NUMBER with how many there are, at most 2^level; HULL_TOO_SMALL, and `number` are needed; or HULL_NO_MEMORY. For pictures
- * of the tree; no question needs it. The array is as for hull_vertices. */
-hull_reply hull_bridges(const hull_set *h, uint32_t level, hull_bridge *out, size_t room);
+/* Writes the bridges of the forks on a level to the front of the array of `capacity` bridges, from left to right. Returns
+ * HULL_NUMBER with how many there are, at most 2^level; HULL_TOO_SMALL, and `number` are needed; or HULL_NO_MEMORY. For
+ * pictures of the tree; no question needs it. The array is as for hull_vertices. */
+hull_reply hull_bridges(const hull_set *h, uint32_t level, hull_bridge *out, size_t capacity);
 
 /* Removes all points and frees their memory; the limit stays. Returns HULL_CLEARED. */
 hull_reply hull_clear(hull_set *h);
 
-/* A convex polygon, called *outline* in the names below, is an array of vertices as hull_vertices writes it. The functions below
+/* A convex polygon is an array of vertices as hull_vertices writes it. The functions below
  * answer what those above answer of the set that it was taken from, as the set was then, in O(log h) for h vertices
  * (hull_polygon_area in O(h)). They write nothing and allocate nothing, so any number of threads may query one array at once.
  *
@@ -256,8 +256,8 @@ hull_reply hull_clear(hull_set *h);
  * hull_check_arrays. */
 hull_reply hull_is_polygon(const hull_point *points, size_t count);
 
-/* Decides for the whole program whether each call on arrays of vertices first tests them as hull_is_polygon does, and fails with
- * HULL_NO_POLYGON or HULL_NO_MEMORY; 1 for yes, 0 (as at the start) for no. Call it before other threads do. Compile with
+/* Decides for the whole program whether each call on arrays of vertices first tests them as hull_is_polygon does, and fails
+ * with HULL_NO_POLYGON or HULL_NO_MEMORY; 1 for yes, 0 (as at the start) for no. Call it before other threads do. Compile with
  * -DHULL_CHECKED and it is called with 1 before main. */
 void hull_check_arrays(int is_on);
 #if defined(HULL_CHECKED)
@@ -291,7 +291,7 @@ static inline hull_reply hull_polygon_area(const hull_point *vertices, size_t co
  * shorter array; returns how many it wrote. A request that is no valid call has its fault as its reply, and stops nothing. The
  * arrays are as for hull_calls. */
 size_t hull_polygon_calls(const hull_point *vertices, size_t count, const hull_request *requests, size_t request_count,
-                          hull_reply *replies, size_t reply_room);
+                          hull_reply *replies, size_t reply_capacity);
 
 /* Questions of planners and collision checks. None of them allocates, and any number of threads may ask at once. A coordinate
  * out of range gives HULL_OUT_OF_RANGE. A polygon without vertices is disjoint from everything: HULL_EMPTY, and 0 from
@@ -299,16 +299,17 @@ size_t hull_polygon_calls(const hull_point *vertices, size_t count, const hull_r
  *
  * Returns HULL_NUMBER with 1 if the polygon and the segment from (ax, ay) to (bx, by) intersect, ends and boundary included,
  * else with 0. The ends may be one point. O(log h). */
-hull_reply hull_polygon_intersects_segment(const hull_point *vertices, size_t count, int64_t ax, int64_t ay, int64_t bx, int64_t by);
+hull_reply hull_polygon_intersects_segment(const hull_point *vertices, size_t count, int64_t ax, int64_t ay, int64_t bx,
+                                           int64_t by);
 
-/* Finds what separates the polygon from that segment. Returns HULL_DISJOINT with a vertex (x, y) and a direction (other_x, other_y)
- * whose product with any vertex is at most that with (x, y), and whose products with both ends are greater (products of 128
- * bits: a component has up to 42); HULL_INTERSECTING if they intersect. O(log h). */
+/* Finds what separates the polygon from that segment. Returns HULL_DISJOINT with a vertex (x, y) and a direction (other_x,
+ * other_y) whose product with any vertex is at most that with (x, y), and whose products with both ends are greater (products
+ * of 128 bits: a component has up to 42); HULL_INTERSECTING if they intersect. O(log h). */
 hull_reply hull_polygon_separation(const hull_point *vertices, size_t count, int64_t ax, int64_t ay, int64_t bx, int64_t by);
 
-/* Finds the point of the polygon that is nearest to (x, y): returns HULL_COVERED, HULL_VERTEX or HULL_EDGE. The squared distance
- * is that to the vertex; or the square of (bx - ax) (y - ay) - (by - ay) (x - ax), of up to 84 bits, divided by the squared
- * length of the edge. O(log h). */
+/* Finds the point of the polygon that is nearest to (x, y): returns HULL_COVERED, HULL_VERTEX or HULL_EDGE. The squared
+ * distance is that to the vertex; or the square of (bx - ax) (y - ay) - (by - ay) (x - ax), of up to 84 bits, divided by the
+ * squared length of the edge. O(log h). */
 hull_reply hull_polygon_nearest(const hull_point *vertices, size_t count, int64_t x, int64_t y);
 
 /* Returns HULL_BOX with the bounding box of the polygon. O(log h). */
@@ -374,33 +375,34 @@ hull_reply hull_polygon_contains_inside(const hull_point *vertices, size_t count
 /* Returns HULL_NUMBER with 1 if their distance is at most numerator / denominator, exactly, else with 0; 0 if one has no
  * vertices. A length with the denominator 0 is longer than any distance. Cost as hull_polygon_distance. */
 hull_reply hull_polygon_within_distance(const hull_point *vertices, size_t count, const hull_point *others, size_t other_count,
-                               uint64_t numerator, uint32_t denominator);
+                                        uint64_t numerator, uint32_t denominator);
 
-/* Finds what shows that they intersect, or what separates them: returns HULL_COVERED, HULL_WITHIN, HULL_CROSSING or HULL_DISJOINT;
- * HULL_EMPTY if one has no vertices. */
+/* Finds what shows that they intersect, or what separates them: returns HULL_COVERED, HULL_WITHIN, HULL_CROSSING or
+ * HULL_DISJOINT; HULL_EMPTY if one has no vertices. */
 hull_witness hull_polygon_witness(const hull_point *vertices, size_t count, const hull_point *others, size_t other_count);
 
-/* Questions of many polygons, each given by its vertices and their number. These are C over the calls above (archive/pairs.c),
+/* Questions of many polygons, each given by its vertices and their number. These are C over the calls above (c/pairs.c),
  * tested and not proved; hull_check_arrays does not apply to their arrays, nor to those that translate and rotate polygons.
  *
- * Finds the pairs of polygons whose distance is at most numerator / denominator, as hull_polygon_within_distance; with 0 / 1 those that
- * intersect. The pairs (first, second), of indices with first < second, are written to `out` in their order. Returns HULL_NUMBER
- * with how many there are; HULL_TOO_SMALL with the same, and then `out` contains some of them; or HULL_NO_MEMORY (it allocates
- * 40 bytes for each polygon). Polygons without vertices are in no pair. Boxes are swept in the order of their left sides, so
- * that pairs that are far apart along x or y cost nothing or a comparison. */
-typedef struct hull_corners {
-    const hull_point *corners;
+ * Finds the pairs of polygons whose distance is at most numerator / denominator, as hull_polygon_within_distance; with 0 / 1
+ * those that intersect. The pairs (first, second), of indices with first < second, are written to `out` in their order. Returns
+ * HULL_NUMBER with how many there are; HULL_TOO_SMALL with the same, and then `out` contains some of them; or HULL_NO_MEMORY
+ * (it allocates 40 bytes for each polygon). Polygons without vertices are in no pair. Boxes are swept in the order of their
+ * left sides, so that pairs that are far apart along x or y cost nothing or a comparison. */
+typedef struct hull_polygon {
+    const hull_point *vertices;
     size_t count;
-} hull_corners;
+} hull_polygon;
 typedef struct hull_pair {
     size_t first;
     size_t second;
 } hull_pair;
-hull_reply hull_pairs_within_distance(const hull_corners *outlines, size_t count, uint64_t numerator, uint32_t denominator, hull_pair *out,
-                             size_t room);
+hull_reply hull_pairs_within_distance(const hull_polygon *polygons, size_t count, uint64_t numerator, uint32_t denominator,
+                                      hull_pair *out, size_t capacity);
 
 /* Writes the hull_relation of the polygon to each of the others, as hull_polygon_relation. */
-void hull_polygon_relations(const hull_point *vertices, size_t count, const hull_corners *others, size_t other_count, uint8_t *out);
+void hull_polygon_relations(const hull_point *vertices, size_t count, const hull_polygon *others, size_t other_count,
+                            uint8_t *out);
 
 /* Writes for each segment 1 if the polygon intersects it, else 0, up to the end or the first segment with a coordinate out of
  * range; returns how many it wrote. */
@@ -408,18 +410,19 @@ typedef struct hull_segment {
     hull_point from;
     hull_point to;
 } hull_segment;
-size_t hull_polygon_intersects_segments(const hull_point *vertices, size_t count, const hull_segment *segments, size_t segment_count,
-                                   uint8_t *out);
+size_t hull_polygon_intersects_segments(const hull_point *vertices, size_t count, const hull_segment *segments,
+                                        size_t segment_count, uint8_t *out);
 
 /* Writes for each vertex the index of the first of the points that is equal to it, or `point_count` if none is: which input a
  * vertex of hull_polygon_of is. Returns how many vertices are among the points. */
-size_t hull_polygon_indices(const hull_point *vertices, size_t count, const hull_point *points, size_t point_count, size_t *out);
+size_t hull_polygon_indices(const hull_point *vertices, size_t count, const hull_point *points, size_t point_count,
+                            size_t *out);
 
-/* Finds where two polygons are nearest to one another. Returns HULL_INTERSECTING if they intersect. HULL_POINTS: at a vertex a of the
- * first and a vertex b of the second; the squared distance is that of the two. HULL_VERTEX: at a vertex a of the first and its
- * foot on the edge of the second from b to c, counterclockwise, strictly between them. HULL_EDGE: at the foot on the edge of the
- * first from a to b, and a vertex c of the second. With an edge the squared distance is computed as for hull_polygon_nearest.
- * HULL_EMPTY if one has no vertices. O(k log h + h log k). */
+/* Finds where two polygons are nearest to one another. Returns HULL_INTERSECTING if they intersect. HULL_POINTS: at a vertex a
+ * of the first and a vertex b of the second; the squared distance is that of the two. HULL_VERTEX: at a vertex a of the first
+ * and its foot on the edge of the second from b to c, counterclockwise, strictly between them. HULL_EDGE: at the foot on the
+ * edge of the first from a to b, and a vertex c of the second. With an edge the squared distance is computed as for
+ * hull_polygon_nearest. HULL_EMPTY if one has no vertices. O(k log h + h log k). */
 hull_witness hull_polygon_distance(const hull_point *vertices, size_t count, const hull_point *others, size_t other_count);
 
 /* The distance of two polygons, or of a polygon and a segment, in numbers that compare without a division; what the code does
@@ -438,13 +441,16 @@ typedef struct hull_distance_bounds {
 
 /* Returns the distance of two polygons: 0 if they intersect. Cost as hull_polygon_distance, which also finds where they are
  * nearest, and a microsecond. */
-hull_distance_bounds hull_polygon_distance_bounds(const hull_point *vertices, size_t count, const hull_point *others, size_t other_count);
+hull_distance_bounds hull_polygon_distance_bounds(const hull_point *vertices, size_t count, const hull_point *others,
+                                                  size_t other_count);
 
 /* Returns the distance of the polygon from the segment from (ax, ay) to (bx, by), whose ends may be one point. */
-hull_distance_bounds hull_polygon_distance_bounds_to_segment(const hull_point *vertices, size_t count, int64_t ax, int64_t ay, int64_t bx, int64_t by);
+hull_distance_bounds hull_polygon_distance_bounds_to_segment(const hull_point *vertices, size_t count, int64_t ax, int64_t ay,
+                                                             int64_t bx, int64_t by);
 
 /* Returns the distance of the polygon from the point (x, y). */
-static inline hull_distance_bounds hull_polygon_distance_bounds_to_point(const hull_point *vertices, size_t count, int64_t x, int64_t y) {
+static inline hull_distance_bounds hull_polygon_distance_bounds_to_point(const hull_point *vertices, size_t count, int64_t x,
+                                                                         int64_t y) {
     return hull_polygon_distance_bounds_to_segment(vertices, count, x, y, x, y);
 }
 
@@ -461,24 +467,31 @@ static inline double hull_distance_bounds_scaled(uint64_t number, uint32_t shift
     }
     return (double)number / scale; /* exact: a power of two, and no more than 53 bits */
 }
-static inline double hull_distance_bounds_down(const hull_distance_bounds *c) { return hull_distance_bounds_scaled(c->lower, c->shift); }
-static inline double hull_distance_bounds_up(const hull_distance_bounds *c) { return hull_distance_bounds_scaled(c->upper, c->shift); }
+
+static inline double hull_distance_bounds_down(const hull_distance_bounds *d) {
+    return hull_distance_bounds_scaled(d->lower, d->shift);
+}
+
+static inline double hull_distance_bounds_up(const hull_distance_bounds *d) {
+    return hull_distance_bounds_scaled(d->upper, d->shift);
+}
 
 /* Returns HULL_NUMBER with 1 if the distance of the polygon from the segment from (ax, ay) to (bx, by), whose ends may be one
  * point, is at most numerator / denominator, exactly as hull_polygon_within_distance, else with 0; or HULL_OUT_OF_RANGE. */
-hull_reply hull_polygon_within_distance_of_segment(const hull_point *vertices, size_t count, int64_t ax, int64_t ay, int64_t bx, int64_t by,
-                                       uint64_t numerator, uint32_t denominator);
+hull_reply hull_polygon_within_distance_of_segment(const hull_point *vertices, size_t count, int64_t ax, int64_t ay, int64_t bx,
+                                                   int64_t by, uint64_t numerator, uint32_t denominator);
 
 /* The same for the point (x, y). */
-static inline hull_reply hull_polygon_within_distance_of_point(const hull_point *vertices, size_t count, int64_t x, int64_t y, uint64_t numerator,
-                                                   uint32_t denominator) {
+static inline hull_reply hull_polygon_within_distance_of_point(const hull_point *vertices, size_t count, int64_t x, int64_t y,
+                                                               uint64_t numerator, uint32_t denominator) {
     return hull_polygon_within_distance_of_segment(vertices, count, x, y, x, y, numerator, denominator);
 }
 
 /* Returns HULL_NUMBER with the hull_relation of the polygon to the segment from (ax, ay) to (bx, by), whose ends may be one
  * point, as hull_polygon_relation; or HULL_OUT_OF_RANGE. A segment that the polygon contains gives HULL_RELATION_COVERS, also
  * along an edge; one that leaves the polygon touches if it has no point inside, and else overlaps. */
-hull_reply hull_polygon_relation_to_segment(const hull_point *vertices, size_t count, int64_t ax, int64_t ay, int64_t bx, int64_t by);
+hull_reply hull_polygon_relation_to_segment(const hull_point *vertices, size_t count, int64_t ax, int64_t ay, int64_t bx,
+                                            int64_t by);
 
 /* Where a ray or a segment enters or leaves a polygon; what the code does not name is 0. */
 typedef struct hull_hit {
@@ -506,20 +519,20 @@ hull_hit hull_polygon_raycast_exit(const hull_point *vertices, size_t count, int
 hull_hit hull_polygon_raycast_segment(const hull_point *vertices, size_t count, int64_t ax, int64_t ay, int64_t bx, int64_t by);
 
 /* When two polygons first intersect, of which the second moves straight by (dx, dy), each component at most HULL_COORDINATE_MAX
- * in size; boundaries count. This is C over the calls above (archive/motions.c), tested and not proved; one ray for each vertex
+ * in size; boundaries count. This is C over the calls above (c/motions.c), tested and not proved; one ray for each vertex
  * of both. */
 typedef struct hull_motion {
     hull_hit hit;      /* HULL_COVERED: they intersect before it moves. HULL_EDGE or HULL_VERTEX: where the vertex arrives, and how far
                         * along. HULL_DISJOINT: they never do. HULL_EMPTY: one of them has no vertices. HULL_OUT_OF_RANGE */
-    hull_point corner; /* with HULL_EDGE or HULL_VERTEX, a vertex that arrives first, */
+    hull_point vertex; /* with HULL_EDGE or HULL_VERTEX, a vertex that arrives first, */
     uint32_t moves;    /* of the second polygon, if this is 1, at the first one; else of the first, at the second one as it was before
                         * it moved */
 } hull_motion;
-hull_motion hull_polygon_first_meeting(const hull_point *vertices, size_t count, const hull_point *others, size_t other_count, int64_t dx,
-                                       int64_t dy);
+hull_motion hull_polygon_first_meeting(const hull_point *vertices, size_t count, const hull_point *others, size_t other_count,
+                                       int64_t dx, int64_t dy);
 
-/* Writes the polygon translated by (dx, dy) to an array for as many vertices, which may be the same array. Returns HULL_VERTICES
- * with how many; or fails with HULL_OUT_OF_RANGE if a coordinate would be, and writes nothing. */
+/* Writes the polygon translated by (dx, dy) to an array for as many vertices, which may be the same array. Returns
+ * HULL_VERTICES with how many; or fails with HULL_OUT_OF_RANGE if a coordinate would be, and writes nothing. */
 hull_reply hull_polygon_translate(const hull_point *vertices, size_t count, int64_t dx, int64_t dy, hull_point *out);
 
 /* Writes the polygon rotated about the origin by the angle of (a, b), and scaled by its length, to another array for as many
@@ -547,13 +560,13 @@ static inline hull_reply hull_extreme_d(const hull_set *h, double dx, double dy)
  * counterclockwise around a convex polygon, with no point inside an edge; also if there is no point, one, or two in order. */
 hull_reply hull_is_polygon(const hull_point *points, size_t count);
 
-/* Writes the vertices of any points to the front of the array of `room` points, as a convex polygon: those that hull_vertices
- * writes for a set of these points. Returns HULL_VERTICES; HULL_TOO_SMALL, and `number` points are needed; or fails and leaves
- * the array unchanged: HULL_OUT_OF_RANGE (any of them), else HULL_TOO_MANY (more different points than HULL_LIMIT_MAX, or one
- * more often than HULL_MULTIPLICITY_MAX) or HULL_NO_MEMORY. `count` points always suffice. If the points are the vertices of a
- * convex polygon in order, from any vertex on and in either sense, it makes a few passes over them; else it sorts them. The
- * arrays are as for hull_vertices and do not overlap. */
-hull_reply hull_polygon_of(const hull_point *points, size_t count, hull_point *out, size_t room);
+/* Writes the vertices of any points to the front of the array of `capacity` points, as a convex polygon: those that
+ * hull_vertices writes for a set of these points. Returns HULL_VERTICES; HULL_TOO_SMALL, and `number` points are needed; or
+ * fails and leaves the array unchanged: HULL_OUT_OF_RANGE (any of them), else HULL_TOO_MANY (more different points than
+ * HULL_LIMIT_MAX, or one more often than HULL_MULTIPLICITY_MAX) or HULL_NO_MEMORY. `count` points always suffice. If the points
+ * are the vertices of a convex polygon in order, from any vertex on and in either sense, it makes a few passes over them; else
+ * it sorts them. The arrays are as for hull_vertices and do not overlap. */
+hull_reply hull_polygon_of(const hull_point *points, size_t count, hull_point *out, size_t capacity);
 
 #ifdef __cplusplus
 }

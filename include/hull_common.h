@@ -12,7 +12,7 @@
 #endif
 
 /* The version of these headers, and of the archives that are installed with them. */
-#define HULL_VERSION "2.4.0"
+#define HULL_VERSION "3.0.0"
 
 /* The greatest size of a coordinate, of a point and of a direction: 2^40. */
 #define HULL_COORDINATE_MAX INT64_C(1099511627776)
@@ -251,25 +251,25 @@ static inline void *hull_array(const void *array, size_t count) {
  * refuses. (C99 and C++ need not have aligned_alloc.) */
 static inline void *hull_storage_new(size_t size, size_t alignment) {
     void *block = malloc(sizeof(void *) + alignment - 1 + size);
-    unsigned char *room;
+    unsigned char *storage;
     uintptr_t address;
     if (block == NULL) {
         return NULL;
     }
-    memcpy(&room, &block, sizeof room);
-    room += sizeof(void *);
-    memcpy(&address, &room, sizeof address);
-    room += (alignment - address % alignment) % alignment;
-    memcpy(room - sizeof(void *), &block, sizeof(void *));
-    return room;
+    memcpy(&storage, &block, sizeof storage);
+    storage += sizeof(void *);
+    memcpy(&address, &storage, sizeof address);
+    storage += (alignment - address % alignment) % alignment;
+    memcpy(storage - sizeof(void *), &block, sizeof(void *));
+    return storage;
 }
 
 /* Frees memory of hull_storage_new; does nothing for null. */
-static inline void hull_storage_free(void *room) {
+static inline void hull_storage_free(void *storage) {
     unsigned char *begin;
     void *block;
-    if (room != NULL) {
-        memcpy(&begin, &room, sizeof begin);
+    if (storage != NULL) {
+        memcpy(&begin, &storage, sizeof begin);
         memcpy(&block, begin - sizeof(void *), sizeof(void *));
         free(block);
     }

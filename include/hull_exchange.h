@@ -65,9 +65,9 @@ static inline hull_rounding hull_from_double(double v, int power, int64_t *coord
 }
 
 /* Scales a direction (dx, dy) of doubles to integers and writes it to `x` and `y`: both are multiplied by the power of two that
- * makes the greater one at least 2^39 and less than 2^40 in size. Returns HULL_EXACT if both are integers then, so that it is the
- * same direction; else each is rounded as by hull_from_double: HULL_ROUNDED. (0, 0) stays (0, 0). Returns HULL_NO_COORDINATE, and
- * leaves `x` and `y` unchanged, if one is not finite. */
+ * makes the greater one at least 2^39 and less than 2^40 in size. Returns HULL_EXACT if both are integers then, so that it is
+ * the same direction; else each is rounded as by hull_from_double: HULL_ROUNDED. (0, 0) stays (0, 0). Returns
+ * HULL_NO_COORDINATE, and leaves `x` and `y` unchanged, if one is not finite. */
 static inline hull_rounding hull_direction_from_doubles(double dx, double dy, int64_t *x, int64_t *y) {
     uint64_t first, second, greatest;
     int64_t at_x = 0, at_y = 0;
@@ -130,11 +130,11 @@ static inline size_t hull_number_text(int64_t coordinate, int power, char text[3
     return (size_t)length;
 }
 
-/* Writes vertices as well-known text (OGC 06-103r4), which GEOS, PostGIS and QGIS read: POLYGON EMPTY, a POINT, a LINESTRING, or a
- * POLYGON whose ring is closed and runs counterclockwise. Coordinates are divided by 2^power. Like snprintf, it writes at most
- * `room` bytes with a 0 at their end, and returns the length of the whole text without that; `out` may be null if `room` is 0. It
- * uses the decimal point of the locale, as printf does: leave the locale for numbers at "C". */
-static inline size_t hull_wkt(const hull_point *vertices, size_t count, int power, char *out, size_t room) {
+/* Writes vertices as well-known text (OGC 06-103r4), which GEOS, PostGIS and QGIS read: POLYGON EMPTY, a POINT, a LINESTRING,
+ * or a POLYGON whose ring is closed and runs counterclockwise. Coordinates are divided by 2^power. Like snprintf, it writes at
+ * most `capacity` bytes with a 0 at their end, and returns the length of the whole text without that; `out` may be null if
+ * `capacity` is 0. It uses the decimal point of the locale, as printf does: leave the locale for numbers at "C". */
+static inline size_t hull_wkt(const hull_point *vertices, size_t count, int power, char *out, size_t capacity) {
     const char *begin = count == 0 ? "POLYGON EMPTY" : count == 1 ? "POINT (" : count == 2 ? "LINESTRING (" : "POLYGON ((";
     const char *end = count == 0 ? "" : count < 3 ? ")" : "))";
     size_t points = count < 3 ? count : count + 1, length = 0, i, j, k;
@@ -150,13 +150,13 @@ static inline size_t hull_wkt(const hull_point *vertices, size_t count, int powe
             text[j] = 0;
         }
         for (k = 0; piece[k] != 0; k++, length++) {
-            if (length + 1 < room) {
+            if (length + 1 < capacity) {
                 out[length] = piece[k];
             }
         }
     }
-    if (room > 0) {
-        out[length < room ? length : room - 1] = 0;
+    if (capacity > 0) {
+        out[length < capacity ? length : capacity - 1] = 0;
     }
     return length;
 }

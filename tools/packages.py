@@ -39,7 +39,7 @@ MEMBER_TIME, ZIP_TIME = 315532800, (1980, 1, 1, 0, 0, 0)
 DESCRIPTION = "An exact dynamic planar convex hull of lattice points, formally verified"
 MAINTAINER = "Rubzhegi maintainers <maintainers@users.noreply.rubzhegi.example>"
 # what the archive for pip needs of the repository
-FOR_PIP = ("LICENSE", "README.md", "CHANGELOG.md", "VERSION", "HANDLES", "crates.txt", "pyproject.toml", "bin", "tools", "include", "archive", "python",
+FOR_PIP = ("LICENSE", "README.md", "CHANGELOG.md", "VERSION", "HANDLES", "crates.txt", "pyproject.toml", "bin", "tools", "include", "c", "python",
            "rust", "man", "docs/INSTALLED.md")
 
 

@@ -176,7 +176,7 @@ c_files() {
 # gives the proved functions of an archive that C stands in for the names by which that C calls them: FILE ARCHIVE
 rename_proved() {
     # shellcheck disable=SC2046 # the files are separated by spaces
-    cat $(c_files "$1" archive) | grep -o 'hull_proved_[a-z0-9_]*' | sort -u | sed 's/hull_proved_\(.*\)/hull_\1 &/' >"$work/names"
+    cat $(c_files "$1" c) | grep -o 'hull_proved_[a-z0-9_]*' | sort -u | sed 's/hull_proved_\(.*\)/hull_\1 &/' >"$work/names"
     [ ! -s "$work/names" ] || $(archiver "${1%%/*}" | sed 's/ar$/objcopy/') --redefine-syms="$work/names" "$2"
 }
 
@@ -186,7 +186,7 @@ make_archive() {
     chmod 644 "$3.new"
     rename_proved "$1" "$3.new" || return 71
     # shellcheck disable=SC2046 # the files are separated by spaces
-    compile "${1%%/*}" "$work" $(c_files "$1" archive) && (cd "$work" && $(archiver "${1%%/*}") rcs "$3.new" ./*.o) || return 71
+    compile "${1%%/*}" "$work" $(c_files "$1" c) && (cd "$work" && $(archiver "${1%%/*}") rcs "$3.new" ./*.o) || return 71
     mv "$3.new" "$3"
 }
 

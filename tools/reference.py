@@ -50,7 +50,7 @@ PARTS = {
     "docs/ARCHITECTURE.md": ("a sentence", 35, r"(?<=[.:;])\s+(?=[A-Z`*])|\n\n|\n *(?:- |\d+\. )|\|"),
 }
 def comment_above(lines, at):
-    """The comment whose last line stands above that one, as one text."""
+    """The comment whose last line is above that one, as one text."""
     found = []
     while at > 0 and re.match(r"--(?!-)", lines[at - 1]):
         at -= 1
@@ -59,13 +59,13 @@ def comment_above(lines, at):
 
 
 def cell(text):
-    """A text as a cell of a table: with its first letter as it stands, and one stop at its end."""
+    """A text as a cell of a table: with its first letter unchanged, and one stop at its end."""
     text = text.replace("|", "\\|").strip()
     return text if not text or text.endswith((".", "?", ")")) else f"{text}."
 
 
 def definitions_in(path):
-    """The public definitions of a file, each with its comment; those that stand together under one comment as one."""
+    """The public definitions of a file, each with its comment; those that are together under one comment as one."""
     lines, found = kit.text_of(path).splitlines(), []
     for at, line in enumerate(lines):
         name = DEFINITION.match(line)

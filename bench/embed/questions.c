@@ -57,8 +57,8 @@ int main(int words, char **word) {
     double x = (double)size, y = 0;
     for (long i = 0; i < points; i++) {
         hull_add(h, (int64_t)x, (int64_t)y);
-        double turned = (4 * x - 3 * y) / 5;
-        y = (3 * x + 4 * y) / 5, x = turned;
+        double rotated = (4 * x - 3 * y) / 5;
+        y = (3 * x + 4 * y) / 5, x = rotated;
     }
     for (size_t i = 0; i < ASKED; i++) {
         asked[i].x = within(size), asked[i].y = within(size) | 1;

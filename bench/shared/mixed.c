@@ -24,9 +24,9 @@ static const uint32_t KIND[KINDS] = {HULL_KIND_ADD,   HULL_KIND_PLACE,   HULL_KI
 
 static pthread_mutex_t lock = PTHREAD_MUTEX_INITIALIZER;
 static hull_set *plain;
-static hull_shared_gate line;
-static hull_shared *desk;
-static hull_shared_seat *rooms[MOST_THREADS];
+static hull_shared_gate gate;
+static hull_shared *shared;
+static hull_shared_seat *seats[MOST_THREADS];
 static pthread_barrier_t start;
 static long calls_of_each;
 
@@ -56,7 +56,7 @@ static void by_mutex(unsigned me, uint32_t kind, int64_t x, int64_t y) {
 }
 
 static void by_seat(unsigned me, uint32_t kind, int64_t x, int64_t y) {
-    if (hull_shared_call(&line, rooms[me], kind, x, y).told.code == HULL_FULL) {
+    if (hull_shared_call(&gate, seats[me], kind, x, y).answer.code == HULL_FULL) {
         abort();
     }
 }
@@ -121,14 +121,14 @@ static double through_mutex(unsigned threads, long points, unsigned inside) {
 static double through_seats(unsigned threads, long points, unsigned inside) {
     uint64_t state = 7;
     uint32_t capacity = (uint32_t)(points + threads * calls_of_each);
-    hull_shared_gate_init(&line, inside);
-    desk = hull_shared_new();
-    if (desk == NULL || hull_shared_open(desk, HULL_LIMIT_MAX, 0, capacity, threads) != HULL_OPEN) {
+    hull_shared_gate_init(&gate, inside);
+    shared = hull_shared_new();
+    if (shared == NULL || hull_shared_open(shared, HULL_LIMIT_MAX, 0, capacity, threads) != HULL_OPEN) {
         abort();
     }
     for (unsigned k = 0; k < threads; k++) {
-        rooms[k] = hull_shared_seat_new();
-        if (rooms[k] == NULL || hull_shared_acquire_seat(desk, &line, rooms[k], k) != HULL_ACQUIRED) {
+        seats[k] = hull_shared_seat_new();
+        if (seats[k] == NULL || hull_shared_acquire_seat(shared, &gate, seats[k], k) != HULL_ACQUIRED) {
             abort();
         }
     }
@@ -138,12 +138,12 @@ static double through_seats(unsigned threads, long points, unsigned inside) {
     }
     double took = timed(threads, by_seat);
     for (unsigned k = 0; k < threads; k++) {
-        hull_shared_release_seat(desk, rooms[k]);
-        hull_shared_seat_free(rooms[k]);
+        hull_shared_release_seat(shared, seats[k]);
+        hull_shared_seat_free(seats[k]);
     }
-    hull_shared_close(desk);
-    hull_shared_end(desk);
-    hull_shared_free(desk);
+    hull_shared_close(shared);
+    hull_shared_end(shared);
+    hull_shared_free(shared);
     return took;
 }
 

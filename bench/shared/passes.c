@@ -7,10 +7,10 @@
 #include <stdlib.h>
 #include <unistd.h>
 
-static hull_shared_gate line;
-static hull_shared *desk;
+static hull_shared_gate gate;
+static hull_shared *shared;
 static hull_shared_seat *seats[HULL_SHARED_SEATS_MAX];
-static struct { uint64_t waited, passed, made; } told[HULL_SHARED_SEATS_MAX];
+static struct { uint64_t waited, passed, made; } results[HULL_SHARED_SEATS_MAX];
 static uint64_t turn; /* the number after the last call that was answered */
 static int stops;
 
@@ -21,13 +21,13 @@ static void *work(void *own) {
         uint64_t before = __atomic_load_n(&turn, __ATOMIC_RELAXED), begun = hull_shared_now(), waited, passed;
         hull_shared_reply reply;
         state ^= state << 13, state ^= state >> 7, state ^= state << 17;
-        reply = hull_shared_call(&line, seats[me], 1 + state % 3, (int64_t)(state >> 20) % 1000, (int64_t)(state >> 40) % 1000);
+        reply = hull_shared_call(&gate, seats[me], 1 + state % 3, (int64_t)(state >> 20) % 1000, (int64_t)(state >> 40) % 1000);
         waited = hull_shared_now() - begun;
         passed = reply.turn > before ? reply.turn - before : 0;
         __atomic_store_n(&turn, reply.turn + 1, __ATOMIC_RELAXED);
-        told[me].waited = waited > told[me].waited ? waited : told[me].waited;
-        told[me].passed = passed > told[me].passed && told[me].made > 0 ? passed : told[me].passed;
-        told[me].made++;
+        results[me].waited = waited > results[me].waited ? waited : results[me].waited;
+        results[me].passed = passed > results[me].passed && results[me].made > 0 ? passed : results[me].passed;
+        results[me].made++;
     }
     return NULL;
 }
@@ -36,13 +36,13 @@ int main(int count, char **words) {
     pthread_t threads[HULL_SHARED_SEATS_MAX];
     uint64_t waited = 0, passed = 0, all = 0, least = UINT64_MAX, most = 0;
     unsigned many = count == 3 ? (unsigned)atoi(words[1]) : 0;
-    desk = hull_shared_new();
-    if (many < 1 || many > HULL_SHARED_SEATS_MAX || hull_shared_open_without_journal(desk, 100000, 0, many) != HULL_OPEN) {
+    shared = hull_shared_new();
+    if (many < 1 || many > HULL_SHARED_SEATS_MAX || hull_shared_open_without_journal(shared, 100000, 0, many) != HULL_OPEN) {
         return 2;
     }
     for (size_t k = 0; k < many; k++) {
         seats[k] = hull_shared_seat_new();
-        if (hull_shared_acquire_seat(desk, &line, seats[k], (uint32_t)k) != HULL_ACQUIRED || pthread_create(&threads[k], NULL, work, (void *)k) != 0) {
+        if (hull_shared_acquire_seat(shared, &gate, seats[k], (uint32_t)k) != HULL_ACQUIRED || pthread_create(&threads[k], NULL, work, (void *)k) != 0) {
             return 2;
         }
     }
@@ -50,11 +50,11 @@ int main(int count, char **words) {
     __atomic_store_n(&stops, 1, __ATOMIC_RELAXED);
     for (unsigned k = 0; k < many; k++) {
         pthread_join(threads[k], NULL);
-        waited = told[k].waited > waited ? told[k].waited : waited;
-        passed = told[k].passed > passed ? told[k].passed : passed;
-        least = told[k].made < least ? told[k].made : least;
-        most = told[k].made > most ? told[k].made : most;
-        all += told[k].made;
+        waited = results[k].waited > waited ? results[k].waited : waited;
+        passed = results[k].passed > passed ? results[k].passed : passed;
+        least = results[k].made < least ? results[k].made : least;
+        most = results[k].made > most ? results[k].made : most;
+        all += results[k].made;
     }
     printf("%2u threads: a call waited %.1f ms at most, and was passed by %llu others; %llu to %llu calls a thread, %.0f ns a call\n", many,
            (double)waited / 1e6, (unsigned long long)passed, (unsigned long long)least, (unsigned long long)most,

@@ -1,8 +1,8 @@
-/* A layout grows by rectangles. A new one is taken where it is apart from the hull of those that were placed; then its corners
- * are added. At the end the last one is taken back, and the hull shrinks.
+/* A layout grows by rectangles. A new one is placed if it is disjoint from the hull of those that were placed; then its corners are
+ * added. At the end the last one is removed, and the hull shrinks.
  *
- * Two convex shapes are apart where an edge of one has the other beyond it (separating axes; Gottschalk, 1996). For the edges
- * of the rectangle the hull is asked how far it goes each way, for its own edges it is asked for its corners. */
+ * Two convex shapes are disjoint if an edge of one has the other beyond it (separating axes; Gottschalk, 1996). For the edges of the
+ * rectangle the hull is asked how far it goes each way, for its own edges it is asked for its vertices. */
 #include "hull.h"
 #include <stdio.h>
 #include <stdlib.h>
@@ -16,7 +16,7 @@ static hull_point corner(const rectangle *r, int i) {
     return p;
 }
 
-/* whether the whole rectangle lies strictly to the right of the line from one corner of the hull to the next */
+/* whether the whole rectangle is strictly to the right of the line from one vertex of the hull to the next */
 static int is_beyond(const hull_point *from, const hull_point *to, const rectangle *r) {
     for (int i = 0; i < 4; i++) {
         hull_point p = corner(r, i);
@@ -27,31 +27,31 @@ static int is_beyond(const hull_point *from, const hull_point *to, const rectang
     return 1;
 }
 
-/* whether an edge of the hull has the rectangle beyond it, given room for all corners of the hull */
-static int is_beyond_an_edge(const hull_set *placed, const rectangle *r, hull_point *corners, size_t room) {
-    hull_reply told = hull_vertices(placed, corners, room);
-    for (size_t i = 0; told.code == HULL_VERTICES && i < told.number; i++) {
-        if (is_beyond(&corners[i], &corners[(i + 1) % told.number], r)) {
+/* whether an edge of the hull has the rectangle beyond it, given an array for all vertices of the hull */
+static int is_beyond_an_edge(const hull_set *placed, const rectangle *r, hull_point *vertices, size_t capacity) {
+    hull_reply reply = hull_vertices(placed, vertices, capacity);
+    for (size_t i = 0; reply.code == HULL_VERTICES && i < reply.number; i++) {
+        if (is_beyond(&vertices[i], &vertices[(i + 1) % reply.number], r)) {
             return 1;
         }
     }
     return 0;
 }
 
-/* whether the rectangle and the hull have no point in common; not where memory is refused */
+/* whether the rectangle and the hull have no point in common; 0 if memory is refused */
 static int is_beside(const hull_set *placed, const rectangle *r) {
-    size_t room = hull_count(placed).number;
-    if (room == 0 || hull_extreme(placed, 1, 0).x < r->left || hull_extreme(placed, -1, 0).x > r->right
+    size_t capacity = hull_count(placed).number;
+    if (capacity == 0 || hull_extreme(placed, 1, 0).x < r->left || hull_extreme(placed, -1, 0).x > r->right
         || hull_extreme(placed, 0, 1).y < r->low || hull_extreme(placed, 0, -1).y > r->high) {
         return 1;
     }
-    hull_point *corners = calloc(room, sizeof *corners);
-    int beside = corners != NULL && is_beyond_an_edge(placed, r, corners, room);
-    free(corners);
+    hull_point *vertices = calloc(capacity, sizeof *vertices);
+    int beside = vertices != NULL && is_beyond_an_edge(placed, r, vertices, capacity);
+    free(vertices);
     return beside;
 }
 
-/* adds the corners of the rectangle; where one is refused, those before it are taken back */
+/* adds the corners of the rectangle; if one is refused, those before it are removed again */
 static int put(hull_set *placed, const rectangle *r) {
     for (int i = 0; i < 4; i++) {
         hull_point p = corner(r, i);
@@ -67,7 +67,7 @@ static int put(hull_set *placed, const rectangle *r) {
     return 1;
 }
 
-static void take_back(hull_set *placed, const rectangle *r) {
+static void remove_rectangle(hull_set *placed, const rectangle *r) {
     for (int i = 0; i < 4; i++) {
         hull_point p = corner(r, i);
         hull_remove(placed, p.x, p.y);
@@ -91,7 +91,7 @@ int main(void) {
     }
     hull_reply area = hull_area(placed);
     printf("twice the area of the layout: %llu\n", (unsigned long long)area.number);
-    take_back(placed, &wanted[7]);
+    remove_rectangle(placed, &wanted[7]);
     area = hull_area(placed);
     printf("without the last: %llu\n", (unsigned long long)area.number);
     hull_free(placed);

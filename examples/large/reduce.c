@@ -1,11 +1,11 @@
-/* The corners of more points than one machine holds, by MPI: a reduction of outlines by an operator of one's own.
+/* The vertices of more points than one machine holds, by MPI: a reduction of convex polygons by an operator of one's own.
  *
  *     mpirun -n PROCESSES reduce POINTS [square|parabola [SEED [BLOCK]]]
  *
- * The corners of a union are those of the corners. Each process takes every PROCESSES-th block of at most 1,048,576 points, which here are
- * made by the block's number from the seed (those of blocks.py), and keeps the corners of what it has seen. Then MPI_Reduce merges
- * the outlines of all: an element of the reduction is a count and as many points as all processes have corners together, so that each
- * sum of outlines has room in it. The answer goes to the standard output, what it took to the other one. */
+ * The vertices of a union are those of the vertices. Each process takes every PROCESSES-th block of at most 1,048,576 points, which here are
+ * made by the block's number from the seed (those of blocks.py), and keeps the vertices of what it has seen. Then MPI_Reduce merges the
+ * polygons of all: an element of the reduction is a count and as many points as all processes have vertices together, so that each
+ * sum of polygons fits in it. The answer goes to standard output, what it took to standard error. */
 #include <inttypes.h>
 #include <mpi.h>
 #include <stdio.h>
@@ -16,11 +16,11 @@
 
 #define BLOCK ((uint64_t)1 << 20)
 
-/* What the operator has to know beside its words: how much room an element has, and how many it merged. */
-static size_t room;
+/* What the operator has to know beside its arguments: for how many points an element has space, and how many it merged. */
+static size_t capacity;
 static unsigned long long merges;
 
-/* An element is an array of points, whose first one has in `x` how many corners follow. */
+/* An element is an array of points, whose first one has in `x` how many vertices follow. */
 static size_t count_of(const hull_point *element) {
     return (size_t)element[0].x;
 }
@@ -39,31 +39,31 @@ static hull_point *array_of(size_t count) {
     return made;
 }
 
-/* Writes the corners of points to an array of `space` points; how many they are. */
-static size_t corners_of(const hull_point *points, size_t count, hull_point *out, size_t space) {
-    const hull_reply told = hull_polygon_of(points, count, out, space);
-    if (told.code != HULL_VERTICES) {
-        give_up(hull_code_name(told.code));
+/* Writes the vertices of points to an array of `space` points; returns how many they are. */
+static size_t vertices_of(const hull_point *points, size_t count, hull_point *out, size_t space) {
+    const hull_reply reply = hull_polygon_of(points, count, out, space);
+    if (reply.code != HULL_VERTICES) {
+        give_up(hull_code_name(reply.code));
     }
-    return (size_t)told.number;
+    return (size_t)reply.number;
 }
 
-/* Merges an outline into an element with room for `space` corners. Of more than HULL_LIMIT_MAX different corners there is no outline. */
-static void merge_into(hull_point *element, const hull_point *corners, size_t count, size_t space) {
+/* Merges a polygon into an element with space for `space` vertices. Of more than HULL_LIMIT_MAX different vertices there is no polygon. */
+static void merge_into(hull_point *element, const hull_point *vertices, size_t count, size_t space) {
     const size_t there = count_of(element);
     hull_point *all = array_of(there + count);
     memcpy(all, element + 1, there * sizeof *all);
-    memcpy(all + there, corners, count * sizeof *all);
-    element[0].x = (int64_t)corners_of(all, there + count, element + 1, space);
+    memcpy(all + there, vertices, count * sizeof *all);
+    element[0].x = (int64_t)vertices_of(all, there + count, element + 1, space);
     free(all);
 }
 
-/* The operator of the reduction: to the second outline of each pair the first is added. */
+/* The operator of the reduction: merges the first polygon of each pair into the second. */
 static void merge(void *from, void *to, int *count, MPI_Datatype *type) {
     (void)type;
     for (size_t i = 0; i < (size_t)*count; i++, merges++) {
-        const hull_point *other = (const hull_point *)from + i * (room + 1);
-        merge_into((hull_point *)to + i * (room + 1), other + 1, count_of(other), room);
+        const hull_point *other = (const hull_point *)from + i * (capacity + 1);
+        merge_into((hull_point *)to + i * (capacity + 1), other + 1, count_of(other), capacity);
     }
 }
 
@@ -78,7 +78,7 @@ static int64_t coordinate(uint64_t seed, uint64_t counter) {
     return (int64_t)(mixed(seed + counter * UINT64_C(0x9E3779B97F4A7C15)) >> 24) - ((int64_t)1 << 39);
 }
 
-/* The point of a number: a random one of a square, or one of a parabola in mixed order, where all are corners. */
+/* The point of a number: a random one of a square, or one of a parabola in mixed order, where all are vertices. */
 static hull_point point_of(int is_parabola, uint64_t seed, uint64_t number) {
     hull_point made = {coordinate(seed, 2 * number), coordinate(seed, 2 * number + 1)};
     if (is_parabola) {
@@ -88,39 +88,39 @@ static hull_point point_of(int is_parabola, uint64_t seed, uint64_t number) {
     return made;
 }
 
-/* The corners of the blocks of one process, as an element with room for as many as there may be. */
-static hull_point *corners_of_blocks(uint64_t points, int is_parabola, uint64_t seed, uint64_t block, int rank, int processes) {
-    hull_point *element = array_of(HULL_LIMIT_MAX), *made = array_of(block), *corners = array_of(block);
+/* The vertices of the blocks of one process, as an element with space for as many as there may be. */
+static hull_point *vertices_of_blocks(uint64_t points, int is_parabola, uint64_t seed, uint64_t block, int rank, int processes) {
+    hull_point *element = array_of(HULL_LIMIT_MAX), *made = array_of(block), *vertices = array_of(block);
     for (uint64_t first = block * (uint64_t)rank; first < points; first += block * (uint64_t)processes) {
         const size_t count = (size_t)(points - first < block ? points - first : block);
         for (size_t i = 0; i < count; i++) {
             made[i] = point_of(is_parabola, seed, first + i);
         }
-        merge_into(element, corners, corners_of(made, count, corners, block), HULL_LIMIT_MAX);
+        merge_into(element, vertices, vertices_of(made, count, vertices, block), HULL_LIMIT_MAX);
     }
-    free(corners);
+    free(vertices);
     free(made);
     return element;
 }
 
-/* The outline of all, in the first process; null in the others. */
-static hull_point *reduced(hull_point *ours, int rank) {
+/* The polygon of all, in the first process; null in the others. */
+static hull_point *reduce(hull_point *ours, int rank) {
     unsigned long long mine = count_of(ours), all = 0;
     MPI_Allreduce(&mine, &all, 1, MPI_UNSIGNED_LONG_LONG, MPI_SUM, MPI_COMM_WORLD);
-    room = all < HULL_LIMIT_MAX ? (size_t)all : HULL_LIMIT_MAX;
-    MPI_Datatype outline;
+    capacity = all < HULL_LIMIT_MAX ? (size_t)all : HULL_LIMIT_MAX;
+    MPI_Datatype polygon;
     MPI_Op by_merging;
-    MPI_Type_contiguous((int)(2 * (room + 1)), MPI_INT64_T, &outline);
-    MPI_Type_commit(&outline);
+    MPI_Type_contiguous((int)(2 * (capacity + 1)), MPI_INT64_T, &polygon);
+    MPI_Type_commit(&polygon);
     MPI_Op_create(merge, 1, &by_merging);
-    hull_point *result = rank == 0 ? array_of(room) : NULL;
-    MPI_Reduce(ours, result, 1, outline, by_merging, 0, MPI_COMM_WORLD);
+    hull_point *result = rank == 0 ? array_of(capacity) : NULL;
+    MPI_Reduce(ours, result, 1, polygon, by_merging, 0, MPI_COMM_WORLD);
     MPI_Op_free(&by_merging);
-    MPI_Type_free(&outline);
+    MPI_Type_free(&polygon);
     return result;
 }
 
-static void tell(uint64_t points, const hull_point *element) {
+static void print_result(uint64_t points, const hull_point *element) {
     const size_t count = count_of(element);
     const hull_reply area = hull_polygon_area(element + 1, count), far = hull_polygon_diameter(element + 1, count);
     unsigned __int128 doubled = (unsigned __int128)area.high << 64 | area.number;
@@ -145,14 +145,14 @@ int main(int argc, char **argv) {
     }
     MPI_Barrier(MPI_COMM_WORLD);
     const double begun = MPI_Wtime();
-    hull_point *ours = corners_of_blocks(points, is_parabola, seed, block, rank, processes), *result = reduced(ours, rank);
+    hull_point *ours = vertices_of_blocks(points, is_parabola, seed, block, rank, processes), *result = reduce(ours, rank);
     const double seconds = MPI_Wtime() - begun;
     unsigned long long all_merges = 0;
     MPI_Reduce(&merges, &all_merges, 1, MPI_UNSIGNED_LONG_LONG, MPI_SUM, 0, MPI_COMM_WORLD);
     if (rank == 0) {
-        tell(points, result);
+        print_result(points, result);
         fprintf(stderr, "%.2f s, %.2f million points a second, %llu bytes sent\n", seconds, (double)points / seconds / 1e6,
-                all_merges * sizeof(hull_point) * (room + 1));
+                all_merges * sizeof(hull_point) * (capacity + 1));
     }
     free(result);
     free(ours);

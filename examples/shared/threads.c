@@ -1,4 +1,4 @@
-/* Three threads put points of a growing square in, while a fourth asks whether a place is still free. Then the journal of all calls
+/* Three threads add points of a growing square, while a fourth asks whether a place is still free. Then the journal of all calls
  * is written to standard output: hullbook's `check` judges it. */
 #include "hull_shared.h"
 
@@ -8,14 +8,14 @@
 
 enum { INSERTING = 3, SEATS = INSERTING + 1, ROUNDS = 200 };
 
-static hull_shared_gate line;
-static hull_shared_seat *rooms[SEATS];
+static hull_shared_gate gate;
+static hull_shared_seat *seats[SEATS];
 
 static void *insert(void *seat) {
-    long number = (hull_shared_seat **)seat - rooms;
+    long number = (hull_shared_seat **)seat - seats;
     for (long i = 0; i < ROUNDS; i++) {
         long x = i % 2 ? i : -i;
-        hull_shared_call(&line, rooms[number], HULL_KIND_ADD, x, number == 0 ? i : number == 1 ? -i : 0);
+        hull_shared_call(&gate, seats[number], HULL_KIND_ADD, x, number == 0 ? i : number == 1 ? -i : 0);
     }
     return NULL;
 }
@@ -23,58 +23,58 @@ static void *insert(void *seat) {
 static void *ask(void *free_looks) {
     long *looks = free_looks;
     while (*looks < ROUNDS) {
-        hull_shared_reply reply = hull_shared_call(&line, rooms[INSERTING], HULL_KIND_PLACE, 5, 50);
+        hull_shared_reply reply = hull_shared_call(&gate, seats[INSERTING], HULL_KIND_PLACE, 5, 50);
         ++*looks;
-        if (reply.told.code == HULL_INSIDE) {
+        if (reply.answer.code == HULL_INSIDE) {
             break;
         }
     }
     return NULL;
 }
 
-/* The text of the closed desk, in an array of its own. */
-static int write_journal(const hull_shared *desk) {
+/* Writes the text of the closed shared hull; returns whether that failed. */
+static int write_journal(const hull_shared *shared) {
     uint8_t none = 0;
-    hull_reply told = hull_shared_text(desk, &none, 0);
-    uint8_t *text = calloc(told.number, 1);
+    hull_reply reply = hull_shared_text(shared, &none, 0);
+    uint8_t *text = calloc(reply.number, 1);
     if (text == NULL) {
         return 1;
     }
-    told = hull_shared_text(desk, text, told.number);
-    int wrong = told.code != HULL_TEXT || fwrite(text, 1, told.number, stdout) != told.number;
+    reply = hull_shared_text(shared, text, reply.number);
+    int wrong = reply.code != HULL_TEXT || fwrite(text, 1, reply.number, stdout) != reply.number;
     free(text);
     return wrong;
 }
 
 int main(void) {
-    hull_shared *desk = hull_shared_new();
+    hull_shared *shared = hull_shared_new();
     pthread_t threads[SEATS];
     long looks = 0;
-    if (desk == NULL) {
+    if (shared == NULL) {
         return 1;
     }
-    if (hull_shared_open(desk, 100000, 0, SEATS * ROUNDS, SEATS) != HULL_OPEN) {
+    if (hull_shared_open(shared, 100000, 0, SEATS * ROUNDS, SEATS) != HULL_OPEN) {
         return 1;
     }
     for (unsigned i = 0; i < SEATS; i++) {
-        rooms[i] = hull_shared_seat_new();
-        if (rooms[i] == NULL || hull_shared_acquire_seat(desk, &line, rooms[i], i) != HULL_ACQUIRED) {
+        seats[i] = hull_shared_seat_new();
+        if (seats[i] == NULL || hull_shared_acquire_seat(shared, &gate, seats[i], i) != HULL_ACQUIRED) {
             return 1;
         }
     }
     for (int i = 0; i < INSERTING; i++) {
-        pthread_create(&threads[i], NULL, insert, &rooms[i]);
+        pthread_create(&threads[i], NULL, insert, &seats[i]);
     }
     pthread_create(&threads[INSERTING], NULL, ask, &looks);
     for (int i = 0; i < SEATS; i++) {
         pthread_join(threads[i], NULL);
-        if (hull_shared_release_seat(desk, rooms[i]) != HULL_RELEASED) {
+        if (hull_shared_release_seat(shared, seats[i]) != HULL_RELEASED) {
             return 1;
         }
-        hull_shared_seat_free(rooms[i]);
+        hull_shared_seat_free(seats[i]);
     }
-    int wrong = hull_shared_close(desk) != HULL_CLOSED || write_journal(desk);
-    hull_shared_end(desk);
-    hull_shared_free(desk);
+    int wrong = hull_shared_close(shared) != HULL_CLOSED || write_journal(shared);
+    hull_shared_end(shared);
+    hull_shared_free(shared);
     return wrong;
 }

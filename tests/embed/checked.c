@@ -1,4 +1,4 @@
-/* A checked build: each call on an array of corners tells of one that is no outline, and answers as ever of one that is. */
+/* A checked build: each call on an array of vertices reports one that is no convex polygon, and answers as ever of one that is. */
 #define HULL_CHECKED
 #include "hull.h"
 #include <stdio.h>
@@ -29,12 +29,12 @@ int main(void) {
     for (size_t i = 0; i < sizeof lists / sizeof *lists; i++) {
         const hull_point *list = lists[i];
         const hull_request asked_for[] = {{HULL_KIND_PLACE, 0, 0}, {HULL_KIND_AREA, 0, 0}};
-        hull_reply told[2];
-        memset(told, 5, sizeof told);
+        hull_reply replies[2];
+        memset(replies, 5, sizeof replies);
         CHECK(bare(hull_polygon_place(list, 4, 0, 0), HULL_NO_POLYGON) && bare(hull_polygon_area(list, 4), HULL_NO_POLYGON));
-        CHECK(hull_polygon_calls(list, 4, asked_for, 2, told, 1) == 1 && bare(told[0], HULL_NO_POLYGON) && told[1].code == 0x05050505);
-        CHECK(hull_polygon_calls(list, 4, asked_for, 1, told, 2) == 1 && told[1].code == 0x05050505);
-        CHECK(hull_polygon_calls(list, 4, asked_for, 2, told, 2) == 2 && bare(told[0], HULL_NO_POLYGON) && bare(told[1], HULL_NO_POLYGON));
+        CHECK(hull_polygon_calls(list, 4, asked_for, 2, replies, 1) == 1 && bare(replies[0], HULL_NO_POLYGON) && replies[1].code == 0x05050505);
+        CHECK(hull_polygon_calls(list, 4, asked_for, 1, replies, 2) == 1 && replies[1].code == 0x05050505);
+        CHECK(hull_polygon_calls(list, 4, asked_for, 2, replies, 2) == 2 && bare(replies[0], HULL_NO_POLYGON) && bare(replies[1], HULL_NO_POLYGON));
         CHECK(bare(hull_polygon_intersects_segment(list, 4, 0, 0, 1, 1), HULL_NO_POLYGON));
         CHECK(bare(hull_polygon_separation(list, 4, 0, 0, 1, 1), HULL_NO_POLYGON) && bare(hull_polygon_nearest(list, 4, -2, -1), HULL_NO_POLYGON));
         CHECK(bare(hull_polygon_box(list, 4), HULL_NO_POLYGON) && bare(hull_polygon_width(list, 4, 1, 0), HULL_NO_POLYGON));

@@ -10,11 +10,11 @@ static int passed, failed, refused_from = -1, asked;
 /* malloc, calloc and realloc, of which those from `refused_from` on are refused (linked in by --wrap) */
 void *__real_malloc(size_t n);
 void *__real_realloc(void *p, size_t n);
-static int is_refused(void) { return refused_from >= 0 && asked++ >= refused_from; }
-void *__wrap_malloc(size_t n) { return is_refused() ? NULL : __real_malloc(n); }
-void *__wrap_realloc(void *p, size_t n) { return is_refused() ? NULL : __real_realloc(p, n); }
+static int refuse_next(void) { return refused_from >= 0 && asked++ >= refused_from; }
+void *__wrap_malloc(size_t n) { return refuse_next() ? NULL : __real_malloc(n); }
+void *__wrap_realloc(void *p, size_t n) { return refuse_next() ? NULL : __real_realloc(p, n); }
 void *__real_calloc(size_t count, size_t n);
-void *__wrap_calloc(size_t count, size_t n) { return is_refused() ? NULL : __real_calloc(count, n); }
+void *__wrap_calloc(size_t count, size_t n) { return refuse_next() ? NULL : __real_calloc(count, n); }
 
 #define CHECK(truth) check(truth, #truth, __LINE__)
 static void check(int truth, const char *text, int line) {
@@ -39,29 +39,29 @@ static int point(hull_reply r, int64_t x, int64_t y) {
     return r.code == HULL_POINT && r.x == x && r.y == y && !r.other_x && !r.other_y && !r.number && !r.high;
 }
 
-static hull_set *room_of_one(void) {
+static hull_set *storage_of_one(void) {
     size_t size = (hull_size() + hull_alignment() - 1) / hull_alignment() * hull_alignment();
-    hull_set *room = aligned_alloc(hull_alignment(), size);
-    if (room == NULL) {
+    hull_set *storage = aligned_alloc(hull_alignment(), size);
+    if (storage == NULL) {
         exit(2);
     }
-    memset(room, 7, hull_size());
-    return room;
+    memset(storage, 7, hull_size());
+    return storage;
 }
 
-static hull_set *made(uint32_t limit) {
-    hull_set *h = room_of_one();
+static hull_set *make_set(uint32_t limit) {
+    hull_set *h = storage_of_one();
     CHECK(hull_init(limit, h) == HULL_OK);
     return h;
 }
 
-static void ended(hull_set *h) {
+static void end_set(hull_set *h) {
     CHECK(hull_end(h) == HULL_OK);
     free(h);
 }
 
-static void limits(void) {
-    hull_set *h = room_of_one();
+static void check_limits(void) {
+    hull_set *h = storage_of_one();
     unsigned char *before = malloc(hull_size());
     memcpy(before, h, hull_size());
     CHECK(hull_init(0, h) == HULL_OUT_OF_LIMITS);
@@ -82,8 +82,8 @@ static void limits(void) {
     free(h);
 }
 
-static void changes(void) {
-    hull_set *h = made(2);
+static void check_changes(void) {
+    hull_set *h = make_set(2);
     refused_from = 0, asked = 0;
     CHECK(bare(hull_add(h, 3, 4), HULL_NO_MEMORY));
     refused_from = -1;
@@ -118,11 +118,11 @@ static void changes(void) {
     CHECK(number(hull_limit(h), HULL_NUMBER, 2));
     CHECK(number(hull_multiplicity(h, -HULL_COORDINATE_MAX, HULL_COORDINATE_MAX), HULL_NUMBER, 0));
     CHECK(bare(hull_add(h, 1, 1), HULL_ADDED));
-    ended(h);
+    end_set(h);
 }
 
-static void questions(void) {
-    hull_set *h = made(10);
+static void check_questions(void) {
+    hull_set *h = make_set(10);
     CHECK(bare(hull_place(h, 0, 0), HULL_OUTSIDE));
     CHECK(bare(hull_extreme(h, 1, 0), HULL_EMPTY));
     CHECK(bare(hull_tangents(h, 0, 0), HULL_NO_TANGENT));
@@ -153,19 +153,19 @@ static void questions(void) {
     hull_remove(h, far, far);
     r = hull_area(h);
     CHECK(r.code == HULL_NUMBER && r.number == UINT64_MAX - ((uint64_t)1 << 41) + 1 && r.high == ((uint64_t)1 << 19) - 1);
-    ended(h);
+    end_set(h);
 }
 
-static void corners(void) {
-    hull_set *h = made(100);
+static void check_vertices(void) {
+    hull_set *h = make_set(100);
     hull_point out[6], mark = {-1, -2};
     for (int i = 0; i < 6; i++) {
         out[i] = mark;
     }
     CHECK(number(hull_vertices(h, out, 0), HULL_VERTICES, 0));
     hull_add(h, 0, 0), hull_add(h, 10, 0), hull_add(h, 10, 10), hull_add(h, 0, 10), hull_add(h, 4, 4), hull_add(h, 5, 0);
-    for (size_t room = 0; room < 4; room++) {
-        CHECK(number(hull_vertices(h, out, room), HULL_TOO_SMALL, 4));
+    for (size_t capacity = 0; capacity < 4; capacity++) {
+        CHECK(number(hull_vertices(h, out, capacity), HULL_TOO_SMALL, 4));
     }
     refused_from = 0, asked = 0;
     CHECK(bare(hull_vertices(h, out, 6), HULL_NO_MEMORY));
@@ -181,13 +181,13 @@ static void corners(void) {
     refused_from = 0, asked = 0;
     CHECK(bare(hull_call(h, HULL_KIND_VERTICES, 0, 0), HULL_NO_MEMORY));
     refused_from = -1;
-    ended(h);
+    end_set(h);
 }
 
-/* a long list: the points of a parabola are all corners */
-static void many_corners(void) {
+/* a long list: the points of a parabola are all vertices */
+static void check_many_vertices(void) {
     enum { NUMBER = 10000 };
-    hull_set *h = made(NUMBER);
+    hull_set *h = make_set(NUMBER);
     hull_point *out = calloc(NUMBER, sizeof *out);
     int right = out != NULL;
     for (int64_t i = 0; i < NUMBER; i++) {
@@ -200,16 +200,16 @@ static void many_corners(void) {
     }
     CHECK(right);
     free(out);
-    ended(h);
+    end_set(h);
 }
 
 static int64_t place_in(int64_t i, int64_t n) { return i * 7 % n; }
 
 /* many points at once: the hull that adding them one by one makes, or the one that was */
-static void loads(void) {
+static void check_loads(void) {
     enum { NUMBER = 2000 };
     static hull_point points[HULL_MULTIPLICITY_MAX + 1];
-    hull_set *h = made(NUMBER), *slow = made(NUMBER);
+    hull_set *h = make_set(NUMBER), *slow = make_set(NUMBER);
     for (int64_t i = 0; i < NUMBER; i++) {
         int64_t x = place_in(i, NUMBER) % (NUMBER / 2);
         points[i].x = x, points[i].y = x * x % 1009;
@@ -229,11 +229,11 @@ static void loads(void) {
         same &= hull_area(h).number == hull_area(slow).number;
     }
     CHECK(same && number(hull_count(h), HULL_NUMBER, 0));
-    ended(slow);
+    end_set(slow);
     CHECK(number(hull_load(h, points, 0), HULL_NUMBER, 0) && number(hull_count(h), HULL_NUMBER, 0));
-    ended(h);
+    end_set(h);
 
-    h = made(3);
+    h = make_set(3);
     hull_add(h, 1, 2), hull_add(h, 1, 2);
     static const hull_point too_far[] = {{0, 0}, {1, 0}, {2, 0}, {3, 0}, {0, HULL_COORDINATE_MAX + 1}};
     CHECK(bare(hull_load(h, too_far, 5), HULL_OUT_OF_RANGE));
@@ -250,15 +250,15 @@ static void loads(void) {
     CHECK(number(hull_load(h, points, HULL_MULTIPLICITY_MAX), HULL_NUMBER, 1));
     CHECK(number(hull_multiplicity(h, 0, 0), HULL_NUMBER, HULL_MULTIPLICITY_MAX));
     CHECK(number(hull_load(h, too_far, 3), HULL_NUMBER, 3));
-    ended(h);
+    end_set(h);
 }
 
-/* what is held comes out in order, whole and in pieces, and goes in again */
-static void held_points(void) {
+/* the points of a set come out in order, whole and in pieces, and go in again */
+static void check_held_points(void) {
     enum { NUMBER = 3000 };
     const int64_t far = HULL_COORDINATE_MAX;
     static hull_held all[NUMBER], piece[7];
-    hull_set *h = made(NUMBER), *other = made(NUMBER);
+    hull_set *h = make_set(NUMBER), *other = make_set(NUMBER);
     CHECK(number(hull_held_from(h, 0, 0, all, NUMBER), HULL_NUMBER, 0) && number(hull_copy(other, h), HULL_NUMBER, 0));
     for (int64_t i = 0; i < NUMBER; i++) {
         int64_t x = place_in(i, NUMBER) % (NUMBER / 2);
@@ -301,10 +301,10 @@ static void held_points(void) {
     CHECK(right);
     CHECK(number(hull_load_held(h, all, count), HULL_NUMBER, count) && number(hull_load_held(other, all, 0), HULL_NUMBER, 0));
     CHECK(number(hull_multiplicity(h, all[1].x, all[1].y), HULL_NUMBER, 2) && number(hull_count(other), HULL_NUMBER, 0));
-    ended(other);
-    ended(h);
+    end_set(other);
+    end_set(h);
 
-    h = made(2);
+    h = make_set(2);
     hull_add(h, 1, 2);
     hull_held some[] = {{0, 0, 1}, {0, 1, HULL_MULTIPLICITY_MAX}, {1, -5, 3}};
     CHECK(number(hull_load_held(h, some, 2), HULL_NUMBER, 2) && bare(hull_load_held(h, some, 3), HULL_TOO_MANY));
@@ -327,12 +327,12 @@ static void held_points(void) {
     some[2].x = far + 1;
     CHECK(bare(hull_load_held(h, some, 3), HULL_OUT_OF_RANGE));
     CHECK(number(hull_count(h), HULL_NUMBER, 2) && number(hull_multiplicity(h, 0, 0), HULL_NUMBER, 1));
-    ended(h);
+    end_set(h);
 }
 
 /* the stored bridges of a level, of which the root's are edges of the hull; few points have none */
-static void bridges(void) {
-    hull_set *h = made(1000);
+static void check_bridges(void) {
+    hull_set *h = make_set(1000);
     hull_bridge out[64];
     memset(out, 0, sizeof out);
     CHECK(number(hull_bridges(h, 0, out, 64), HULL_NUMBER, 0));
@@ -351,7 +351,7 @@ static void bridges(void) {
         third = level == 2 ? reply.number : third;
         CHECK(reply.code == HULL_NUMBER && reply.number <= 64 && (reply.number == 0 || out[0].level == level));
     }
-    /* 512 points lie in 8 buckets at least, and none of these is empty */
+    /* 512 points are in 8 buckets at least, and none of these is empty */
     CHECK(forks >= 7 && forks < 512 && third > 1);
     memset(out, 0, sizeof out);
     CHECK(number(hull_bridges(h, 2, out, 1), HULL_TOO_SMALL, third) && out[0].upper_right.x == 0);
@@ -359,12 +359,12 @@ static void bridges(void) {
     CHECK(bare(hull_bridges(h, 1, out, 64), HULL_NO_MEMORY));
     refused_from = -1;
     CHECK(number(hull_bridges(h, UINT32_MAX, out, 64), HULL_NUMBER, 0));
-    ended(h);
+    end_set(h);
 }
 
-/* the outline answers as the hull does, at all points round it */
-static void outlines(void) {
-    hull_set *h = made(50);
+/* the polygon answers as the hull does, at all points round it */
+static void check_polygons(void) {
+    hull_set *h = make_set(50);
     hull_point out[50];
     memset(out, 0, sizeof out);
     for (int step = 0; step < 12; step++) {
@@ -389,12 +389,12 @@ static void outlines(void) {
     }
     CHECK(bare(hull_polygon_place(out, count, HULL_COORDINATE_MAX + 1, 0), HULL_OUT_OF_RANGE));
     static const hull_request many[] = {{HULL_KIND_PLACE, 0, 0}, {HULL_KIND_ADD, 1, 1}, {HULL_KIND_EXTREME, 0, 0}, {HULL_KIND_AREA, 0, 0}};
-    hull_reply told[6], mark;
-    memset(told, 5, sizeof told), memset(&mark, 5, sizeof mark);
-    CHECK(hull_polygon_calls(out, count, many, 4, told, 2) == 2 && memcmp(&told[2], &mark, sizeof mark) == 0);
-    CHECK(hull_polygon_calls(out, count, many, 4, told, 6) == 4 && memcmp(&told[4], &mark, sizeof mark) == 0);
-    CHECK(told[0].code == hull_place(h, 0, 0).code && bare(told[1], HULL_UNKNOWN_KIND) && bare(told[2], HULL_ZERO_DIRECTION));
-    CHECK(number(told[3], HULL_NUMBER, hull_area(h).number));
+    hull_reply replies[6], mark;
+    memset(replies, 5, sizeof replies), memset(&mark, 5, sizeof mark);
+    CHECK(hull_polygon_calls(out, count, many, 4, replies, 2) == 2 && memcmp(&replies[2], &mark, sizeof mark) == 0);
+    CHECK(hull_polygon_calls(out, count, many, 4, replies, 6) == 4 && memcmp(&replies[4], &mark, sizeof mark) == 0);
+    CHECK(replies[0].code == hull_place(h, 0, 0).code && bare(replies[1], HULL_UNKNOWN_KIND) && bare(replies[2], HULL_ZERO_DIRECTION));
+    CHECK(number(replies[3], HULL_NUMBER, hull_area(h).number));
     CHECK(bare(hull_polygon_extreme(out, count, 0, 0), HULL_ZERO_DIRECTION));
     refused_from = 0, asked = 0;
     CHECK(bare(hull_is_polygon(out, count), HULL_NO_MEMORY) && number(hull_is_polygon(out, 0), HULL_NUMBER, 1));
@@ -405,7 +405,7 @@ static void outlines(void) {
     CHECK(number(hull_is_polygon(out, count), HULL_NUMBER, 0));
     out[0] = first, out[1].x = INT64_MIN;
     CHECK(bare(hull_is_polygon(out, count), HULL_OUT_OF_RANGE));
-    ended(h);
+    end_set(h);
 }
 
 /* the reply is this code with two points, or a point and a direction */
@@ -415,15 +415,15 @@ static int two(hull_reply r, uint32_t code, int64_t x, int64_t y, int64_t other_
 
 static __int128 product(int64_t x, int64_t y, int64_t px, int64_t py) { return (__int128)x * px + (__int128)y * py; }
 
-/* a segment that is parted is told so that a caller sees it, and one that is not has a point of the outline */
-static int parted(const hull_point *out, size_t count, const int64_t s[4]) {
-    hull_reply meets = hull_polygon_intersects_segment(out, count, s[0], s[1], s[2], s[3]);
+/* whether the separation of a segment is one that a caller can verify, or the segment intersects the polygon */
+static int is_separation_right(const hull_point *out, size_t count, const int64_t s[4]) {
+    hull_reply intersects = hull_polygon_intersects_segment(out, count, s[0], s[1], s[2], s[3]);
     hull_reply r = hull_polygon_separation(out, count, s[0], s[1], s[2], s[3]);
     if (r.code == HULL_INTERSECTING) {
-        return bare(r, HULL_INTERSECTING) && number(meets, HULL_NUMBER, 1);
+        return bare(r, HULL_INTERSECTING) && number(intersects, HULL_NUMBER, 1);
     }
     __int128 reach = product(r.other_x, r.other_y, r.x, r.y);
-    int same = r.code == HULL_DISJOINT && number(meets, HULL_NUMBER, 0), there = 0;
+    int same = r.code == HULL_DISJOINT && number(intersects, HULL_NUMBER, 0), there = 0;
     for (size_t i = 0; i < count; i++) {
         same &= product(r.other_x, r.other_y, out[i].x, out[i].y) <= reach;
         there |= out[i].x == r.x && out[i].y == r.y;
@@ -431,41 +431,41 @@ static int parted(const hull_point *out, size_t count, const int64_t s[4]) {
     return same && there && product(r.other_x, r.other_y, s[0], s[1]) > reach && product(r.other_x, r.other_y, s[2], s[3]) > reach;
 }
 
-/* whether a point is one of the corners */
-static int is_among(const hull_point *corners, size_t count, hull_point p) {
+/* whether a point is one of the vertices */
+static int is_among(const hull_point *vertices, size_t count, hull_point p) {
     int there = 0;
     for (size_t i = 0; i < count; i++) {
-        there |= corners[i].x == p.x && corners[i].y == p.y;
+        there |= vertices[i].x == p.x && vertices[i].y == p.y;
     }
     return there;
 }
 
 static int64_t side(hull_point a, hull_point b, hull_point c) { return (b.x - a.x) * (c.y - a.y) - (b.y - a.y) * (c.x - a.x); }
 
-static int covers(const hull_point *corners, size_t count, hull_point p) {
-    return hull_polygon_place(corners, count, p.x, p.y).code != HULL_OUTSIDE;
+static int covers(const hull_point *vertices, size_t count, hull_point p) {
+    return hull_polygon_place(vertices, count, p.x, p.y).code != HULL_OUTSIDE;
 }
 
 /* whether the line through two points of the first has the two on its two sides: by all pairs of points */
-static int divides(const hull_point *a, size_t n, const hull_point *b, size_t m) {
+static int is_divided(const hull_point *a, size_t n, const hull_point *b, size_t m) {
     for (size_t i = 0; i < n * n; i++) {
         const hull_point p = a[i / n], q = a[i % n];
-        int parts = p.x != q.x || p.y != q.y;
+        int separates = p.x != q.x || p.y != q.y;
         for (size_t k = 0; k < n; k++) {
-            parts &= side(p, q, a[k]) >= 0;
+            separates &= side(p, q, a[k]) >= 0;
         }
         for (size_t k = 0; k < m; k++) {
-            parts &= side(p, q, b[k]) <= 0;
+            separates &= side(p, q, b[k]) <= 0;
         }
-        if (parts) {
+        if (separates) {
             return 1;
         }
     }
     return 0;
 }
 
-/* how often each corner of the first lies so, seen from the second */
-static size_t lie_so(const hull_point *a, size_t n, const hull_point *b, size_t m, uint32_t code) {
+/* how many vertices of the first are so placed in the second */
+static size_t count_placed(const hull_point *a, size_t n, const hull_point *b, size_t m, uint32_t code) {
     size_t found = 0;
     for (size_t i = 0; i < n; i++) {
         found += hull_polygon_place(b, m, a[i].x, a[i].y).code == code;
@@ -473,34 +473,34 @@ static size_t lie_so(const hull_point *a, size_t n, const hull_point *b, size_t 
     return found;
 }
 
-/* how the first stands to the second, by the places of all corners and by all lines through two of them */
+/* the relation of the first to the second, by the places of all vertices and by all lines through two of them */
 static hull_relation slow_relation(const hull_point *a, size_t n, const hull_point *b, size_t m) {
-    const int covers = lie_so(b, m, a, n, HULL_OUTSIDE) == 0, within = lie_so(a, n, b, m, HULL_OUTSIDE) == 0;
+    const int covers = count_placed(b, m, a, n, HULL_OUTSIDE) == 0, within = count_placed(a, n, b, m, HULL_OUTSIDE) == 0;
     if (covers || within) {
         return covers && within ? HULL_RELATION_EQUAL : covers ? HULL_RELATION_COVERS : HULL_RELATION_WITHIN;
     }
     if (hull_polygon_intersects(a, n, b, m).number == 0) {
         return HULL_RELATION_DISJOINT;
     }
-    return divides(a, n, b, m) || divides(b, m, a, n) ? HULL_RELATION_TOUCHING : HULL_RELATION_OVERLAPPING;
+    return is_divided(a, n, b, m) || is_divided(b, m, a, n) ? HULL_RELATION_TOUCHING : HULL_RELATION_OVERLAPPING;
 }
 
-/* whether they are so far apart at most, by the squared distance as a fraction of small numbers */
+/* whether their distance is at most that, by the squared distance as a fraction of small numbers */
 static int slow_within(const hull_point *a, size_t n, const hull_point *b, size_t m, int64_t up, int64_t down) {
     const hull_witness w = hull_polygon_distance(a, n, b, m);
     const hull_point from = w.code == HULL_EDGE ? w.a : w.b, to = w.code == HULL_EDGE ? w.b : w.c;
-    const hull_point corner = w.code == HULL_EDGE ? w.c : w.a;
-    const int64_t over = side(from, to, corner);
+    const hull_point vertex = w.code == HULL_EDGE ? w.c : w.a;
+    const int64_t over = side(from, to, vertex);
     const int64_t edge = (to.x - from.x) * (to.x - from.x) + (to.y - from.y) * (to.y - from.y);
-    const int64_t apart = (w.b.x - w.a.x) * (w.b.x - w.a.x) + (w.b.y - w.a.y) * (w.b.y - w.a.y);
-    return w.code == HULL_INTERSECTING || (w.code == HULL_POINTS ? apart * down * down <= up * up : over * over * down * down <= up * up * edge);
+    const int64_t between = (w.b.x - w.a.x) * (w.b.x - w.a.x) + (w.b.y - w.a.y) * (w.b.y - w.a.y);
+    return w.code == HULL_INTERSECTING || (w.code == HULL_POINTS ? between * down * down <= up * up : over * over * down * down <= up * up * edge);
 }
 
-/* what is told of how two outlines stand to one another is what the slow ones tell; counts the relations */
-static int stands(const hull_point *a, size_t n, const hull_point *b, size_t m, int counts[6]) {
+/* whether what is returned of the relation of two polygons is what the slow functions return; counts the relations */
+static int is_relation_right(const hull_point *a, size_t n, const hull_point *b, size_t m, int counts[6]) {
     const hull_relation relation = slow_relation(a, n, b, m);
     int same = number(hull_polygon_relation(a, n, b, m), HULL_NUMBER, relation);
-    same &= number(hull_polygon_contains_inside(a, n, b, m), HULL_NUMBER, lie_so(b, m, a, n, HULL_INSIDE) == m);
+    same &= number(hull_polygon_contains_inside(a, n, b, m), HULL_NUMBER, count_placed(b, m, a, n, HULL_INSIDE) == m);
     for (int64_t up = 0; up < 24; up += 5) {
         for (int64_t down = 1; down < 4; down++) {
             same &= number(hull_polygon_within_distance(a, n, b, m, (uint64_t)up, (uint32_t)down), HULL_NUMBER, slow_within(a, n, b, m, up, down));
@@ -510,8 +510,8 @@ static int stands(const hull_point *a, size_t n, const hull_point *b, size_t m, 
     return same;
 }
 
-/* what is told of two outlines is so, as a caller can see by itself, and nothing stands beside it */
-static int shown(const hull_point *out, size_t count, const hull_point *others, size_t other_count, int *met) {
+/* whether the witness of two polygons is right, as a caller can verify, and nothing else is set */
+static int is_witness_right(const hull_point *out, size_t count, const hull_point *others, size_t other_count, int *met) {
     const hull_witness w = hull_polygon_witness(out, count, others, other_count), none = {w.code, w.a, w.b, {0, 0}, {0, 0}};
     int same = number(hull_polygon_intersects(out, count, others, other_count), HULL_NUMBER, w.code != HULL_DISJOINT);
     int holds = 1;
@@ -549,18 +549,18 @@ typedef struct fraction {
     __int128 under;
 } fraction;
 
-static __int128 apart_squared(hull_point p, hull_point q) { return product(q.x - p.x, q.y - p.y, q.x - p.x, q.y - p.y); }
+static __int128 distance_squared(hull_point p, hull_point q) { return product(q.x - p.x, q.y - p.y, q.x - p.x, q.y - p.y); }
 
-/* the squared distance of p and the segment from a to b; `foot` is set where it is to a point strictly between those */
+/* the squared distance of p and the segment from a to b; `foot` is set if it is to a point strictly between those */
 static fraction to_segment(hull_point a, hull_point b, hull_point p, int *foot) {
-    const __int128 on = product(b.x - a.x, b.y - a.y, p.x - a.x, p.y - a.y), whole = apart_squared(a, b), s = side(a, b, p);
+    const __int128 on = product(b.x - a.x, b.y - a.y, p.x - a.x, p.y - a.y), whole = distance_squared(a, b), s = side(a, b, p);
     *foot = on > 0 && on < whole;
-    return *foot ? (fraction){s * s, whole} : (fraction){on <= 0 ? apart_squared(a, p) : apart_squared(b, p), 1};
+    return *foot ? (fraction){s * s, whole} : (fraction){on <= 0 ? distance_squared(a, p) : distance_squared(b, p), 1};
 }
 
-/* the least squared distance of a corner of the one and an edge of the other, of all of them */
+/* the least squared distance of a vertex of the one and an edge of the other, of all of them */
 static fraction least_between(const hull_point *out, size_t count, const hull_point *others, size_t other_count) {
-    fraction least = {apart_squared(out[0], others[0]), 1};
+    fraction least = {distance_squared(out[0], others[0]), 1};
     int foot;
     for (size_t i = 0; i < count; i++) {
         for (size_t j = 0; j < other_count; j++) {
@@ -573,45 +573,45 @@ static fraction least_between(const hull_point *out, size_t count, const hull_po
     return least;
 }
 
-/* whether b is the corner behind a */
-static int is_edge(const hull_point *corners, size_t count, hull_point a, hull_point b) {
+/* whether b is the vertex after a */
+static int is_edge(const hull_point *vertices, size_t count, hull_point a, hull_point b) {
     int there = 0;
     for (size_t i = 0; i < count; i++) {
-        const hull_point next = corners[(i + 1) % count];
-        there |= corners[i].x == a.x && corners[i].y == a.y && next.x == b.x && next.y == b.y;
+        const hull_point next = vertices[(i + 1) % count];
+        there |= vertices[i].x == a.x && vertices[i].y == a.y && next.x == b.x && next.y == b.y;
     }
     return there;
 }
 
-/* where two outlines are nearest is on them, so far off and no farther than any corner and edge; and nothing stands beside it */
-static int nearest_told(const hull_point *out, size_t count, const hull_point *others, size_t other_count, int *edges) {
+/* whether the nearest points of two polygons are on them, at that distance and no farther than any vertex and edge; and nothing else is set */
+static int is_distance_right(const hull_point *out, size_t count, const hull_point *others, size_t other_count, int *edges) {
     const hull_witness w = hull_polygon_distance(out, count, others, other_count);
     const fraction least = least_between(out, count, others, other_count);
     int foot = 1, same = w.d.x == 0 && w.d.y == 0;
-    fraction told = {0, 1};
+    fraction answer = {0, 1};
     if (hull_polygon_intersects(out, count, others, other_count).number == 1) {
         return same && w.code == HULL_INTERSECTING && !w.a.x && !w.a.y && !w.b.x && !w.b.y && !w.c.x && !w.c.y;
     }
     if (w.code == HULL_POINTS) {
         same &= is_among(out, count, w.a) && is_among(others, other_count, w.b) && w.c.x == 0 && w.c.y == 0;
-        told.over = apart_squared(w.a, w.b);
+        answer.over = distance_squared(w.a, w.b);
     } else if (w.code == HULL_VERTEX) {
         same &= is_among(out, count, w.a) && is_edge(others, other_count, w.b, w.c);
-        told = to_segment(w.b, w.c, w.a, &foot);
+        answer = to_segment(w.b, w.c, w.a, &foot);
     } else {
         same &= w.code == HULL_EDGE && is_edge(out, count, w.a, w.b) && is_among(others, other_count, w.c);
-        told = to_segment(w.a, w.b, w.c, &foot);
+        answer = to_segment(w.a, w.b, w.c, &foot);
     }
     *edges += w.code != HULL_POINTS;
-    return same && foot && told.over * least.under == least.over * told.under;
+    return same && foot && answer.over * least.under == least.over * answer.under;
 }
 
-/* outlines beside one another: a quadrangle, a triangle, two segments, a point, each shifted over a grid */
-static void two_outlines(void) {
+/* two polygons: a quadrangle, a triangle, two segments, a point, each shifted over a grid */
+static void check_two_polygons(void) {
     static const hull_point shapes[][4] = {
         {{0, 0}, {3, -1}, {5, 2}, {1, 3}}, {{0, 0}, {8, 0}, {0, 6}}, {{0, 0}, {2, 1}}, {{0, 0}, {0, 4}}, {{0, 0}}};
     static const size_t counts[] = {4, 3, 2, 2, 1};
-    int same = 1, met = 0, tries = 0, near = 1, edges = 0, stand = 1, relations[6] = {0};
+    int same = 1, met = 0, tries = 0, near = 1, edges = 0, related = 1, relations[6] = {0};
     for (int i = 0; i < 5 * 5 * 23 * 23; i++, tries++) {
         const hull_point *out = shapes[i % 5];
         hull_point others[4];
@@ -619,14 +619,14 @@ static void two_outlines(void) {
             others[j].x = shapes[i / 5 % 5][j].x + i / 25 % 23 - 11;
             others[j].y = shapes[i / 5 % 5][j].y + i / 575 - 11;
         }
-        same &= shown(out, counts[i % 5], others, counts[i / 5 % 5], &met);
-        near &= nearest_told(out, counts[i % 5], others, counts[i / 5 % 5], &edges);
-        stand &= stands(out, counts[i % 5], others, counts[i / 5 % 5], relations);
+        same &= is_witness_right(out, counts[i % 5], others, counts[i / 5 % 5], &met);
+        near &= is_distance_right(out, counts[i % 5], others, counts[i / 5 % 5], &edges);
+        related &= is_relation_right(out, counts[i % 5], others, counts[i / 5 % 5], relations);
     }
     for (int i = 0; i < 6; i++) {
-        stand &= relations[i] > 0;
+        related &= relations[i] > 0;
     }
-    CHECK(stand);
+    CHECK(related);
     CHECK(same && met > 900 && met < tries - 900);
     CHECK(near && edges > 900 && edges < tries - met - 900);
     CHECK(number(hull_polygon_intersects(shapes[0], 0, shapes[1], 3), HULL_NUMBER, 0));
@@ -655,8 +655,8 @@ static void two_outlines(void) {
 
 enum { MANY = 40 };
 
-/* Forty outlines of the corners of shapes, shifted by chance over a square of this size; some of no corners. */
-static void scattered(hull_point corners[MANY][4], hull_corners *all, uint64_t *state, int64_t size) {
+/* Forty polygons, shifted by chance over a square of this size; some without vertices. */
+static void scatter(hull_point vertices[MANY][4], hull_polygon *all, uint64_t *state, int64_t size) {
     static const hull_point shapes[][4] = {{{0, 0}, {3, -1}, {5, 2}, {1, 3}}, {{0, 0}, {8, 0}, {0, 6}}, {{0, 0}, {2, 1}}, {{0, 0}}, {{0, 0}}};
     static const size_t counts[] = {4, 3, 2, 1, 0};
     for (int i = 0; i < MANY; i++) {
@@ -666,49 +666,49 @@ static void scattered(hull_point corners[MANY][4], hull_corners *all, uint64_t *
             shift[k] = (int64_t)(*state >> 33) % size;
         }
         for (int j = 0; j < 4; j++) {
-            corners[i][j].x = shapes[i % 5][j].x + shift[0], corners[i][j].y = shapes[i % 5][j].y + shift[1];
+            vertices[i][j].x = shapes[i % 5][j].x + shift[0], vertices[i][j].y = shapes[i % 5][j].y + shift[1];
         }
-        all[i].corners = corners[i], all[i].count = counts[i % 5];
+        all[i].vertices = vertices[i], all[i].count = counts[i % 5];
     }
 }
 
-/* Whether the pairs that are told are those that are found one by one, in their order; `found` is how many. */
-static int pairs_told(const hull_corners *all, uint64_t numerator, uint32_t denominator, uint64_t *found) {
+/* Whether the pairs that are returned are those that are found one by one, in their order; `found` is how many. */
+static int are_pairs_right(const hull_polygon *all, uint64_t numerator, uint32_t denominator, uint64_t *found) {
     hull_pair pairs[MANY * MANY];
-    const hull_reply told = hull_pairs_within_distance(all, MANY, numerator, denominator, pairs, MANY * MANY);
-    int same = told.code == HULL_NUMBER;
+    const hull_reply answer = hull_pairs_within_distance(all, MANY, numerator, denominator, pairs, MANY * MANY);
+    int same = answer.code == HULL_NUMBER;
     *found = 0;
     for (size_t i = 0; i < MANY; i++) {
         for (size_t j = i + 1; j < MANY; j++) {
-            if (hull_polygon_within_distance(all[i].corners, all[i].count, all[j].corners, all[j].count, numerator, denominator).number == 1) {
-                same &= *found < told.number && pairs[*found].first == i && pairs[*found].second == j;
+            if (hull_polygon_within_distance(all[i].vertices, all[i].count, all[j].vertices, all[j].count, numerator, denominator).number == 1) {
+                same &= *found < answer.number && pairs[*found].first == i && pairs[*found].second == j;
                 ++*found;
             }
         }
     }
-    return same && *found == told.number;
+    return same && *found == answer.number;
 }
 
-/* outlines near one another, and one beside many, as each pair tells it */
-static void many_outlines(void) {
-    hull_point corners[MANY][4];
-    hull_corners all[MANY];
+/* polygons near one another, and one and many, compared with each pair by itself */
+static void check_many_polygons(void) {
+    hull_point vertices[MANY][4];
+    hull_polygon all[MANY];
     hull_pair pairs[MANY];
     uint64_t state = 5, found = 0, last = 0;
     int same = 1, grows = 1;
     for (int trial = 0; trial < 60; trial++) {
         uint8_t relations[MANY];
-        scattered(corners, all, &state, trial % 2 == 0 ? 20 : 200);
+        scatter(vertices, all, &state, trial % 2 == 0 ? 20 : 200);
         static const uint64_t lengths[][2] = {{0, 1}, {0, 7}, {1, 3}, {5, 2}, {9, 1}, {1u << 30, 1}, {UINT64_MAX, 1}, {1, 0}};
         last = 0;
         for (int k = 0; k < 8; k++) {
-            same &= pairs_told(all, lengths[k][0], (uint32_t)lengths[k][1], &found);
+            same &= are_pairs_right(all, lengths[k][0], (uint32_t)lengths[k][1], &found);
             grows &= found >= last;
             last = found;
         }
-        hull_polygon_relations(all[0].corners, all[0].count, all, MANY, relations);
+        hull_polygon_relations(all[0].vertices, all[0].count, all, MANY, relations);
         for (int i = 0; i < MANY; i++) {
-            same &= relations[i] == hull_polygon_relation(all[0].corners, all[0].count, all[i].corners, all[i].count).number;
+            same &= relations[i] == hull_polygon_relation(all[0].vertices, all[0].count, all[i].vertices, all[i].count).number;
         }
     }
     CHECK(same && grows && last == 32 * 31 / 2);
@@ -720,57 +720,57 @@ static void many_outlines(void) {
     refused_from = -1;
     const hull_segment segments[] = {{{-1, 1}, {9, 1}}, {{9, 9}, {20, 20}}, {{0, 0}, {0, HULL_COORDINATE_MAX + 1}}, {{0, 0}, {0, 0}}};
     static const hull_point square[] = {{0, 0}, {8, 0}, {8, 8}, {0, 8}}, points[] = {{8, 8}, {1, 1}, {0, 0}, {8, 8}, {8, 0}};
-    uint8_t meets[4] = {9, 9, 9, 9};
+    uint8_t intersects[4] = {9, 9, 9, 9};
     size_t places[4];
-    CHECK(hull_polygon_intersects_segments(square, 4, segments, 4, meets) == 2 && meets[0] == 1 && meets[1] == 0 && meets[2] == 9);
+    CHECK(hull_polygon_intersects_segments(square, 4, segments, 4, intersects) == 2 && intersects[0] == 1 && intersects[1] == 0 && intersects[2] == 9);
     CHECK(hull_polygon_intersects_segments(square, 4, NULL, 0, NULL) == 0);
     CHECK(hull_polygon_indices(square, 4, points, 5, places) == 3 && places[0] == 2 && places[1] == 4 && places[2] == 0 && places[3] == 5);
     CHECK(hull_polygon_indices(square, 4, NULL, 0, places) == 0 && places[0] == 0 && hull_polygon_indices(NULL, 0, points, 5, NULL) == 0);
 }
 
-/* A shape k times as large, moved by a vector. */
-static void placed(const hull_point *shape, size_t count, int64_t k, int64_t dx, int64_t dy, hull_point *out) {
+/* Writes a shape k times as large, moved by a vector. */
+static void scale_and_move(const hull_point *shape, size_t count, int64_t k, int64_t dx, int64_t dy, hull_point *out) {
     for (size_t i = 0; i < count; i++) {
         out[i].x = k * shape[i].x + dx, out[i].y = k * shape[i].y + dy;
     }
 }
 
-/* Whether two shapes meet when the second has gone part / whole of its way. */
-static int meet_at(const hull_point *a, size_t count, const hull_point *b, size_t other_count, int64_t dx, int64_t dy, int64_t part,
+/* Whether two shapes intersect when the second has gone part / whole of its way. */
+static int intersect_at(const hull_point *a, size_t count, const hull_point *b, size_t other_count, int64_t dx, int64_t dy, int64_t part,
                    int64_t whole) {
     hull_point first[4], second[4];
-    placed(a, count, whole, 0, 0, first), placed(b, other_count, whole, part * dx, part * dy, second);
+    scale_and_move(a, count, whole, 0, 0, first), scale_and_move(b, other_count, whole, part * dx, part * dy, second);
     return hull_polygon_intersects(first, count, second, other_count).number == 1;
 }
 
-/* Whether the moment that is told is the first: they meet then, and not at one that lies before it by less than any two moments of such
- * small shapes are apart; where none is told, they meet at none of many. `hits` counts those that meet on the way. */
+/* Whether the moment that is returned is the first: they intersect then, and not at one that is before it by less than any two moments of
+ * such small shapes differ; if none is returned, they intersect at none of many. `hits` counts those that intersect on the way. */
 static int is_first_moment(const hull_point *a, size_t count, const hull_point *b, size_t other_count, int64_t dx, int64_t dy, int *hits) {
     const hull_motion m = hull_polygon_first_meeting(a, count, b, other_count, dx, dy);
     if (m.hit.code == HULL_COVERED) {
-        return meet_at(a, count, b, other_count, dx, dy, 0, 1) && m.hit.low == 0 && m.hit.divisor_low == 1;
+        return intersect_at(a, count, b, other_count, dx, dy, 0, 1) && m.hit.low == 0 && m.hit.divisor_low == 1;
     }
     if (m.hit.code == HULL_DISJOINT) {
         int never = 1;
         for (int64_t part = 0; part <= 60; part++) {
-            never &= !meet_at(a, count, b, other_count, dx, dy, part, 60);
+            never &= !intersect_at(a, count, b, other_count, dx, dy, part, 60);
         }
         return never;
     }
     const int64_t part = (int64_t)m.hit.low, whole = (int64_t)m.hit.divisor_low, times = 1000;
     const hull_point *from = m.moves ? b : a;
-    int is_corner = 0;
+    int is_vertex = 0;
     for (size_t i = 0; i < (m.moves ? other_count : count); i++) {
-        is_corner |= from[i].x == m.corner.x && from[i].y == m.corner.y;
+        is_vertex |= from[i].x == m.vertex.x && from[i].y == m.vertex.y;
     }
     ++*hits;
-    return (m.hit.code == HULL_EDGE || m.hit.code == HULL_VERTEX) && is_corner && m.hit.high == 0 && part > 0 && part <= whole &&
-           meet_at(a, count, b, other_count, dx, dy, part, whole) &&
-           !meet_at(a, count, b, other_count, dx, dy, part * times - 1, whole * times);
+    return (m.hit.code == HULL_EDGE || m.hit.code == HULL_VERTEX) && is_vertex && m.hit.high == 0 && part > 0 && part <= whole &&
+           intersect_at(a, count, b, other_count, dx, dy, part, whole) &&
+           !intersect_at(a, count, b, other_count, dx, dy, part * times - 1, whole * times);
 }
 
-/* outlines that move straight to others, and outlines that are moved */
-static void motions(void) {
+/* polygons that move straight to others, and polygons that are translated and rotated */
+static void check_motions(void) {
     static const hull_point shapes[][4] = {{{0, 0}, {3, -1}, {5, 2}, {1, 3}}, {{0, 0}, {4, 0}, {0, 3}}, {{0, 0}, {2, 1}}, {{0, 0}, {0, 4}}, {{0, 0}}};
     static const size_t counts[] = {4, 3, 2, 2, 1};
     static const int64_t ways[][2] = {{6, 0}, {0, -7}, {5, 3}, {-4, 7}, {-8, -2}, {1, 1}, {0, 0}};
@@ -778,7 +778,7 @@ static void motions(void) {
     for (int i = 0; i < 5 * 5 * 7 * 9 * 9; i++, tries++) {
         const int64_t *way = ways[i / 25 % 7];
         hull_point other[4];
-        placed(shapes[i / 5 % 5], counts[i / 5 % 5], 1, 3 * (i / 175 % 9) - 12, 3 * (i / 1575) - 12, other);
+        scale_and_move(shapes[i / 5 % 5], counts[i / 5 % 5], 1, 3 * (i / 175 % 9) - 12, 3 * (i / 1575) - 12, other);
         same &= is_first_moment(shapes[i % 5], counts[i % 5], other, counts[i / 5 % 5], way[0], way[1], &hits);
     }
     CHECK(same && hits > 500 && hits < tries - 500);
@@ -788,36 +788,36 @@ static void motions(void) {
     CHECK(wide.hit.code == HULL_DISJOINT && hull_polygon_first_meeting(left, 3, right, 0, 1, 1).hit.code == HULL_EMPTY);
     CHECK(hull_polygon_first_meeting(left, 3, right, 2, far + 1, 0).hit.code == HULL_OUT_OF_RANGE);
     CHECK(hull_polygon_first_meeting(left, 3, right, 2, 0, -far - 1).hit.code == HULL_OUT_OF_RANGE);
-    hull_point moved[3] = {{7, 7}, {7, 7}, {7, 7}};
-    CHECK(bare(hull_polygon_translate(left, 3, -1, 0, moved), HULL_OUT_OF_RANGE) && bare(hull_polygon_translate(right, 2, 0, 4 * far, moved), HULL_OUT_OF_RANGE));
-    CHECK(moved[0].x == 7 && number(hull_polygon_translate(left, 3, 2 * far - 2, far, moved), HULL_VERTICES, 3));
-    CHECK(moved[0].x == far - 2 && moved[0].y == 0 && moved[1].x == far && moved[2].y == 5);
+    hull_point translated[3] = {{7, 7}, {7, 7}, {7, 7}};
+    CHECK(bare(hull_polygon_translate(left, 3, -1, 0, translated), HULL_OUT_OF_RANGE) && bare(hull_polygon_translate(right, 2, 0, 4 * far, translated), HULL_OUT_OF_RANGE));
+    CHECK(translated[0].x == 7 && number(hull_polygon_translate(left, 3, 2 * far - 2, far, translated), HULL_VERTICES, 3));
+    CHECK(translated[0].x == far - 2 && translated[0].y == 0 && translated[1].x == far && translated[2].y == 5);
     static const hull_point shape[] = {{0, 0}, {3, -1}, {5, 2}, {1, 3}};
-    hull_point turned[4] = {{7, 7}, {7, 7}, {7, 7}, {7, 7}};
-    int outlines = 1;
+    hull_point rotated[4] = {{7, 7}, {7, 7}, {7, 7}, {7, 7}};
+    int all_right = 1;
     for (int i = 0; i < 11 * 11; i++) {
         const int64_t a = i % 11 - 5, b = i / 11 - 5, length = a * a + b * b;
-        const hull_reply told = hull_polygon_rotate(shape, 4, a, b, turned);
-        outlines &= length == 0 ? bare(told, HULL_ZERO_DIRECTION)
-                                : number(told, HULL_VERTICES, 4) && number(hull_is_polygon(turned, 4), HULL_NUMBER, 1) &&
-                                      hull_polygon_area(turned, 4).number == (uint64_t)length * hull_polygon_area(shape, 4).number &&
-                                      hull_polygon_place(turned, 4, 3 * a + b, 3 * b - a).code == HULL_ON;
+        const hull_reply answer = hull_polygon_rotate(shape, 4, a, b, rotated);
+        all_right &= length == 0 ? bare(answer, HULL_ZERO_DIRECTION)
+                                : number(answer, HULL_VERTICES, 4) && number(hull_is_polygon(rotated, 4), HULL_NUMBER, 1) &&
+                                      hull_polygon_area(rotated, 4).number == (uint64_t)length * hull_polygon_area(shape, 4).number &&
+                                      hull_polygon_place(rotated, 4, 3 * a + b, 3 * b - a).code == HULL_ON;
     }
-    CHECK(outlines && bare(hull_polygon_rotate(shape, 4, far, 1, turned), HULL_OUT_OF_RANGE));
-    for (int64_t at = 1; at <= 2; at++) { /* a point on each axis, turned to the edge of what is in range, or beyond it */
+    CHECK(all_right && bare(hull_polygon_rotate(shape, 4, far, 1, rotated), HULL_OUT_OF_RANGE));
+    for (int64_t at = 1; at <= 2; at++) { /* a point on each axis, rotated to the edge of what is in range, or beyond it */
         const hull_point axes[] = {{at, 0}, {-at, 0}, {0, at}, {0, -at}};
         for (int i = 0; i < 16; i++) {
-            const hull_reply told = hull_polygon_rotate(&axes[i / 4], 1, far * (axes[i % 4].x / at), far * (axes[i % 4].y / at), turned);
-            CHECK(at == 1 ? number(told, HULL_VERTICES, 1) : bare(told, HULL_OUT_OF_RANGE));
+            const hull_reply answer = hull_polygon_rotate(&axes[i / 4], 1, far * (axes[i % 4].x / at), far * (axes[i % 4].y / at), rotated);
+            CHECK(at == 1 ? number(answer, HULL_VERTICES, 1) : bare(answer, HULL_OUT_OF_RANGE));
         }
     }
-    CHECK(bare(hull_polygon_rotate(shape, 4, far + 1, 0, turned), HULL_OUT_OF_RANGE) && number(hull_polygon_rotate(NULL, 0, 1, 1, NULL), HULL_VERTICES, 0));
-    CHECK(number(hull_is_polygon(moved, 3), HULL_NUMBER, 1) && number(hull_polygon_translate(NULL, 0, 5 * far, 0, NULL), HULL_VERTICES, 0));
+    CHECK(bare(hull_polygon_rotate(shape, 4, far + 1, 0, rotated), HULL_OUT_OF_RANGE) && number(hull_polygon_rotate(NULL, 0, 1, 1, NULL), HULL_VERTICES, 0));
+    CHECK(number(hull_is_polygon(translated, 3), HULL_NUMBER, 1) && number(hull_polygon_translate(NULL, 0, 5 * far, 0, NULL), HULL_VERTICES, 0));
 }
 
-/* Whether the nearest of these points, the first of several, is told, with the square of how far it is. */
+/* Whether the nearest of these points, the first of several, is returned, with its squared distance. */
 static int is_nearest(const hull_set *h, const hull_point *points, size_t count, int64_t x, int64_t y) {
-    const hull_reply told = hull_nearest_held(h, x, y);
+    const hull_reply answer = hull_nearest_held(h, x, y);
     hull_point best = {0, 0};
     __extension__ unsigned __int128 least = 0;
     for (size_t i = 0; i < count; i++) {
@@ -828,12 +828,12 @@ static int is_nearest(const hull_set *h, const hull_point *points, size_t count,
             best = points[i], least = d;
         }
     }
-    return told.code == HULL_POINT && told.x == best.x && told.y == best.y && told.number == (uint64_t)least &&
-           told.high == (uint64_t)(least >> 64);
+    return answer.code == HULL_POINT && answer.x == best.x && answer.y == best.y && answer.number == (uint64_t)least &&
+           answer.high == (uint64_t)(least >> 64);
 }
 
 /* the nearest of points in squares from 4 to 2^41 a side, thick and thin */
-static void nearest_held(void) {
+static void check_nearest_held(void) {
     enum { POINTS = 300 };
     static hull_point points[POINTS];
     uint64_t state = 9;
@@ -864,12 +864,12 @@ static void nearest_held(void) {
 }
 
 /* nothing but a code */
-static int no_clearance(hull_distance_bounds c, uint32_t code) {
+static int is_bare_bounds(hull_distance_bounds c, uint32_t code) {
     return c.code == code && !c.shift && !c.lower && !c.upper && !c.high && !c.middle && !c.low && !c.divisor_high && !c.divisor_low;
 }
 
-/* a clearance of these two doubles, with a square of these words */
-static int is_clearance(hull_distance_bounds c, double down, double up, uint64_t high, uint64_t middle, uint64_t low, uint64_t divisor) {
+/* bounds of these two doubles, with a square of these words */
+static int are_bounds(hull_distance_bounds c, double down, double up, uint64_t high, uint64_t middle, uint64_t low, uint64_t divisor) {
     return c.code == HULL_NUMBER && hull_distance_bounds_down(&c) == down && hull_distance_bounds_up(&c) == up && c.high == high && c.middle == middle
         && c.low == low && c.divisor_high == 0 && c.divisor_low == divisor;
 }
@@ -882,23 +882,23 @@ static int is_next(hull_distance_bounds c) {
     return c.code == HULL_NUMBER && bits[1] - bits[0] <= 1;
 }
 
-/* how far outlines, segments and points are, in numbers: whole, between doubles, none, and the longest; which of two is the greater */
-static void clearances(void) {
+/* the distances of polygons, segments and points, in numbers: whole, between doubles, none, and the longest; which of two is the greater */
+static void check_distance_bounds(void) {
     static const hull_point square[] = {{0, 0}, {4, 0}, {4, 4}, {0, 4}}, right[] = {{7, 8}, {9, 8}}, high[] = {{2, 5}}, slope[] = {{5, 0}, {6, 1}};
-    CHECK(is_clearance(hull_polygon_distance_bounds(square, 4, right, 2), 5, 5, 0, 0, 25, 1));
-    CHECK(is_clearance(hull_polygon_distance_bounds(square, 4, square, 4), 0, 0, 0, 0, 0, 1));
-    CHECK(is_clearance(hull_polygon_distance_bounds_to_point(square, 4, 5, 5), 0x1.6a09e667f3bccp+0, 0x1.6a09e667f3bcdp+0, 0, 0, 2, 1));
+    CHECK(are_bounds(hull_polygon_distance_bounds(square, 4, right, 2), 5, 5, 0, 0, 25, 1));
+    CHECK(are_bounds(hull_polygon_distance_bounds(square, 4, square, 4), 0, 0, 0, 0, 0, 1));
+    CHECK(are_bounds(hull_polygon_distance_bounds_to_point(square, 4, 5, 5), 0x1.6a09e667f3bccp+0, 0x1.6a09e667f3bcdp+0, 0, 0, 2, 1));
     CHECK(is_next(hull_polygon_distance_bounds_to_point(square, 4, 5, 5)) && is_next(hull_polygon_distance_bounds(square, 4, slope, 2)));
-    CHECK(is_clearance(hull_polygon_distance_bounds(high, 1, square, 4), 1, 1, 0, 0, 16, 16));
-    CHECK(is_clearance(hull_polygon_distance_bounds_to_segment(square, 4, 9, 8, 7, 8), 5, 5, 0, 0, 25, 1));
-    CHECK(is_clearance(hull_polygon_distance_bounds_to_segment(square, 4, 1, 1, 9, 9), 0, 0, 0, 0, 0, 1));
-    CHECK(no_clearance(hull_polygon_distance_bounds(square, 0, right, 2), HULL_EMPTY) && no_clearance(hull_polygon_distance_bounds(right, 2, square, 0), HULL_EMPTY));
-    CHECK(no_clearance(hull_polygon_distance_bounds_to_point(NULL, 0, 1, 1), HULL_EMPTY));
+    CHECK(are_bounds(hull_polygon_distance_bounds(high, 1, square, 4), 1, 1, 0, 0, 16, 16));
+    CHECK(are_bounds(hull_polygon_distance_bounds_to_segment(square, 4, 9, 8, 7, 8), 5, 5, 0, 0, 25, 1));
+    CHECK(are_bounds(hull_polygon_distance_bounds_to_segment(square, 4, 1, 1, 9, 9), 0, 0, 0, 0, 0, 1));
+    CHECK(is_bare_bounds(hull_polygon_distance_bounds(square, 0, right, 2), HULL_EMPTY) && is_bare_bounds(hull_polygon_distance_bounds(right, 2, square, 0), HULL_EMPTY));
+    CHECK(is_bare_bounds(hull_polygon_distance_bounds_to_point(NULL, 0, 1, 1), HULL_EMPTY));
     const int64_t far = HULL_COORDINATE_MAX, beyond = far + 1;
-    CHECK(no_clearance(hull_polygon_distance_bounds_to_segment(square, 4, beyond, 0, 0, 0), HULL_OUT_OF_RANGE));
-    CHECK(no_clearance(hull_polygon_distance_bounds_to_segment(square, 4, 0, 0, 0, -beyond), HULL_OUT_OF_RANGE));
-    const hull_point rising[] = {{-far, -far}, {far, far - 1}}, corner[] = {{-far, far}};
-    const hull_distance_bounds longest = hull_polygon_distance_bounds_to_point(corner, 1, far, -far), wide = hull_polygon_distance_bounds(rising, 2, corner, 1);
+    CHECK(is_bare_bounds(hull_polygon_distance_bounds_to_segment(square, 4, beyond, 0, 0, 0), HULL_OUT_OF_RANGE));
+    CHECK(is_bare_bounds(hull_polygon_distance_bounds_to_segment(square, 4, 0, 0, 0, -beyond), HULL_OUT_OF_RANGE));
+    const hull_point rising[] = {{-far, -far}, {far, far - 1}}, vertex[] = {{-far, far}};
+    const hull_distance_bounds longest = hull_polygon_distance_bounds_to_point(vertex, 1, far, -far), wide = hull_polygon_distance_bounds(rising, 2, vertex, 1);
     const hull_distance_bounds least = hull_polygon_distance_bounds_to_point(rising, 2, 0, 0);
     CHECK(longest.middle == 1ull << 19 && longest.low == 0 && longest.high == 0 && is_next(longest) && hull_distance_bounds_up(&longest) > 3.1e12);
     CHECK(wide.high == 1ull << 36 && wide.middle == 0 && wide.low == 0 && wide.divisor_high > 0 && is_next(wide) && is_next(least) && hull_distance_bounds_up(&least) < 1);
@@ -913,8 +913,8 @@ static void clearances(void) {
     CHECK(bare(hull_polygon_within_distance_of_point(square, 4, 0, -beyond, 1, 1), HULL_OUT_OF_RANGE));
 }
 
-/* how an outline stands to segments: beside it, along an edge, from its inside, through it, around it */
-static void segments_beside(void) {
+/* the relation of a polygon to segments: beside it, along an edge, from its inside, through it, around it */
+static void check_segments_beside(void) {
     static const hull_point square[] = {{0, 0}, {4, 0}, {4, 4}, {0, 4}}, line[] = {{0, 0}, {4, 4}};
     static const struct {
         int64_t ax, ay, bx, by;
@@ -934,14 +934,14 @@ static void segments_beside(void) {
     CHECK(bare(hull_polygon_relation_to_segment(line, 2, 0, 0, 0, INT64_MIN), HULL_OUT_OF_RANGE));
 }
 
-/* a hit with these corners, so far on the way */
+/* a hit with these vertices, so far on the way */
 static int is_hit(hull_hit h, uint32_t code, hull_point a, hull_point b, uint64_t part, uint64_t whole) {
     return h.code == code && h.a.x == a.x && h.a.y == a.y && h.b.x == b.x && h.b.y == b.y && h.high == 0 && h.low == part
         && h.divisor_high == 0 && h.divisor_low == whole;
 }
 
-/* where rays and segments come in: at a start, across an edge, at a corner, along an edge, on a line; or nowhere */
-static void casts(void) {
+/* where rays and segments enter: at a start, across an edge, at a vertex, along an edge, on a line; or nowhere */
+static void check_raycasts(void) {
     static const hull_point square[] = {{0, 0}, {4, 0}, {4, 4}, {0, 4}}, line[] = {{0, 0}, {4, 4}}, none = {0, 0};
     CHECK(is_hit(hull_polygon_raycast(square, 4, -2, 1, 3, 1), HULL_EDGE, square[3], square[0], 8, 12));
     CHECK(is_hit(hull_polygon_raycast_segment(square, 4, -2, 1, 7, 4), HULL_EDGE, square[3], square[0], 8, 36));
@@ -978,59 +978,59 @@ static void casts(void) {
     refused_from = -1;
 }
 
-/* where corners are least wide is no wider than along any direction of a grid, and no narrower than the strip of each edge */
-static int is_least(const hull_point *corners, size_t count) {
-    hull_witness w = hull_polygon_least_width(corners, count);
-    if (w.code != HULL_EDGE || !is_among(corners, count, w.a) || !is_among(corners, count, w.b) || !is_among(corners, count, w.c)) {
+/* whether the least width is no wider than along any direction of a grid, and no narrower than the strip of each edge */
+static int is_least(const hull_point *vertices, size_t count) {
+    hull_witness w = hull_polygon_least_width(vertices, count);
+    if (w.code != HULL_EDGE || !is_among(vertices, count, w.a) || !is_among(vertices, count, w.b) || !is_among(vertices, count, w.c)) {
         return 0;
     }
     const hull_point step = {w.b.x - w.a.x, w.b.y - w.a.y};
-    __int128 told = (__int128)side(w.a, w.b, w.c) * side(w.a, w.b, w.c), edge = step.x * step.x + step.y * step.y;
+    __int128 answer = (__int128)side(w.a, w.b, w.c) * side(w.a, w.b, w.c), edge = step.x * step.x + step.y * step.y;
     int same = edge > 0;
     for (int64_t i = 0; i < 41 * 41; i++) {
         int64_t dx = i % 41 - 20, dy = i / 41 - 20;
         if (dx != 0 || dy != 0) {
-            __int128 wide = hull_polygon_width(corners, count, dx, dy).number;
-            same &= told * (dx * dx + dy * dy) <= wide * wide * edge;
+            __int128 wide = hull_polygon_width(vertices, count, dx, dy).number;
+            same &= answer * (dx * dx + dy * dy) <= wide * wide * edge;
         }
     }
-    hull_reply along = hull_polygon_width(corners, count, -step.y, step.x);
+    hull_reply along = hull_polygon_width(vertices, count, -step.y, step.x);
     return same && (int64_t)along.number == side(w.a, w.b, w.c);
 }
 
-/* the farthest two of a few corners, and how far they reach, by trying all */
-static void extents(void) {
-    static const hull_point corners[] = {{-7, 2}, {-5, -6}, {1, -9}, {8, -3}, {9, 4}, {3, 10}, {-4, 9}};
+/* the farthest two of a few vertices, and how far they reach, by trying all */
+static void check_extents(void) {
+    static const hull_point vertices[] = {{-7, 2}, {-5, -6}, {1, -9}, {8, -3}, {9, 4}, {3, 10}, {-4, 9}};
     for (size_t count = 1; count <= 7; count++) {
-        hull_reply r = hull_polygon_diameter(corners, count);
-        int64_t best = 0, told = (r.x - r.other_x) * (r.x - r.other_x) + (r.y - r.other_y) * (r.y - r.other_y);
+        hull_reply r = hull_polygon_diameter(vertices, count);
+        int64_t best = 0, answer = (r.x - r.other_x) * (r.x - r.other_x) + (r.y - r.other_y) * (r.y - r.other_y);
         for (size_t i = 0; i < count * count; i++) {
-            int64_t dx = corners[i % count].x - corners[i / count].x, dy = corners[i % count].y - corners[i / count].y;
+            int64_t dx = vertices[i % count].x - vertices[i / count].x, dy = vertices[i % count].y - vertices[i / count].y;
             best = dx * dx + dy * dy > best ? dx * dx + dy * dy : best;
         }
         const hull_point p = {r.x, r.y}, q = {r.other_x, r.other_y};
-        CHECK(r.code == HULL_POINTS && told == best && is_among(corners, count, p) && is_among(corners, count, q));
+        CHECK(r.code == HULL_POINTS && answer == best && is_among(vertices, count, p) && is_among(vertices, count, q));
         int same = 1;
         for (int64_t i = 0; i < 225; i++) {
             int64_t dx = i % 15 - 7, dy = i / 15 - 7, most = INT64_MIN, least = INT64_MAX;
             for (size_t j = 0; j < count; j++) {
-                int64_t at = dx * corners[j].x + dy * corners[j].y;
+                int64_t at = dx * vertices[j].x + dy * vertices[j].y;
                 most = at > most ? at : most, least = at < least ? at : least;
             }
-            hull_reply width = hull_polygon_width(corners, count, dx, dy);
+            hull_reply width = hull_polygon_width(vertices, count, dx, dy);
             same &= dx == 0 && dy == 0 ? bare(width, HULL_ZERO_DIRECTION) : number(width, HULL_NUMBER, (uint64_t)(most - least));
         }
-        CHECK(same && (count < 2 || is_least(corners, count)));
+        CHECK(same && (count < 2 || is_least(vertices, count)));
     }
-    CHECK(hull_polygon_least_width(corners, 0).code == HULL_EMPTY && hull_polygon_least_width(corners, 1).code == HULL_EMPTY);
+    CHECK(hull_polygon_least_width(vertices, 0).code == HULL_EMPTY && hull_polygon_least_width(vertices, 1).code == HULL_EMPTY);
     static const hull_point largest[] = {{-HULL_COORDINATE_MAX, -HULL_COORDINATE_MAX},
                                          {HULL_COORDINATE_MAX, -HULL_COORDINATE_MAX + 1},
                                          {HULL_COORDINATE_MAX, HULL_COORDINATE_MAX},
                                          {-HULL_COORDINATE_MAX, HULL_COORDINATE_MAX - 1}};
     hull_witness at_limit = hull_polygon_least_width(largest, 4);
     CHECK(at_limit.code == HULL_EDGE && at_limit.a.x == at_limit.b.x - 2 * HULL_COORDINATE_MAX);
-    CHECK(bare(hull_polygon_diameter(corners, 0), HULL_EMPTY) && bare(hull_polygon_width(corners, 0, 1, 0), HULL_EMPTY));
-    CHECK(bare(hull_polygon_width(corners, 3, HULL_COORDINATE_MAX + 1, 0), HULL_OUT_OF_RANGE));
+    CHECK(bare(hull_polygon_diameter(vertices, 0), HULL_EMPTY) && bare(hull_polygon_width(vertices, 0, 1, 0), HULL_EMPTY));
+    CHECK(bare(hull_polygon_width(vertices, 3, HULL_COORDINATE_MAX + 1, 0), HULL_OUT_OF_RANGE));
     static const int64_t far = HULL_COORDINATE_MAX;
     const hull_point wide[] = {{-far, -far}, {far, far}};
     hull_reply whole = hull_polygon_width(wide, 2, far, far);
@@ -1038,8 +1038,8 @@ static void extents(void) {
 }
 
 /* directions in doubles */
-static void in_doubles(void) {
-    static const hull_point corners[] = {{-7, 2}, {-5, -6}, {1, -9}, {8, -3}, {9, 4}, {3, 10}, {-4, 9}};
+static void check_doubles(void) {
+    static const hull_point vertices[] = {{-7, 2}, {-5, -6}, {1, -9}, {8, -3}, {9, 4}, {3, 10}, {-4, 9}};
     static const int64_t top = (int64_t)1 << 39;
     int64_t x = 5, y = 6;
     CHECK(hull_direction_from_doubles(1, -0.5, &x, &y) == HULL_EXACT && x == top && y == -top / 2);
@@ -1056,14 +1056,14 @@ static void in_doubles(void) {
     int same = 1;
     for (int64_t i = 0; i < 961; i++) {
         int64_t dx = i % 31 - 15, dy = i / 31 - 15;
-        hull_reply wanted = dx == 0 && dy == 0 ? hull_polygon_extreme(corners, 7, -1, 0) : hull_polygon_extreme(corners, 7, dx, dy);
-        hull_reply told = hull_polygon_extreme_d(corners, 7, (double)dx * 0x1p-900, (double)dy * 0x1p-900);
-        same &= told.code == HULL_POINT && told.x == wanted.x && told.y == wanted.y;
+        hull_reply wanted = dx == 0 && dy == 0 ? hull_polygon_extreme(vertices, 7, -1, 0) : hull_polygon_extreme(vertices, 7, dx, dy);
+        hull_reply answer = hull_polygon_extreme_d(vertices, 7, (double)dx * 0x1p-900, (double)dy * 0x1p-900);
+        same &= answer.code == HULL_POINT && answer.x == wanted.x && answer.y == wanted.y;
     }
     CHECK(same);
-    CHECK(bare(hull_polygon_extreme_d(corners, 7, NAN, 0), HULL_OUT_OF_RANGE));
-    CHECK(bare(hull_polygon_extreme_d(corners, 7, 0, -INFINITY), HULL_OUT_OF_RANGE));
-    CHECK(bare(hull_polygon_extreme_d(corners, 0, 0, 0), HULL_EMPTY));
+    CHECK(bare(hull_polygon_extreme_d(vertices, 7, NAN, 0), HULL_OUT_OF_RANGE));
+    CHECK(bare(hull_polygon_extreme_d(vertices, 7, 0, -INFINITY), HULL_OUT_OF_RANGE));
+    CHECK(bare(hull_polygon_extreme_d(vertices, 0, 0, 0), HULL_EMPTY));
     hull_set *h = hull_new(10);
     CHECK(bare(hull_extreme_d(h, 1, 1), HULL_EMPTY));
     hull_add(h, 4, 4), hull_add(h, 1, 5), hull_add(h, 1, 3);
@@ -1073,75 +1073,75 @@ static void in_doubles(void) {
 }
 
 /* segments, nearest points and boxes of a triangle, a line, a point and of nothing */
-static void encounters(void) {
-    static const hull_point corners[] = {{0, 0}, {8, 0}, {0, 6}};
+static void check_encounters(void) {
+    static const hull_point vertices[] = {{0, 0}, {8, 0}, {0, 6}};
     int meeting = 0, same = 1;
     for (int64_t i = 0; i < 14641; i++) {
         const int64_t s[] = {i % 11 - 1, i / 11 % 11 - 2, i / 121 % 11 - 1, i / 1331 - 2};
-        same &= parted(corners, 3, s) && parted(corners, 2, s) && parted(corners, 1, s);
-        meeting += hull_polygon_intersects_segment(corners, 3, s[0], s[1], s[2], s[3]).number == 1;
+        same &= is_separation_right(vertices, 3, s) && is_separation_right(vertices, 2, s) && is_separation_right(vertices, 1, s);
+        meeting += hull_polygon_intersects_segment(vertices, 3, s[0], s[1], s[2], s[3]).number == 1;
     }
     CHECK(same && meeting > 1000 && meeting < 14000);
-    CHECK(number(hull_polygon_intersects_segment(corners, 3, 8, 6, 0, 6), HULL_NUMBER, 1));
-    CHECK(number(hull_polygon_intersects_segment(corners, 3, 8, 1, 1, 6), HULL_NUMBER, 0));
-    CHECK(number(hull_polygon_intersects_segment(corners, 3, -1, 3, 9, 3), HULL_NUMBER, 1));
-    CHECK(two(hull_polygon_separation(corners, 3, -1, -2, 9, -2), HULL_DISJOINT, 0, 0, 0, -10));
-    CHECK(bare(hull_polygon_nearest(corners, 3, 1, 1), HULL_COVERED) && bare(hull_polygon_nearest(corners, 3, 4, 3), HULL_COVERED));
-    CHECK(two(hull_polygon_nearest(corners, 3, -1, -1), HULL_VERTEX, 0, 0, 0, 0));
-    CHECK(two(hull_polygon_nearest(corners, 3, 8, -5), HULL_VERTEX, 8, 0, 0, 0));
-    CHECK(two(hull_polygon_nearest(corners, 3, 8, 6), HULL_EDGE, 8, 0, 0, 6));
-    CHECK(two(hull_polygon_nearest(corners, 2, 4, 1), HULL_EDGE, 8, 0, 0, 0));
-    CHECK(two(hull_polygon_box(corners, 3), HULL_BOX, 0, 0, 8, 6) && two(hull_polygon_box(corners, 1), HULL_BOX, 0, 0, 0, 0));
-    CHECK(bare(hull_polygon_box(corners, 0), HULL_EMPTY) && bare(hull_polygon_nearest(corners, 0, 1, 1), HULL_EMPTY));
-    CHECK(bare(hull_polygon_separation(corners, 0, 0, 0, 1, 1), HULL_EMPTY));
-    CHECK(number(hull_polygon_intersects_segment(corners, 0, 0, 0, 1, 1), HULL_NUMBER, 0));
+    CHECK(number(hull_polygon_intersects_segment(vertices, 3, 8, 6, 0, 6), HULL_NUMBER, 1));
+    CHECK(number(hull_polygon_intersects_segment(vertices, 3, 8, 1, 1, 6), HULL_NUMBER, 0));
+    CHECK(number(hull_polygon_intersects_segment(vertices, 3, -1, 3, 9, 3), HULL_NUMBER, 1));
+    CHECK(two(hull_polygon_separation(vertices, 3, -1, -2, 9, -2), HULL_DISJOINT, 0, 0, 0, -10));
+    CHECK(bare(hull_polygon_nearest(vertices, 3, 1, 1), HULL_COVERED) && bare(hull_polygon_nearest(vertices, 3, 4, 3), HULL_COVERED));
+    CHECK(two(hull_polygon_nearest(vertices, 3, -1, -1), HULL_VERTEX, 0, 0, 0, 0));
+    CHECK(two(hull_polygon_nearest(vertices, 3, 8, -5), HULL_VERTEX, 8, 0, 0, 0));
+    CHECK(two(hull_polygon_nearest(vertices, 3, 8, 6), HULL_EDGE, 8, 0, 0, 6));
+    CHECK(two(hull_polygon_nearest(vertices, 2, 4, 1), HULL_EDGE, 8, 0, 0, 0));
+    CHECK(two(hull_polygon_box(vertices, 3), HULL_BOX, 0, 0, 8, 6) && two(hull_polygon_box(vertices, 1), HULL_BOX, 0, 0, 0, 0));
+    CHECK(bare(hull_polygon_box(vertices, 0), HULL_EMPTY) && bare(hull_polygon_nearest(vertices, 0, 1, 1), HULL_EMPTY));
+    CHECK(bare(hull_polygon_separation(vertices, 0, 0, 0, 1, 1), HULL_EMPTY));
+    CHECK(number(hull_polygon_intersects_segment(vertices, 0, 0, 0, 1, 1), HULL_NUMBER, 0));
     static const int64_t over = HULL_COORDINATE_MAX + 1;
-    CHECK(bare(hull_polygon_intersects_segment(corners, 3, over, 0, 0, 0), HULL_OUT_OF_RANGE));
-    CHECK(bare(hull_polygon_separation(corners, 3, 0, 0, 0, -over), HULL_OUT_OF_RANGE));
-    CHECK(bare(hull_polygon_nearest(corners, 3, INT64_MIN, 0), HULL_OUT_OF_RANGE));
+    CHECK(bare(hull_polygon_intersects_segment(vertices, 3, over, 0, 0, 0), HULL_OUT_OF_RANGE));
+    CHECK(bare(hull_polygon_separation(vertices, 3, 0, 0, 0, -over), HULL_OUT_OF_RANGE));
+    CHECK(bare(hull_polygon_nearest(vertices, 3, INT64_MIN, 0), HULL_OUT_OF_RANGE));
 }
 
-static void calls(void) {
-    hull_set *h = made(2);
+static void check_calls(void) {
+    hull_set *h = make_set(2);
     static const hull_request asked_for[] = {
         {HULL_KIND_ADD, 0, 0},      {HULL_KIND_ADD, 4, 0},          {HULL_KIND_ADD, 4, 0},   {HULL_KIND_ADD, 0, 3},
         {HULL_KIND_PLACE, 2, 0},    {HULL_KIND_TANGENTS, 2, 2},     {HULL_KIND_AREA, -1, 9}, {HULL_KIND_COUNT, 7, 7},
         {HULL_KIND_EXTREME, 1, 1},  {HULL_KIND_MULTIPLICITY, 4, 0}, {HULL_KIND_REMOVE, 4, 0}, {HULL_KIND_REMOVE, 9, 9},
         {HULL_KIND_EXTREME, 0, 0},  {HULL_KIND_ADD, 1, 1},
     };
-    hull_reply told[16], mark;
-    memset(told, 5, sizeof told);
+    hull_reply replies[16], mark;
+    memset(replies, 5, sizeof replies);
     memset(&mark, 5, sizeof mark);
-    CHECK(hull_calls(h, asked_for, 14, told, 3) == 3);
-    CHECK(bare(told[0], HULL_ADDED) && bare(told[1], HULL_ADDED) && number(told[2], HULL_AGAIN, 2));
-    CHECK(memcmp(&told[3], &mark, sizeof mark) == 0);
-    CHECK(hull_calls(h, asked_for + 3, 0, told, 16) == 0);
-    CHECK(hull_calls(h, asked_for + 3, 11, told, 16) == 10);
-    CHECK(bare(told[0], HULL_TOO_MANY) && bare(told[1], HULL_ON));
-    CHECK(told[2].code == HULL_TANGENTS && told[2].x == 4 && told[2].other_x == 0);
-    CHECK(number(told[3], HULL_NUMBER, 0) && number(told[4], HULL_NUMBER, 2) && point(told[5], 4, 0));
-    CHECK(number(told[6], HULL_NUMBER, 2) && number(told[7], HULL_LEFT, 1) && bare(told[8], HULL_ABSENT));
-    CHECK(bare(told[9], HULL_ZERO_DIRECTION) && memcmp(&told[10], &mark, sizeof mark) == 0);
+    CHECK(hull_calls(h, asked_for, 14, replies, 3) == 3);
+    CHECK(bare(replies[0], HULL_ADDED) && bare(replies[1], HULL_ADDED) && number(replies[2], HULL_AGAIN, 2));
+    CHECK(memcmp(&replies[3], &mark, sizeof mark) == 0);
+    CHECK(hull_calls(h, asked_for + 3, 0, replies, 16) == 0);
+    CHECK(hull_calls(h, asked_for + 3, 11, replies, 16) == 10);
+    CHECK(bare(replies[0], HULL_TOO_MANY) && bare(replies[1], HULL_ON));
+    CHECK(replies[2].code == HULL_TANGENTS && replies[2].x == 4 && replies[2].other_x == 0);
+    CHECK(number(replies[3], HULL_NUMBER, 0) && number(replies[4], HULL_NUMBER, 2) && point(replies[5], 4, 0));
+    CHECK(number(replies[6], HULL_NUMBER, 2) && number(replies[7], HULL_LEFT, 1) && bare(replies[8], HULL_ABSENT));
+    CHECK(bare(replies[9], HULL_ZERO_DIRECTION) && memcmp(&replies[10], &mark, sizeof mark) == 0);
     hull_request bad[] = {{HULL_KIND_COUNT, 0, 0}, {0, 0, 0}, {HULL_KIND_REMOVE, 0, 0}};
     for (uint32_t kind = 0; kind < 30; kind += kind == 0 ? 10 : 1) {
         bad[1].kind = kind;
         CHECK(bare(hull_call(h, kind, 0, 0), HULL_UNKNOWN_KIND));
-        CHECK(hull_calls(h, bad, 3, told, 16) == 2 && number(told[0], HULL_NUMBER, 2) && bare(told[1], HULL_UNKNOWN_KIND));
+        CHECK(hull_calls(h, bad, 3, replies, 16) == 2 && number(replies[0], HULL_NUMBER, 2) && bare(replies[1], HULL_UNKNOWN_KIND));
     }
     bad[1].kind = HULL_KIND_PLACE, bad[1].y = INT64_MIN;
-    CHECK(hull_calls(h, bad, 3, told, 16) == 2 && bare(told[1], HULL_OUT_OF_RANGE));
+    CHECK(hull_calls(h, bad, 3, replies, 16) == 2 && bare(replies[1], HULL_OUT_OF_RANGE));
     CHECK(number(hull_count(h), HULL_NUMBER, 2));
     hull_clear(h);
     hull_request refused[] = {{HULL_KIND_ADD, 7, 7}, {HULL_KIND_COUNT, 0, 0}};
     refused_from = 0, asked = 0;
-    CHECK(hull_calls(h, refused, 2, told, 2) == 2 && bare(told[0], HULL_NO_MEMORY) && number(told[1], HULL_NUMBER, 0));
+    CHECK(hull_calls(h, refused, 2, replies, 2) == 2 && bare(replies[0], HULL_NO_MEMORY) && number(replies[1], HULL_NUMBER, 0));
     refused_from = -1;
-    ended(h);
+    end_set(h);
 }
 
 /* many points come and go, with some of the memory refused: no call does more than its code says */
-static void refusals(void) {
-    hull_set *h = made(1000);
+static void check_refusals(void) {
+    hull_set *h = make_set(1000);
     uint64_t seed = 88172645463325252u, held = 0;
     int right = 1;
     for (int i = 0; i < 20000; i++) {
@@ -1165,48 +1165,48 @@ static void refusals(void) {
         right &= hull_count(h).number == held;
     }
     CHECK(right);
-    ended(h);
+    end_set(h);
 }
 
 /* the loop that the header gives for pieces: it ends, whatever the last piece ends with, and no point comes twice */
-static void pieces(void) {
+static void check_pieces(void) {
     const int64_t far = HULL_COORDINATE_MAX;
     for (size_t count = 0; count <= 12; count++) {
         for (int at_end = 0; at_end < 2; at_end++) {
-            hull_set *h = made(12);
+            hull_set *h = make_set(12);
             for (size_t i = 0; i < count; i++) {
                 hull_add(h, at_end ? far : 7, at_end ? far - (int64_t)i : (int64_t)i);
             }
-            for (size_t room = 1; room <= 5; room++) {
+            for (size_t capacity = 1; capacity <= 5; capacity++) {
                 hull_held piece[5];
                 hull_point at = {-HULL_COORDINATE_MAX, -HULL_COORDINATE_MAX};
                 hull_reply r = {.number = 1};
                 size_t seen = 0, rounds = 0;
                 while (r.number > 0 && at.x <= HULL_COORDINATE_MAX && rounds++ < 20) {
-                    r = hull_held_from(h, at.x, at.y, piece, room);
+                    r = hull_held_from(h, at.x, at.y, piece, capacity);
                     seen += (size_t)r.number;
                     if (r.number > 0) {
                         at = hull_held_after(piece[r.number - 1]);
                     }
                 }
                 CHECK(seen == count && rounds < 20 && r.code == HULL_NUMBER);
-                /* and one that goes on as long as pieces are full, as callers write it */
+                /* and one that continues as long as pieces are full, as callers write it */
                 seen = rounds = 0, at.x = at.y = -HULL_COORDINATE_MAX;
                 do {
-                    r = hull_held_from(h, at.x, at.y, piece, room);
+                    r = hull_held_from(h, at.x, at.y, piece, capacity);
                     seen += (size_t)r.number;
                     at = r.number > 0 ? hull_held_after(piece[r.number - 1]) : at;
-                } while (r.number == room && rounds++ < 20);
+                } while (r.number == capacity && rounds++ < 20);
                 CHECK(seen == count && rounds < 20);
             }
-            ended(h);
+            end_set(h);
         }
     }
 }
 
 /* a copy for which memory is refused says so, and leaves what was there */
-static void refused_copies(void) {
-    hull_set *h = made(9), *other = made(9);
+static void check_refused_copies(void) {
+    hull_set *h = make_set(9), *other = make_set(9);
     for (int64_t i = 0; i < 9; i++) {
         hull_add(h, i, i * i), hull_add(other, 50, i);
     }
@@ -1221,11 +1221,11 @@ static void refused_copies(void) {
         CHECK(bare(r, HULL_NO_MEMORY) && number(hull_multiplicity(other, 50, 8), HULL_NUMBER, 1));
     }
     CHECK(refusals > 2 && number(hull_multiplicity(other, 8, 64), HULL_NUMBER, 1));
-    ended(h), ended(other);
+    end_set(h), end_set(other);
 }
 
-/* The table of lattice.txt, which all languages are tried by: doubles and their coordinates, both ways. */
-static void lattice(const char *table) {
+/* The table of lattice.txt, by which all languages are tested: doubles and their coordinates, both ways. */
+static void check_lattice(const char *table) {
     FILE *file = fopen(table, "r");
     char row[200], how[20];
     int cases = 0;
@@ -1241,9 +1241,9 @@ static void lattice(const char *table) {
         double v;
         int64_t got = 77;
         memcpy(&v, &word, sizeof v);
-        hull_rounding told = hull_from_double(v, power, &got);
-        int right = strcmp(how, "none") == 0 ? told == HULL_NO_COORDINATE && got == 77
-                                             : got == wanted && told == (strcmp(how, "exact") == 0 ? HULL_EXACT : HULL_ROUNDED);
+        hull_rounding answer = hull_from_double(v, power, &got);
+        int right = strcmp(how, "none") == 0 ? answer == HULL_NO_COORDINATE && got == 77
+                                             : got == wanted && answer == (strcmp(how, "exact") == 0 ? HULL_EXACT : HULL_ROUNDED);
         check(right, row, __LINE__);
         check(strcmp(how, "exact") != 0 || abs(power) >= 900 || hull_to_double(wanted, power) == v, row, __LINE__);
         cases++;
@@ -1255,8 +1255,8 @@ static void lattice(const char *table) {
     }
 }
 
-/* a number as text tells its double from all others */
-static void numbers(void) {
+/* a number as text distinguishes its double from all others */
+static void check_numbers(void) {
     static const struct {
         int64_t coordinate;
         int power;
@@ -1271,22 +1271,22 @@ static void numbers(void) {
 }
 
 /* whether hull_polygon_of writes what a hull of these points has */
-static int is_outline_of(const hull_point *points, size_t count) {
-    enum { ROOM = 64 };
-    hull_point wanted[ROOM], got[ROOM];
-    hull_set *h = hull_new(ROOM);
+static int is_polygon_of(const hull_point *points, size_t count) {
+    enum { CAPACITY = 64 };
+    hull_point wanted[CAPACITY], got[CAPACITY];
+    hull_set *h = hull_new(CAPACITY);
     memset(got, 5, sizeof got);
     memset(wanted, 5, sizeof wanted);
     hull_load(h, points, count);
-    hull_reply r = hull_vertices(h, wanted, ROOM), told = hull_polygon_of(points, count, got, ROOM);
-    int same = number(told, HULL_VERTICES, r.number) && memcmp(wanted, got, sizeof got) == 0;
+    hull_reply r = hull_vertices(h, wanted, CAPACITY), answer = hull_polygon_of(points, count, got, CAPACITY);
+    int same = number(answer, HULL_VERTICES, r.number) && memcmp(wanted, got, sizeof got) == 0;
     same &= r.number == 0 || number(hull_polygon_of(points, count, got, (size_t)r.number - 1), HULL_TOO_SMALL, r.number);
     hull_free(h);
     return same && memcmp(wanted, got, sizeof got) == 0;
 }
 
-/* outlines of any points: rings from each corner on and in either sense, and points in any order */
-static void outlines_of_points(void) {
+/* polygons of any points: rings from each vertex on and in either sense, and points in any order */
+static void check_polygons_of_points(void) {
     static const hull_point ring[] = {{-7, 2}, {-5, -6}, {1, -9}, {8, -3}, {9, 4}, {3, 10}, {-4, 9}};
     const int64_t far = HULL_COORDINATE_MAX;
     for (size_t count = 0; count <= 7; count++) {
@@ -1295,7 +1295,7 @@ static void outlines_of_points(void) {
             for (size_t i = 0; i < count; i++) {
                 there[i] = ring[(first + i) % count], back[i] = ring[(first + count - i) % count];
             }
-            CHECK(is_outline_of(there, count) && is_outline_of(back, count));
+            CHECK(is_polygon_of(there, count) && is_polygon_of(back, count));
         }
     }
     uint64_t seed = 88172645463325252u;
@@ -1309,10 +1309,10 @@ static void outlines_of_points(void) {
             seed ^= seed << 13, seed ^= seed >> 7, seed ^= seed << 17;
             points[i].x = (int64_t)(seed % (uint64_t)wide), points[i].y = (int64_t)(seed / 1000 % (uint64_t)wide);
         }
-        same &= is_outline_of(points, count);
+        same &= is_polygon_of(points, count);
     }
     CHECK(same);
-    /* a kind that no outline can be asked is told, whatever the numbers are */
+    /* a kind that no polygon can be asked is reported, whatever the numbers are */
     for (uint32_t kind = 0; kind < 12; kind++) {
         if (kind < HULL_KIND_PLACE || kind > HULL_KIND_AREA) {
             CHECK(bare(hull_polygon_call(ring, 7, kind, far + 1, 0), HULL_UNKNOWN_KIND));
@@ -1320,7 +1320,7 @@ static void outlines_of_points(void) {
         }
     }
     hull_point out[4] = {{5, 5}}, widest[] = {{far, far}, {-far, far}, {-far, -far}, {far, -far}};
-    CHECK(is_outline_of(widest, 4));
+    CHECK(is_polygon_of(widest, 4));
     widest[2].x = -far - 1;
     CHECK(bare(hull_polygon_of(widest, 4, out, 4), HULL_OUT_OF_RANGE) && out[0].x == 5);
     CHECK(number(hull_polygon_of(NULL, 0, NULL, 0), HULL_VERTICES, 0));
@@ -1344,7 +1344,7 @@ static void outlines_of_points(void) {
 }
 
 /* a hull of malloc's, and the names of codes */
-static void new_ones(void) {
+static void check_new_ones(void) {
     CHECK(hull_new(0) == NULL && hull_new(HULL_LIMIT_MAX + 1) == NULL);
     hull_set *h = hull_new(HULL_LIMIT_MAX);
     CHECK(h != NULL && (uintptr_t)h % hull_alignment() == 0);
@@ -1356,10 +1356,10 @@ static void new_ones(void) {
     CHECK(hull_new(1) == NULL);
     refused_from = -1;
     for (size_t alignment = 1; alignment <= 4096; alignment *= 2) {
-        unsigned char *room = hull_storage_new(17, alignment);
-        CHECK(room != NULL && (uintptr_t)room % alignment == 0);
-        memset(room, 7, 17);
-        hull_storage_free(room);
+        unsigned char *storage = hull_storage_new(17, alignment);
+        CHECK(storage != NULL && (uintptr_t)storage % alignment == 0);
+        memset(storage, 7, 17);
+        hull_storage_free(storage);
     }
     /* in the order of their numbers, which will not change */
     static const char *const names[] = {
@@ -1383,8 +1383,8 @@ static void new_ones(void) {
 }
 
 /* Each call that is passed an array, with none: null and no elements. */
-static void no_arrays(void) {
-    hull_set *h = made(2);
+static void check_no_arrays(void) {
+    hull_set *h = make_set(2);
     hull_point at = {1, 1};
     CHECK(number(hull_vertices(h, NULL, 0), HULL_VERTICES, 0));
     CHECK(hull_calls(h, NULL, 0, NULL, 0) == 0);
@@ -1410,40 +1410,40 @@ static void no_arrays(void) {
     CHECK(hull_polygon_witness(NULL, 0, NULL, 0).code == HULL_EMPTY);
     CHECK(hull_polygon_distance(NULL, 0, &at, 1).code == HULL_EMPTY);
     CHECK(number(hull_is_polygon(NULL, 0), HULL_NUMBER, 1));
-    ended(h);
+    end_set(h);
 }
 
 int main(int words, char **word) {
-    lattice(words > 1 ? word[1] : "lattice.txt");
+    check_lattice(words > 1 ? word[1] : "lattice.txt");
     CHECK(hull_size() > 0);
     CHECK(hull_alignment() > 0 && (hull_alignment() & (hull_alignment() - 1)) == 0);
-    new_ones();
-    limits();
-    changes();
-    questions();
-    corners();
-    many_corners();
-    loads();
-    held_points();
-    pieces();
-    refused_copies();
-    numbers();
-    bridges();
-    outlines();
-    outlines_of_points();
-    encounters();
-    two_outlines();
-    many_outlines();
-    motions();
-    nearest_held();
-    clearances();
-    segments_beside();
-    casts();
-    extents();
-    in_doubles();
-    calls();
-    refusals();
-    no_arrays();
+    check_new_ones();
+    check_limits();
+    check_changes();
+    check_questions();
+    check_vertices();
+    check_many_vertices();
+    check_loads();
+    check_held_points();
+    check_pieces();
+    check_refused_copies();
+    check_numbers();
+    check_bridges();
+    check_polygons();
+    check_polygons_of_points();
+    check_encounters();
+    check_two_polygons();
+    check_many_polygons();
+    check_motions();
+    check_nearest_held();
+    check_distance_bounds();
+    check_segments_beside();
+    check_raycasts();
+    check_extents();
+    check_doubles();
+    check_calls();
+    check_refusals();
+    check_no_arrays();
     printf("codes: %d passed, %d failed\n", passed, failed);
     return failed != 0;
 }

@@ -22,8 +22,8 @@ int main(void) {
         return 1;
     }
     for (int64_t i = 0; i < NUMBER; i++) {
-        int64_t place = i * 611953 % NUMBER;
-        points[i].x = place % SIDE, points[i].y = place / SIDE;
+        int64_t at = i * 611953 % NUMBER;
+        points[i].x = at % SIDE, points[i].y = at / SIDE;
     }
     hull_reply loaded = hull_load(h, points, NUMBER);
     check(loaded.code == HULL_NUMBER && loaded.number == NUMBER, "each point is loaded");
@@ -31,7 +31,7 @@ int main(void) {
     check(hull_place(h, SIDE / 2, SIDE / 2).code == HULL_INSIDE, "the middle is inside");
     check(hull_place(h, SIDE / 2, 0).code == HULL_ON, "the middle of an edge is on the hull");
     check(hull_add(h, 2000, 2000).code == HULL_TOO_MANY, "one point more is too many");
-    check(hull_remove(h, 0, 0).code == HULL_REMOVED && hull_area(h).number == AREA - 1, "a corner goes");
+    check(hull_remove(h, 0, 0).code == HULL_REMOVED && hull_area(h).number == AREA - 1, "a vertex goes");
     check(hull_add(h, 0, 0).code == HULL_ADDED && hull_area(h).number == AREA, "and comes back");
     hull_free(h);
     free(points);

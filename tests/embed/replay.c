@@ -1,4 +1,4 @@
-/* Makes the calls of random_calls.py on a hull of hull.h and on its outline: replay FILE. Tells how many were made. */
+/* Makes the calls of random_calls.py on a hull of hull.h and on its polygon: replay FILE. Prints how many were made. */
 #include "hull.h"
 #include <stdio.h>
 #include <stdlib.h>
@@ -6,8 +6,8 @@
 
 static const char *const words[] = {"", "add", "remove", "place", "tangents", "extreme", "vertices", "area", "", "multiplicity"};
 
-/* what a reply tells, in the words of the file */
-static void tell(hull_reply r, uint32_t kind, char *out) {
+/* writes what a reply says, in the words of the file */
+static void write_reply(hull_reply r, uint32_t kind, char *out) {
     const char *const places[] = {"inside", "on", "outside"};
     *out = 0;
     switch (r.code) {
@@ -38,23 +38,23 @@ static void tell(hull_reply r, uint32_t kind, char *out) {
 }
 
 static int is_right(hull_set *h, uint32_t kind, int64_t x, int64_t y, const char *wanted) {
-    static char told[4096];
-    static hull_point corners[64];
-    size_t count = (size_t)hull_vertices(h, corners, 64).number;
+    static char text[4096];
+    static hull_point vertices[64];
+    size_t count = (size_t)hull_vertices(h, vertices, 64).number;
     if (kind == HULL_KIND_VERTICES) {
-        told[0] = 0;
+        text[0] = 0;
         for (size_t i = 0, at = 0; i < count; i++) {
-            at += (size_t)sprintf(told + at, " %lld %lld", (long long)corners[i].x, (long long)corners[i].y);
+            at += (size_t)sprintf(text + at, " %lld %lld", (long long)vertices[i].x, (long long)vertices[i].y);
         }
-        return strcmp(told, wanted) == 0;
+        return strcmp(text, wanted) == 0;
     }
-    hull_reply of_outline = hull_polygon_call(corners, count, kind, x, y);
-    tell(hull_call(h, kind, x, y), kind, told);
-    if (strcmp(told, wanted) != 0) {
+    hull_reply of_polygon = hull_polygon_call(vertices, count, kind, x, y);
+    write_reply(hull_call(h, kind, x, y), kind, text);
+    if (strcmp(text, wanted) != 0) {
         return 0;
     }
-    tell(of_outline, kind, told);
-    return of_outline.code == HULL_UNKNOWN_KIND || strcmp(told, wanted) == 0;
+    write_reply(of_polygon, kind, text);
+    return of_polygon.code == HULL_UNKNOWN_KIND || strcmp(text, wanted) == 0;
 }
 
 int main(int count, char **file) {
@@ -65,10 +65,10 @@ int main(int count, char **file) {
     while (calls != NULL && fgets(line, sizeof line, calls) != NULL) {
         char word[16];
         long long x, y;
-        int behind = 0;
+        int length = 0;
         uint32_t kind = 9;
         line[strcspn(line, "\n")] = 0;
-        if (sscanf(line, "%15s %lld %lld%n", word, &x, &y, &behind) != 3) {
+        if (sscanf(line, "%15s %lld %lld%n", word, &x, &y, &length) != 3) {
             return 2;
         }
         if (strcmp(word, "move") == 0) {
@@ -78,7 +78,7 @@ int main(int count, char **file) {
         while (kind > 0 && strcmp(word, words[kind]) != 0) {
             kind--;
         }
-        if (!is_right(h, kind, x, y, line + behind)) {
+        if (!is_right(h, kind, x, y, line + length)) {
             printf("wrong: %s\n", line);
             return 1;
         }

@@ -30,7 +30,7 @@ compile() {
     [ -f "$source" ] || source=$here/$1.c
     output=$room/$1
     shift
-    # shellcheck disable=SC2046 # the flags stand apart by spaces
+    # shellcheck disable=SC2046 # the flags are separated by spaces
     cc -std=c11 -Wall -Wextra -Werror -O2 -g "$@" "$source" $(flags) -o "$output"
 }
 
@@ -39,7 +39,7 @@ page_has_calls() {
     page=$top/man/$1.3
     shift
     missing=$(sed -n 's/^[a-z][a-z0-9_ ]*[ *]\(hull_[a-z_]*\)(.*/\1/p' "$@" | sort -u |
-        grep -vE '_or_null$|_faults?$|_refusal$|^hull_(array|room_new|room_free|clearance_scaled|is_equal_double)$' |
+        grep -vE '_or_null$|_faults?$|_refusal$|^hull_(array|storage_new|storage_free|distance_bounds_scaled|is_equal_double)$' |
         grep -vE '_with_line$|^hull_shared_call_into$' |
         while read -r name; do grep -q "$name[^a-z_]\|$name\$" "$page" || echo "$name"; done)
     [ -z "$missing" ] || { echo "not on $page: $missing"; return 1; }
@@ -66,21 +66,21 @@ in_c() {
     attempt "codes.c compiles" compile codes -Wl,--wrap=malloc,--wrap=calloc,--wrap=realloc
     attempt "every code of every function" "$room/codes" "$here/lattice.txt"
     attempt "grid.c compiles" compile grid
-    attempt "each 13th pair of outlines of a small grid, by all corners and edges" "$room/grid" 13
+    attempt "each 13th pair of polygons of a small grid, by all vertices and edges" "$room/grid" 13
     attempt "rays.c compiles" compile rays
-    attempt "rays and segments at all outlines of a small grid, by all edges" "$room/rays" 2
+    attempt "rays and segments to all polygons of a small grid, by all edges" "$room/rays" 2
     attempt "checked.c compiles" compile checked -Wl,--wrap=malloc
-    attempt "a checked build tells of arrays that are no outline" "$room/checked"
+    attempt "a checked build reports arrays that are no convex polygon" "$room/checked"
     attempt "replay.c compiles" compile replay
     replays C "$room/replay"
     attempt "full.c compiles" compile full
     attempt "as many points as there may be" "$room/full"
-    attempt "settled.c compiles" compile settled -Wl,--wrap=malloc,--wrap=realloc
-    attempt "settled hulls answer as others do" "$room/settled"
+    attempt "prepared.c compiles" compile prepared -Wl,--wrap=malloc,--wrap=realloc
+    attempt "prepared hulls answer as others do" "$room/prepared"
     attempt "refusals.c compiles" compile refusals -Wl,--wrap=malloc,--wrap=realloc,--wrap=free
     attempt "each request for memory refused in turn" "$room/refusals"
     if echo '#include <ccd/ccd.h>' | cc -E - >/dev/null 2>&1; then
-        # shellcheck disable=SC2046 # the flags stand apart by spaces
+        # shellcheck disable=SC2046 # the flags are separated by spaces
         attempt "examples/embed/gjk.c compiles beside libccd" \
             cc -std=c11 -Wall -Wextra -Werror -O2 "$examples/gjk.c" $(flags) -lccd -lm -o "$room/gjk"
         attempt "examples/embed/gjk.c writes examples/embed/gjk.txt" writes "$examples/gjk.txt" "$room/gjk"
@@ -94,7 +94,7 @@ in_c() {
     done
     sed -n '/^```c$/,/^```$/{/^```/!p;}' "$top/README.md" >"$room/readme.c"
     for standard in c99 c11; do
-        # shellcheck disable=SC2046 # the flags stand apart by spaces
+        # shellcheck disable=SC2046 # the flags are separated by spaces
         attempt "the README's program is $standard" \
             cc -std=$standard -pedantic -Wall -Wextra -Werror "$room/readme.c" $(flags) -o "$room/readme"
         attempt "the README's program says that (5, 5) is inside" sh -c "'$room/readme' | grep -qx '(5, 5) is inside: 1'"
@@ -127,7 +127,7 @@ in_cplusplus() {
         attempt "$header is C++17 without exceptions" is_cplusplus $header -std=c++17 -fno-exceptions
     done
     attempt "hull.hpp says that it needs C++17" wants_17
-    # shellcheck disable=SC2046 # the flags stand apart by spaces
+    # shellcheck disable=SC2046 # the flags are separated by spaces
     attempt "the README's program is C++17" \
         c++ -x c++ -std=c++17 -pedantic -Wall -Wextra -Werror "$room/readme.c" -x none $(flags) -o "$room/readme"
     # shellcheck disable=SC2046
@@ -143,7 +143,7 @@ in_cplusplus() {
         "$examples/planner.cpp" $(flags) -lhull_shared -lpthread -o "$room/planner"
     attempt "examples/embed/planner.cpp writes examples/embed/planner.txt" writes "$examples/planner.txt" "$room/planner"
     ompl=$(pkg-config --cflags ompl eigen3 2>/dev/null) || ompl=
-    # shellcheck disable=SC2086 # the flags stand apart by spaces
+    # shellcheck disable=SC2086 # the flags are separated by spaces
     if echo '#include <ompl/base/MotionValidator.h>' | c++ $ompl -std=c++17 -x c++ -E - >/dev/null 2>&1; then
         # shellcheck disable=SC2046
         attempt "examples/embed/sampling.cpp compiles beside OMPL" c++ $ompl -std=c++17 -Wall -Wextra -O2 \
@@ -197,7 +197,7 @@ in_rust() {
         attempt "cargo builds rust/hull" \
             env HULL_PREFIX="$prefix" cargo build --offline --quiet --manifest-path "$room/crate/Cargo.toml"
         attempt "cargo builds a program over the crate that is installed" by_cargo
-        attempt "cargo is told where the archives are not" tells_missing_archives
+        attempt "a build without the archives says what is missing" says_what_is_missing
     else
         skip "rust/hull by cargo" cargo
     fi
@@ -221,7 +221,7 @@ END
 }
 
 # whether a build with no archives fails, and names what is missing and what to do
-tells_missing_archives() {
+says_what_is_missing() {
     ! env HULL_PREFIX="$room/none" CARGO_TARGET_DIR="$room/target" \
         cargo build --offline --quiet --manifest-path "$prefix/lib/rust/hull/Cargo.toml" >"$room/said" 2>&1 &&
         grep -q "libhull.a and libhull_shared.a are not both in $room/none/lib" "$room/said" && grep -q "bin/install" "$room/said"
@@ -243,7 +243,7 @@ pythons() {
 slowed() {
     object=$1
     shift
-    # shellcheck disable=SC2046 # the flags stand apart by spaces
+    # shellcheck disable=SC2046 # the flags are separated by spaces
     cc -shared -fPIC -O2 -g -Wall -Wextra -Werror "$@" -I"$prefix/include" -I"$top/python" -o "$room/slow_$object.so" \
         "$top/python/${object}_calls.c" "$here/overlaps.c" \
         $(sed -n 's/^SLOW([a-z0-9_]*, \([a-z_]*\),.*/-Wl,--wrap=\1/p' "$here/overlaps.c") -Wl,--wrap=malloc,--wrap=calloc,--wrap=realloc \
@@ -323,22 +323,22 @@ in_many_processes() {
         skip "polygons by Dask's workers" "python3 with numpy and distributed (python3-distributed)"
     fi
     if is_there mpicc && is_there mpirun; then
-        # shellcheck disable=SC2046 # the flags stand apart by spaces
+        # shellcheck disable=SC2046 # the flags are separated by spaces
         attempt "examples/large/reduce.c compiles" mpicc -std=c11 -Wall -Wextra -Werror -O2 "$top/examples/large/reduce.c" $(flags) -o "$room/reduce"
         for processes in 1 3 4; do
             attempt "examples/large/reduce.c by $processes processes" by_mpi "$processes" square 2000000 square 1 65536
-            attempt "examples/large/reduce.c by $processes, where all are corners" by_mpi "$processes" parabola 262144 parabola 1 16384
+            attempt "examples/large/reduce.c by $processes, with points that are all vertices" by_mpi "$processes" parabola 262144 parabola 1 16384
         done
     else
-        skip "outlines reduced by MPI" "mpicc (libopenmpi-dev, openmpi-bin)"
+        skip "polygons reduced by MPI" "mpicc (libopenmpi-dev, openmpi-bin)"
     fi
 }
 
-# the listings of docs/PLANNERS.md in a language, each between two lines: FENCE BEFORE BEHIND
+# the listings of docs/PLANNERS.md in a language, each between two lines: FENCE BEFORE AFTER
 listings() {
-    awk -v fence="\`\`\`$1" -v before="$2" -v behind="$3" '
+    awk -v fence="\`\`\`$1" -v before="$2" -v after="$3" '
         $0 == fence { inside = 1; print before; next }
-        /^```$/ && inside { inside = 0; print behind; next }
+        /^```$/ && inside { inside = 0; print after; next }
         inside' "$top/docs/PLANNERS.md"
 }
 
@@ -352,7 +352,7 @@ planners() {
 in_planners() {
     attempt "docs/PLANNERS.md has three listings in C and in Python" planners
     if is_there cc; then
-        # shellcheck disable=SC2046 # the flags stand apart by spaces
+        # shellcheck disable=SC2046 # the flags are separated by spaces
         attempt "those in C compile" cc -std=c11 -Wall -Wextra -Werror -O2 -UNDEBUG "$room/planners.c" $(flags) -o "$room/planners"
         attempt "those in C are true" "$room/planners"
     else
@@ -366,7 +366,7 @@ if ! { "$top/tools/product.sh" program hullbook && "$top/tools/product.sh" progr
     what=--library
     skip "the programs' installation" "hullbook or hulldraw of these sources"
 fi
-# shellcheck disable=SC2086 # no word where there is no option
+# shellcheck disable=SC2086 # no word if there is no option
 attempt "bin/install" "$top/bin/install" $what "$prefix"
 [ "$failed" -eq 0 ] || end
 

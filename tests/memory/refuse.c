@@ -1,4 +1,4 @@
-/* Refuses one request for memory, the one whose number, counted from 1, is in REFUSED_REQUEST, and tells so by a byte to
+/* Refuses one request for memory, the one whose number, counted from 1, is in REFUSED_REQUEST, and reports so by a byte to
  * the file descriptor MET, if that is open; the C library serves the others. To be loaded before the C library
  * (LD_PRELOAD). */
 extern void *__libc_malloc(unsigned long);
@@ -11,10 +11,10 @@ extern long write(int, const void *, unsigned long);
 
 enum { NO_MEMORY = 12, MET = 9 };
 
-/* how many requests came, and the number of the one to refuse, which is -1 where none is */
+/* how many requests came, and the number of the one to refuse, which is -1 if none is */
 static long requests, chosen;
 
-static int is_refused(void) {
+static int refuse_next(void) {
     if (chosen == 0) {
         const char *word = getenv("REFUSED_REQUEST");
         chosen = word ? atol(word) : -1;
@@ -26,19 +26,19 @@ static int is_refused(void) {
 }
 
 void *malloc(unsigned long size) {
-    return is_refused() ? 0 : __libc_malloc(size);
+    return refuse_next() ? 0 : __libc_malloc(size);
 }
 
 void *calloc(unsigned long count, unsigned long size) {
-    return is_refused() ? 0 : __libc_calloc(count, size);
+    return refuse_next() ? 0 : __libc_calloc(count, size);
 }
 
 void *realloc(void *block, unsigned long size) {
-    return is_refused() ? 0 : __libc_realloc(block, size);
+    return refuse_next() ? 0 : __libc_realloc(block, size);
 }
 
 void *memalign(unsigned long alignment, unsigned long size) {
-    return is_refused() ? 0 : __libc_memalign(alignment, size);
+    return refuse_next() ? 0 : __libc_memalign(alignment, size);
 }
 
 void *aligned_alloc(unsigned long alignment, unsigned long size) {

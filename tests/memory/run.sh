@@ -17,18 +17,18 @@ program=$(linked_program hullbook) || { echo 'the program is not linked here'; s
 
 # how many runs in a row have to come out whole: then no request is left
 enough=20
-# the line of a script behind which a journal is read
-behind=0
+# the line of a script after which a journal is read
+after=0
 # whether the engine works while the text is read
 mixed=0
 
 # the stage of a run that has ended with this status
 stage_of() {
     if [ "$1" = 4 ] && [ ! -s "$room/output" ]; then
-        awk -v behind="$behind" '
+        awk -v after="$after" '
             /^hullbook: memory$/ { print "memory" }
             /^hullbook: line [0-9]+: fault 10$/ { print "text " $3 + 0 }
-            /^hullbook: journal: line [0-9]+: fault 10$/ { print "text " behind + $4 }' "$room/error"
+            /^hullbook: journal: line [0-9]+: fault 10$/ { print "text " after + $4 }' "$room/error"
     elif [ "$1" = 0 ] && [ ! -s "$room/error" ]; then
         if cmp -s "$room/output" "$room/whole"; then
             echo whole
@@ -60,14 +60,14 @@ stages() {
 # stages that have to come, counted from 0
 judge() {
     awk -v last="$1" -v wanted="$2" -v name="$3" -v mixed="$mixed" '
-        function told(what) { print name ", request " $1 " refused: " what; failed++ }
+        function report(what) { print name ", request " $1 " refused: " what; failed++ }
         $2 == "memory" { stage = at == 0 ? 0 : 2 }
         $2 == "text" { stage = mixed && at == 2 ? 2 : 1; seen[1] = 1 }
         $2 == "answers" { stage = 3 }
         $2 == "whole" { stage = 4 }
-        $2 == "else" { told("no stage"); next }
-        stage < at { told("a stage again: " $2); next }
-        $2 == "text" && ($3 < line || $3 < 1 || $3 > last) { told("line " $3 " after line " line); next }
+        $2 == "else" { report("no stage"); next }
+        stage < at { report("a stage again: " $2); next }
+        $2 == "text" && ($3 < line || $3 < 1 || $3 > last) { report("line " $3 " after line " line); next }
         { at = stage; line = $2 == "text" ? $3 : line; seen[stage] = 1; passed++ }
         END {
             if (line != last) { print name ": line " last " never came"; failed++ }
@@ -76,16 +76,16 @@ judge() {
         }'
 }
 
-# tries the words behind NAME, LAST and WANTED on the program
+# tries the words after NAME, LAST and WANTED on the program
 try() {
     name=$1
     last=$2
     wanted=$3
     shift 3
     "$program" "$@" >"$room/whole"
-    told=$(stages "$@" | judge "$last" "$wanted" "$name")
-    echo "$told" | sed '$d'
-    counts=$(echo "$told" | tail -n 1)
+    results=$(stages "$@" | judge "$last" "$wanted" "$name")
+    echo "$results" | sed '$d'
+    counts=$(echo "$results" | tail -n 1)
     echo "$name: $counts"
     passed=$((passed + ${counts% *}))
     failed=$((failed + ${counts#* }))
@@ -93,7 +93,7 @@ try() {
 
 printf '0 add 0 0\n0 add 4 0\n0 add 2 3\n0 add 2 1\n0 remove 2 3\n0 vertices\n0 area\n' >"$room/script"
 "$program" run "$room/script" --journal >"$room/journal"
-# A script is put together behind its last line; the list in line 7 is the last thing of the journal that takes memory.
+# A script is put together after its last line; the list in line 7 is the last thing of the journal that takes memory.
 try report 8 01234 run "$room/script"
 try journal 8 01234 run "$room/script" --journal
 mixed=1
@@ -102,10 +102,10 @@ mixed=0
 try 'whole check' 7 0124 check "$room/journal" --explain
 try upgrade 7 014 upgrade "$room/journal"
 try compact 7 0124 compact "$room/journal"
-behind=8
+after=8
 try after 15 01234 run "$room/script" --after "$room/journal"
 try 'journal after' 15 01234 run "$room/script" --after "$room/journal" --journal
-# What is put together behind a last line without a newline stands in the line after it.
+# What is put together after a last line without a newline is in the line after it.
 printf '0 count' >"$room/short"
 try unfinished 2 0124 run "$room/short"
 end

@@ -1,6 +1,6 @@
 /* Runs the program that it is linked with again and again, before its `main`: each time with the next of its requests for
  * memory refused, in a process of its own, until a run meets no refusal. All that a run writes goes to standard output, and
- * behind it a line: `refused: status N`, or `ample: status N` for the last. Linked by trials.py (x86-64 alone).
+ * after it a line: `refused: status N`, or `ample: status N` for the last. Linked by trials.py (x86-64 only).
  *
  * The program asks the kit's `rattle_alloc` and `rattle_realloc` for memory, as the kit's crate `libc` declares them. No code
  * beside may define those names, so their first bytes are overwritten with a jump to the functions here. */
@@ -12,7 +12,7 @@
 #include <sys/wait.h>
 #include <unistd.h>
 
-/* what the two answer: whether there is memory, and where; a place that nobody owns where there is none */
+/* what the two return: whether there is memory, and where; the address of a byte of no block if there is none */
 struct tried {
     _Bool ok;
     void *p;
@@ -25,25 +25,25 @@ enum { OUTPUT = 1, ERROR = 2, MET = 9, MOST = 1000, PAGE = 4096 };
 /* how many requests came, and the number of the one to refuse */
 static long requests, chosen;
 
-static struct tried answer(void *block) {
+static struct tried result_of(void *block) {
     static char nothing;
     return block ? (struct tried){1, block} : (struct tried){0, &nothing};
 }
 
-static int is_refused(void) {
+static int refuse_next(void) {
     if (__atomic_add_fetch(&requests, 1, __ATOMIC_SEQ_CST) != chosen)
         return 0;
     (void)!write(MET, "!", 1);
     return 1;
 }
 
-static struct tried asked(size_t size, size_t alignment) {
-    return answer(is_refused() ? NULL : malloc(size ? size : alignment));
+static struct tried allocate(size_t size, size_t alignment) {
+    return result_of(refuse_next() ? NULL : malloc(size ? size : alignment));
 }
 
-static struct tried asked_again(void *block, size_t kept, size_t size, size_t alignment) {
+static struct tried reallocate(void *block, size_t kept, size_t size, size_t alignment) {
     (void)kept;
-    return answer(is_refused() ? NULL : realloc(block, size ? size : alignment));
+    return result_of(refuse_next() ? NULL : realloc(block, size ? size : alignment));
 }
 
 /* Has a function of the program jump to another: movabs $to, %rax; jmp *%rax. */
@@ -57,8 +57,8 @@ static int redirect(uintptr_t at, uintptr_t to) {
     return 1;
 }
 
-/* Waits for a run and writes its line. Whether it met a refusal. */
-static int has_met(int run, int met) {
+/* Waits for a run and writes its line. Returns whether a request of it was refused. */
+static int wait_for_run(int run, int met) {
     int status = -1;
     char byte;
     int refused = read(met, &byte, 1) == 1;
@@ -77,7 +77,7 @@ static void keep_as(int number, int end, int other) {
 }
 
 __attribute__((constructor)) static void sweep(void) {
-    if (!redirect((uintptr_t)rattle_alloc, (uintptr_t)asked) || !redirect((uintptr_t)rattle_realloc, (uintptr_t)asked_again))
+    if (!redirect((uintptr_t)rattle_alloc, (uintptr_t)allocate) || !redirect((uintptr_t)rattle_realloc, (uintptr_t)reallocate))
         _exit(1);
     for (long number = 1; number <= MOST; number++) {
         int met[2];
@@ -91,7 +91,7 @@ __attribute__((constructor)) static void sweep(void) {
             return;
         }
         close(met[1]);
-        int refused = has_met(run, met[0]);
+        int refused = wait_for_run(run, met[0]);
         close(met[0]);
         if (!refused)
             break;

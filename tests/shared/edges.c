@@ -1,4 +1,4 @@
-/* edges FOLDER [TEST]: what the file of a journal has to bear: a close while something is out or somebody waits, a file that others
+/* edges FOLDER [TEST]: what a journal file has to bear: a close while a seat or a reader is out or a thread waits, a file that others
  * change, files and names that an attacker chose, changed bytes, refused calls of the system, and the order of those calls. Each test has
  * a file of its own in the folder. The status is 0 only if each is as it should be; a hang ends the program after two minutes. */
 #define _GNU_SOURCE
@@ -19,12 +19,12 @@
 static const uint64_t MILLISECOND = 1000000, SECOND = 1000000000;
 static char path[4096], other[4096 + 8];
 static const char *test;
-static hull_shared_gate line;
-static hull_shared *desk;
+static hull_shared_gate gate;
+static hull_shared *shared;
 static hull_shared_seat *seat;
 static int bad;
 
-static void is(const char *what, uint64_t got, uint64_t wanted) {
+static void check(const char *what, uint64_t got, uint64_t wanted) {
     if (got != wanted) {
         fprintf(stderr, "%s, %s: %llu, not %llu\n", test, what, (unsigned long long)got, (unsigned long long)wanted);
         bad = 1;
@@ -91,13 +91,13 @@ int __wrap_fsync(int file) {
     return syncs_do_nothing ? 0 : __real_fsync(file);
 }
 
-/* Just before the file is locked, another one may take its name, as if another process made it short. */
+/* Just before the file is locked, another one may take its name, as if another process compacted it. */
 static int is_replaced_at_lock;
 int __real_flock(int file, int how);
 int __wrap_flock(int file, int how) {
     if (is_replaced_at_lock) {
         is_replaced_at_lock = 0;
-        is("replaced", (uint64_t)rename(other, path), 0);
+        check("replaced", (uint64_t)rename(other, path), 0);
     }
     return __real_flock(file, how);
 }
@@ -122,31 +122,31 @@ int __wrap_pthread_create(pthread_t *thread, const pthread_attr_t *attributes, v
 /* Requests for memory of at least so many bytes are refused so often, if that is above 0. */
 static size_t refused_from;
 static long refusals;
-static int is_refused(size_t size) {
+static int refuse_next(size_t size) {
     return size >= refused_from && __atomic_load_n(&refusals, __ATOMIC_SEQ_CST) > 0 &&
            __atomic_fetch_sub(&refusals, 1, __ATOMIC_SEQ_CST) > 0;
 }
 
 void *__real_malloc(size_t size);
 void *__wrap_malloc(size_t size) {
-    return is_refused(size) ? NULL : __real_malloc(size);
+    return refuse_next(size) ? NULL : __real_malloc(size);
 }
 void *__real_realloc(void *block, size_t size);
 void *__wrap_realloc(void *block, size_t size) {
-    return is_refused(size) ? NULL : __real_realloc(block, size);
+    return refuse_next(size) ? NULL : __real_realloc(block, size);
 }
 
 /* ---- files */
 
 #define HEAD "hullbook journal 3 first 5 limit 3 capacity 9\n"
-#define PART HEAD "5 0 add 0 0 = added\nend 1\n"
+#define SEGMENT HEAD "5 0 add 0 0 = added\nend 1\n"
 #define NEXT "hullbook journal 3 first 6 limit 3 capacity 9\n"
 
 /* Makes a file anew. */
 static void put(const char *to, const char *bytes, size_t count) {
     unlink(to);
     FILE *file = fopen(to, "wb");
-    is("a file", file != NULL && fwrite(bytes, 1, count, file) == count && fclose(file) == 0, 1);
+    check("a file", file != NULL && fwrite(bytes, 1, count, file) == count && fclose(file) == 0, 1);
 }
 
 static void put_text(const char *text) {
@@ -156,9 +156,9 @@ static void put_text(const char *text) {
 /* The bytes of a file, with a 0 after them, for the caller to free. */
 static char *contents(const char *of, size_t *count) {
     FILE *file = fopen(of, "rb");
-    size_t room = 1 << 20;
-    char *bytes = malloc(room + 1);
-    *count = file == NULL ? 0 : fread(bytes, 1, room, file);
+    size_t capacity = 1 << 20;
+    char *bytes = malloc(capacity + 1);
+    *count = file == NULL ? 0 : fread(bytes, 1, capacity, file);
     bytes[*count] = 0;
     if (file != NULL) {
         fclose(file);
@@ -196,26 +196,26 @@ static int is_there(const char *name) {
 static hull_shared_journal *open_journal(uint64_t next) {
     hull_shared_journal *journal;
     hull_reply r = hull_shared_journal_open(path, &journal);
-    is("open", r.code, HULL_OPEN);
-    is("the next line", r.number, next);
+    check("open", r.code, HULL_OPEN);
+    check("the next line", r.number, next);
     return journal;
 }
 
 static hull_shared_journal *start(uint64_t next, uint32_t capacity) {
     hull_shared_journal *journal = open_journal(next);
-    is("start", hull_shared_journal_start(journal, desk, &line, 100000, capacity, 2, 0).code, HULL_OPEN);
-    is("lend", hull_shared_acquire_seat(desk, &line, seat, 0), HULL_ACQUIRED);
+    check("start", hull_shared_journal_start(journal, shared, &gate, 100000, capacity, 2, 0).code, HULL_OPEN);
+    check("acquire", hull_shared_acquire_seat(shared, &gate, seat, 0), HULL_ACQUIRED);
     return journal;
 }
 
 static void stop(hull_shared_journal *journal, uint32_t code) {
-    is("give back", hull_shared_release_seat(desk, seat), HULL_RELEASED);
-    is("close", hull_shared_journal_close(journal).code, code);
-    is("end", hull_shared_end(desk), HULL_ENDED);
+    check("release", hull_shared_release_seat(shared, seat), HULL_RELEASED);
+    check("close", hull_shared_journal_close(journal).code, code);
+    check("end", hull_shared_end(shared), HULL_ENDED);
 }
 
 static hull_shared_reply add(int64_t x, int64_t y) {
-    return hull_shared_call(&line, seat, HULL_KIND_ADD, x, y);
+    return hull_shared_call(&gate, seat, HULL_KIND_ADD, x, y);
 }
 
 /* Adds a point, and waits at most a second until its line is durable: what that came to. */
@@ -236,47 +236,47 @@ static void sleep_for(uint64_t nanoseconds) {
 
 /* ---- closing */
 
-/* A reader is out: the hull goes on, keeps its lines, and closes later. */
+/* A reader is out: the shared hull stays open, keeps its lines, and closes later. */
 static void closes_with_a_reader_out(void) {
     hull_shared_reader *reader = hull_shared_reader_new();
     hull_shared_journal *journal;
-    is("admit", hull_shared_set_max_readers(desk, 2), HULL_READERS_SET);
+    check("set how many readers", hull_shared_set_max_readers(shared, 2), HULL_READERS_SET);
     journal = start(0, 50);
-    is("lend a reader", hull_shared_acquire_reader(desk, reader), HULL_ACQUIRED);
+    check("acquire a reader", hull_shared_acquire_reader(shared, reader), HULL_ACQUIRED);
     for (int k = 0; k < 10; k++) {
-        is("added", add(k, k * k).told.code, HULL_ADDED);
+        check("added", add(k, k * k).answer.code, HULL_ADDED);
     }
-    is("give back", hull_shared_release_seat(desk, seat), HULL_RELEASED);
+    check("release", hull_shared_release_seat(shared, seat), HULL_RELEASED);
     for (int k = 0; k < 3; k++) {
-        is("a reader is out", hull_shared_journal_close(journal).code, HULL_SEATS_OUT);
+        check("a reader is out", hull_shared_journal_close(journal).code, HULL_SEATS_OUT);
     }
-    is("lend", hull_shared_acquire_seat(desk, &line, seat, 0), HULL_ACQUIRED);
-    is("durable", add_durably(journal, 77, 0).code, HULL_DURABLE);
+    check("acquire", hull_shared_acquire_seat(shared, &gate, seat, 0), HULL_ACQUIRED);
+    check("durable", add_durably(journal, 77, 0).code, HULL_DURABLE);
     for (int k = 0; k < 100; k++) {
-        is("added", add(k, 1000 + k * k).told.code, HULL_ADDED);
+        check("added", add(k, 1000 + k * k).answer.code, HULL_ADDED);
     }
-    is("return the reader", hull_shared_release_reader(desk, reader), HULL_RELEASED);
+    check("release the reader", hull_shared_release_reader(shared, reader), HULL_RELEASED);
     hull_shared_reader_free(reader);
     stop(journal, HULL_CLOSED);
-    is("the first line", has(path, " add 0 0 = added"), 1);
-    is("a line after the refusal", has(path, " add 77 0 = added"), 1);
-    is("the last line", has(path, " add 99 10801 = added"), 1);
+    check("the first line", has(path, " add 0 0 = added"), 1);
+    check("a line after the refusal", has(path, " add 77 0 = added"), 1);
+    check("the last line", has(path, " add 99 10801 = added"), 1);
 }
 
-/* A seat is out that was lent with no line. */
-static void closes_with_a_seat_of_no_line_out(void) {
+/* A seat is out that was acquired with no gate. */
+static void closes_with_a_seat_of_no_gate_out(void) {
     hull_shared_seat *bare = hull_shared_seat_new();
     hull_shared_journal *journal = start(0, 50);
-    is("lend", hull_shared_acquire_seat(desk, NULL, bare, 1), HULL_ACQUIRED);
+    check("acquire", hull_shared_acquire_seat(shared, NULL, bare, 1), HULL_ACQUIRED);
     add(1, 2);
-    is("give back", hull_shared_release_seat(desk, seat), HULL_RELEASED);
-    is("a seat is out", hull_shared_journal_close(journal).code, HULL_SEATS_OUT);
-    is("lend", hull_shared_acquire_seat(desk, &line, seat, 0), HULL_ACQUIRED);
-    is("durable", add_durably(journal, 3, 4).code, HULL_DURABLE);
-    is("give it back", hull_shared_release_seat(desk, bare), HULL_RELEASED);
+    check("release", hull_shared_release_seat(shared, seat), HULL_RELEASED);
+    check("a seat is out", hull_shared_journal_close(journal).code, HULL_SEATS_OUT);
+    check("acquire", hull_shared_acquire_seat(shared, &gate, seat, 0), HULL_ACQUIRED);
+    check("durable", add_durably(journal, 3, 4).code, HULL_DURABLE);
+    check("release it", hull_shared_release_seat(shared, bare), HULL_RELEASED);
     hull_shared_seat_free(bare);
     stop(journal, HULL_CLOSED);
-    is("the lines", has(path, " add 1 2 = added") && has(path, " add 3 4 = added"), 1);
+    check("the lines", has(path, " add 1 2 = added") && has(path, " add 3 4 = added"), 1);
 }
 
 /* Threads wait while the journal is closed: they are answered, and it is there as long as they need it. */
@@ -292,8 +292,8 @@ static void *wait_until_durable(void *own) {
     __atomic_store_n(&w->is_begun, 1, __ATOMIC_SEQ_CST);
     hull_reply r = w->waits_for_all ? hull_shared_journal_sync(w->journal, HULL_SHARED_NEVER)
                                     : hull_shared_journal_wait(w->journal, w->line, HULL_SHARED_NEVER);
-    is("durable", r.code, HULL_DURABLE);
-    is("its line", r.number > w->line, 1);
+    check("durable", r.code, HULL_DURABLE);
+    check("its line", r.number > w->line, 1);
     return NULL;
 }
 
@@ -307,7 +307,7 @@ static void closes_beside_waiters(void) {
         syncs_take = 50;
         for (int k = 0; k < WAITERS; k++) {
             waiters[k] = (struct waiter){journal, add(k, k).line, 0, k % 2 == 0};
-            is("thread", (uint64_t)pthread_create(&threads[k], NULL, wait_until_durable, &waiters[k]), 0);
+            check("thread", (uint64_t)pthread_create(&threads[k], NULL, wait_until_durable, &waiters[k]), 0);
             while (!__atomic_load_n(&waiters[k].is_begun, __ATOMIC_SEQ_CST)) {
                 sched_yield();
             }
@@ -325,27 +325,27 @@ static void closes_beside_waiters(void) {
 
 /* What the process before left in the cache only is written again and synced, and a cut is synced, before a line is reported. */
 static void syncs_before_it_reports(void) {
-    put_text(PART NEXT "6 0 add 1 1 = added\nend 1\n");
+    put_text(SEGMENT NEXT "6 0 add 1 1 = added\nend 1\n");
     logs = 1;
     hull_shared_journal_close(open_journal(7));
-    is("the last segment is written and synced", strcmp(calls_made, "write file 72 72\nsync file\nsync folder\n") == 0, 1);
+    check("the last segment is written and synced", strcmp(calls_made, "write file 72 72\nsync file\nsync folder\n") == 0, 1);
     logged = 0;
-    put_text(PART NEXT "6 0 ad");
+    put_text(SEGMENT NEXT "6 0 ad");
     hull_shared_journal_close(open_journal(6));
-    is("what is cut off is kept, and the cut synced",
+    check("what is cut off is saved, and the cut synced",
        strcmp(calls_made, "write beside 0 52\nsync beside\nsync folder\ncut file 72\nwrite file 0 72\nsync file\nsync folder\n") == 0, 1);
-    is("what was cut off", has_only(beside(".torn"), NEXT "6 0 ad"), 1);
+    check("what was cut off", has_only(beside(".torn"), NEXT "6 0 ad"), 1);
     logged = 0;
     hull_shared_journal *journal = start(6, 1000);
     logged = 0;
-    is("durable", add_durably(journal, 1, 1).code, HULL_DURABLE);
-    is("a segment is written and synced", strncmp(calls_made, "write file 72 ", 14) == 0, 1);
-    is("and nothing else", strcmp(strchr(calls_made, '\n'), "\nsync file\n") == 0, 1);
+    check("durable", add_durably(journal, 1, 1).code, HULL_DURABLE);
+    check("a segment is written and synced", strncmp(calls_made, "write file 72 ", 14) == 0, 1);
+    check("and nothing else", strcmp(strchr(calls_made, '\n'), "\nsync file\n") == 0, 1);
     stop(journal, HULL_CLOSED);
     logged = 0;
-    is("compact", hull_shared_journal_compact(path).code, HULL_DURABLE);
+    check("compact", hull_shared_journal_compact(path).code, HULL_DURABLE);
     const char *made = strstr(calls_made, "write beside");
-    is("a new file takes the name once it is synced",
+    check("a new file takes the name once it is synced",
        made != NULL && strstr(made, "sync beside\nrename .new\nsync folder\n") != NULL, 1);
     logs = 0;
     if (bad) {
@@ -362,27 +362,27 @@ static void answers_all_waiters(void) {
     syncs_take = 100;
     for (int k = 0; k < WAITERS; k++) {
         waiters[k] = (struct waiter){journal, add(k, k).line, 0, k % 2 == 0};
-        is("thread", (uint64_t)pthread_create(&threads[k], NULL, wait_until_durable, &waiters[k]), 0);
+        check("thread", (uint64_t)pthread_create(&threads[k], NULL, wait_until_durable, &waiters[k]), 0);
     }
     uint64_t begun = hull_shared_now();
     for (int k = 0; k < WAITERS; k++) {
         struct timespec until;
         clock_gettime(CLOCK_REALTIME, &until);
         until.tv_sec += 5;
-        is("answered", (uint64_t)pthread_timedjoin_np(threads[k], NULL, &until), 0);
+        check("answered", (uint64_t)pthread_timedjoin_np(threads[k], NULL, &until), 0);
     }
-    is("by few drains", hull_shared_now() - begun < 1000 * MILLISECOND, 1);
+    check("by few drains", hull_shared_now() - begun < 1000 * MILLISECOND, 1);
     syncs_take = 0;
     stop(journal, HULL_CLOSED);
 }
 
 /* A journal that is not started has nothing to wait for. */
 static void waits_for_nothing(void) {
-    put_text(PART);
+    put_text(SEGMENT);
     hull_shared_journal *journal = open_journal(6);
-    is("sync", hull_shared_journal_sync(journal, HULL_SHARED_NEVER).code, HULL_DURABLE);
-    is("wait", hull_shared_journal_wait(journal, 1000, HULL_SHARED_NEVER).number, 6);
-    is("close", hull_shared_journal_close(journal).code, HULL_CLOSED);
+    check("sync", hull_shared_journal_sync(journal, HULL_SHARED_NEVER).code, HULL_DURABLE);
+    check("wait", hull_shared_journal_wait(journal, 1000, HULL_SHARED_NEVER).number, 6);
+    check("close", hull_shared_journal_close(journal).code, HULL_CLOSED);
 }
 
 /* A signal of the process comes to no thread of the library. */
@@ -399,26 +399,26 @@ static void takes_no_signals(void) {
     sigaddset(&one, SIGUSR1);
     pthread_sigmask(SIG_BLOCK, &one, NULL);
     kill(getpid(), SIGUSR1);
-    is("durable", add_durably(journal, 1, 1).code, HULL_DURABLE);
-    is("it is not delivered", (uint64_t)signals, 0);
-    is("but pending", sigpending(&pending) == 0 && sigismember(&pending, SIGUSR1), 1);
+    check("durable", add_durably(journal, 1, 1).code, HULL_DURABLE);
+    check("it is not delivered", (uint64_t)signals, 0);
+    check("but pending", sigpending(&pending) == 0 && sigismember(&pending, SIGUSR1), 1);
     pthread_sigmask(SIG_UNBLOCK, &one, NULL);
-    is("until this thread takes it", (uint64_t)signals, 1);
+    check("until this thread takes it", (uint64_t)signals, 1);
     stop(journal, HULL_CLOSED);
 }
 
-/* A file that another process made short while it was waited for is opened by its name again. */
+/* A file that another process compacted while this one waited for it is opened by its name again. */
 static void opens_what_has_the_name(void) {
-    put_text(PART NEXT "6 0 add 1 1 = added\nend 1\n");
-    put(beside(".mine"), PART, strlen(PART));
+    put_text(SEGMENT NEXT "6 0 add 1 1 = added\nend 1\n");
+    put(beside(".mine"), SEGMENT, strlen(SEGMENT));
     is_replaced_at_lock = 1;
     hull_shared_journal *journal = start(6, 100);
-    is("durable", add_durably(journal, 2, 2).code, HULL_DURABLE);
+    check("durable", add_durably(journal, 2, 2).code, HULL_DURABLE);
     stop(journal, HULL_CLOSED);
-    is("its lines", has(path, "\n6 0 add 2 2 = added\n"), 1);
+    check("its lines", has(path, "\n6 0 add 2 2 = added\n"), 1);
 }
 
-/* Numbers go on with 0 after 2^64 - 1. */
+/* Numbers continue with 0 after 2^64 - 1. */
 static void waits_past_the_last_number(void) {
     put_text("hullbook journal 3 first 18446744073709551612 limit 300 capacity 9\n18446744073709551612 0 add 0 0 = added\nend 1\n");
     hull_shared_journal *journal = start(UINT64_MAX - 2, 1000);
@@ -426,14 +426,14 @@ static void waits_past_the_last_number(void) {
     for (int k = 0; k < 6; k++) {
         last = add(k, 1).line;
     }
-    is("its number", last, 2);
+    check("its number", last, 2);
     hull_reply r = hull_shared_journal_wait(journal, last, hull_shared_now() + SECOND);
-    is("durable", r.code, HULL_DURABLE);
-    is("the first number that is not", r.number - last - 1 < 5, 1);
-    is("it is in the file", has(path, "\n2 0 add 5 1 = added\n"), 1);
+    check("durable", r.code, HULL_DURABLE);
+    check("the first number that is not", r.number - last - 1 < 5, 1);
+    check("it is in the file", has(path, "\n2 0 add 5 1 = added\n"), 1);
     stop(journal, HULL_CLOSED);
     journal = start(hull_shared_now() == 0 ? 0 : r.number, 1000);
-    is("a line of before", hull_shared_journal_wait(journal, UINT64_MAX, 0).code, HULL_DURABLE);
+    check("a line of before", hull_shared_journal_wait(journal, UINT64_MAX, 0).code, HULL_DURABLE);
     stop(journal, HULL_CLOSED);
 }
 
@@ -465,8 +465,8 @@ static int is_coordinate(size_t at) {
     return three + at >= words && three + at < strstr(words, " = ") && memchr(three + from, '\n', (size_t)(words - three - from)) == NULL;
 }
 
-/* What opening the file as it is comes to, and making it short: the same text as `wanted`, or refused. */
-static void is_harmless_or_reported(size_t at, const char *bytes, size_t count, const char *wanted, size_t last) {
+/* Opens the file as it is, and compacts it: the text is `wanted`, or the file is refused. */
+static void check_harmless_or_reported(size_t at, const char *bytes, size_t count, const char *wanted, size_t last) {
     hull_shared_journal *journal;
     size_t length;
     char *text, what[64];
@@ -475,23 +475,23 @@ static void is_harmless_or_reported(size_t at, const char *bytes, size_t count, 
     snprintf(what, sizeof what, "byte %zu is %d", at, (unsigned char)bytes[at]);
     if (r.code == HULL_DAMAGED) {
         text = contents(path, &length);
-        is(what, length == count && memcmp(text, bytes, count) == 0 && r.number > 0, 1);
+        check(what, length == count && memcmp(text, bytes, count) == 0 && r.number > 0, 1);
         free(text);
         return;
     }
-    is(what, r.code, HULL_OPEN);
+    check(what, r.code, HULL_OPEN);
     hull_shared_journal_close(journal);
     if (r.high != 0) {
-        is(what, bytes[at] == 0 && (at % 512 == 511 || at == count - 1) && at >= last && r.high == count - last && r.number == 23, 1);
+        check(what, bytes[at] == 0 && (at % 512 == 511 || at == count - 1) && at >= last && r.high == count - last && r.number == 23, 1);
         return;
     }
     r = hull_shared_journal_compact(path);
     if (r.code == HULL_ILLEGAL) {
         return;
     }
-    is(what, r.code, HULL_DURABLE);
+    check(what, r.code, HULL_DURABLE);
     text = contents(path, &length);
-    is(what, is_coordinate(at) || strcmp(text, wanted) == 0, 1);
+    check(what, is_coordinate(at) || strcmp(text, wanted) == 0, 1);
     free(text);
 }
 
@@ -502,9 +502,9 @@ static void bears_changed_bytes(void) {
     char bytes[sizeof three], *wanted;
     syncs_do_nothing = 1;
     put(path, three, count);
-    is("compact", hull_shared_journal_compact(path).code, HULL_DURABLE);
+    check("compact", hull_shared_journal_compact(path).code, HULL_DURABLE);
     wanted = contents(path, &length);
-    is("what is left", strstr(wanted, "add 100 1 = added") != NULL && strstr(wanted, "30 41") == NULL, 1);
+    check("what is left", strstr(wanted, "add 100 1 = added") != NULL && strstr(wanted, "30 41") == NULL, 1);
     for (size_t at = 0; at < count; at++) {
         for (int k = 0; k < 8 + (int)sizeof values; k++) {
             unsigned char byte = k < 8 ? (unsigned char)three[at] ^ 1 << k : values[k - 8];
@@ -513,7 +513,7 @@ static void bears_changed_bytes(void) {
             }
             memcpy(bytes, three, sizeof three);
             bytes[at] = (char)byte;
-            is_harmless_or_reported(at, bytes, count, wanted, last);
+            check_harmless_or_reported(at, bytes, count, wanted, last);
             for (size_t i = 0; i < sizeof suffix / sizeof *suffix; i++) {
                 unlink(beside(suffix[i]));
             }
@@ -523,54 +523,54 @@ static void bears_changed_bytes(void) {
     syncs_do_nothing = 0;
 }
 
-static void is_damaged(const char *bytes, size_t count, uint64_t at) {
+static void check_damaged(const char *bytes, size_t count, uint64_t at) {
     hull_shared_journal *journal;
     size_t length;
     char *text;
     put(path, bytes, count);
     hull_reply r = hull_shared_journal_open(path, &journal);
-    is("damaged", r.code, HULL_DAMAGED);
-    is("its line", r.number, at);
+    check("damaged", r.code, HULL_DAMAGED);
+    check("its line", r.number, at);
     text = contents(path, &length);
-    is("the file is as it was", length == count && memcmp(text, bytes, count) == 0, 1);
+    check("the file is as it was", length == count && memcmp(text, bytes, count) == 0, 1);
     free(text);
 }
 
 /* What no crash can leave is damage, and what one can leave is cut off: a prefix, and sectors of zeros. */
 static void cuts_only_what_a_crash_leaves(void) {
     static char bytes[4096];
-    size_t length = strlen(PART NEXT);
+    size_t length = strlen(SEGMENT NEXT);
     static const char *wrong[] = {"6 0 Add 1 1 = added\nend 1\n", "6 0 ad 1 1 = added\nend 1\n", "6 0 add 1 1 = addedX\nend 1\n",
                                   "6 0 add 1 1 = adde\nend 1\n",  "6 64 count = count 1\nend 1\n", "6 0 count = count 01\nend 1\n",
                                   "6 0 add 1 1 = left 1\nend 1\n", "6 0 add 1 -0 = added\nend 1\n", "6 0 add 1 1099511627777 = added\nend 1\n",
                                   "7 0 add 1 1 = added\nend 1\n", "6 0 add 1 1 = added ", "6 0 vertices = list 2 0 0\nend 1\n"};
     for (size_t k = 0; k < sizeof wrong / sizeof *wrong; k++) {
-        snprintf(bytes, sizeof bytes, "%s%s", PART NEXT, wrong[k]);
-        is_damaged(bytes, strlen(bytes), 5);
+        snprintf(bytes, sizeof bytes, "%s%s", SEGMENT NEXT, wrong[k]);
+        check_damaged(bytes, strlen(bytes), 5);
     }
-    is_damaged(PART NEXT "6 0 add 1 1 = added\nend 2\n", length + 26, 6);
-    is_damaged(PART NEXT "6 0 add 1 1 = added\nend 10", length + 26, 6);
-    is_damaged("hullbook journal 3 first 5 limit 0 capacity 9\nend 0\n", 52, 1);
-    snprintf(bytes, sizeof bytes, "%s6 0 add 1 1 = added\nend 1\n", PART NEXT);
+    check_damaged(SEGMENT NEXT "6 0 add 1 1 = added\nend 2\n", length + 26, 6);
+    check_damaged(SEGMENT NEXT "6 0 add 1 1 = added\nend 10", length + 26, 6);
+    check_damaged("hullbook journal 3 first 5 limit 0 capacity 9\nend 0\n", 52, 1);
+    snprintf(bytes, sizeof bytes, "%s6 0 add 1 1 = added\nend 1\n", SEGMENT NEXT);
     bytes[length + 8] = 0; /* in the middle of a sector */
-    is_damaged(bytes, length + 26, 5);
+    check_damaged(bytes, length + 26, 5);
     memset(bytes, 0, sizeof bytes);
-    strcpy(bytes + 1024, "somebody else's\n");
-    is_damaged(bytes, 1040, 1); /* though the zeros are whole sectors */
+    strcpy(bytes + 1024, "another's words\n");
+    check_damaged(bytes, 1040, 1); /* though the zeros are whole sectors */
     memset(bytes, 0, sizeof bytes);
     memcpy(bytes, "hullbook journal", 16);
-    is_damaged("\0\0\0\0\0\0\0\0\0\0\0\0\0\0\0\0\0\0\0\0\0\0\0\0\0\0words", 31, 1);
+    check_damaged("\0\0\0\0\0\0\0\0\0\0\0\0\0\0\0\0\0\0\0\0\0\0\0\0\0\0words", 31, 1);
     put(path, bytes, 1000);
     hull_shared_journal_close(open_journal(0));
-    is("what was cut off, but for its zeros", has_only(beside(".torn"), "hullbook journal"), 1);
-    put_text(PART NEXT "6 0 add 1 1 = ad");
+    check("what was cut off, but for its zeros", has_only(beside(".torn"), "hullbook journal"), 1);
+    put_text(SEGMENT NEXT "6 0 add 1 1 = ad");
     hull_shared_journal_close(open_journal(6));
-    is("what was cut off next", has_only(beside(".torn.1"), NEXT "6 0 add 1 1 = ad"), 1);
-    is("what is left", has_only(path, PART), 1);
+    check("what was cut off next", has_only(beside(".torn.1"), NEXT "6 0 add 1 1 = ad"), 1);
+    check("what is left", has_only(path, SEGMENT), 1);
 }
 
 /* A history that can't be is reported with the line of the file. */
-static void names_the_line_of_the_file(void) {
+static void reports_the_line_of_the_file(void) {
     static const struct {
         const char *text;
         uint64_t line;
@@ -584,16 +584,16 @@ static void names_the_line_of_the_file(void) {
     for (size_t k = 0; k < sizeof wrong / sizeof *wrong; k++) {
         hull_shared_journal *journal;
         put_text(wrong[k].text);
-        is("open", hull_shared_journal_open(path, &journal).code, HULL_OPEN);
-        hull_reply r = hull_shared_journal_start(journal, desk, &line, 50, 10, 1, 0);
-        is("illegal", r.code, HULL_ILLEGAL);
-        is("its line", r.number, wrong[k].line);
+        check("open", hull_shared_journal_open(path, &journal).code, HULL_OPEN);
+        hull_reply r = hull_shared_journal_start(journal, shared, &gate, 50, 10, 1, 0);
+        check("illegal", r.code, HULL_ILLEGAL);
+        check("its line", r.number, wrong[k].line);
         hull_shared_journal_close(journal);
     }
 }
 
-/* Histories at their limits are gone on with: the limit of points, coordinates, how often a point is held, nothing held, refusals. */
-static void goes_on_at_each_limit(void) {
+/* Histories at their limits are continued: the limit of points, coordinates, the greatest multiplicity, no points, refusals. */
+static void continues_at_each_limit(void) {
     static const struct {
         const char *text;
         uint64_t next;
@@ -610,9 +610,9 @@ static void goes_on_at_each_limit(void) {
     for (size_t k = 0; k < sizeof right / sizeof *right; k++) {
         put_text(right[k].text);
         hull_shared_journal *journal = start(right[k].next, 10);
-        is("its points", hull_shared_call(&line, seat, HULL_KIND_COUNT, 0, 0).told.number, right[k].count);
+        check("its points", hull_shared_call(&gate, seat, HULL_KIND_COUNT, 0, 0).answer.number, right[k].count);
         stop(journal, HULL_CLOSED);
-        is("compact", hull_shared_journal_compact(path).code, HULL_DURABLE);
+        check("compact", hull_shared_journal_compact(path).code, HULL_DURABLE);
         journal = open_journal(right[k].next + 1);
         hull_shared_journal_close(journal);
     }
@@ -624,33 +624,33 @@ static void goes_on_at_each_limit(void) {
     fprintf(file, "%d 0 add 7 7 = toomany\nend %d\n", HULL_MULTIPLICITY_MAX, HULL_MULTIPLICITY_MAX + 1);
     fclose(file);
     hull_shared_journal *journal = start(HULL_MULTIPLICITY_MAX + 1, 10);
-    is("held as often as may be", add(7, 7).told.code, HULL_TOO_MANY);
+    check("the greatest multiplicity", add(7, 7).answer.code, HULL_TOO_MANY);
     stop(journal, HULL_CLOSED);
 }
 
-/* Each call with each of its answers, as the library writes it, is a line that an opening takes. */
-static void takes_what_it_wrote(void) {
-    const int64_t far = HULL_COORDINATE_MAX, corners[][2] = {{-far, -far}, {far, -far}, {far, far}, {-far, far}};
+/* Each call with each of its answers, as the library writes it, is a line that an opening reads. */
+static void reads_what_it_wrote(void) {
+    const int64_t far = HULL_COORDINATE_MAX, vertices[][2] = {{-far, -far}, {far, -far}, {far, far}, {-far, far}};
     hull_shared_journal *journal = start(0, 1000);
     for (int round = 0; round < 2; round++) {
         for (uint32_t kind = HULL_KIND_PLACE; kind <= HULL_KIND_COUNT; kind++) {
             for (int k = 0; k < 5; k++) {
-                int64_t x = k == 4 ? 0 : corners[k][0], y = k == 4 ? 1 : corners[k][1];
-                hull_shared_call(&line, seat, kind, x, y);
+                int64_t x = k == 4 ? 0 : vertices[k][0], y = k == 4 ? 1 : vertices[k][1];
+                hull_shared_call(&gate, seat, kind, x, y);
             }
         }
         for (int k = 0; k < 8; k++) {
-            hull_shared_call(&line, seat, HULL_KIND_ADD, corners[k % 4][0], corners[k % 4][1]);
+            hull_shared_call(&gate, seat, HULL_KIND_ADD, vertices[k % 4][0], vertices[k % 4][1]);
         }
-        hull_shared_call(&line, seat, HULL_KIND_ADD, 1, -1);
+        hull_shared_call(&gate, seat, HULL_KIND_ADD, 1, -1);
         for (int k = 0; k < 3 && round == 0; k++) {
-            hull_shared_call(&line, seat, HULL_KIND_REMOVE, corners[0][0], corners[0][1]);
+            hull_shared_call(&gate, seat, HULL_KIND_REMOVE, vertices[0][0], vertices[0][1]);
         }
     }
-    hull_shared_call(&line, seat, HULL_KIND_VERTICES, 0, 0);
-    hull_shared_call(&line, seat, HULL_KIND_AREA, 0, 0);
-    hull_shared_call(&line, seat, HULL_KIND_TANGENTS, far, 0);
-    is("sync", hull_shared_journal_sync(journal, HULL_SHARED_NEVER).code, HULL_DURABLE);
+    hull_shared_call(&gate, seat, HULL_KIND_VERTICES, 0, 0);
+    hull_shared_call(&gate, seat, HULL_KIND_AREA, 0, 0);
+    hull_shared_call(&gate, seat, HULL_KIND_TANGENTS, far, 0);
+    check("sync", hull_shared_journal_sync(journal, HULL_SHARED_NEVER).code, HULL_DURABLE);
     uint64_t next = hull_shared_journal_durable(journal).number;
     stop(journal, HULL_CLOSED);
     static const char *words[] = {"added", "again ", "removed", "left ", "absent", "inside", "on", "outside", "tangents ", "notangent",
@@ -658,10 +658,10 @@ static void takes_what_it_wrote(void) {
     for (size_t k = 0; k < sizeof words / sizeof *words; k++) {
         char answer[64];
         snprintf(answer, sizeof answer, " = %s", words[k]);
-        is(answer, has(path, answer), 1);
+        check(answer, has(path, answer), 1);
     }
     journal = start(next, 1000);
-    is("its points", hull_shared_call(&line, seat, HULL_KIND_COUNT, 0, 0).told.number, 5);
+    check("its points", hull_shared_call(&gate, seat, HULL_KIND_COUNT, 0, 0).answer.number, 5);
     stop(journal, HULL_CLOSED);
 }
 
@@ -674,7 +674,7 @@ static uint64_t hash_of(int64_t x, int64_t y) {
 }
 
 /* How long a start takes with so many points: any, or those that the hash puts beside one another. */
-static uint64_t time_to_make_short(int count, int are_chosen) {
+static uint64_t time_to_compact(int count, int are_chosen) {
     FILE *file = fopen(path, "w");
     int64_t x = 1;
     fprintf(file, "hullbook journal 3 first 0 limit 1000000 capacity 1000000\n");
@@ -687,13 +687,13 @@ static uint64_t time_to_make_short(int count, int are_chosen) {
     fprintf(file, "end %d\n", count);
     fclose(file);
     uint64_t begun = processor_time();
-    is("compact", hull_shared_journal_compact(path).code, HULL_DURABLE);
+    check("compact", hull_shared_journal_compact(path).code, HULL_DURABLE);
     return processor_time() - begun;
 }
 
 static void bears_chosen_points(void) {
-    uint64_t any = time_to_make_short(100000, 0), chosen = time_to_make_short(100000, 1);
-    is("the time that chosen points take", chosen < 3 * any + SECOND / 10, 1);
+    uint64_t any = time_to_compact(100000, 0), chosen = time_to_compact(100000, 1);
+    check("the time that chosen points take", chosen < 3 * any + SECOND / 10, 1);
     if (bad) {
         fprintf(stderr, "any: %llu ms, chosen: %llu ms\n", (unsigned long long)(any / MILLISECOND), (unsigned long long)(chosen / MILLISECOND));
     }
@@ -702,7 +702,7 @@ static void bears_chosen_points(void) {
 /* ---- names */
 
 static void put_some(void) {
-    put_text(PART NEXT "6 0 add 1 1 = added\nend 1\n");
+    put_text(SEGMENT NEXT "6 0 add 1 1 = added\nend 1\n");
 }
 
 static uint32_t compact(uint64_t *number) {
@@ -719,73 +719,73 @@ static void follows_no_link(void) {
     put_some();
     snprintf(target, sizeof target, "%s.target", path);
     put(target, "precious\n", 9);
-    is("a link", (uint64_t)symlink(target, beside(".new")), 0);
-    is("compact", compact(&number), HULL_DURABLE);
-    is("the target", has_only(target, "precious\n"), 1);
-    is("the link", is_there(beside(".new")), 1);
+    check("a link", (uint64_t)symlink(target, beside(".new")), 0);
+    check("compact", compact(&number), HULL_DURABLE);
+    check("the target", has_only(target, "precious\n"), 1);
+    check("the link", is_there(beside(".new")), 1);
     unlink(beside(".new"));
-    put(beside(".new"), PART, strlen(PART));
-    is("a journal of that name", hull_shared_journal_open(beside(".new"), &theirs).code, HULL_OPEN);
-    is("compact", compact(&number), HULL_DURABLE);
-    is("their file", has_only(beside(".new"), PART), 1);
+    put(beside(".new"), SEGMENT, strlen(SEGMENT));
+    check("a journal of that name", hull_shared_journal_open(beside(".new"), &theirs).code, HULL_OPEN);
+    check("compact", compact(&number), HULL_DURABLE);
+    check("their file", has_only(beside(".new"), SEGMENT), 1);
     hull_shared_journal_close(theirs);
     unlink(beside(".new"));
     unlink(target);
-    is("a link at the name of what is torn", (uint64_t)symlink(target, beside(".torn")), 0);
-    put_text(PART "hullb");
+    check("a link at the name of what is torn", (uint64_t)symlink(target, beside(".torn")), 0);
+    put_text(SEGMENT "hullb");
     hull_shared_journal_close(open_journal(6));
-    is("no target is made", is_there(target), 0);
-    is("a link at the name of a file", (uint64_t)symlink(target, beside(".link")), 0);
-    is("it names none", hull_shared_journal_open(beside(".link"), &theirs).code, HULL_NO_FILE);
-    is("none is made", is_there(target), 0);
+    check("no target is made", is_there(target), 0);
+    check("a link at the name of a file", (uint64_t)symlink(target, beside(".link")), 0);
+    check("it names none", hull_shared_journal_open(beside(".link"), &theirs).code, HULL_NO_FILE);
+    check("none is made", is_there(target), 0);
 }
 
-/* A journal that is reached by a link is made short where it is; one with two names is not. */
-static void makes_the_file_itself_short(void) {
+/* A journal that is reached by a link is compacted where it is; one with two names is not. */
+static void compacts_the_file_itself(void) {
     char real[4096];
     uint64_t number;
     struct stat s;
     strcpy(real, path);
     put_some();
-    is("a link", (uint64_t)symlink(real, beside(".link")), 0);
-    is("compact by the link", hull_shared_journal_compact(beside(".link")).code, HULL_DURABLE);
-    is("the link is one", lstat(beside(".link"), &s) == 0 && S_ISLNK(s.st_mode), 1);
-    is("the file is short", has(real, "first 5 ") && !has(real, "first 6 "), 1);
+    check("a link", (uint64_t)symlink(real, beside(".link")), 0);
+    check("compact by the link", hull_shared_journal_compact(beside(".link")).code, HULL_DURABLE);
+    check("the link is one", lstat(beside(".link"), &s) == 0 && S_ISLNK(s.st_mode), 1);
+    check("the file is short", has(real, "first 5 ") && !has(real, "first 6 "), 1);
     unlink(beside(".link"));
     put_some();
-    is("another name", (uint64_t)link(real, beside(".other")), 0);
-    is("compact", compact(&number), HULL_NO_FILE);
-    is("why", number, EMLINK);
-    is("the file is as it was", has(path, "first 6 "), 1);
-    is("no other is left", is_there(beside(".new")), 0);
+    check("another name", (uint64_t)link(real, beside(".other")), 0);
+    check("compact", compact(&number), HULL_NO_FILE);
+    check("why", number, EMLINK);
+    check("the file is as it was", has(path, "first 6 "), 1);
+    check("no other is left", is_there(beside(".new")), 0);
     unlink(beside(".other"));
 }
 
 /* The new file has the owner and the mode of the old one; a refusal leaves no file; one that comes after the new file took its
  * name is reported as such. */
-static void makes_short_all_or_nothing(void) {
+static void compacts_all_or_nothing(void) {
     struct stat s;
     uint64_t number;
     put_some();
-    is("mode", (uint64_t)chmod(path, 0640), 0);
-    is("owner", geteuid() != 0 || chown(path, 12345, 54321) == 0, 1);
-    is("compact", compact(&number), HULL_DURABLE);
-    is("its mode", stat(path, &s) == 0 && (s.st_mode & 07777) == 0640, 1);
-    is("its owner", geteuid() != 0 || (s.st_uid == 12345 && s.st_gid == 54321), 1);
+    check("mode", (uint64_t)chmod(path, 0640), 0);
+    check("owner", geteuid() != 0 || chown(path, 12345, 54321) == 0, 1);
+    check("compact", compact(&number), HULL_DURABLE);
+    check("its mode", stat(path, &s) == 0 && (s.st_mode & 07777) == 0640, 1);
+    check("its owner", geteuid() != 0 || (s.st_uid == 12345 && s.st_gid == 54321), 1);
     put_text(HEAD "end 0\n" "hullbook journal 3 first 5 limit 3 capacity 9\n5 0 add 0 0 = added\nend 1\n");
     hull_shared_journal_close(open_journal(6));
     writes_fail = 1;
-    is("a write is refused", compact(&number), HULL_NO_FILE);
+    check("a write is refused", compact(&number), HULL_NO_FILE);
     writes_fail = 0;
-    is("none is left", is_there(beside(".new")), 0);
+    check("none is left", is_there(beside(".new")), 0);
     folder_syncs_fail = 2; /* the first is that of the opening */
     hull_reply r = hull_shared_journal_compact(path);
     folder_syncs_fail = 0;
-    is("the folder is not synced", r.code, HULL_NO_FILE);
-    is("why", r.number, EIO);
-    is("it has the name", r.high, 1);
-    is("and is short", has_only(path, "hullbook journal 3 first 5 limit 3 capacity 1\n5 0 add 0 0 = added\nend 1\n"), 1);
-    is("none is left", is_there(beside(".new")), 0);
+    check("the folder is not synced", r.code, HULL_NO_FILE);
+    check("why", r.number, EIO);
+    check("it has the name", r.high, 1);
+    check("and is short", has_only(path, "hullbook journal 3 first 5 limit 3 capacity 1\n5 0 add 0 0 = added\nend 1\n"), 1);
+    check("none is left", is_there(beside(".new")), 0);
 }
 
 /* ---- memory and time */
@@ -793,60 +793,60 @@ static void makes_short_all_or_nothing(void) {
 /* A tail of zeros takes no memory, and a file of zeros is read in blocks. */
 static void bears_zeros(void) {
     struct rlimit limit = {0, 0}, before;
-    put_text(PART);
-    is("a long tail", (uint64_t)truncate(path, (off_t)1 << 30), 0);
+    put_text(SEGMENT);
+    check("a long tail", (uint64_t)truncate(path, (off_t)1 << 30), 0);
     getrlimit(RLIMIT_AS, &before);
     limit.rlim_cur = limit.rlim_max = before.rlim_max;
     limit.rlim_cur = 512 << 20;
     setrlimit(RLIMIT_AS, &limit);
     hull_shared_journal_close(open_journal(6));
-    is("the tail is cut off", has_only(path, PART), 1);
-    is("nothing is kept of it", is_there(beside(".torn")), 0);
+    check("the tail is cut off", has_only(path, SEGMENT), 1);
+    check("nothing of it is saved", is_there(beside(".torn")), 0);
     put_text("");
-    is("a file of zeros", (uint64_t)truncate(path, (off_t)1 << 28), 0);
+    check("a file of zeros", (uint64_t)truncate(path, (off_t)1 << 28), 0);
     reads_made = 0;
     hull_shared_journal_close(open_journal(0));
     setrlimit(RLIMIT_AS, &before);
-    is("its reads", reads_made < (1 << 28) / 4096, 1);
+    check("its reads", reads_made < (1 << 28) / 4096, 1);
 }
 
 /* Others cut, extend, remove or replace the file: nothing more is reported as durable, and the file stays as they left it. */
-static void is_touched_by(int how, const char *left) {
+static void touch(int how, const char *left) {
     hull_shared_journal *journal;
     put_some();
     journal = start(7, 100);
-    is("durable", add_durably(journal, 2, 2).code, HULL_DURABLE);
+    check("durable", add_durably(journal, 2, 2).code, HULL_DURABLE);
     hull_reply before = hull_shared_journal_durable(journal);
     switch (how) {
-    case 0: is("cut", (uint64_t)truncate(path, (off_t)strlen(PART)), 0); break;
-    case 1: is("extended", (uint64_t)truncate(path, 1000), 0); break;
+    case 0: check("cut", (uint64_t)truncate(path, (off_t)strlen(SEGMENT)), 0); break;
+    case 1: check("extended", (uint64_t)truncate(path, 1000), 0); break;
     case 2: unlink(path); break;
     case 3:
-        put(beside(".mine"), PART, strlen(PART));
-        is("replaced", (uint64_t)rename(beside(".mine"), path), 0);
+        put(beside(".mine"), SEGMENT, strlen(SEGMENT));
+        check("replaced", (uint64_t)rename(beside(".mine"), path), 0);
         break;
-    case 4: is("renamed", (uint64_t)rename(path, beside(".mine")), 0); break;
+    case 4: check("renamed", (uint64_t)rename(path, beside(".mine")), 0); break;
     }
     hull_reply r = add_durably(journal, 0, 0);
-    is("not durable", r.code, HULL_NO_FILE);
-    is("why", r.high, ESTALE);
-    is("what is", r.number, before.number);
+    check("not durable", r.code, HULL_NO_FILE);
+    check("why", r.high, ESTALE);
+    check("what is", r.number, before.number);
     stop(journal, HULL_NO_FILE);
-    is("the file is as they left it", left == NULL || has_only(path, left), 1);
+    check("the file is as they left it", left == NULL || has_only(path, left), 1);
     unlink(beside(".mine"));
 }
 
 static void notices_others(void) {
-    is_touched_by(0, PART);
-    is_touched_by(1, NULL);
-    is_touched_by(2, NULL);
-    is_touched_by(3, PART);
-    is_touched_by(4, NULL);
+    touch(0, SEGMENT);
+    touch(1, NULL);
+    touch(2, NULL);
+    touch(3, SEGMENT);
+    touch(4, NULL);
 }
 
 static void *add_one(void *own) {
     hull_shared_seat *mine = own;
-    is("added once there is memory", hull_shared_call(&line, mine, HULL_KIND_ADD, 5, 5).told.code, HULL_ADDED);
+    check("added once there is memory", hull_shared_call(&gate, mine, HULL_KIND_ADD, 5, 5).answer.code, HULL_ADDED);
     return NULL;
 }
 
@@ -855,63 +855,63 @@ static void waits_for_memory(void) {
     hull_shared_seat *two = hull_shared_seat_new();
     pthread_t thread;
     hull_shared_journal *journal = start(0, 20000);
-    hull_shared_reply r = {.told = {.code = 0}};
-    is("lend", hull_shared_acquire_seat(desk, &line, two, 1), HULL_ACQUIRED);
-    is("durable", add_durably(journal, 1, 1).code, HULL_DURABLE);
-    refused_from = 1 << 20; /* the part that a drain fills */
+    hull_shared_reply r = {.answer = {.code = 0}};
+    check("acquire", hull_shared_acquire_seat(shared, &gate, two, 1), HULL_ACQUIRED);
+    check("durable", add_durably(journal, 1, 1).code, HULL_DURABLE);
+    refused_from = 1 << 20; /* the segment that a drain fills */
     refusals = 1000000000;
-    for (int k = 0; k < 60000 && r.told.code != HULL_FULL; k++) {
-        r = hull_shared_try_call(&line, seat, HULL_KIND_PLACE, 0, 0);
+    for (int k = 0; k < 60000 && r.answer.code != HULL_FULL; k++) {
+        r = hull_shared_try_call(&gate, seat, HULL_KIND_PLACE, 0, 0);
     }
-    is("a drain whose memory is refused", r.told.code, HULL_FULL);
+    check("a drain whose memory is refused", r.answer.code, HULL_FULL);
     pthread_create(&thread, NULL, add_one, two);
     uint64_t begun = processor_time();
-    r = hull_shared_call_until(&line, seat, HULL_KIND_PLACE, 0, 0, hull_shared_now() + 500 * MILLISECOND);
-    is("no space", r.told.code, HULL_FULL);
-    is("the processor's time", processor_time() - begun < 60 * MILLISECOND, 1);
+    r = hull_shared_call_until(&gate, seat, HULL_KIND_PLACE, 0, 0, hull_shared_now() + 500 * MILLISECOND);
+    check("no space", r.answer.code, HULL_FULL);
+    check("the processor's time", processor_time() - begun < 60 * MILLISECOND, 1);
     refusals = 0;
     pthread_join(thread, NULL);
-    is("durable", add_durably(journal, 2, 2).code, HULL_DURABLE);
-    is("give back", hull_shared_release_seat(desk, two), HULL_RELEASED);
+    check("durable", add_durably(journal, 2, 2).code, HULL_DURABLE);
+    check("release", hull_shared_release_seat(shared, two), HULL_RELEASED);
     hull_shared_seat_free(two);
     stop(journal, HULL_CLOSED);
 }
 
-/* Memory is refused once while lines are written: they are written all the same, and the journal goes on. */
-static void goes_on_after_a_refusal(void) {
+/* Memory is refused once while lines are written: they are written all the same, and the journal continues. */
+static void continues_after_a_refusal(void) {
     hull_shared_journal *journal = start(0, 20000);
     for (int k = 0; k < 6000; k++) {
         add(k, k * k);
     }
-    is("durable", hull_shared_journal_sync(journal, HULL_SHARED_NEVER).code, HULL_DURABLE);
-    uint64_t last = hull_shared_call(&line, seat, HULL_KIND_VERTICES, 0, 0).line; /* a line of more bytes than are written at once */
+    check("durable", hull_shared_journal_sync(journal, HULL_SHARED_NEVER).code, HULL_DURABLE);
+    uint64_t last = hull_shared_call(&gate, seat, HULL_KIND_VERTICES, 0, 0).line; /* a line of more bytes than are written at once */
     refused_from = 60000;
     for (int k = 0; k < 3; k++) {
         refusals = k + 1;
         hull_reply r = hull_shared_journal_wait(journal, last, hull_shared_now() + 5 * SECOND);
-        is("durable, though memory was refused", r.code, HULL_DURABLE);
-        is("memory was refused", refusals <= 0, 1);
+        check("durable, though memory was refused", r.code, HULL_DURABLE);
+        check("memory was refused", refusals <= 0, 1);
         for (int i = 0; i < 3000; i++) { /* some pieces of text */
             last = add(i, -1 - k).line;
         }
         refused_from = 4000;
     }
     refusals = 0;
-    is("durable", hull_shared_journal_wait(journal, last, HULL_SHARED_NEVER).code, HULL_DURABLE);
+    check("durable", hull_shared_journal_wait(journal, last, HULL_SHARED_NEVER).code, HULL_DURABLE);
     stop(journal, HULL_CLOSED);
-    is("the last of them", has(path, " add 2999 -3 = added"), 1);
+    check("the last of them", has(path, " add 2999 -3 = added"), 1);
 }
 
-/* A thread is refused: the desk is as it was, and the journal can be started then. */
+/* A thread is refused: the shared hull is as it was, and the journal can be started then. */
 static void starts_after_a_refusal(void) {
     hull_shared_journal *journal = open_journal(0);
     threads_fail = 1;
-    is("start", hull_shared_journal_start(journal, desk, &line, 100, 10, 2, 0).code, HULL_NO_MEMORY);
+    check("start", hull_shared_journal_start(journal, shared, &gate, 100, 10, 2, 0).code, HULL_NO_MEMORY);
     threads_fail = 0;
-    is("the desk is fresh", hull_shared_close(desk), HULL_NOT_OPEN);
-    is("start", hull_shared_journal_start(journal, desk, &line, 100, 10, 2, 0).code, HULL_OPEN);
-    is("lend", hull_shared_acquire_seat(desk, &line, seat, 0), HULL_ACQUIRED);
-    is("durable", add_durably(journal, 2, 2).code, HULL_DURABLE);
+    check("the shared hull is fresh", hull_shared_close(shared), HULL_NOT_OPEN);
+    check("start", hull_shared_journal_start(journal, shared, &gate, 100, 10, 2, 0).code, HULL_OPEN);
+    check("acquire", hull_shared_acquire_seat(shared, &gate, seat, 0), HULL_ACQUIRED);
+    check("durable", add_durably(journal, 2, 2).code, HULL_DURABLE);
     stop(journal, HULL_CLOSED);
 }
 
@@ -920,7 +920,7 @@ static const struct {
     void (*run)(void);
 } tests[] = {
     {"closes_with_a_reader_out", closes_with_a_reader_out},
-    {"closes_with_a_seat_of_no_line_out", closes_with_a_seat_of_no_line_out},
+    {"closes_with_a_seat_of_no_gate_out", closes_with_a_seat_of_no_gate_out},
     {"closes_beside_waiters", closes_beside_waiters},
     {"syncs_before_it_reports", syncs_before_it_reports},
     {"answers_all_waiters", answers_all_waiters},
@@ -930,17 +930,17 @@ static const struct {
     {"waits_past_the_last_number", waits_past_the_last_number},
     {"bears_changed_bytes", bears_changed_bytes},
     {"cuts_only_what_a_crash_leaves", cuts_only_what_a_crash_leaves},
-    {"names_the_line_of_the_file", names_the_line_of_the_file},
-    {"goes_on_at_each_limit", goes_on_at_each_limit},
-    {"takes_what_it_wrote", takes_what_it_wrote},
+    {"reports_the_line_of_the_file", reports_the_line_of_the_file},
+    {"continues_at_each_limit", continues_at_each_limit},
+    {"reads_what_it_wrote", reads_what_it_wrote},
     {"bears_chosen_points", bears_chosen_points},
     {"follows_no_link", follows_no_link},
-    {"makes_the_file_itself_short", makes_the_file_itself_short},
-    {"makes_short_all_or_nothing", makes_short_all_or_nothing},
+    {"compacts_the_file_itself", compacts_the_file_itself},
+    {"compacts_all_or_nothing", compacts_all_or_nothing},
     {"bears_zeros", bears_zeros},
     {"notices_others", notices_others},
     {"waits_for_memory", waits_for_memory},
-    {"goes_on_after_a_refusal", goes_on_after_a_refusal},
+    {"continues_after_a_refusal", continues_after_a_refusal},
     {"starts_after_a_refusal", starts_after_a_refusal},
 };
 
@@ -949,7 +949,7 @@ int main(int count, char **words) {
         return 2;
     }
     alarm(120);
-    desk = hull_shared_new();
+    shared = hull_shared_new();
     seat = hull_shared_seat_new();
     for (size_t k = 0; k < sizeof tests / sizeof *tests; k++) {
         test = tests[k].name;
@@ -957,11 +957,11 @@ int main(int count, char **words) {
             continue;
         }
         snprintf(path, sizeof path, "%s/%s", words[1], test);
-        hull_shared_gate_init(&line, 1);
+        hull_shared_gate_init(&gate, 1);
         tests[k].run();
         unlink(path);
     }
     hull_shared_seat_free(seat);
-    hull_shared_free(desk);
+    hull_shared_free(shared);
     return bad;
 }

@@ -1,12 +1,12 @@
-/* kills KILLS FILE [SEED]: a process keeps a journal in the file, by three threads that wait until each of their lines is safe, and is
- * killed at a random moment, so many times; each time the next one goes on with the file. In half of the times the end that was written
+/* kills KILLS FILE [SEED]: a process keeps a journal in the file, by three threads that wait until each of their lines is durable, and is
+ * killed at a random moment, so many times; each time the next one continues the file. In half of the times the end that was written
  * and not synced is lost, to a random length or with a sector of zeros, as if the machine lost its power. Writes take a random number
  * of bytes, and some of them are the last thing that the process does. So is an fsync that is never begun, and one that is refused: what
  * it was to sync is in the cache only then, also after later calls of fsync, unless it is written again.
  *
- * Each line that was reported as safe, by a call or by an opening, has to be there, the former with its call and answer; all bytes of
- * before have to be as they were, and the file has to be gone on with. Now and then a process that makes the file short is killed, or is
- * not: it has to leave the same points and the same number. The status is 0 only where it is so. */
+ * Each line that was reported as durable, by a call or by an opening, has to be there, the former with its call and answer; all bytes of
+ * before have to be as they were, and it must be possible to continue the file. Now and then a process that compacts the file is killed,
+ * or is not: it has to leave the same points and the same number. The status is 0 only if it is so. */
 #include "hull_shared.h"
 
 #include <fcntl.h>
@@ -22,7 +22,7 @@
 
 enum { THREADS = 3, RECORDS = 1 << 16, FILE_ROUNDS = 50, STARTED_BADLY = 9 };
 
-/* A call whose line was told as safe. */
+/* A call whose line was reported as durable. */
 struct record {
     uint64_t line;
     int64_t x;
@@ -41,20 +41,20 @@ struct disk {
     uint64_t lost;   /* from there on the system takes bytes for written that are not */
 };
 
-/* What the process that is killed leaves behind beside the file. */
+/* What the process that is killed leaves beside the file. */
 static struct shared {
     struct disk disks[64];
-    uint64_t reported; /* the lines before this one were reported as safe by an opening */
+    uint64_t reported; /* the lines before this one were reported as durable by an opening */
     uint64_t draws;    /* random numbers of the writes */
     uint32_t is_started;
-    uint32_t is_refused; /* a line was not told as safe */
+    uint32_t is_refused; /* a line was not reported as durable */
     uint32_t count;
     struct record records[RECORDS];
 } *shared;
 
 static const char *path;
 static uint64_t state = 88172645463325252u;
-static unsigned long kills, in_opening, torn, lost, checked, shortened, tries;
+static unsigned long kills, in_opening, torn, lost, checked, compacted, tries;
 
 /* Random numbers (Marsaglia's xorshift, 2003). */
 static uint64_t next_of(uint64_t *from) {
@@ -113,7 +113,7 @@ int __real_fsync(int file);
 int __wrap_fsync(int file) {
     uint64_t size, drawn = next_of(&shared->draws) % 64; /* what is written after this is not synced yet */
     struct disk *disk = disk_of(file, &size);
-    int told;
+    int status;
     if (disk == NULL) {
         return __real_fsync(file);
     }
@@ -121,63 +121,63 @@ int __wrap_fsync(int file) {
         disk->lost = drawn == 1 && disk->synced < disk->lost ? disk->synced : disk->lost;
         kill(getpid(), SIGKILL);
     }
-    told = __real_fsync(file);
+    status = __real_fsync(file);
     disk->synced = size < disk->lost ? size : disk->lost;
     disk->lost = size <= disk->lost ? UINT64_MAX : disk->lost;
-    return told;
+    return status;
 }
 
-static hull_shared_gate line;
+static hull_shared_gate gate;
 static hull_shared_journal *journal;
 static hull_shared_seat *seats[THREADS];
 
-/* Keeps a call whose line is safe, for the process that kills this one. */
-static void keep(uint32_t seat, uint32_t kind, int64_t x, int64_t y, const hull_shared_reply *reply) {
+/* Records a call whose line is durable, for the process that kills this one. */
+static void record_call(uint32_t seat, uint32_t kind, int64_t x, int64_t y, const hull_shared_reply *reply) {
     uint32_t at = __atomic_fetch_add(&shared->count, 1, __ATOMIC_SEQ_CST);
-    struct record record = {reply->line, x, y, reply->told.number, kind, reply->told.code, seat, 0};
+    struct record record = {reply->line, x, y, reply->answer.number, kind, reply->answer.code, seat, 0};
     if (at < RECORDS) {
         shared->records[at] = record;
         __atomic_store_n(&shared->records[at].is_there, 1, __ATOMIC_SEQ_CST);
     }
 }
 
-static void *works(void *own) {
+static void *work(void *own) {
     uint32_t seat = (uint32_t)(size_t)own;
     uint64_t drawn = (shared->draws ^ 88172645463325252u) + seat;
     for (;;) {
         uint32_t kind = next_of(&drawn) % 2 == 0 ? HULL_KIND_ADD : next_of(&drawn) % 4 == 0 ? HULL_KIND_COUNT : HULL_KIND_REMOVE;
         int64_t x = (int64_t)(next_of(&drawn) % 31) - 15, y = (int64_t)(next_of(&drawn) % 31) - 15;
         for (unsigned k = 0; k < next_of(&drawn) % 8; k++) {
-            hull_shared_call(&line, seats[seat], HULL_KIND_PLACE, x, y);
+            hull_shared_call(&gate, seats[seat], HULL_KIND_PLACE, x, y);
         }
-        hull_shared_reply reply = hull_shared_call(&line, seats[seat], kind, x, y);
-        hull_reply safe = hull_shared_journal_wait(journal, reply.line, HULL_SHARED_NEVER);
-        if (safe.code != HULL_DURABLE || !reply.has_line) {
+        hull_shared_reply reply = hull_shared_call(&gate, seats[seat], kind, x, y);
+        hull_reply durable = hull_shared_journal_wait(journal, reply.line, HULL_SHARED_NEVER);
+        if (durable.code != HULL_DURABLE || !reply.has_line) {
             __atomic_store_n(&shared->is_refused, 1, __ATOMIC_SEQ_CST);
         }
-        keep(seat, kind, x, y, &reply);
+        record_call(seat, kind, x, y, &reply);
     }
     return NULL;
 }
 
 /* The process that is killed. */
-static void lives(uint64_t every) {
-    hull_shared *desk = hull_shared_new();
+static void live(uint64_t every) {
+    hull_shared *hull = hull_shared_new();
     pthread_t thread;
     hull_reply opened;
     is_living = 1;
-    hull_shared_gate_init(&line, 1);
+    hull_shared_gate_init(&gate, 1);
     opened = hull_shared_journal_open(path, &journal);
     if (opened.code != HULL_OPEN) {
         _exit(STARTED_BADLY);
     }
     shared->reported = opened.number;
-    if (hull_shared_journal_start(journal, desk, &line, 100000, 40, THREADS, every).code != HULL_OPEN) {
+    if (hull_shared_journal_start(journal, hull, &gate, 100000, 40, THREADS, every).code != HULL_OPEN) {
         _exit(STARTED_BADLY);
     }
     for (uint32_t k = 0; k < THREADS; k++) {
         seats[k] = hull_shared_seat_new();
-        if (hull_shared_acquire_seat(desk, &line, seats[k], k) != HULL_ACQUIRED || pthread_create(&thread, NULL, works, (void *)(size_t)k) != 0) {
+        if (hull_shared_acquire_seat(hull, &gate, seats[k], k) != HULL_ACQUIRED || pthread_create(&thread, NULL, work, (void *)(size_t)k) != 0) {
             _exit(STARTED_BADLY);
         }
     }
@@ -187,7 +187,7 @@ static void lives(uint64_t every) {
     }
 }
 
-static void fails(const char *what, uint64_t number) {
+static void fail(const char *what, uint64_t number) {
     fprintf(stderr, "kill %lu: %s, %llu\n", kills, what, (unsigned long long)number);
     exit(1);
 }
@@ -202,22 +202,22 @@ static uint64_t size_of(void) {
 }
 
 /* The machine loses its power: what was not synced is cut to a random length, and a sector of it may never have been written. */
-static void loses_power(void) {
+static void lose_power(void) {
     static const uint8_t zeros[512];
     int file = open(path, O_RDWR);
-    uint64_t size = 0, kept, to;
+    uint64_t size = 0, synced, to;
     struct disk *disk = file < 0 ? NULL : disk_of(file, &size);
     if (disk == NULL) {
-        fails("the file can't be opened", size);
+        fail("the file can't be opened", size);
     }
-    kept = disk->synced < size ? disk->synced : size;
-    to = kept + draw(size - kept + 1);
+    synced = disk->synced < size ? disk->synced : size;
+    to = synced + draw(size - synced + 1);
     if (__real_ftruncate(file, (off_t)to) != 0) {
-        fails("the file can't be cut", to);
+        fail("the file can't be cut", to);
     }
-    if (to > kept && draw(3) == 0) {
-        uint64_t sector = (kept + draw(to - kept)) / sizeof zeros * sizeof zeros, end = sector + sizeof zeros;
-        uint64_t from = sector < kept ? kept : sector;
+    if (to > synced && draw(3) == 0) {
+        uint64_t sector = (synced + draw(to - synced)) / sizeof zeros * sizeof zeros, end = sector + sizeof zeros;
+        uint64_t from = sector < synced ? synced : sector;
         (void)!__real_pwrite(file, zeros, (end < to ? end : to) - from, (off_t)from);
     }
     lost += size - to;
@@ -226,13 +226,13 @@ static void loses_power(void) {
     close(file);
 }
 
-/* The file's bytes, with a 0 behind them. */
+/* The file's bytes, with a 0 after them. */
 static char *contents(size_t *length) {
     size_t size = (size_t)size_of();
     char *text = malloc(size + 1);
     int file = open(path, O_RDONLY);
     if (text == NULL || file < 0 || pread(file, text, size, 0) != (ssize_t)size) {
-        fails("the file can't be read", size);
+        fail("the file can't be read", size);
     }
     close(file);
     text[size] = 0;
@@ -240,31 +240,31 @@ static char *contents(size_t *length) {
     return text;
 }
 
-/* What the line of a call has to be, whose answer was told. */
-static void line_of(const struct record *r, char *out, size_t room) {
+/* The line that a call has to have, whose answer was returned. */
+static void line_of(const struct record *r, char *out, size_t capacity) {
     const char *answer = r->code == HULL_ADDED ? "added" : r->code == HULL_REMOVED ? "removed" : r->code == HULL_ABSENT ? "absent" : NULL;
     char number[32];
     snprintf(number, sizeof number, "%s %llu", r->code == HULL_AGAIN ? "again" : r->code == HULL_LEFT ? "left" : "count",
              (unsigned long long)r->number);
     if (r->kind == HULL_KIND_COUNT) {
-        snprintf(out, room, "%llu %u count = %s", (unsigned long long)r->line, r->seat, number);
+        snprintf(out, capacity, "%llu %u count = %s", (unsigned long long)r->line, r->seat, number);
     } else {
-        snprintf(out, room, "%llu %u %s %lld %lld = %s", (unsigned long long)r->line, r->seat, r->kind == HULL_KIND_ADD ? "add" : "remove",
+        snprintf(out, capacity, "%llu %u %s %lld %lld = %s", (unsigned long long)r->line, r->seat, r->kind == HULL_KIND_ADD ? "add" : "remove",
                  (long long)r->x, (long long)r->y, answer != NULL ? answer : number);
     }
 }
 
-/* Whether all that was told as safe stands in the file. */
-static void checks(void) {
-    size_t length, count = 0, room = 1024;
-    char *text = contents(&length), **lines = malloc(room * sizeof *lines), wanted[256];
+/* Whether all that was reported as durable is in the file. */
+static void check_lines(void) {
+    size_t length, count = 0, capacity = 1024;
+    char *text = contents(&length), **lines = malloc(capacity * sizeof *lines), wanted[256];
     uint64_t first = 0;
     for (char *at = strtok(text, "\n"); at != NULL; at = strtok(NULL, "\n")) {
         if (*at < '0' || *at > '9') {
             continue;
         }
-        if (count == room) {
-            lines = realloc(lines, (room *= 2) * sizeof *lines);
+        if (count == capacity) {
+            lines = realloc(lines, (capacity *= 2) * sizeof *lines);
         }
         first = count == 0 ? strtoull(at, NULL, 10) : first;
         lines[count++] = at;
@@ -275,12 +275,12 @@ static void checks(void) {
             continue; /* it was killed while it wrote this */
         }
         if (r->line < first || r->line - first >= count) {
-            fails("a line that was told as safe is not there", r->line);
+            fail("a line that was reported as durable is not there", r->line);
         }
         line_of(r, wanted, sizeof wanted);
         if (strcmp(lines[r->line - first], wanted) != 0) {
             fprintf(stderr, "%s\n%s\n", lines[r->line - first], wanted);
-            fails("a line that was told as safe is another", r->line);
+            fail("a line that was reported as durable is another", r->line);
         }
         checked++;
     }
@@ -288,14 +288,14 @@ static void checks(void) {
     free(text);
 }
 
-/* Opens the file as the next process does, which cuts a torn part off: the number of the line to come. */
-static uint64_t heals(void) {
+/* Opens the file as the next process does, which cuts a torn segment off: the number of the line to come. */
+static uint64_t recover(void) {
     hull_reply r = hull_shared_journal_open(path, &journal);
     if (r.code != HULL_OPEN) {
-        fails(hull_code_name(r.code), r.number);
+        fail(hull_code_name(r.code), r.number);
     }
     if (r.number < shared->reported) {
-        fails("a line that an opening reported as safe is not there", shared->reported);
+        fail("a line that an opening reported as durable is not there", shared->reported);
     }
     shared->reported = r.number;
     torn += r.high > 0;
@@ -303,34 +303,34 @@ static uint64_t heals(void) {
     return r.number;
 }
 
-/* Takes from a file how often each point is held, by the last answer of each change. */
-static void held_in(const char *text, uint32_t held[31][31]) {
-    memset(held, 0, 31 * 31 * sizeof **held);
+/* Reads the multiplicity of each point from a file, by the last answer of each change. */
+static void multiplicities_in(const char *text, uint32_t multiplicities[31][31]) {
+    memset(multiplicities, 0, 31 * 31 * sizeof **multiplicities);
     for (const char *at = text; at != NULL && *at != 0; at = strchr(at, '\n'), at += at != NULL) {
         long long number, seat, x, y;
         char kind[16], answer[16];
-        unsigned times = 1;
-        if (sscanf(at, "%lld %lld %15s %lld %lld = %15s %u", &number, &seat, kind, &x, &y, answer, &times) < 6 || x < -15 || x > 15 ||
+        unsigned multiplicity = 1;
+        if (sscanf(at, "%lld %lld %15s %lld %lld = %15s %u", &number, &seat, kind, &x, &y, answer, &multiplicity) < 6 || x < -15 || x > 15 ||
             y < -15 || y > 15) {
             continue;
         }
         if (strcmp(answer, "added") == 0 || strcmp(answer, "removed") == 0) {
-            held[x + 15][y + 15] = answer[0] == 'a';
+            multiplicities[x + 15][y + 15] = answer[0] == 'a';
         } else if (strcmp(answer, "again") == 0 || strcmp(answer, "left") == 0) {
-            held[x + 15][y + 15] = times;
+            multiplicities[x + 15][y + 15] = multiplicity;
         }
     }
 }
 
-/* A process that makes the file short is killed, or is not: the points and the number are the same. */
-static void is_made_short(void) {
-    static uint32_t before[31][31], behind[31][31];
+/* A process that compacts the file is killed, or is not: the points and the number are the same. */
+static void compact_and_kill(void) {
+    static uint32_t before[31][31], after[31][31];
     size_t length;
     char *text = contents(&length);
-    uint64_t next = heals();
+    uint64_t next = recover();
     int status;
     pid_t child;
-    held_in(text, before);
+    multiplicities_in(text, before);
     free(text);
     tries++;
     child = fork();
@@ -340,18 +340,18 @@ static void is_made_short(void) {
     usleep((useconds_t)draw(30000));
     kill(child, SIGKILL);
     waitpid(child, &status, 0);
-    shortened += WIFEXITED(status) && WEXITSTATUS(status) == 0;
+    compacted += WIFEXITED(status) && WEXITSTATUS(status) == 0;
     if (WIFEXITED(status) && WEXITSTATUS(status) != 0) {
-        fails("the file is not made short", (uint64_t)WEXITSTATUS(status));
+        fail("the file is not compacted", (uint64_t)WEXITSTATUS(status));
     }
-    if (heals() != next) {
-        fails("the number of the file that was made short is another", next);
+    if (recover() != next) {
+        fail("the number of the file that was compacted is another", next);
     }
     text = contents(&length);
-    held_in(text, behind);
+    multiplicities_in(text, after);
     free(text);
-    if (memcmp(before, behind, sizeof before) != 0) {
-        fails("the file that was made short leaves other points", next);
+    if (memcmp(before, after, sizeof before) != 0) {
+        fail("the file that was compacted leaves other points", next);
     }
 }
 
@@ -363,8 +363,8 @@ static uint64_t hash_of(const char *text, size_t length) {
     return hash;
 }
 
-/* Removes what is kept beside the file of torn segments, and of processes that were killed while they made it short. */
-static void removes_others(void) {
+/* Removes the files beside it: of torn segments, and of processes that were killed while they compacted it. */
+static void remove_others(void) {
     char name[4096];
     for (int k = 0; k < 8; k++) {
         for (int is_new = 0; is_new < 2; is_new++) {
@@ -374,7 +374,7 @@ static void removes_others(void) {
     }
 }
 
-static void lives_and_dies(void) {
+static void live_and_die(void) {
     int status;
     pid_t child;
     shared->draws = next_of(&state);
@@ -382,7 +382,7 @@ static void lives_and_dies(void) {
     memset(shared->records, 0, sizeof shared->records);
     child = fork();
     if (child == 0) {
-        lives(draw(2) * 1000000);
+        live(draw(2) * 1000000);
     }
     if (draw(8) != 0) {
         while (!__atomic_load_n(&shared->is_started, __ATOMIC_SEQ_CST) && waitpid(child, &status, WNOHANG) == 0) {
@@ -393,24 +393,24 @@ static void lives_and_dies(void) {
     in_opening += !shared->is_started;
     kill(child, SIGKILL);
     if (waitpid(child, &status, 0) == child && WIFEXITED(status)) {
-        fails("it ended by itself", (uint64_t)WEXITSTATUS(status));
+        fail("it ended by itself", (uint64_t)WEXITSTATUS(status));
     }
     if (shared->is_refused) {
-        fails("a line is not told as safe", 0);
+        fail("a line is not reported as durable", 0);
     }
 }
 
 int main(int count, char **words) {
     unsigned long all = count >= 3 ? strtoul(words[1], NULL, 10) : 0;
     uint64_t hash = 0;
-    size_t kept = 0, length;
+    size_t length_before = 0, length;
     if (all == 0) {
         return 2;
     }
     path = words[2];
     struct stat there;
     if (stat(path, &there) == 0 && !S_ISREG(there.st_mode)) {
-        return 2; /* it is taken away now and then */
+        return 2; /* it is removed now and then */
     }
     state += count >= 4 ? strtoull(words[3], NULL, 10) * 0x9E3779B97F4A7C15u : 0;
     shared = mmap(NULL, sizeof *shared, PROT_READ | PROT_WRITE, MAP_SHARED | MAP_ANONYMOUS, -1, 0);
@@ -420,32 +420,32 @@ int main(int count, char **words) {
             unlink(path);
             shared->reported = 0;
             memset(shared->disks, 0, sizeof shared->disks);
-            kept = 0;
+            length_before = 0;
         }
-        removes_others();
-        lives_and_dies();
+        remove_others();
+        live_and_die();
         if (size_of() > 0 && draw(2) == 0) {
-            loses_power();
+            lose_power();
         }
-        heals();
-        checks();
+        recover();
+        check_lines();
         text = contents(&length);
-        if (length < kept || (kept > 0 && hash_of(text, kept) != hash)) {
-            fails("what stood before is another", kept);
+        if (length < length_before || (length_before > 0 && hash_of(text, length_before) != hash)) {
+            fail("what was there before is another", length_before);
         }
-        kept = length;
-        hash = hash_of(text, kept);
+        length_before = length;
+        hash = hash_of(text, length_before);
         free(text);
         if (draw(8) == 0) {
-            is_made_short();
+            compact_and_kill();
             text = contents(&length);
-            kept = length;
-            hash = hash_of(text, kept);
+            length_before = length;
+            hash = hash_of(text, length_before);
             free(text);
         }
     }
-    printf("%lu kills, %lu of them while the file was opened; %lu torn parts cut off, %lu bytes lost with the power, "
-           "%lu lines told as safe all there; %lu of %lu processes that make the file short were killed\n",
-           kills, in_opening, torn, lost, checked, tries - shortened, tries);
+    printf("%lu kills, %lu of them while the file was opened; %lu torn segments cut off, %lu bytes lost with the power, "
+           "%lu lines reported as durable all there; %lu of %lu processes that compact the file were killed\n",
+           kills, in_opening, torn, lost, checked, tries - compacted, tries);
     return checked < kills;
 }

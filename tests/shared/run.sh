@@ -4,10 +4,10 @@
 # them a tenth, and eight in Rust and in Python a tenth), with one, two or all of them admitted at a time, also with threads delayed between
 # the steps of waiting; `bin/hullbook check` judges their journal. Eight threads of which one drains the journal, and eight that keep none; up
 # to 64 at hulls with few lines that drain themselves; every code; each request for memory refused in turn; what calls promise while they
-# wait (waits.c); every order of the steps of the admission gate (door_model.c) and of snapshots (views_model.c); every order of the steps
+# wait (waits.c); every order of the steps of the admission gate (gate_model.c) and of snapshots (snapshot_model.c); every order of the steps
 # of two seats and a reader over the library itself (orders.c); snapshots of 60 readers beside calls (readers.c); journal files whose process
 # is killed (kills.c) or that are damaged (edges.c); a service of 64 threads that is killed and continued (service.c); and wake-ups out of
-# order (wakeups.sh). What is missing here (a compiler, python3, valgrind) is named and counts nothing.
+# order (lost_wakeups.sh). What is missing here (a compiler, python3, valgrind) is named and counts nothing.
 #
 #     tests/shared/run.sh [CALLS [KILLS]]    20000 and 40 if not given; `.ci/run --all-mutants` takes 100000 and 150
 set -u
@@ -31,13 +31,13 @@ build() {
         -o "$room/$(basename "$source" .c)"
 }
 
-# the same over archive/line.c compiled anew: whose threads are held up between two steps, and which sleep without futex
+# the same over c/gate.c compiled anew: with threads that are delayed between two steps, and with threads that sleep without futex
 build_slow() {
-    build "$@" -DSLOW -include "$here/steps.h" "$top/archive/line.c"
+    build "$@" -DSLOW -include "$here/steps.h" "$top/c/gate.c"
 }
 
 build_by_pthreads() {
-    build "$@" -DHULL_SHARED_BY_PTHREADS "$top/archive/line.c"
+    build "$@" -DHULL_SHARED_BY_PTHREADS "$top/c/gate.c"
 }
 
 # rustc with the edition of the wrapper, and warnings refused
@@ -50,7 +50,7 @@ python() {
     PYTHONDONTWRITEBYTECODE=1 PYTHONPATH=$prefix/lib/hull python3 "$@"
 }
 
-# whether a command writes what a file has, and a legal journal to the file behind its words: FILE COMMAND..
+# whether a command writes what a file has, and a legal journal to the file after its words: FILE COMMAND..
 writes() {
     wanted=$1
     shift
@@ -70,15 +70,15 @@ legal() {
 in_c() {
     build "$here/codes.c" -Wl,--wrap=malloc,--wrap=realloc && "$room/codes"
     count "every code, and each request for memory refused" $?
-    sed -n '/^size_t room = 4096;/,/^```/{/^```/!p;}' "$top/docs/SHARED.md" >"$room/pieces.inc"
+    sed -n '/^size_t capacity = 4096;/,/^```/{/^```/!p;}' "$top/docs/SHARED.md" >"$room/pieces.inc"
     build "$here/pieces.c" -I"$room" -Wl,--wrap=malloc,--wrap=realloc && "$room/pieces" >"$room/told"
     count "the loop for pieces of docs/SHARED.md: $(cat "$room/told")" $?
     build "$examples/threads.c" && "$room/threads" >"$room/journal" && legal "$room/journal"
     count "examples/shared/threads.c writes a legal journal" $?
-    build "$examples/kept.c" && "$room/kept" "$room/kept.journal" >"$room/said" && printf 'hullbook jour' >>"$room/kept.journal" &&
-        "$room/kept" "$room/kept.journal" >"$room/said" && grep -q ' 13 bytes were cut off' "$room/said" &&
-        grep -q '^19 points' "$room/said" && apart "$room/kept.journal"
-    count "examples/shared/kept.c goes on with its file, and cuts its torn end off" $?
+    build "$examples/journal_file.c" && "$room/journal_file" "$room/example.journal" >"$room/said" && printf 'hullbook jour' >>"$room/example.journal" &&
+        "$room/journal_file" "$room/example.journal" >"$room/said" && grep -q ' 13 bytes were cut off' "$room/said" &&
+        grep -q '^19 points' "$room/said" && in_segments "$room/example.journal"
+    count "examples/shared/journal_file.c continues its file, and cuts its torn end off" $?
     build "$here/storm.c"
     count "storm.c compiles" $?
     for threads in 2 4 8 64; do
@@ -90,7 +90,7 @@ in_c() {
         done
     done
     build_slow "$here/storm.c"
-    count "storm.c compiles with threads that are held up" $?
+    count "storm.c compiles with threads that are delayed" $?
     for inside in 1 2 8; do
         storm 8 $((calls / 100)) "$inside"
     done
@@ -102,14 +102,14 @@ in_c() {
     build "$here/drains.c"
     count "drains.c compiles" $?
     drains
-    storms_of_full_desks
+    storms_of_full_hulls
     readings
     waits
     journals
     services
     models
-    "$here/wakeups.sh" "$prefix" >"$room/told" 2>&1
-    count "no wake-up is lost, and a line that loses one is found: $(tail -n 1 "$room/told")" $?
+    "$here/lost_wakeups.sh" "$prefix" >"$room/told" 2>&1
+    count "no wake-up is lost, and a gate that loses one is found: $(tail -n 1 "$room/told")" $?
 }
 
 # threads over one hull: how many, of how many calls each, and how many inside at once
@@ -119,10 +119,10 @@ storm() {
     count "$1 threads of $2 calls, $3 inside: each number once and rising, and the journal legal" $?
 }
 
-# whether hullbook says that the parts of these numbers are one legal journal, in this order
+# whether hullbook says that the segments of these numbers are one legal journal, in this order
 judged() {
-    for part in "$@"; do
-        set -- "$@" "$room/parts/part.$part"
+    for number in "$@"; do
+        set -- "$@" "$room/segments/segment.$number"
         shift
     done
     "$top/bin/hullbook" check "$@" >"$room/verdict" 2>&1
@@ -130,35 +130,35 @@ judged() {
 
 # whether it says that the second of them is illegal at its first line
 breaks() {
-    ! judged "$@" && [ "$(cat "$room/verdict")" = "illegal 2 in $room/parts/part.$2" ]
+    ! judged "$@" && [ "$(cat "$room/verdict")" = "illegal 2 in $room/segments/segment.$2" ]
 }
 
-# how many lines all parts have
+# how many lines all segments have
 lines() {
-    cat "$room/parts"/part.* | grep -cv '^hullbook\|^end'
+    cat "$room/segments"/segment.* | grep -cv '^hullbook\|^end'
 }
 
-# eight threads, one of which takes the lines out each time that a tenth of the calls of one thread were made, also with no
-# journal; and parts that are missing, doubled or exchanged
+# eight threads, one of which drains the hull each time that a tenth of the calls of one thread were made, also with no
+# journal; and segments that are missing, doubled or exchanged
 drains() {
-    mkdir "$room/parts"
-    "$room/drains" 8 "$calls" $((calls / 10)) "$room/parts" >"$room/said" && judged $(seq "$(cat "$room/said")") &&
+    mkdir "$room/segments"
+    "$room/drains" 8 "$calls" $((calls / 10)) "$room/segments" >"$room/said" && judged $(seq "$(cat "$room/said")") &&
         [ "$(lines)" -ge $((8 * calls)) ]
-    count "the parts that one of 8 threads takes out, $(cat "$room/said") of them, are one legal journal" $?
+    count "the segments that one of 8 threads drains, $(cat "$room/said") of them, are one legal journal" $?
     breaks 1 3 4 && breaks 1 1 2 && breaks 1 3 2
-    count "a part that is missing, doubled or exchanged is illegal at its first line" $?
+    count "a segment that is missing, doubled or exchanged is illegal at its first line" $?
     "$room/drains" 8 "$calls" 1 - >"$room/said"
     count "8 threads of $calls calls without a journal" $?
 }
 
-# threads with no thought of draining at a desk of few lines, whose line drains by itself: THREADS CALLS CAPACITY
+# threads, none of which drains, over a hull of few lines, whose gate drains by itself: THREADS CALLS CAPACITY
 full() {
-    rm -rf "$room/parts" && mkdir "$room/parts"
-    "$room/full" "$1" "$2" "$3" "$room/parts" >"$room/said" && judged $(seq "$(cat "$room/said")")
-    count "$1 threads of $2 calls at $3 lines, which drain by themselves: all served, $(cat "$room/said") parts, one legal journal" $?
+    rm -rf "$room/segments" && mkdir "$room/segments"
+    "$room/full" "$1" "$2" "$3" "$room/segments" >"$room/said" && judged $(seq "$(cat "$room/said")")
+    count "$1 threads of $2 calls at $3 lines, which drain by themselves: all served, $(cat "$room/said") segments, one legal journal" $?
 }
 
-storms_of_full_desks() {
+storms_of_full_hulls() {
     build "$here/full.c"
     count "full.c compiles" $?
     full 4 "$calls" 20000
@@ -190,70 +190,70 @@ readings() {
     build "$here/orders.c" -lhull
     count "orders.c compiles" $?
     for words in "3 3 1" "3 2 2" "4 1 1"; do
-        # shellcheck disable=SC2086 # the words stand apart by spaces
+        # shellcheck disable=SC2086 # the words are separated by spaces
         "$room/orders" $words >"$room/told"
         count "every order of the steps of two seats and a reader: $(cat "$room/told")" $?
     done
     "$room/orders" 2 2 2 short >"$room/told"
-    count "views beside journals of one line less are told: $(cat "$room/told")" $?
-    build "$here/views_model.c"
+    count "snapshots beside journals of one line less are found: $(cat "$room/told")" $?
+    build "$here/snapshot_model.c"
     for words in "2 4 4 2" "3 5 2 1" "1 3 5 3"; do
-        # shellcheck disable=SC2086 # the words stand apart by spaces
-        "$room/views_model" $words >"$room/told"
+        # shellcheck disable=SC2086 # the words are separated by spaces
+        "$room/snapshot_model" $words >"$room/told"
         count "every order of the steps of publishing and reading: $(cat "$room/told")" $?
     done
     for fault in $(seq 11); do
-        "$room/views_model" 2 4 4 2 "$fault" >"$room/told"
-        count "a fault of views is found: $(sed 's/.*fault \(.*\): .* views, /\1: /' "$room/told")" $?
+        "$room/snapshot_model" 2 4 4 2 "$fault" >"$room/told"
+        count "a fault of snapshots is found: $(sed 's/.*fault \(.*\): .* snapshots, /\1: /' "$room/told")" $?
     done
 }
 
-# what calls in a line promise but their answers
+# what calls at a gate promise beside their answers
 waits() {
-    build "$here/doors.c" && "$room/doors"
-    count "each step of the door" $?
+    build "$here/gate_steps.c" && "$room/gate_steps"
+    count "each step of the gate" $?
     build "$here/waits.c" -Wl,--wrap=malloc && "$room/waits"
-    count "errno, deadlines, lines of others, threads that are cancelled or die" $?
+    count "errno, deadlines, other gates, threads that are cancelled or die" $?
     build_by_pthreads "$here/waits.c" -Wl,--wrap=malloc,--wrap=clock_gettime && "$room/waits"
     count "the same without futex" $?
 }
 
-# every order of the steps of the door, and the faults that are planted there: THREADS CALLS INSIDE MODES
+# every order of the steps of the gate, and the faults that are planted there: THREADS CALLS INSIDE MODES
 model() {
-    "$room/door_model" "$@" >"$room/told"
-    count "every order of the door: $(cat "$room/told")" $?
+    "$room/gate_model" "$@" >"$room/told"
+    count "every order of the gate: $(cat "$room/told")" $?
 }
 
-# the file of a journal: each code and each cut, a process that is killed at random moments, and faults that are planted there
+# journal files: each code and each cut, a process that is killed at random moments, and faults that are planted there
 journals() {
-    build "$here/journals.c" -Wl,--wrap=pwrite,--wrap=fsync && "$room/journals" "$room/zone.journal" && apart "$room/zone.journal"
-    count "every code of a journal's file, and each length that its end may be cut to" $?
+    build "$here/journals.c" -Wl,--wrap=pwrite,--wrap=fsync && "$room/journals" "$room/zone.journal" && in_segments "$room/zone.journal"
+    count "every code of a journal file, and each length that its end may be cut to" $?
     edges
     build "$here/kills.c" -Wl,--wrap=pwrite,--wrap=fsync,--wrap=ftruncate && "$room/kills" "$kills" "$room/zone.journal" 1 >"$room/told" &&
-        apart "$room/zone.journal"
+        in_segments "$room/zone.journal"
     count "a process that keeps a journal is killed: $(cat "$room/told")" $?
-    killed_wrongly 'lines are told as safe before they are written' \
-        '/^    uint32_t failed = j->failed;/a\    __atomic_store_n(\&j->safe, j->next + 1000, __ATOMIC_SEQ_CST), notify(j);'
+    killed_wrongly 'lines are reported as durable before they are written' \
+        '/^    uint32_t failed = j->failed;/a\    __atomic_store_n(\&j->durable, j->next + 1000, __ATOMIC_SEQ_CST), notify(j);'
     killed_wrongly 'nothing is synced' 's/failed == 0 && fsync\(j->file\) != 0/0/'
     killed_wrongly 'what a write did not take is left out' 's/^    while \(count > 0\) \{/    if (count > 0) {/'
     killed_wrongly 'a torn segment stays' 's/ftruncate\(j->file, \(off_t\)j->end\) != 0\)/0)/'
     killed_wrongly 'an opening syncs nothing' 's/fsync\(j->file\) == 0 && fsync\(j->folder\) == 0;/1;/'
     killed_wrongly 'an opening does not write the last segment again' 's/uint64_t at = j->last;/uint64_t at = j->end;/'
-    killed_wrongly 'what was asked for is done before it is drained' \
-        's/hull_shared_gate_drain\(j->line, j->seat\)\) \{/(__atomic_store_n(\&j->done, asked, __ATOMIC_SEQ_CST), notify(j), hull_shared_gate_drain(j->line, j->seat))) {/'
+    killed_wrongly 'what was requested is done before it is drained' \
+        's/hull_shared_gate_drain\(j->gate, j->seat\)\) \{/(__atomic_store_n(\&j->done, requested, __ATOMIC_SEQ_CST), notify(j), hull_shared_gate_drain(j->gate, j->seat))) {/'
 }
 
-# what the file has to bear: each test of edges.c
+# what a journal file has to bear: each test of edges.c
 edges() {
     build "$here/edges.c" "-Wl,--wrap=pwrite,--wrap=pread,--wrap=fsync,--wrap=ftruncate,--wrap=renameat,--wrap=flock" \
         -Wl,--wrap=pthread_create,--wrap=malloc,--wrap=realloc
     count "edges.c compiles" $?
     for edge in $(sed -n 's/^    {"\([a-z_]*\)", [a-z_]*},$/\1/p' "$here/edges.c"); do
         rm -rf "$room/edge" && mkdir "$room/edge" && "$room/edges" "$room/edge" "$edge" 2>"$room/told"
-        count "a journal's file: $edge" $?
+        count "a journal file: $edge" $?
     done
     rm -rf "$room/edge" && mkdir "$room/edge"
-    build "$here/edges.c" "$top/archive/journal.c" -fsanitize=address,undefined -fno-sanitize-recover=all \
+    build "$here/edges.c" "$top/c/journal.c" -fsanitize=address,undefined -fno-sanitize-recover=all \
         "-Wl,--wrap=pwrite,--wrap=pread,--wrap=fsync,--wrap=ftruncate,--wrap=renameat,--wrap=flock" \
         -Wl,--wrap=pthread_create,--wrap=malloc,--wrap=realloc
     for edge in $(sed -n 's/^    {"\([a-z_]*\)", [a-z_]*},$/\1/p' "$here/edges.c" | grep -v bears_); do
@@ -262,43 +262,43 @@ edges() {
     done
 }
 
-# whether the parts of a file are one legal journal
-apart() {
-    rm -rf "$room/apart" && mkdir "$room/apart" && csplit -s -z -n 6 -f "$room/apart/" "$1" '/^hullbook/' '{*}' &&
-        "$top/bin/hullbook" check "$room/apart"/* >"$room/verdict" 2>&1
+# whether the segments of a file are one legal journal
+in_segments() {
+    rm -rf "$room/split" && mkdir "$room/split" && csplit -s -z -n 6 -f "$room/split/" "$1" '/^hullbook/' '{*}' &&
+        "$top/bin/hullbook" check "$room/split"/* >"$room/verdict" 2>&1
 }
 
-# the same with a fault, which has to be seen: NAME, and a script of sed for the file
+# the same with a fault, which has to be found: NAME, and a script of sed for the file
 killed_wrongly() {
-    sed -E "$2" "$top/archive/journal.c" >"$room/journal.c"
-    ! cmp -s "$room/journal.c" "$top/archive/journal.c" || echo "nothing is changed by $2"
-    build "$here/kills.c" "$room/journal.c" -I"$top/archive" -Wl,--wrap=pwrite,--wrap=fsync,--wrap=ftruncate &&
+    sed -E "$2" "$top/c/journal.c" >"$room/journal.c"
+    ! cmp -s "$room/journal.c" "$top/c/journal.c" || echo "nothing is changed by $2"
+    build "$here/kills.c" "$room/journal.c" -I"$top/c" -Wl,--wrap=pwrite,--wrap=fsync,--wrap=ftruncate &&
         ! "$room/kills" 300 "$room/wrong.journal" 2 >"$room/told" 2>&1
-    count "$1: seen ($(tail -n 1 "$room/told"))" $?
+    count "$1: found ($(tail -n 1 "$room/told"))" $?
 }
 
-# a service whose process is killed and taken up again, and faults that are planted beneath it
+# a service whose process is killed and started again, and faults that are planted beneath it
 services() {
     build "$here/service.c" && "$room/service" $((2 * calls)) 3 "$room/service.journal" "$top/bin/hullbook" >"$room/told" &&
-        apart "$room/service.journal"
-    count "a service of 64 threads is killed and taken up again: $(cat "$room/told")" $?
-    served_wrongly 'lines are told as safe before they are written' \
-        '/^    uint32_t failed = j->failed;/a\    __atomic_store_n(\&j->safe, j->next + 1000, __ATOMIC_SEQ_CST), notify(j);'
-    served_wrongly 'a file that is made short lets points go' 's/^        if \(times > 0\) \{/        if (times > 1) {/'
+        in_segments "$room/service.journal"
+    count "a service of 64 threads is killed and started again: $(cat "$room/told")" $?
+    served_wrongly 'lines are reported as durable before they are written' \
+        '/^    uint32_t failed = j->failed;/a\    __atomic_store_n(\&j->durable, j->next + 1000, __ATOMIC_SEQ_CST), notify(j);'
+    served_wrongly 'a compacted file lacks points' 's/^        if \(multiplicity > 0\) \{/        if (multiplicity > 1) {/'
 }
 
-# the same with a fault, which has to be seen: NAME, and a script of sed for the file
+# the same with a fault, which has to be found: NAME, and a script of sed for the file
 served_wrongly() {
-    sed -E "$2" "$top/archive/journal.c" >"$room/journal.c"
-    ! cmp -s "$room/journal.c" "$top/archive/journal.c" || echo "nothing is changed by $2"
-    build "$here/service.c" "$room/journal.c" -I"$top/archive" &&
+    sed -E "$2" "$top/c/journal.c" >"$room/journal.c"
+    ! cmp -s "$room/journal.c" "$top/c/journal.c" || echo "nothing is changed by $2"
+    build "$here/service.c" "$room/journal.c" -I"$top/c" &&
         ! "$room/service" 6000000 120 "$room/wrong.journal" "$top/bin/hullbook" >"$room/told" 2>&1
-    count "$1, beneath a service: seen ($(tail -n 1 "$room/told"))" $?
+    count "$1, beneath a service: found ($(tail -n 1 "$room/told"))" $?
 }
 
 models() {
-    build "$here/door_model.c"
-    count "door_model.c compiles" $?
+    build "$here/gate_model.c"
+    count "gate_model.c compiles" $?
     model 3 3 1 ccc
     model 3 3 1 cut
     model 3 2 2 ccu
@@ -306,23 +306,23 @@ models() {
     model 4 1 2 ccuu
     for fault in $(seq 12); do
         for words in "2 2 1 cc" "2 2 1 cu" "3 2 1 ccc" "3 1 1 cut"; do
-            # shellcheck disable=SC2086 # the words stand apart by spaces
-            ! "$room/door_model" $words "$fault" >"$room/told" || break
+            # shellcheck disable=SC2086 # the words are separated by spaces
+            ! "$room/gate_model" $words "$fault" >"$room/told" || break
         done
         ! grep -q 'nothing wrong' "$room/told"
-        count "a fault of the door is found: $(sed 's/.*fault \(.*\): .* times, /\1: /' "$room/told")" $?
+        count "a fault of the gate is found: $(sed 's/.*fault \(.*\): .* times, /\1: /' "$room/told")" $?
     done
 }
 
-# the orders that threads have by a line are those that helgrind is told of; with nothing told it finds what it takes for races
+# the orders that threads have by a gate are those that helgrind is informed of; without that it finds what it takes for races
 by_helgrind() {
-    build "$here/full.c" && mkdir -p "$room/parts"
-    valgrind --tool=helgrind -q --error-exitcode=9 "$room/full" 4 200 50 "$room/parts" >"$room/said" 2>"$room/told"
+    build "$here/full.c" && mkdir -p "$room/segments"
+    valgrind --tool=helgrind -q --error-exitcode=9 "$room/full" 4 200 50 "$room/segments" >"$room/said" 2>"$room/told"
     count "helgrind finds nothing in full.c" $?
-    build "$here/full.c" -DHULL_SHARED_UNWATCHED "$top/archive/line.c"
-    valgrind --tool=helgrind -q --error-exitcode=9 "$room/full" 4 200 50 "$room/parts" >"$room/said" 2>"$room/told"
+    build "$here/full.c" -DHULL_SHARED_UNWATCHED "$top/c/gate.c"
+    valgrind --tool=helgrind -q --error-exitcode=9 "$room/full" 4 200 50 "$room/segments" >"$room/said" 2>"$room/told"
     [ $? -eq 9 ]
-    count "and much where it is told nothing" $?
+    count "and much if it is informed of nothing" $?
 }
 
 by_valgrind() {
@@ -334,7 +334,7 @@ by_valgrind() {
     by_helgrind
 }
 
-# what the linker is told of the calls that overlaps.c slows down
+# the linker's flags for the calls that overlaps.c slows down
 wraps() {
     sed -n 's/^SLOW([a-z0-9_]*, \(hull_shared_[a-z_]*\),.*/-Wl,--wrap=\1/p' "$here/../embed/overlaps.c"
     echo -Wl,--wrap=malloc -Wl,--wrap=calloc -Wl,--wrap=realloc
@@ -359,19 +359,19 @@ in_rust() {
     fi
     wraps=
     for wrap in $(wraps); do wraps="$wraps -C link-arg=$wrap"; done
-    # shellcheck disable=SC2086 # the flags stand apart by spaces
+    # shellcheck disable=SC2086 # the flags are separated by spaces
     overlaps_object && rust --test --cfg hull_overlaps --extern hull="$room/libhull.rlib" \
         --crate-name overlap_tests -C link-arg="$room/overlaps.o" $wraps "$here/shared_tests.rs" &&
         "$room/overlap_tests" lendings >"$room/told" 2>&1
-    count "calls on one desk from several threads of Rust wait for each other" $?
+    count "calls on one shared hull from several threads of Rust wait for each other" $?
     mkdir "$room/slow" && cp "$prefix/lib/libhull.a" "$prefix/lib/libhull_shared.a" "$room/slow/" &&
-        cc -std=gnu11 -O2 -fPIC -DSLOW -include "$here/steps.h" -I"$prefix/include" -c "$top/archive/line.c" -o "$room/slow/line.o" &&
-        ar r "$room/slow/libhull_shared.a" "$room/slow/line.o" &&
+        cc -std=gnu11 -O2 -fPIC -DSLOW -include "$here/steps.h" -I"$prefix/include" -c "$top/c/gate.c" -o "$room/slow/gate.o" &&
+        ar r "$room/slow/libhull_shared.a" "$room/slow/gate.o" &&
         rustc --edition 2021 -O -D warnings -L "native=$room/slow" -C extra-filename=_slow --crate-type rlib --crate-name hull \
             --out-dir "$room" "$top/rust/hull/src/lib.rs" &&
         rust --test --extern hull="$room/libhull_slow.rlib" --crate-name slow_tests "$here/shared_tests.rs" &&
         passes "$room/slow_tests"
-    count "the same with threads that are held up between the steps of waiting" $?
+    count "the same with threads that are delayed between the steps of waiting" $?
     rust --extern hull="$room/libhull.rlib" --crate-name threads_rust "$examples/threads.rs" &&
         writes "$examples/threads.txt" "$room/threads_rust"
     count "examples/shared/threads.rs writes examples/shared/threads.txt and a legal journal" $?
@@ -396,20 +396,20 @@ if is_there c++; then
         -lhull_shared -lpthread -o "$room/hull_tests" && "$room/hull_tests" "$here/../embed/lattice.txt" "$room/journal" >"$room/told" &&
         legal "$room/journal"
     count "threads in C++ leave a legal journal" $?
-    # shellcheck disable=SC2046 # the flags stand apart by spaces
+    # shellcheck disable=SC2046 # the flags are separated by spaces
     overlaps_object && c++ -std=c++17 -Wall -Wextra -Werror -O2 -I"$prefix/include" "$here/../embed/hull_tests.cpp" "$room/overlaps.o" \
         $(wraps) -L"$prefix/lib" -lhull -lhull_shared -lpthread -o "$room/overlap_tests_cpp" &&
         "$room/overlap_tests_cpp" "$here/../embed/lattice.txt" >"$room/told"
-    count "calls on one desk from several threads of C++ wait for each other" $?
-    c++ -std=c++17 -Wall -Wextra -Werror -O2 -I"$prefix/include" "$here/parts.cpp" -L"$prefix/lib" -lhull -lhull_shared \
-        -lpthread -o "$room/parts_cpp" && "$room/parts_cpp" "$room/taken" &&
+    count "calls on one shared hull from several threads of C++ wait for each other" $?
+    c++ -std=c++17 -Wall -Wextra -Werror -O2 -I"$prefix/include" "$here/segments.cpp" -L"$prefix/lib" -lhull -lhull_shared \
+        -lpthread -o "$room/segments_cpp" && "$room/segments_cpp" "$room/taken" &&
         "$top/bin/hullbook" check "$room/taken.1" "$room/taken.2" >"$room/verdict" 2>&1
-    count "parts of a journal in C++, and a hull that goes on with the first: both are one legal journal" $?
+    count "segments of a journal in C++, and a hull that continues the first: both are one legal journal" $?
 else
     skip "C++" c++
 fi
 ompl=$(pkg-config --cflags ompl eigen3 2>/dev/null || :)
-# shellcheck disable=SC2086 # the flags stand apart by spaces
+# shellcheck disable=SC2086 # the flags are separated by spaces
 if is_there c++ && echo '#include <ompl/base/MotionValidator.h>' | c++ $ompl -std=c++20 -x c++ -E - >/dev/null 2>&1; then
     c++ $ompl -std=c++20 -Wall -Wextra -O2 -I"$prefix/include" "$examples/moving.cpp" -L"$prefix/lib" -lhull -lhull_shared -lompl -lpthread \
         -o "$room/moving" 2>"$room/told" && "$room/moving" 2>"$room/told" | cmp - "$examples/moving.txt" && "$room/moving" mutex >"$room/said" 2>>"$room/told" &&

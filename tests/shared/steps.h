@@ -7,7 +7,7 @@
 #include <stdint.h>
 #include <time.h>
 
-static inline void held_up(void) {
+static inline void delay_thread(void) {
     static __thread uint64_t state;
     if (state == 0) {
         state = (uint64_t)(uintptr_t)&state | 1;
@@ -25,6 +25,6 @@ static inline void held_up(void) {
     }
 }
 
-#define HULL_SHARED_STEP(name) held_up()
+#define HULL_SHARED_STEP(name) delay_thread()
 
 #endif

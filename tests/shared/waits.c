@@ -1,6 +1,6 @@
-/* What calls in a line promise but their answers: errno stays, no line serves two desks, a call gives up in time, a thread that is
- * cancelled or dies holds up nobody else than it says, and who is inside is told. The status is 0 only where each is so; a hang ends
- * the program after a minute. */
+/* What calls at a gate promise beside their answers: errno stays, no gate serves two shared hulls, a call gives up in time, a thread that
+ * is cancelled or dies delays no others than the header says, and the seat that is inside is reported. The status is 0 only if each is so;
+ * a hang ends the program after a minute. */
 #include "hull_shared.h"
 
 #include <errno.h>
@@ -13,13 +13,13 @@
 
 enum { SEATS = 8 };
 
-static hull_shared_gate line;
-static hull_shared *desk;
+static hull_shared_gate gate;
+static hull_shared *shared;
 static hull_shared_seat *seats[SEATS];
 static int bad;
 static const uint64_t MILLISECOND = 1000000;
 
-static void is(const char *what, uint64_t got, uint64_t wanted) {
+static void check(const char *what, uint64_t got, uint64_t wanted) {
     if (got != wanted) {
         fprintf(stderr, "%s: %llu, not %llu\n", what, (unsigned long long)got, (unsigned long long)wanted);
         bad = 1;
@@ -30,13 +30,13 @@ static void is(const char *what, uint64_t got, uint64_t wanted) {
 /* The linker sends clock_gettime here (--wrap): the clock that may be set is an hour ahead, as if it were set back after each look. */
 int __real_clock_gettime(clockid_t clock, struct timespec *t);
 int __wrap_clock_gettime(clockid_t clock, struct timespec *t) {
-    int told = __real_clock_gettime(clock, t);
+    int result = __real_clock_gettime(clock, t);
     t->tv_sec += clock == CLOCK_REALTIME ? 3600 : 0;
-    return told;
+    return result;
 }
 #endif
 
-/* The linker sends malloc here (--wrap): the thread that is to die in it ends with no word to anybody. */
+/* The linker sends malloc here (--wrap): the thread that is to die in it ends without notice. */
 static __thread int dies;
 void *__real_malloc(size_t size);
 void *__wrap_malloc(size_t size) {
@@ -46,216 +46,216 @@ void *__wrap_malloc(size_t size) {
     return __real_malloc(size);
 }
 
-static void naps(uint64_t nanoseconds) {
+static void nap(uint64_t nanoseconds) {
     struct timespec t = {(time_t)(nanoseconds / 1000000000), (long)(nanoseconds % 1000000000)};
     nanosleep(&t, NULL);
 }
 
 static uint32_t count_by(hull_shared_seat *seat) {
-    return hull_shared_call(&line, seat, HULL_KIND_COUNT, 0, 0).told.code;
+    return hull_shared_call(&gate, seat, HULL_KIND_COUNT, 0, 0).answer.code;
 }
 
-static void opens(uint32_t capacity, uint32_t inside) {
-    is("line", (uint64_t)hull_shared_gate_init(&line, inside), 1);
-    is("open", hull_shared_open(desk, 1000, 7, capacity, SEATS), HULL_OPEN);
+static void open_all(uint32_t capacity, uint32_t inside) {
+    check("gate", (uint64_t)hull_shared_gate_init(&gate, inside), 1);
+    check("open", hull_shared_open(shared, 1000, 7, capacity, SEATS), HULL_OPEN);
     for (uint32_t k = 0; k < SEATS; k++) {
-        is("lend", hull_shared_acquire_seat(desk, &line, seats[k], k), HULL_ACQUIRED);
+        check("acquire", hull_shared_acquire_seat(shared, &gate, seats[k], k), HULL_ACQUIRED);
     }
 }
 
-static void closes(void) {
+static void close_all(void) {
     for (uint32_t k = 0; k < SEATS; k++) {
-        is("give back", hull_shared_release_seat(desk, seats[k]), HULL_RELEASED);
+        check("release", hull_shared_release_seat(shared, seats[k]), HULL_RELEASED);
     }
-    is("close", hull_shared_close(desk), HULL_CLOSED);
-    is("end", hull_shared_end(desk), HULL_ENDED);
+    check("close", hull_shared_close(shared), HULL_CLOSED);
+    check("end", hull_shared_end(shared), HULL_ENDED);
 }
 
-static void *counts(void *seat) {
-    is("a call that waits", count_by(seat), HULL_NUMBER);
+static void *count_once(void *seat) {
+    check("a call that waits", count_by(seat), HULL_NUMBER);
     return NULL;
 }
 
-/* Waits until so many are inside and so many sleep outside. */
-static void until_they_are(uint32_t inside, uint32_t sleepers) {
+/* Waits until so many are inside and so many are parked. */
+static void wait_until_inside(uint32_t inside, uint32_t sleepers) {
     for (;;) {
-        hull_shared_state state = hull_shared_stats(&line);
+        hull_shared_state state = hull_shared_stats(&gate);
         if (state.inside == inside && state.sleepers == sleepers) {
             return;
         }
-        naps(MILLISECOND / 10);
+        nap(MILLISECOND / 10);
     }
 }
 
-/* Looks with seat 0, which has a number, and wakes who waits for the next. */
-static void looks(void) {
+/* Looks with seat 0, which has a number, and wakes the caller that waits for the next. */
+static void look(void) {
     hull_shared_reply reply = hull_shared_look(seats[0]);
-    is("a look", reply.told.code, HULL_NUMBER);
-    hull_shared_handed_on(&line, reply.turn + 1);
+    check("a look", reply.answer.code, HULL_NUMBER);
+    hull_shared_handed_on(&gate, reply.turn + 1);
 }
 
-/* One line for two desks, and calls with a line that is not the seat's. */
-static void lines_of_others(void) {
+/* One gate for two shared hulls, and calls at a gate that is not the seat's. */
+static void check_other_gates(void) {
     static hull_shared_gate other;
     hull_shared *second = hull_shared_new();
     hull_shared_seat *seat = hull_shared_seat_new();
-    opens(100, 1);
-    is("open", hull_shared_open(second, 10, 0, 10, 1), HULL_OPEN);
-    is("one line for two desks", hull_shared_acquire_seat(second, &line, seat, 0), HULL_OTHER_GATE);
-    is("a room with no seat", hull_shared_call(&line, seat, HULL_KIND_COUNT, 0, 0).told.code, HULL_VACANT);
-    is("no seat", hull_shared_acquire_seat(second, &other, seat, 5), HULL_NO_SEAT);
-    is("lend", hull_shared_acquire_seat(second, &other, seat, 0), HULL_ACQUIRED);
-    is("another line", hull_shared_call(&line, seat, HULL_KIND_COUNT, 0, 0).told.code, HULL_OTHER_GATE);
-    is("another line", hull_shared_call(&other, seats[0], HULL_KIND_COUNT, 0, 0).told.code, HULL_OTHER_GATE);
-    is("its own line", hull_shared_call(&other, seat, HULL_KIND_COUNT, 0, 0).told.code, HULL_NUMBER);
-    is("give back", hull_shared_release_seat(second, seat), HULL_RELEASED);
-    is("with no line", hull_shared_acquire_seat(second, NULL, seat, 0), HULL_ACQUIRED);
-    is("a call with no line", hull_shared_call(&other, seat, HULL_KIND_COUNT, 0, 0).told.code, HULL_OTHER_GATE);
-    is("nor a call in none", hull_shared_call(NULL, seat, HULL_KIND_COUNT, 0, 0).told.code, HULL_OTHER_GATE);
-    is("a take and a look", hull_shared_take(seat, HULL_KIND_COUNT, 0, 0).told.code, HULL_TAKEN);
-    is("a take and a look", hull_shared_look(seat).told.code, HULL_NUMBER);
-    is("give back", hull_shared_release_seat(second, seat), HULL_RELEASED);
-    closes();
-    is("the line is free again", hull_shared_acquire_seat(second, &line, seat, 0), HULL_ACQUIRED);
-    is("give back", hull_shared_release_seat(second, seat), HULL_RELEASED);
-    is("close", hull_shared_close(second), HULL_CLOSED);
-    is("end", hull_shared_end(second), HULL_ENDED);
+    open_all(100, 1);
+    check("open", hull_shared_open(second, 10, 0, 10, 1), HULL_OPEN);
+    check("one gate for two shared hulls", hull_shared_acquire_seat(second, &gate, seat, 0), HULL_OTHER_GATE);
+    check("storage with no seat", hull_shared_call(&gate, seat, HULL_KIND_COUNT, 0, 0).answer.code, HULL_VACANT);
+    check("no seat", hull_shared_acquire_seat(second, &other, seat, 5), HULL_NO_SEAT);
+    check("acquire", hull_shared_acquire_seat(second, &other, seat, 0), HULL_ACQUIRED);
+    check("another gate", hull_shared_call(&gate, seat, HULL_KIND_COUNT, 0, 0).answer.code, HULL_OTHER_GATE);
+    check("another gate", hull_shared_call(&other, seats[0], HULL_KIND_COUNT, 0, 0).answer.code, HULL_OTHER_GATE);
+    check("its own gate", hull_shared_call(&other, seat, HULL_KIND_COUNT, 0, 0).answer.code, HULL_NUMBER);
+    check("release", hull_shared_release_seat(second, seat), HULL_RELEASED);
+    check("with no gate", hull_shared_acquire_seat(second, NULL, seat, 0), HULL_ACQUIRED);
+    check("a call with no gate", hull_shared_call(&other, seat, HULL_KIND_COUNT, 0, 0).answer.code, HULL_OTHER_GATE);
+    check("nor a call at none", hull_shared_call(NULL, seat, HULL_KIND_COUNT, 0, 0).answer.code, HULL_OTHER_GATE);
+    check("a take and a look", hull_shared_take(seat, HULL_KIND_COUNT, 0, 0).answer.code, HULL_TAKEN);
+    check("a take and a look", hull_shared_look(seat).answer.code, HULL_NUMBER);
+    check("release", hull_shared_release_seat(second, seat), HULL_RELEASED);
+    close_all();
+    check("the gate is free again", hull_shared_acquire_seat(second, &gate, seat, 0), HULL_ACQUIRED);
+    check("release", hull_shared_release_seat(second, seat), HULL_RELEASED);
+    check("close", hull_shared_close(second), HULL_CLOSED);
+    check("end", hull_shared_end(second), HULL_ENDED);
     hull_shared_seat_free(seat);
     hull_shared_free(second);
 }
 
 /* Calls with a deadline, and with none to wait, while one is inside and waits for a number that is not looked for. */
-static void deadlines(void) {
+static void check_deadlines(void) {
     pthread_t thread;
     uint64_t begun, took;
-    opens(100, 1);
-    is("at once, where nobody is inside", hull_shared_try_call(&line, seats[1], HULL_KIND_ADD, 3, 4).told.code, HULL_ADDED);
-    is("take", hull_shared_take(seats[0], HULL_KIND_COUNT, 0, 0).told.code, HULL_TAKEN);
-    pthread_create(&thread, NULL, counts, seats[2]);
-    until_they_are(1, 0);
+    open_all(100, 1);
+    check("at once, if none is inside", hull_shared_try_call(&gate, seats[1], HULL_KIND_ADD, 3, 4).answer.code, HULL_ADDED);
+    check("take", hull_shared_take(seats[0], HULL_KIND_COUNT, 0, 0).answer.code, HULL_TAKEN);
+    pthread_create(&thread, NULL, count_once, seats[2]);
+    wait_until_inside(1, 0);
     begun = hull_shared_now();
-    is("at once", hull_shared_try_call(&line, seats[1], HULL_KIND_COUNT, 0, 0).told.code, HULL_BUSY);
-    is("its turn", hull_shared_try_call(&line, seats[1], HULL_KIND_COUNT, 0, 0).turn, 0);
-    is("by a time that is over", hull_shared_call_until(&line, seats[1], HULL_KIND_COUNT, 0, 0, begun).told.code, HULL_BUSY);
-    is("they did not wait", hull_shared_now() - begun < 1000 * MILLISECOND, 1);
+    check("at once", hull_shared_try_call(&gate, seats[1], HULL_KIND_COUNT, 0, 0).answer.code, HULL_BUSY);
+    check("its turn", hull_shared_try_call(&gate, seats[1], HULL_KIND_COUNT, 0, 0).turn, 0);
+    check("by a deadline that has passed", hull_shared_call_until(&gate, seats[1], HULL_KIND_COUNT, 0, 0, begun).answer.code, HULL_BUSY);
+    check("they did not wait", hull_shared_now() - begun < 1000 * MILLISECOND, 1);
     begun = hull_shared_now();
-    is("in time", hull_shared_call_until(&line, seats[1], HULL_KIND_COUNT, 0, 0, begun + 30 * MILLISECOND).told.code, HULL_BUSY);
+    check("in time", hull_shared_call_until(&gate, seats[1], HULL_KIND_COUNT, 0, 0, begun + 30 * MILLISECOND).answer.code, HULL_BUSY);
     took = hull_shared_now() - begun;
-    is("it waited", took >= 30 * MILLISECOND, 1);
-    is("and not for long", took < 5000 * MILLISECOND, 1);
-    is("nobody sleeps", hull_shared_stats(&line).sleepers, 0);
-    looks();
+    check("it waited", took >= 30 * MILLISECOND, 1);
+    check("and not for long", took < 5000 * MILLISECOND, 1);
+    check("none is parked", hull_shared_stats(&gate).sleepers, 0);
+    look();
     pthread_join(thread, NULL);
-    is("in time", hull_shared_call_until(&line, seats[1], HULL_KIND_COUNT, 0, 0, hull_shared_now() + 5000 * MILLISECOND).told.code, HULL_NUMBER);
-    closes();
+    check("in time", hull_shared_call_until(&gate, seats[1], HULL_KIND_COUNT, 0, 0, hull_shared_now() + 5000 * MILLISECOND).answer.code, HULL_NUMBER);
+    close_all();
 }
 
-static void *adds_in_time(void *code) {
-    *(uint32_t *)code = hull_shared_call_until(&line, seats[1], HULL_KIND_ADD, 1, 1, hull_shared_now() + 50000 * MILLISECOND).told.code;
+static void *add_in_time(void *code) {
+    *(uint32_t *)code = hull_shared_call_until(&gate, seats[1], HULL_KIND_ADD, 1, 1, hull_shared_now() + 50000 * MILLISECOND).answer.code;
     return NULL;
 }
 
-/* Room that is waited for, no longer than until a deadline. */
-static void rooms(void) {
-    hull_shared_segment *part = hull_shared_segment_new();
+/* Space that is waited for, no longer than until a deadline. */
+static void check_waiting_for_space(void) {
+    hull_shared_segment *segment = hull_shared_segment_new();
     pthread_t thread;
     uint32_t code = 0;
     uint64_t begun;
-    opens(1, 1);
-    hull_shared_gate_wait_for_space(&line, 1);
-    is("the only line", count_by(seats[0]), HULL_NUMBER);
+    open_all(1, 1);
+    hull_shared_gate_wait_for_space(&gate, 1);
+    check("the only line", count_by(seats[0]), HULL_NUMBER);
     begun = hull_shared_now();
-    is("at once", hull_shared_try_call(&line, seats[1], HULL_KIND_COUNT, 0, 0).told.code, HULL_FULL);
-    is("in time", hull_shared_call_until(&line, seats[1], HULL_KIND_COUNT, 0, 0, begun + 20 * MILLISECOND).told.code, HULL_FULL);
-    is("it waited", hull_shared_now() - begun >= 20 * MILLISECOND, 1);
-    pthread_create(&thread, NULL, adds_in_time, &code);
-    while (hull_shared_stats(&line).for_room == 0) {
-        naps(MILLISECOND / 10);
+    check("at once", hull_shared_try_call(&gate, seats[1], HULL_KIND_COUNT, 0, 0).answer.code, HULL_FULL);
+    check("in time", hull_shared_call_until(&gate, seats[1], HULL_KIND_COUNT, 0, 0, begun + 20 * MILLISECOND).answer.code, HULL_FULL);
+    check("it waited", hull_shared_now() - begun >= 20 * MILLISECOND, 1);
+    pthread_create(&thread, NULL, add_in_time, &code);
+    while (hull_shared_stats(&gate).for_space == 0) {
+        nap(MILLISECOND / 10);
     }
-    is("room", hull_shared_segment_reserve(part, 1), HULL_RESERVED);
-    is("drain", hull_shared_drain(&line, seats[0], part, HULL_KIND_COUNT, 0, 0).told.code, HULL_NUMBER);
+    check("space", hull_shared_segment_reserve(segment, 1), HULL_RESERVED);
+    check("drain", hull_shared_drain(&gate, seats[0], segment, HULL_KIND_COUNT, 0, 0).answer.code, HULL_NUMBER);
     pthread_join(thread, NULL);
-    is("once there is room", code, HULL_ADDED);
-    is("held", hull_shared_stats(&line).held, 1);
-    hull_shared_segment_end(part);
-    hull_shared_segment_free(part);
-    closes();
+    check("once there is space", code, HULL_ADDED);
+    check("held", hull_shared_stats(&gate).held, 1);
+    hull_shared_segment_end(segment);
+    hull_shared_segment_free(segment);
+    close_all();
 }
 
-/* Calls whose deadlines end while they are at the door, or are being named: none of them holds up another. */
-static void *gives_up_often(void *own) {
+/* Calls whose deadlines pass while they are at the gate, or are being designated: none of them delays another. */
+static void *give_up_often(void *own) {
     uint64_t drawn = (uint64_t)(size_t)own * 88172645463325252u | 1;
     hull_shared_seat *seat = *(hull_shared_seat **)own;
     for (int k = 0; k < 3000; k++) {
         drawn ^= drawn << 13, drawn ^= drawn >> 7, drawn ^= drawn << 17;
-        uint32_t code = hull_shared_call_until(&line, seat, HULL_KIND_COUNT, 0, 0, hull_shared_now() + drawn % 50000).told.code;
-        is("a call with a deadline", code == HULL_NUMBER || code == HULL_BUSY, 1);
+        uint32_t code = hull_shared_call_until(&gate, seat, HULL_KIND_COUNT, 0, 0, hull_shared_now() + drawn % 50000).answer.code;
+        check("a call with a deadline", code == HULL_NUMBER || code == HULL_BUSY, 1);
     }
-    is("a call with none", count_by(seat), HULL_NUMBER);
+    check("a call with none", count_by(seat), HULL_NUMBER);
     return NULL;
 }
 
-static void short_deadlines(uint32_t inside) {
+static void check_short_deadlines(uint32_t inside) {
     pthread_t threads[SEATS];
-    opens(100000, inside);
+    open_all(100000, inside);
     for (int k = 0; k < SEATS; k++) {
-        pthread_create(&threads[k], NULL, gives_up_often, &seats[k]);
+        pthread_create(&threads[k], NULL, give_up_often, &seats[k]);
     }
     for (int k = 0; k < SEATS; k++) {
         pthread_join(threads[k], NULL);
     }
-    is("the door is open", hull_shared_stats(&line).inside + hull_shared_stats(&line).sleepers, 0);
-    is("none is named", hull_shared_stats(&line).named, HULL_SHARED_SEATS_MAX);
-    closes();
+    check("the gate is open", hull_shared_stats(&gate).inside + hull_shared_stats(&gate).sleepers, 0);
+    check("none is designated", hull_shared_stats(&gate).designated, HULL_SHARED_SEATS_MAX);
+    close_all();
 }
 
-static void *is_cancelled(void *seat) {
+static void *get_cancelled(void *seat) {
     count_by(seat);
     pthread_testcancel();
-    is("a thread that was cancelled", 0, 1);
+    check("a thread that was cancelled", 0, 1);
     return NULL;
 }
 
-/* Threads that are cancelled while they sleep: with a number, and outside. Others go on all the same. */
-static void cancelled(uint32_t inside) {
+/* Threads that are cancelled while they sleep: with a number, and parked. Others continue all the same. */
+static void check_cancelled(uint32_t inside) {
     pthread_t threads[3];
-    opens(100, inside);
-    is("take", hull_shared_take(seats[0], HULL_KIND_COUNT, 0, 0).told.code, HULL_TAKEN);
+    open_all(100, inside);
+    check("take", hull_shared_take(seats[0], HULL_KIND_COUNT, 0, 0).answer.code, HULL_TAKEN);
     for (int k = 0; k < 3; k++) {
-        pthread_create(&threads[k], NULL, k < 2 ? is_cancelled : counts, seats[k + 1]);
-        until_they_are((uint32_t)k + 1 < inside ? (uint32_t)k + 1 : inside, (uint32_t)k + 1 < inside ? 0 : (uint32_t)k + 1 - inside);
+        pthread_create(&threads[k], NULL, k < 2 ? get_cancelled : count_once, seats[k + 1]);
+        wait_until_inside((uint32_t)k + 1 < inside ? (uint32_t)k + 1 : inside, (uint32_t)k + 1 < inside ? 0 : (uint32_t)k + 1 - inside);
     }
-    naps(5 * MILLISECOND); /* they sleep by now */
+    nap(5 * MILLISECOND); /* they sleep by now */
     pthread_cancel(threads[0]);
     pthread_cancel(threads[1]);
-    naps(5 * MILLISECOND);
-    looks();
+    nap(5 * MILLISECOND);
+    look();
     for (int k = 0; k < 3; k++) {
-        void *told = NULL;
-        pthread_join(threads[k], &told);
-        is("it was cancelled behind its call", told == PTHREAD_CANCELED, k < 2);
+        void *result = NULL;
+        pthread_join(threads[k], &result);
+        check("it was cancelled after its call", result == PTHREAD_CANCELED, k < 2);
     }
-    is("another call", count_by(seats[5]), HULL_NUMBER);
-    is("nobody sleeps", hull_shared_stats(&line).sleepers, 0);
-    closes();
+    check("another call", count_by(seats[5]), HULL_NUMBER);
+    check("none is parked", hull_shared_stats(&gate).sleepers, 0);
+    close_all();
 }
 
 static int hooks;
 static pthread_t in_hook;
 
-/* A hook in which its thread is cancelled, at a point where threads are, and which leaves another errno. */
-static void keeps(void *context, const hull_shared_segment *part) {
-    (void)context, (void)part;
+/* A hook in which its thread is cancelled, at a cancellation point, and which leaves another errno. */
+static void count_hook(void *context, const hull_shared_segment *segment) {
+    (void)context, (void)segment;
     hooks++;
     if (pthread_equal(pthread_self(), in_hook)) {
         pthread_cancel(in_hook);
         pthread_testcancel();
-        naps(MILLISECOND);
+        nap(MILLISECOND);
     }
     errno = 5;
 }
 
-static void *fills(void *seat) {
+static void *fill(void *seat) {
     in_hook = pthread_self();
     for (int k = 0; k < 3; k++) {
         count_by(seat);
@@ -264,101 +264,101 @@ static void *fills(void *seat) {
     return NULL;
 }
 
-static void cancelled_in_hook(void) {
+static void check_cancelled_in_hook(void) {
     pthread_t thread;
-    void *told = NULL;
-    opens(4, 1);
-    is("hook", (uint64_t)hull_shared_gate_on_half_full(&line, keeps, NULL), 1);
-    pthread_create(&thread, NULL, fills, seats[0]);
-    pthread_join(thread, &told);
-    is("it was cancelled behind its call", told == PTHREAD_CANCELED, 1);
-    is("nobody drains", hull_shared_stats(&line).drainer, HULL_SHARED_SEATS_MAX);
+    void *result = NULL;
+    open_all(4, 1);
+    check("hook", (uint64_t)hull_shared_gate_on_half_full(&gate, count_hook, NULL), 1);
+    pthread_create(&thread, NULL, fill, seats[0]);
+    pthread_join(thread, &result);
+    check("it was cancelled after its call", result == PTHREAD_CANCELED, 1);
+    check("none drains", hull_shared_stats(&gate).drainer, HULL_SHARED_SEATS_MAX);
     for (int k = 0; k < 20; k++) {
-        is("others go on", count_by(seats[1]), HULL_NUMBER);
+        check("others continue", count_by(seats[1]), HULL_NUMBER);
     }
-    is("and drain", hooks > 5, 1);
-    closes();
-    hull_shared_gate_end(&line);
+    check("and drain", hooks > 5, 1);
+    close_all();
+    hull_shared_gate_end(&gate);
 }
 
-static void *keeps_errno(void *seat) {
+static void *check_errno_kept(void *seat) {
     for (int k = 0; k < 2000; k++) {
         errno = 77;
-        hull_shared_call(&line, seat, HULL_KIND_ADD, k, 0);
-        is("errno", (uint64_t)errno, 77);
+        hull_shared_call(&gate, seat, HULL_KIND_ADD, k, 0);
+        check("errno", (uint64_t)errno, 77);
         errno = 78;
-        hull_shared_call_until(&line, seat, HULL_KIND_COUNT, 0, 0, hull_shared_now() + 1000);
-        is("errno", (uint64_t)errno, 78);
+        hull_shared_call_until(&gate, seat, HULL_KIND_COUNT, 0, 0, hull_shared_now() + 1000);
+        check("errno", (uint64_t)errno, 78);
     }
     return NULL;
 }
 
 /* errno stays as it was, of calls that sleep, that are too late, and whose hook changes it. */
-static void errnos(void) {
+static void check_errno(void) {
     pthread_t threads[SEATS];
-    opens(20, SEATS);
-    is("hook", (uint64_t)hull_shared_gate_on_half_full(&line, keeps, NULL), 1);
-    hull_shared_gate_wait_for_space(&line, 1);
+    open_all(20, SEATS);
+    check("hook", (uint64_t)hull_shared_gate_on_half_full(&gate, count_hook, NULL), 1);
+    hull_shared_gate_wait_for_space(&gate, 1);
     for (int k = 0; k < SEATS; k++) {
-        pthread_create(&threads[k], NULL, keeps_errno, seats[k]);
+        pthread_create(&threads[k], NULL, check_errno_kept, seats[k]);
     }
     for (int k = 0; k < SEATS; k++) {
         pthread_join(threads[k], NULL);
     }
-    closes();
-    hull_shared_gate_end(&line);
+    close_all();
+    hull_shared_gate_end(&gate);
 }
 
-static void *dies_inside(void *seat) {
+static void *die_inside(void *seat) {
     dies = 1;
-    for (int k = 0; k < 40; k++) { /* a list of corners asks for memory, and so do points */
-        hull_shared_call(&line, seat, HULL_KIND_ADD, k, k * k);
-        hull_shared_call(&line, seat, HULL_KIND_VERTICES, 0, 0);
+    for (int k = 0; k < 40; k++) { /* a list of vertices asks for memory, and so do points */
+        hull_shared_call(&gate, seat, HULL_KIND_ADD, k, k * k);
+        hull_shared_call(&gate, seat, HULL_KIND_VERTICES, 0, 0);
     }
-    is("a thread that died", 0, 1);
+    check("a thread that died", 0, 1);
     return NULL;
 }
 
-/* A thread that dies inside is told of, and the others can give up. What it held is lost, so that the desk is left as it is. */
-static void dead_inside(void) {
+/* A thread that dies inside is reported, and the others can give up. What it held is lost, so that the shared hull is left as it is. */
+static void check_dead_inside(void) {
     pthread_t thread;
     hull_shared_state state;
-    opens(100, 1);
-    is("a call", count_by(seats[1]), HULL_NUMBER);
-    state = hull_shared_stats(&line);
-    is("nobody is inside", state.inside, 0);
-    is("nobody has the number", state.seat, HULL_SHARED_SEATS_MAX);
-    is("the number that is served", state.turn, 8);
-    is("the lines held", state.held, 1);
-    pthread_create(&thread, NULL, dies_inside, seats[3]);
+    open_all(100, 1);
+    check("a call", count_by(seats[1]), HULL_NUMBER);
+    state = hull_shared_stats(&gate);
+    check("none is inside", state.inside, 0);
+    check("none has the number", state.seat, HULL_SHARED_SEATS_MAX);
+    check("the number that is served", state.turn, 8);
+    check("the lines held", state.held, 1);
+    pthread_create(&thread, NULL, die_inside, seats[3]);
     pthread_join(thread, NULL);
-    naps(30 * MILLISECOND);
-    state = hull_shared_stats(&line);
-    is("one is inside", state.inside, 1);
-    is("its seat", state.seat, 3);
-    is("its number", state.turn, 7 + state.held);
-    is("for how long", state.seat_for >= 15 * MILLISECOND && state.seat_for < 50000 * MILLISECOND, 1);
-    is("at once", hull_shared_try_call(&line, seats[1], HULL_KIND_COUNT, 0, 0).told.code, HULL_BUSY);
-    is("in time", hull_shared_call_until(&line, seats[1], HULL_KIND_COUNT, 0, 0, hull_shared_now() + 5 * MILLISECOND).told.code, HULL_BUSY);
+    nap(30 * MILLISECOND);
+    state = hull_shared_stats(&gate);
+    check("one is inside", state.inside, 1);
+    check("its seat", state.seat, 3);
+    check("its number", state.turn, 7 + state.held);
+    check("for how long", state.seat_for >= 15 * MILLISECOND && state.seat_for < 50000 * MILLISECOND, 1);
+    check("at once", hull_shared_try_call(&gate, seats[1], HULL_KIND_COUNT, 0, 0).answer.code, HULL_BUSY);
+    check("in time", hull_shared_call_until(&gate, seats[1], HULL_KIND_COUNT, 0, 0, hull_shared_now() + 5 * MILLISECOND).answer.code, HULL_BUSY);
 }
 
 int main(void) {
     alarm(60);
-    desk = hull_shared_new();
+    shared = hull_shared_new();
     for (int k = 0; k < SEATS; k++) {
         seats[k] = hull_shared_seat_new();
     }
-    is("a line of 65", (uint64_t)hull_shared_gate_init(&line, HULL_SHARED_SEATS_MAX + 1), 0);
-    lines_of_others();
-    deadlines();
-    rooms();
-    short_deadlines(1);
-    short_deadlines(3);
-    cancelled(1);
-    cancelled(2);
-    cancelled(SEATS);
-    cancelled_in_hook();
-    errnos();
-    dead_inside();
+    check("a gate of 65", (uint64_t)hull_shared_gate_init(&gate, HULL_SHARED_SEATS_MAX + 1), 0);
+    check_other_gates();
+    check_deadlines();
+    check_waiting_for_space();
+    check_short_deadlines(1);
+    check_short_deadlines(3);
+    check_cancelled(1);
+    check_cancelled(2);
+    check_cancelled(SEATS);
+    check_cancelled_in_hook();
+    check_errno();
+    check_dead_inside();
     return bad;
 }

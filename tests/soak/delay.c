@@ -1,5 +1,5 @@
-/* Holds threads up at random, up to some 60 microseconds: before and after each sleep and each wake-up, at each yield, and at
- * requests for memory, so that steps of other threads fall between. A thread that goes to sleep tells so by a byte to the file
+/* Delays threads at random, up to some 60 microseconds: before and after each sleep and each wake-up, at each yield, and at
+ * requests for memory, so that steps of other threads fall between. A thread that goes to sleep reports so by a byte to the file
  * descriptor SLEEPS, if that is open: its place in the order in which threads first slept, modulo 64, above a space. To be
  * loaded before the C library (LD_PRELOAD). */
 extern void *__libc_malloc(unsigned long);
@@ -36,7 +36,7 @@ static void delay(void) {
         __asm__ volatile("pause");
 }
 
-static void tell_sleep(void) {
+static void report_sleep(void) {
     char byte;
     if (place == 0)
         place = __atomic_add_fetch(&threads, 1, __ATOMIC_SEQ_CST);
@@ -48,7 +48,7 @@ static void tell_sleep(void) {
 long syscall(long number, long a, long b, long c, long d, long e, long f) {
     long result;
     if (number == SYS_FUTEX && (b & FUTEX_OPERATION) == FUTEX_WAIT)
-        tell_sleep();
+        report_sleep();
     delay();
     result = raw(number, a, b, c, d, e, f);
     delay();

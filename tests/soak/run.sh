@@ -58,7 +58,7 @@ same() {
     cmp -s "$1" "$2" && echo ok || diff "$1" "$2" | head -n 2 | tr '\n' ' '
 }
 
-# runs the program on words, and says where it hangs or fails: NAME WORDS..
+# runs the program on words, and reports if it hangs or fails: NAME WORDS..
 run() {
     name=$1
     shift
@@ -94,7 +94,7 @@ judge_journal() {
     made=$((made + calls))
 }
 
-# whether at least half of 64 workers went to sleep a hundred times each, by what the shim told
+# whether at least half of 64 workers went to sleep a hundred times each, by what the shim reported
 slept_enough() {
     sleepers=$(od -An -tu1 -w1 -v "$room/sleeps" | sort -n | uniq -c | awk '$1 >= 100' | wc -l)
     [ "$sleepers" -ge 32 ] && echo ok || echo "only $sleepers workers went to sleep a hundred times"

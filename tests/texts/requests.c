@@ -1,4 +1,4 @@
-/* Tells each request for memory: a line with its size, in bytes, is added to the file REQUESTS. The C library serves them.
+/* Records each request for memory: a line with its size, in bytes, is added to the file REQUESTS. The C library serves them.
  * To be loaded before the C library (LD_PRELOAD). */
 extern void *__libc_malloc(unsigned long);
 extern void *__libc_calloc(unsigned long, unsigned long);
@@ -12,7 +12,7 @@ enum { WRITES = 01, CREATES = 0100, APPENDS = 02000, READ_BY_ALL = 0644, NO_MEMO
 
 static int file = -1;
 
-static void tell(unsigned long size) {
+static void write_size(unsigned long size) {
     char line[DIGITS];
     int at = DIGITS;
     if (file < 0)
@@ -26,22 +26,22 @@ static void tell(unsigned long size) {
 }
 
 void *malloc(unsigned long size) {
-    tell(size);
+    write_size(size);
     return __libc_malloc(size);
 }
 
 void *calloc(unsigned long count, unsigned long size) {
-    tell(count * size);
+    write_size(count * size);
     return __libc_calloc(count, size);
 }
 
 void *realloc(void *block, unsigned long size) {
-    tell(size);
+    write_size(size);
     return __libc_realloc(block, size);
 }
 
 void *memalign(unsigned long alignment, unsigned long size) {
-    tell(size);
+    write_size(size);
     return __libc_memalign(alignment, size);
 }
 

@@ -193,7 +193,7 @@ def test_products(tests):
     """Stale and damaged files of dist/ are not found, and are named."""
     with tempfile.TemporaryDirectory() as top:
         lay_tools(top)
-        for it in ("dist", "include", "archive", "python", "crates.txt"):
+        for it in ("dist", "include", "c", "python", "crates.txt"):
             (shutil.copytree if os.path.isdir(f"{TOP}/{it}") else shutil.copy)(f"{TOP}/{it}", f"{top}/{it}")
         write(f"{top}/crates/hull_c/src/lib.rt", "// other sources\n")
         find = ("tools/product.sh", "find", "x86_64/libhull.a")

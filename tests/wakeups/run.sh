@@ -20,7 +20,7 @@ waits='^ *announced.wait(rt);$'
 wakes='^ *lock.sleepers.wake(next);$'
 stores='^ *shared.store::<plays::HandOn>'
 
-# a copy of the crate as it stands, with naps before the last look and before the sleep, and between the store and the wake-up
+# a copy of the crate as it is, with naps before the last look and before the sleep, and between the store and the wake-up
 copy() {
     rm -rf "$crate/src" "$crate/out"
     cp -r "$top/crates/ticket_lock/src" "$crate/"
@@ -52,7 +52,7 @@ try() {
 }
 
 copy
-try 'the lock as it stands' end
+try 'the lock as it is' end
 
 # the wait is announced after the last look
 copy
@@ -60,14 +60,14 @@ sed -i "/$announces/d; s/^ *\(for .*\) \(announced.wait(rt);\)$/\1 let announced
 sed -i "/let announced = self.sleepers.announce(number); for/d" "$crate/src/enter.rt"
 try 'announced after the last look' hang
 
-# who hands on wakes before it stores
+# a thread that hands on wakes before it stores
 copy
 sed -i "/lock.sleepers.wake(next);/d; s/$stores/lock.sleepers.wake(next); $nap &/" "$crate/src/guard.rt"
 try 'woken before the store' hang
 
-# nobody is woken
+# none is woken
 copy
 sed -i "/lock.sleepers.wake(next);/d" "$crate/src/guard.rt"
-try 'nobody is woken' hang
+try 'none is woken' hang
 
 end

@@ -18,7 +18,7 @@ static unsigned __int128 squared(int64_t d) {
 }
 
 /* Keeps the point if it is nearer than what was found, or as near and before that by x and then y. */
-static void meets(struct search *s, hull_held p) {
+static void keep_if_nearer(struct search *s, hull_held p) {
     const unsigned __int128 d = squared(p.x - s->x) + squared(p.y - s->y);
     const int is_first = p.x != s->nearest.x ? p.x < s->nearest.x : p.y < s->nearest.y;
     if (s->code == HULL_EMPTY || d < s->squared || (d == s->squared && is_first)) {
@@ -27,21 +27,21 @@ static void meets(struct search *s, hull_held p) {
 }
 
 /* Searches the points of the set whose x is at most `wide` away. */
-static void looks(const hull_set *h, struct search *s, int64_t wide) {
+static void search_strip(const hull_set *h, struct search *s, int64_t wide) {
     const int64_t far = HULL_COORDINATE_MAX;
     const int64_t right = s->x > far - wide ? far : s->x + wide;
     hull_point from = {s->x < wide - far ? -far : s->x - wide, -far};
     hull_held some[AT_ONCE];
-    hull_reply told = {.number = AT_ONCE};
+    hull_reply reply = {.number = AT_ONCE};
     memset(some, 0, sizeof some);
-    while (told.number == AT_ONCE && from.x <= right) {
-        told = hull_held_from(h, from.x, from.y, some, AT_ONCE);
-        if (told.code != HULL_NUMBER) {
-            s->code = told.code;
+    while (reply.number == AT_ONCE && from.x <= right) {
+        reply = hull_held_from(h, from.x, from.y, some, AT_ONCE);
+        if (reply.code != HULL_NUMBER) {
+            s->code = reply.code;
             return;
         }
-        for (size_t i = 0; i < told.number && some[i].x <= right; i++) {
-            meets(s, some[i]);
+        for (size_t i = 0; i < reply.number && some[i].x <= right; i++) {
+            keep_if_nearer(s, some[i]);
         }
         from = hull_held_after(some[AT_ONCE - 1]);
     }
@@ -55,16 +55,16 @@ hull_reply hull_nearest_held(const hull_set *h, int64_t x, int64_t y) {
     if (x < -far || x > far || y < -far || y > far) {
         return reply;
     }
-    looks(h, &s, wide);
+    search_strip(h, &s, wide);
     while (s.code == HULL_EMPTY && wide < 2 * far) {
         wide *= 4;
-        looks(h, &s, wide < 2 * far ? wide : 2 * far);
+        search_strip(h, &s, wide < 2 * far ? wide : 2 * far);
     }
     if (s.code == HULL_POINT && s.squared > squared(wide)) {
         for (wide = 2 * far; squared(wide / 2) >= s.squared;) {
             wide /= 2;
         }
-        looks(h, &s, wide);
+        search_strip(h, &s, wide);
     }
     reply.code = s.code;
     if (s.code == HULL_POINT) {

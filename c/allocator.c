@@ -12,7 +12,7 @@ struct tried {
     void *block;
 };
 
-static struct tried answer(void *block) {
+static struct tried result_of(void *block) {
     static char nothing;
     struct tried tried = {block != 0, block ? block : &nothing};
     return tried;
@@ -20,13 +20,13 @@ static struct tried answer(void *block) {
 
 /* Returns a block of `count` bytes; one of none has as many as its alignment, so that it has an address of its own. */
 __attribute__((weak)) struct tried rattle_alloc(size count, size alignment) {
-    return answer(malloc(count ? count : alignment));
+    return result_of(malloc(count ? count : alignment));
 }
 
 /* Returns the block resized to `count` bytes, the first `kept` unchanged; if memory is refused, the old block is unchanged. */
 __attribute__((weak)) struct tried rattle_realloc(void *block, size kept, size count, size alignment) {
     (void)kept;
-    return answer(realloc(block, count ? count : alignment));
+    return result_of(realloc(block, count ? count : alignment));
 }
 
 __attribute__((weak)) void rattle_dealloc(void *block) {

@@ -12,60 +12,60 @@ struct boxed {
 };
 
 /* Stores the boxes of the polygons that have vertices; returns how many they are. */
-static size_t boxes_of(const hull_corners *outlines, size_t count, struct boxed *boxes) {
+static size_t boxes_of(const hull_polygon *polygons, size_t count, struct boxed *boxes) {
     size_t found = 0;
     for (size_t i = 0; i < count; i++) {
-        if (outlines[i].count != 0) {
-            const hull_reply box = hull_polygon_box(outlines[i].corners, outlines[i].count);
+        if (polygons[i].count != 0) {
+            const hull_reply box = hull_polygon_box(polygons[i].vertices, polygons[i].count);
             boxes[found++] = (struct boxed){box.x, box.other_x, box.y, box.other_y, i};
         }
     }
     return found;
 }
 
-static int by_left(const void *a, const void *b) {
+static int compare_left(const void *a, const void *b) {
     const struct boxed *one = (const struct boxed *)a, *other = (const struct boxed *)b;
     return one->left != other->left ? (one->left > other->left) - (one->left < other->left)
                                     : (one->at > other->at) - (one->at < other->at);
 }
 
-static int by_places(const void *a, const void *b) {
+static int compare_indices(const void *a, const void *b) {
     const hull_pair *one = (const hull_pair *)a, *other = (const hull_pair *)b;
     return one->first != other->first ? (one->first > other->first) - (one->first < other->first)
                                       : (one->second > other->second) - (one->second < other->second);
 }
 
 /* Returns a length in whole numbers that is no shorter, as far as coordinates go. */
-static int64_t no_shorter(uint64_t numerator, uint32_t denominator) {
+static int64_t round_up(uint64_t numerator, uint32_t denominator) {
     const uint64_t most = UINT64_C(4) * HULL_COORDINATE_MAX;
     const uint64_t length = denominator == 0 ? most : numerator / denominator + (numerator % denominator != 0);
     return (int64_t)(length < most ? length : most);
 }
 
 /* Whether the distance of the two is at most that. */
-static int are_near(const hull_corners *a, const hull_corners *b, uint64_t numerator, uint32_t denominator) {
-    const hull_reply told = numerator == 0 && denominator != 0
-                                ? hull_polygon_intersects(a->corners, a->count, b->corners, b->count)
-                                : hull_polygon_within_distance(a->corners, a->count, b->corners, b->count, numerator, denominator);
-    return told.code == HULL_NUMBER && told.number == 1;
+static int are_near(const hull_polygon *a, const hull_polygon *b, uint64_t numerator, uint32_t denominator) {
+    const hull_reply reply = numerator == 0 && denominator != 0
+                                 ? hull_polygon_intersects(a->vertices, a->count, b->vertices, b->count)
+                                 : hull_polygon_within_distance(a->vertices, a->count, b->vertices, b->count, numerator, denominator);
+    return reply.code == HULL_NUMBER && reply.number == 1;
 }
 
-hull_reply hull_pairs_within_distance(const hull_corners *outlines, size_t count, uint64_t numerator, uint32_t denominator, hull_pair *out,
-                             size_t room) {
-    const int64_t length = no_shorter(numerator, denominator);
+hull_reply hull_pairs_within_distance(const hull_polygon *polygons, size_t count, uint64_t numerator, uint32_t denominator,
+                                      hull_pair *out, size_t capacity) {
+    const int64_t length = round_up(numerator, denominator);
     struct boxed *boxes = count > SIZE_MAX / sizeof *boxes ? NULL : (struct boxed *)malloc((count + 1) * sizeof *boxes);
     hull_reply reply = hull_refusal(HULL_NO_MEMORY);
     if (boxes == NULL) {
         return reply;
     }
-    const size_t found = boxes_of(outlines, count, boxes);
-    qsort(boxes, found, sizeof *boxes, by_left);
+    const size_t found = boxes_of(polygons, count, boxes);
+    qsort(boxes, found, sizeof *boxes, compare_left);
     for (size_t i = 0; i < found; i++) {
         for (size_t j = i + 1; j < found && boxes[j].left - boxes[i].right <= length; j++) {
             if (boxes[j].bottom - boxes[i].top <= length && boxes[i].bottom - boxes[j].top <= length &&
-                are_near(&outlines[boxes[i].at], &outlines[boxes[j].at], numerator, denominator)) {
+                are_near(&polygons[boxes[i].at], &polygons[boxes[j].at], numerator, denominator)) {
                 const int goes_up = boxes[i].at < boxes[j].at;
-                if (reply.number < room) {
+                if (reply.number < capacity) {
                     out[reply.number] = (hull_pair){boxes[goes_up ? i : j].at, boxes[goes_up ? j : i].at};
                 }
                 reply.number++;
@@ -73,51 +73,52 @@ hull_reply hull_pairs_within_distance(const hull_corners *outlines, size_t count
         }
     }
     free(boxes);
-    reply.code = reply.number <= room ? HULL_NUMBER : HULL_TOO_SMALL;
-    if (reply.code == HULL_NUMBER && room != 0) {
-        qsort(out, (size_t)reply.number, sizeof *out, by_places);
+    reply.code = reply.number <= capacity ? HULL_NUMBER : HULL_TOO_SMALL;
+    if (reply.code == HULL_NUMBER && capacity != 0) {
+        qsort(out, (size_t)reply.number, sizeof *out, compare_indices);
     }
     return reply;
 }
 
-void hull_polygon_relations(const hull_point *corners, size_t count, const hull_corners *others, size_t other_count, uint8_t *out) {
+void hull_polygon_relations(const hull_point *vertices, size_t count, const hull_polygon *others, size_t other_count,
+                            uint8_t *out) {
     for (size_t i = 0; i < other_count; i++) {
-        out[i] = (uint8_t)hull_polygon_relation(corners, count, others[i].corners, others[i].count).number;
+        out[i] = (uint8_t)hull_polygon_relation(vertices, count, others[i].vertices, others[i].count).number;
     }
 }
 
-size_t hull_polygon_intersects_segments(const hull_point *corners, size_t count, const hull_segment *segments, size_t segment_count,
-                                   uint8_t *out) {
+size_t hull_polygon_intersects_segments(const hull_point *vertices, size_t count, const hull_segment *segments,
+                                        size_t segment_count, uint8_t *out) {
     for (size_t i = 0; i < segment_count; i++) {
         const hull_segment s = segments[i];
-        const hull_reply told = hull_polygon_intersects_segment(corners, count, s.from.x, s.from.y, s.to.x, s.to.y);
-        if (told.code != HULL_NUMBER) {
+        const hull_reply reply = hull_polygon_intersects_segment(vertices, count, s.from.x, s.from.y, s.to.x, s.to.y);
+        if (reply.code != HULL_NUMBER) {
             return i;
         }
-        out[i] = (uint8_t)told.number;
+        out[i] = (uint8_t)reply.number;
     }
     return segment_count;
 }
 
 /* Returns the index of a point among vertices in the order of the header, or `count` if it is none of them: along the lower chain
  * points rise, along the upper one they fall, and `last` is the index of the greatest. */
-static size_t place_among(const hull_point *corners, size_t count, size_t last, hull_point p) {
+static size_t index_among(const hull_point *vertices, size_t count, size_t last, hull_point p) {
     size_t from = 0, to = last;
     for (int upper = 0; upper < 2; upper++) {
         while (from < to) {
             const size_t middle = from + (to - from) / 2;
-            const hull_point c = corners[middle];
-            const int is_behind = c.x != p.x ? c.x < p.x : c.y < p.y;
+            const hull_point c = vertices[middle];
+            const int is_before = c.x != p.x ? c.x < p.x : c.y < p.y;
             if (c.x == p.x && c.y == p.y) {
                 return middle;
             }
-            if (upper ? !is_behind : is_behind) {
+            if (upper ? !is_before : is_before) {
                 from = middle + 1;
             } else {
                 to = middle;
             }
         }
-        if (from < count && corners[from].x == p.x && corners[from].y == p.y) {
+        if (from < count && vertices[from].x == p.x && vertices[from].y == p.y) {
             return from;
         }
         from = last, to = count;
@@ -125,20 +126,20 @@ static size_t place_among(const hull_point *corners, size_t count, size_t last, 
     return count;
 }
 
-size_t hull_polygon_indices(const hull_point *corners, size_t count, const hull_point *points, size_t point_count, size_t *out) {
-    size_t last = 0, met = 0;
+size_t hull_polygon_indices(const hull_point *vertices, size_t count, const hull_point *points, size_t point_count, size_t *out) {
+    size_t last = 0, found = 0;
     for (size_t i = 0; i < count; i++) {
         out[i] = point_count;
-        if (corners[i].x != corners[last].x ? corners[i].x > corners[last].x : corners[i].y > corners[last].y) {
+        if (vertices[i].x != vertices[last].x ? vertices[i].x > vertices[last].x : vertices[i].y > vertices[last].y) {
             last = i;
         }
     }
-    for (size_t i = 0; i < point_count && met < count; i++) {
-        const size_t at = place_among(corners, count, last, points[i]);
+    for (size_t i = 0; i < point_count && found < count; i++) {
+        const size_t at = index_among(vertices, count, last, points[i]);
         if (at < count && out[at] == point_count) {
             out[at] = i;
-            met++;
+            found++;
         }
     }
-    return met;
+    return found;
 }

@@ -1,8 +1,8 @@
 /* Sleeping on a word in memory and waking its sleepers, and a lock made of that: by futex, or, if there is none (or with
  * HULL_SHARED_BY_PTHREADS), by mutexes and conditions of pthreads. The thread that wakes has changed the word before. No sleep here
  * is a point at which a thread is cancelled: its caller is in the middle of something that others wait for. */
-#ifndef HULL_SLEEPING_H
-#define HULL_SLEEPING_H
+#ifndef HULL_SLEEP_H
+#define HULL_SLEEP_H
 
 #include <pthread.h>
 #include <stddef.h>
@@ -33,7 +33,7 @@ static inline uint64_t hull_now(void) {
 }
 
 /* Returns the same to some milliseconds, in a third of the time. */
-static inline uint64_t hull_lately(void) {
+static inline uint64_t hull_now_coarse(void) {
 #if defined(CLOCK_MONOTONIC_COARSE)
     return hull_clock(CLOCK_MONOTONIC_COARSE);
 #else
@@ -69,33 +69,33 @@ static struct {
     pthread_mutex_t lock;
     pthread_cond_t changed;
     pthread_once_t once;
-} hull_bed = {PTHREAD_MUTEX_INITIALIZER, PTHREAD_COND_INITIALIZER, PTHREAD_ONCE_INIT};
+} hull_sleepers = {PTHREAD_MUTEX_INITIALIZER, PTHREAD_COND_INITIALIZER, PTHREAD_ONCE_INIT};
 
 #if defined(__APPLE__)
 
-static inline void hull_begin_sleeping(void) {
+static inline void hull_init_sleepers(void) {
 }
 
 static inline void hull_sleep_until(uint64_t until) {
     uint64_t now = hull_now();
     struct timespec t = hull_timespec(until > now ? until - now : 0);
-    pthread_cond_timedwait_relative_np(&hull_bed.changed, &hull_bed.lock, &t);
+    pthread_cond_timedwait_relative_np(&hull_sleepers.changed, &hull_sleepers.lock, &t);
 }
 
 #else
 
 /* Makes the condition one whose deadlines are of the clock that is never set. */
-static inline void hull_begin_sleeping(void) {
+static inline void hull_init_sleepers(void) {
     pthread_condattr_t attributes;
     pthread_condattr_init(&attributes);
     pthread_condattr_setclock(&attributes, CLOCK_MONOTONIC);
-    pthread_cond_init(&hull_bed.changed, &attributes);
+    pthread_cond_init(&hull_sleepers.changed, &attributes);
     pthread_condattr_destroy(&attributes);
 }
 
 static inline void hull_sleep_until(uint64_t until) {
     struct timespec t = hull_timespec(until);
-    pthread_cond_timedwait(&hull_bed.changed, &hull_bed.lock, &t);
+    pthread_cond_timedwait(&hull_sleepers.changed, &hull_sleepers.lock, &t);
 }
 
 #endif
@@ -103,26 +103,26 @@ static inline void hull_sleep_until(uint64_t until) {
 static inline void hull_sleep(uint32_t *word, uint32_t seen, uint64_t until) {
     int before;
     pthread_setcancelstate(PTHREAD_CANCEL_DISABLE, &before);
-    pthread_once(&hull_bed.once, hull_begin_sleeping);
-    pthread_mutex_lock(&hull_bed.lock);
+    pthread_once(&hull_sleepers.once, hull_init_sleepers);
+    pthread_mutex_lock(&hull_sleepers.lock);
     if (__atomic_load_n(word, __ATOMIC_SEQ_CST) == seen) {
         if (until == HULL_NEVER) {
-            pthread_cond_wait(&hull_bed.changed, &hull_bed.lock);
+            pthread_cond_wait(&hull_sleepers.changed, &hull_sleepers.lock);
         } else {
             hull_sleep_until(until);
         }
     }
-    pthread_mutex_unlock(&hull_bed.lock);
+    pthread_mutex_unlock(&hull_sleepers.lock);
     pthread_setcancelstate(before, &before);
 }
 
 static inline void hull_wake(uint32_t *word, int many) {
     (void)word;
     (void)many;
-    pthread_once(&hull_bed.once, hull_begin_sleeping);
-    pthread_mutex_lock(&hull_bed.lock);
-    pthread_cond_broadcast(&hull_bed.changed);
-    pthread_mutex_unlock(&hull_bed.lock);
+    pthread_once(&hull_sleepers.once, hull_init_sleepers);
+    pthread_mutex_lock(&hull_sleepers.lock);
+    pthread_cond_broadcast(&hull_sleepers.changed);
+    pthread_mutex_unlock(&hull_sleepers.lock);
 }
 
 #endif

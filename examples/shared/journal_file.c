@@ -1,5 +1,5 @@
-/* kept FILE: two threads put ten points each into a hull whose journal the file keeps, and wait until each is on the disk: however this
- * program ends, the next run goes on with all points that were told. Run again, it adds them once more. */
+/* journal_file FILE: two threads add ten points each to a shared hull whose journal is in the file, and wait until each is durable: however
+ * this program ends, the next run continues with all points that were reported as durable. Run again, it adds them once more. */
 #include "hull_shared.h"
 
 #include <pthread.h>
@@ -8,27 +8,27 @@
 
 enum { SEATS = 2, POINTS = 10, LINES = 20000, EACH = 10000000 };
 
-static hull_shared_gate line;
+static hull_shared_gate gate;
 static hull_shared_journal *journal;
 static hull_shared_seat *seats[SEATS];
 
 static void *insert(void *seat) {
     long number = (hull_shared_seat **)seat - seats;
     for (long i = 0; i < POINTS; i++) {
-        hull_shared_reply reply = hull_shared_call(&line, seats[number], HULL_KIND_ADD, i, number * i * i);
+        hull_shared_reply reply = hull_shared_call(&gate, seats[number], HULL_KIND_ADD, i, number * i * i);
         if (!reply.has_line || hull_shared_journal_wait(journal, reply.line, HULL_SHARED_NEVER).code != HULL_DURABLE) {
-            return seat; /* it is not told to anybody */
+            return seat; /* it is not reported as durable */
         }
     }
     return NULL;
 }
 
-/* Opens the desk by the file; why not, where it can't. */
-static int open_desk(hull_shared *desk, const char *file) {
+/* Opens the shared hull with the file; prints why if it can't. Returns whether it could. */
+static int open_shared(hull_shared *shared, const char *file) {
     hull_reply r = hull_shared_journal_open(file, &journal);
     if (r.code == HULL_OPEN) {
-        printf("goes on with line %llu, %llu bytes were cut off\n", (unsigned long long)r.number, (unsigned long long)r.high);
-        r = hull_shared_journal_start(journal, desk, &line, 1000, LINES, SEATS, EACH);
+        printf("continues with line %llu, %llu bytes were cut off\n", (unsigned long long)r.number, (unsigned long long)r.high);
+        r = hull_shared_journal_start(journal, shared, &gate, 1000, LINES, SEATS, EACH);
     }
     if (r.code == HULL_NO_FILE) {
         fprintf(stderr, "%s: %s\n", file, strerror((int)r.number));
@@ -39,15 +39,15 @@ static int open_desk(hull_shared *desk, const char *file) {
 }
 
 int main(int count, char **words) {
-    hull_shared *desk = hull_shared_new();
+    hull_shared *shared = hull_shared_new();
     pthread_t threads[SEATS];
     void *failed = NULL, *one;
-    if (count != 2 || desk == NULL || !open_desk(desk, words[1])) {
+    if (count != 2 || shared == NULL || !open_shared(shared, words[1])) {
         return 1;
     }
     for (unsigned i = 0; i < SEATS; i++) {
         seats[i] = hull_shared_seat_new();
-        if (seats[i] == NULL || hull_shared_acquire_seat(desk, &line, seats[i], i) != HULL_ACQUIRED ||
+        if (seats[i] == NULL || hull_shared_acquire_seat(shared, &gate, seats[i], i) != HULL_ACQUIRED ||
             pthread_create(&threads[i], NULL, insert, &seats[i]) != 0) {
             return 1;
         }
@@ -56,13 +56,13 @@ int main(int count, char **words) {
         pthread_join(threads[i], &one);
         failed = one != NULL ? one : failed;
     }
-    printf("%d points\n", (int)hull_shared_call(&line, seats[0], HULL_KIND_COUNT, 0, 0).told.number);
+    printf("%d points\n", (int)hull_shared_call(&gate, seats[0], HULL_KIND_COUNT, 0, 0).answer.number);
     for (int i = 0; i < SEATS; i++) {
-        hull_shared_release_seat(desk, seats[i]);
+        hull_shared_release_seat(shared, seats[i]);
         hull_shared_seat_free(seats[i]);
     }
     int wrong = failed != NULL || hull_shared_journal_close(journal).code != HULL_CLOSED;
-    hull_shared_end(desk);
-    hull_shared_free(desk);
+    hull_shared_end(shared);
+    hull_shared_free(shared);
     return wrong;
 }

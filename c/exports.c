@@ -3,15 +3,18 @@
  * functions as hull_proved_NAME, a name that tools/product.sh gives them, so that each public function has one name everywhere. */
 #include "hull.h"
 
-hull_reply hull_proved_vertices(const hull_set *h, hull_point *out, size_t room);
-size_t hull_proved_calls(hull_set *h, const hull_request *requests, size_t request_count, hull_reply *replies, size_t reply_room);
+hull_reply hull_proved_vertices(const hull_set *h, hull_point *out, size_t capacity);
+size_t hull_proved_calls(hull_set *h, const hull_request *requests, size_t request_count, hull_reply *replies,
+                         size_t reply_capacity);
 hull_reply hull_proved_load(hull_set *h, const hull_point *points, size_t count);
-hull_reply hull_proved_held_from(const hull_set *h, int64_t x, int64_t y, hull_held *out, size_t room);
+hull_reply hull_proved_held_from(const hull_set *h, int64_t x, int64_t y, hull_held *out, size_t capacity);
 hull_reply hull_proved_load_held(hull_set *h, const hull_held *held, size_t count);
-hull_reply hull_proved_bridges(const hull_set *h, uint32_t level, hull_bridge *out, size_t room);
+hull_reply hull_proved_bridges(const hull_set *h, uint32_t level, hull_bridge *out, size_t capacity);
 hull_reply hull_proved_polygon_call(const hull_point *vertices, size_t count, uint32_t kind, int64_t x, int64_t y);
-size_t hull_proved_polygon_calls(const hull_point *vertices, size_t count, const hull_request *requests, size_t request_count, hull_reply *replies, size_t reply_room);
-hull_reply hull_proved_polygon_intersects_segment(const hull_point *vertices, size_t count, int64_t ax, int64_t ay, int64_t bx, int64_t by);
+size_t hull_proved_polygon_calls(const hull_point *vertices, size_t count, const hull_request *requests, size_t request_count,
+                                 hull_reply *replies, size_t reply_capacity);
+hull_reply hull_proved_polygon_intersects_segment(const hull_point *vertices, size_t count, int64_t ax, int64_t ay, int64_t bx,
+                                                  int64_t by);
 hull_reply hull_proved_polygon_separation(const hull_point *vertices, size_t count, int64_t ax, int64_t ay, int64_t bx, int64_t by);
 hull_reply hull_proved_polygon_nearest(const hull_point *vertices, size_t count, int64_t x, int64_t y);
 hull_reply hull_proved_polygon_box(const hull_point *vertices, size_t count);
@@ -21,19 +24,26 @@ hull_witness hull_proved_polygon_least_width(const hull_point *vertices, size_t 
 hull_reply hull_proved_polygon_intersects(const hull_point *vertices, size_t count, const hull_point *others, size_t other_count);
 hull_reply hull_proved_polygon_contains(const hull_point *vertices, size_t count, const hull_point *others, size_t other_count);
 hull_reply hull_proved_polygon_relation(const hull_point *vertices, size_t count, const hull_point *others, size_t other_count);
-hull_reply hull_proved_polygon_contains_inside(const hull_point *vertices, size_t count, const hull_point *others, size_t other_count);
-hull_reply hull_proved_polygon_within_distance(const hull_point *vertices, size_t count, const hull_point *others, size_t other_count, uint64_t numerator, uint32_t denominator);
+hull_reply hull_proved_polygon_contains_inside(const hull_point *vertices, size_t count, const hull_point *others,
+                                               size_t other_count);
+hull_reply hull_proved_polygon_within_distance(const hull_point *vertices, size_t count, const hull_point *others,
+                                               size_t other_count, uint64_t numerator, uint32_t denominator);
 hull_witness hull_proved_polygon_witness(const hull_point *vertices, size_t count, const hull_point *others, size_t other_count);
 hull_witness hull_proved_polygon_distance(const hull_point *vertices, size_t count, const hull_point *others, size_t other_count);
-hull_distance_bounds hull_proved_polygon_distance_bounds(const hull_point *vertices, size_t count, const hull_point *others, size_t other_count);
-hull_distance_bounds hull_proved_polygon_distance_bounds_to_segment(const hull_point *vertices, size_t count, int64_t ax, int64_t ay, int64_t bx, int64_t by);
-hull_reply hull_proved_polygon_within_distance_of_segment(const hull_point *vertices, size_t count, int64_t ax, int64_t ay, int64_t bx, int64_t by, uint64_t numerator, uint32_t denominator);
-hull_reply hull_proved_polygon_relation_to_segment(const hull_point *vertices, size_t count, int64_t ax, int64_t ay, int64_t bx, int64_t by);
+hull_distance_bounds hull_proved_polygon_distance_bounds(const hull_point *vertices, size_t count, const hull_point *others,
+                                                         size_t other_count);
+hull_distance_bounds hull_proved_polygon_distance_bounds_to_segment(const hull_point *vertices, size_t count, int64_t ax,
+                                                                    int64_t ay, int64_t bx, int64_t by);
+hull_reply hull_proved_polygon_within_distance_of_segment(const hull_point *vertices, size_t count, int64_t ax, int64_t ay,
+                                                          int64_t bx, int64_t by, uint64_t numerator, uint32_t denominator);
+hull_reply hull_proved_polygon_relation_to_segment(const hull_point *vertices, size_t count, int64_t ax, int64_t ay, int64_t bx,
+                                                   int64_t by);
 hull_hit hull_proved_polygon_raycast(const hull_point *vertices, size_t count, int64_t x, int64_t y, int64_t dx, int64_t dy);
 hull_hit hull_proved_polygon_raycast_exit(const hull_point *vertices, size_t count, int64_t x, int64_t y, int64_t dx, int64_t dy);
-hull_hit hull_proved_polygon_raycast_segment(const hull_point *vertices, size_t count, int64_t ax, int64_t ay, int64_t bx, int64_t by);
+hull_hit hull_proved_polygon_raycast_segment(const hull_point *vertices, size_t count, int64_t ax, int64_t ay, int64_t bx,
+                                             int64_t by);
 hull_reply hull_proved_is_polygon(const hull_point *points, size_t count);
-hull_reply hull_proved_polygon_of(const hull_point *points, size_t count, hull_point *out, size_t room);
+hull_reply hull_proved_polygon_of(const hull_point *points, size_t count, hull_point *out, size_t capacity);
 
 /* whether arrays of vertices are tested, as hull_check_arrays decides */
 static int is_checked;
@@ -72,7 +82,7 @@ static hull_witness witness_refusal(uint32_t code) {
     return w;
 }
 
-static hull_distance_bounds clearance_refusal(uint32_t code) {
+static hull_distance_bounds bounds_refusal(uint32_t code) {
     const hull_distance_bounds c = {.code = code};
     return c;
 }
@@ -93,28 +103,28 @@ hull_reply hull_ask(const hull_set *h, uint32_t kind, int64_t x, int64_t y) {
     return hull_call(set, kind, x, y);
 }
 
-hull_reply hull_vertices(const hull_set *h, hull_point *out, size_t room) {
-    return hull_proved_vertices(h, array(out, room), room);
+hull_reply hull_vertices(const hull_set *h, hull_point *out, size_t capacity) {
+    return hull_proved_vertices(h, array(out, capacity), capacity);
 }
 
-size_t hull_calls(hull_set *h, const hull_request *requests, size_t request_count, hull_reply *replies, size_t reply_room) {
-    return hull_proved_calls(h, array(requests, request_count), request_count, array(replies, reply_room), reply_room);
+size_t hull_calls(hull_set *h, const hull_request *requests, size_t request_count, hull_reply *replies, size_t reply_capacity) {
+    return hull_proved_calls(h, array(requests, request_count), request_count, array(replies, reply_capacity), reply_capacity);
 }
 
 hull_reply hull_load(hull_set *h, const hull_point *points, size_t count) {
     return hull_proved_load(h, vertices_at(points, count), count);
 }
 
-hull_reply hull_held_from(const hull_set *h, int64_t x, int64_t y, hull_held *out, size_t room) {
-    return hull_proved_held_from(h, x, y, array(out, room), room);
+hull_reply hull_held_from(const hull_set *h, int64_t x, int64_t y, hull_held *out, size_t capacity) {
+    return hull_proved_held_from(h, x, y, array(out, capacity), capacity);
 }
 
 hull_reply hull_load_held(hull_set *h, const hull_held *held, size_t count) {
     return hull_proved_load_held(h, array(held, count), count);
 }
 
-hull_reply hull_bridges(const hull_set *h, uint32_t level, hull_bridge *out, size_t room) {
-    return hull_proved_bridges(h, level, array(out, room), room);
+hull_reply hull_bridges(const hull_set *h, uint32_t level, hull_bridge *out, size_t capacity) {
+    return hull_proved_bridges(h, level, array(out, capacity), capacity);
 }
 
 hull_reply hull_polygon_call(const hull_point *vertices, size_t count, uint32_t kind, int64_t x, int64_t y) {
@@ -122,10 +132,11 @@ hull_reply hull_polygon_call(const hull_point *vertices, size_t count, uint32_t 
     return fault != HULL_OK ? hull_refusal(fault) : hull_proved_polygon_call(vertices_at(vertices, count), count, kind, x, y);
 }
 
-size_t hull_polygon_calls(const hull_point *vertices, size_t count, const hull_request *requests, size_t request_count, hull_reply *replies, size_t reply_room) {
+size_t hull_polygon_calls(const hull_point *vertices, size_t count, const hull_request *requests, size_t request_count,
+                          hull_reply *replies, size_t reply_capacity) {
     const uint32_t fault = fault_of(vertices, count);
     if (fault != HULL_OK) {
-        size_t made = request_count < reply_room ? request_count : reply_room, i;
+        size_t made = request_count < reply_capacity ? request_count : reply_capacity, i;
         for (i = 0; i < made; i++) {
             replies[i] = hull_refusal(fault);
         }
@@ -133,10 +144,11 @@ size_t hull_polygon_calls(const hull_point *vertices, size_t count, const hull_r
     }
     return hull_proved_polygon_calls(vertices_at(vertices, count), count,
                               array(requests, request_count), request_count,
-                              array(replies, reply_room), reply_room);
+                              array(replies, reply_capacity), reply_capacity);
 }
 
-hull_reply hull_polygon_intersects_segment(const hull_point *vertices, size_t count, int64_t ax, int64_t ay, int64_t bx, int64_t by) {
+hull_reply hull_polygon_intersects_segment(const hull_point *vertices, size_t count, int64_t ax, int64_t ay, int64_t bx,
+                                           int64_t by) {
     const uint32_t fault = fault_of(vertices, count);
     return fault != HULL_OK ? hull_refusal(fault) : hull_proved_polygon_intersects_segment(vertices_at(vertices, count), count, ax, ay, bx, by);
 }
@@ -195,10 +207,12 @@ hull_reply hull_polygon_contains_inside(const hull_point *vertices, size_t count
                             : hull_proved_polygon_contains_inside(vertices_at(vertices, count), count, vertices_at(others, other_count), other_count);
 }
 
-hull_reply hull_polygon_within_distance(const hull_point *vertices, size_t count, const hull_point *others, size_t other_count, uint64_t numerator, uint32_t denominator) {
+hull_reply hull_polygon_within_distance(const hull_point *vertices, size_t count, const hull_point *others, size_t other_count,
+                                        uint64_t numerator, uint32_t denominator) {
     const uint32_t fault = fault_of_both(vertices, count, others, other_count);
     return fault != HULL_OK ? hull_refusal(fault)
-                            : hull_proved_polygon_within_distance(vertices_at(vertices, count), count, vertices_at(others, other_count), other_count, numerator, denominator);
+                            : hull_proved_polygon_within_distance(vertices_at(vertices, count), count, vertices_at(others, other_count),
+                                                                  other_count, numerator, denominator);
 }
 
 hull_witness hull_polygon_witness(const hull_point *vertices, size_t count, const hull_point *others, size_t other_count) {
@@ -213,25 +227,30 @@ hull_witness hull_polygon_distance(const hull_point *vertices, size_t count, con
                             : hull_proved_polygon_distance(vertices_at(vertices, count), count, vertices_at(others, other_count), other_count);
 }
 
-hull_distance_bounds hull_polygon_distance_bounds(const hull_point *vertices, size_t count, const hull_point *others, size_t other_count) {
+hull_distance_bounds hull_polygon_distance_bounds(const hull_point *vertices, size_t count, const hull_point *others,
+                                                  size_t other_count) {
     const uint32_t fault = fault_of_both(vertices, count, others, other_count);
-    return fault != HULL_OK ? clearance_refusal(fault)
+    return fault != HULL_OK ? bounds_refusal(fault)
                             : hull_proved_polygon_distance_bounds(vertices_at(vertices, count), count, vertices_at(others, other_count), other_count);
 }
 
-hull_distance_bounds hull_polygon_distance_bounds_to_segment(const hull_point *vertices, size_t count, int64_t ax, int64_t ay, int64_t bx, int64_t by) {
+hull_distance_bounds hull_polygon_distance_bounds_to_segment(const hull_point *vertices, size_t count, int64_t ax, int64_t ay,
+                                                             int64_t bx, int64_t by) {
     const uint32_t fault = fault_of(vertices, count);
-    return fault != HULL_OK ? clearance_refusal(fault)
+    return fault != HULL_OK ? bounds_refusal(fault)
                             : hull_proved_polygon_distance_bounds_to_segment(vertices_at(vertices, count), count, ax, ay, bx, by);
 }
 
-hull_reply hull_polygon_within_distance_of_segment(const hull_point *vertices, size_t count, int64_t ax, int64_t ay, int64_t bx, int64_t by, uint64_t numerator, uint32_t denominator) {
+hull_reply hull_polygon_within_distance_of_segment(const hull_point *vertices, size_t count, int64_t ax, int64_t ay, int64_t bx,
+                                                   int64_t by, uint64_t numerator, uint32_t denominator) {
     const uint32_t fault = fault_of(vertices, count);
     return fault != HULL_OK ? hull_refusal(fault)
-                            : hull_proved_polygon_within_distance_of_segment(vertices_at(vertices, count), count, ax, ay, bx, by, numerator, denominator);
+                            : hull_proved_polygon_within_distance_of_segment(vertices_at(vertices, count), count, ax, ay, bx, by, numerator,
+                                                                             denominator);
 }
 
-hull_reply hull_polygon_relation_to_segment(const hull_point *vertices, size_t count, int64_t ax, int64_t ay, int64_t bx, int64_t by) {
+hull_reply hull_polygon_relation_to_segment(const hull_point *vertices, size_t count, int64_t ax, int64_t ay, int64_t bx,
+                                            int64_t by) {
     const uint32_t fault = fault_of(vertices, count);
     return fault != HULL_OK ? hull_refusal(fault) : hull_proved_polygon_relation_to_segment(vertices_at(vertices, count), count, ax, ay, bx, by);
 }
@@ -255,6 +274,6 @@ hull_reply hull_is_polygon(const hull_point *points, size_t count) {
     return hull_proved_is_polygon(vertices_at(points, count), count);
 }
 
-hull_reply hull_polygon_of(const hull_point *points, size_t count, hull_point *out, size_t room) {
-    return hull_proved_polygon_of(vertices_at(points, count), count, array(out, room), room);
+hull_reply hull_polygon_of(const hull_point *points, size_t count, hull_point *out, size_t capacity) {
+    return hull_proved_polygon_of(vertices_at(points, count), count, array(out, capacity), capacity);
 }

@@ -39,14 +39,14 @@ static int is_shorter(const hull_hit *one, const hull_hit *other) {
 
 /* Casts a ray in this direction from each vertex to a polygon. Keeps the hits that are no farther than the direction leads and
  * sooner than what was found before. */
-static void sooner(hull_motion *found, const hull_point *outline, size_t count, const hull_point *corners, size_t corner_count, int64_t dx,
-                   int64_t dy, uint32_t moves) {
-    for (size_t i = 0; i < corner_count; i++) {
-        const hull_hit hit = hull_polygon_raycast(outline, count, corners[i].x, corners[i].y, dx, dy);
+static void keep_sooner_hits(hull_motion *found, const hull_point *polygon, size_t count, const hull_point *vertices,
+                             size_t vertex_count, int64_t dx, int64_t dy, uint32_t moves) {
+    for (size_t i = 0; i < vertex_count; i++) {
+        const hull_hit hit = hull_polygon_raycast(polygon, count, vertices[i].x, vertices[i].y, dx, dy);
         const int is_one = hit.code == HULL_COVERED || hit.code == HULL_EDGE || hit.code == HULL_VERTEX;
         if (is_one && number(hit.high, hit.low) <= number(hit.divisor_high, hit.divisor_low) &&
             (found->hit.code == HULL_DISJOINT || is_shorter(&hit, &found->hit))) {
-            *found = (hull_motion){hit, corners[i], moves};
+            *found = (hull_motion){hit, vertices[i], moves};
         }
     }
 }
@@ -55,26 +55,26 @@ static int is_in_range(int64_t d) {
     return d >= -HULL_COORDINATE_MAX && d <= HULL_COORDINATE_MAX;
 }
 
-hull_motion hull_polygon_first_meeting(const hull_point *corners, size_t count, const hull_point *others, size_t other_count, int64_t dx,
-                                       int64_t dy) {
+hull_motion hull_polygon_first_meeting(const hull_point *vertices, size_t count, const hull_point *others, size_t other_count,
+                                       int64_t dx, int64_t dy) {
     hull_motion found = {{.code = HULL_DISJOINT}, {0, 0}, 0};
     if (!is_in_range(dx) || !is_in_range(dy)) {
         found.hit.code = HULL_OUT_OF_RANGE;
     } else if (count == 0 || other_count == 0) {
         found.hit.code = HULL_EMPTY;
-    } else if (hull_polygon_intersects(corners, count, others, other_count).number == 1) {
+    } else if (hull_polygon_intersects(vertices, count, others, other_count).number == 1) {
         found.hit.code = HULL_COVERED;
         found.hit.divisor_low = 1;
     } else if (dx != 0 || dy != 0) {
-        sooner(&found, corners, count, others, other_count, dx, dy, 1);
-        sooner(&found, others, other_count, corners, count, -dx, -dy, 0);
+        keep_sooner_hits(&found, vertices, count, others, other_count, dx, dy, 1);
+        keep_sooner_hits(&found, others, other_count, vertices, count, -dx, -dy, 0);
     }
     return found;
 }
 
-hull_reply hull_polygon_translate(const hull_point *corners, size_t count, int64_t dx, int64_t dy, hull_point *out) {
+hull_reply hull_polygon_translate(const hull_point *vertices, size_t count, int64_t dx, int64_t dy, hull_point *out) {
     hull_reply reply = hull_refusal(HULL_VERTICES);
-    const hull_reply box = hull_polygon_box(corners, count);
+    const hull_reply box = hull_polygon_box(vertices, count);
     const int64_t most = 2 * HULL_COORDINATE_MAX;
     reply.number = count;
     if (count != 0 && (dx < -most || dx > most || dy < -most || dy > most || !is_in_range(box.x + dx) || !is_in_range(box.other_x + dx) ||
@@ -82,13 +82,13 @@ hull_reply hull_polygon_translate(const hull_point *corners, size_t count, int64
         return hull_refusal(HULL_OUT_OF_RANGE);
     }
     for (size_t i = 0; i < count; i++) {
-        out[i] = (hull_point){corners[i].x + dx, corners[i].y + dy};
+        out[i] = (hull_point){vertices[i].x + dx, vertices[i].y + dy};
     }
     return reply;
 }
 
 /* Rotates a point by the angle of (a, b), and scales it by its length; returns whether the result is in range. */
-static int turns(hull_point p, int64_t a, int64_t b, hull_point *out) {
+static int rotate_point(hull_point p, int64_t a, int64_t b, hull_point *out) {
     const __int128 x = (__int128)a * p.x - (__int128)b * p.y, y = (__int128)b * p.x + (__int128)a * p.y;
     const __int128 most = HULL_COORDINATE_MAX;
     if (x < -most || x > most || y < -most || y > most) {
@@ -102,8 +102,8 @@ static int comes_before(hull_point p, hull_point q) {
     return p.x != q.x ? p.x < q.x : p.y < q.y;
 }
 
-hull_reply hull_polygon_rotate(const hull_point *corners, size_t count, int64_t a, int64_t b, hull_point *out) {
-    hull_point first = {0, 0}, turned;
+hull_reply hull_polygon_rotate(const hull_point *vertices, size_t count, int64_t a, int64_t b, hull_point *out) {
+    hull_point first = {0, 0}, rotated;
     size_t from = 0;
     hull_reply reply = hull_refusal(HULL_VERTICES);
     if (!is_in_range(a) || !is_in_range(b)) {
@@ -113,15 +113,15 @@ hull_reply hull_polygon_rotate(const hull_point *corners, size_t count, int64_t 
         return hull_refusal(HULL_ZERO_DIRECTION);
     }
     for (size_t i = 0; i < count; i++) {
-        if (!turns(corners[i], a, b, &turned)) {
+        if (!rotate_point(vertices[i], a, b, &rotated)) {
             return hull_refusal(HULL_OUT_OF_RANGE);
         }
-        if (i == 0 || comes_before(turned, first)) {
-            first = turned, from = i;
+        if (i == 0 || comes_before(rotated, first)) {
+            first = rotated, from = i;
         }
     }
     for (size_t i = 0; i < count; i++) {
-        turns(corners[(from + i) % count], a, b, &out[i]);
+        rotate_point(vertices[(from + i) % count], a, b, &out[i]);
     }
     reply.number = count;
     return reply;

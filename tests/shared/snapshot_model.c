@@ -1,10 +1,10 @@
-/* views_model READERS SLOTS PUBLICATIONS VIEWS [FAULT]: every order of the single steps of one thread that publishes so often and of so many
- * that take so many views each, by a hall with so many slots. The steps are those of crates/published_snapshots: of Publisher::publish and
- * Hall::view, each load, exchange and write of what threads share by itself.
+/* snapshot_model READERS SLOTS PUBLICATIONS SNAPSHOTS [FAULT]: every order of the single steps of one thread that publishes so often and of
+ * so many that take so many snapshots each, by so many snapshot slots. The steps are those of crates/published_snapshots: of publishing and
+ * of taking a snapshot, each load, exchange and write of what threads share by itself.
  *
- * Told is whether in some order a slot is written while it is read, a reader's numbers go back, a view is older than what was published when
- * it began, a view is of no slot that was published, a publication finds no slot, or a try fails though nobody else made a step since. With a
- * FAULT, by its number, the hall has that fault, and the status is 0 only where it is told. */
+ * It reports whether in some order a slot is written while it is read, a reader's numbers go back, a snapshot is older than what was
+ * published when it began, a snapshot is of no slot that was published, a publication finds no slot, or a try fails though no other thread
+ * made a step since. With a FAULT, by its number, the slots have that fault, and the status is 0 only if it is reported. */
 #include <stdint.h>
 #include <stdio.h>
 #include <stdlib.h>
@@ -15,31 +15,31 @@ enum { MOST_READERS = 3, MOST_SLOTS = 6 };
 /* The faults that can be planted. */
 enum {
     NONE,
-    TAKES_ANY_NEWER,     /* a reader keeps whatever number in the slot is no smaller than the one that it heard */
+    TAKES_ANY_NEWER,     /* a reader keeps any number in the slot that is no smaller than the watermark that it observed */
     TAKES_ANY,           /* a reader keeps what it finds */
     WRITES_THE_NEWEST,   /* a publisher writes into the slot of the newest value, too */
     WRITES_UNDER_READERS, /* a publisher does not look whether a slot is read */
-    TAKES_UNASKED,       /* a publisher takes a slot by a store, and not where its word is what it was */
-    RAISES_FIRST,        /* a publisher raises the word before the value is in its slot */
+    TAKES_UNASKED,       /* a publisher takes a slot by a store, even if its word has changed */
+    STORES_FIRST,        /* a publisher stores the watermark before the value is in its slot */
     READS_UNCOUNTED,     /* a reader does not count itself */
     LEAVES_FIRST,        /* a reader leaves before it has read */
-    SHOWS_BEFORE_WRITING, /* a publisher shows a slot and then writes the value */
-    RETURNS_FIRST,       /* a publisher returns before it has raised the word */
-    HEARS_ONCE,          /* a reader goes by the word that it heard for its view before */
+    MARKS_BEFORE_WRITING, /* a publisher marks a slot as present and then writes the value */
+    RETURNS_FIRST,       /* a publisher returns before it has stored the watermark */
+    OBSERVES_ONCE,          /* a reader uses the watermark that it observed for its snapshot before */
     FAULTS
 };
 static const char *const fault_names[FAULTS] = {
     "none", "keeps any number that is no smaller", "keeps any number", "writes into the newest slot", "writes where it is read",
-    "takes a slot that has changed", "raises the word before the value is there", "reads uncounted", "leaves before it has read",
-    "shows a slot before the value is there", "returns before the word is raised", "goes by an old word"};
+    "takes a slot that has changed", "stores the watermark before the value is there", "reads uncounted", "leaves before it has read",
+    "marks a slot before the value is there", "returns before the watermark is stored", "uses an old watermark"};
 
 enum { EMPTY, TAKEN, PRESENT };
 
 /* Where the publisher is. */
-enum { P_BEGINS, P_LOOKS, P_TAKES, P_WRITES, P_SHOWS, P_RAISES, P_DONE };
+enum { P_BEGINS, P_LOOKS, P_TAKES, P_WRITES, P_MARKS, P_STORES, P_DONE };
 
 /* Where a reader is. */
-enum { R_BEGINS, R_HEARS, R_LOOKS, R_COUNTS, R_READS, R_LEAVES, R_KEEPS, R_DONE };
+enum { R_BEGINS, R_OBSERVES, R_LOOKS, R_COUNTS, R_READS, R_LEAVES, R_KEEPS, R_DONE };
 
 typedef struct {
     uint8_t state, readers, number;
@@ -51,22 +51,22 @@ typedef struct {
 } publisher;
 
 typedef struct {
-    uint8_t at, number, slot, got, last, floor, views, disturbed; /* `disturbed`: another thread made a step since the try began */
+    uint8_t at, number, slot, got, last, floor, snapshots, disturbed; /* `disturbed`: another thread made a step since the try began */
     slot seen;
 } reader;
 
 typedef struct {
-    uint8_t newest, slot; /* the one word */
+    uint8_t newest, slot; /* the watermark: one word */
     slot slots[MOST_SLOTS];
     publisher publisher;
     reader readers[MOST_READERS];
 } world;
 
-static int readers, slots, publications, views, fault;
+static int readers, slots, publications, snapshots, fault;
 static const char *wrong;
-static unsigned long worlds, kept;
+static unsigned long worlds, taken;
 
-static void tell(int truth, const char *what) {
+static void require(int truth, const char *what) {
     if (!truth && wrong == NULL) {
         wrong = what;
     }
@@ -77,7 +77,7 @@ static int same(slot a, slot b) {
 }
 
 /* One step of the publisher; whether it has one. */
-static int publishes(world *w) {
+static int step_publisher(world *w) {
     publisher *p = &w->publisher;
     slot *s = &w->slots[p->slot];
     switch (p->at) {
@@ -90,7 +90,7 @@ static int publishes(world *w) {
         return 1;
     case P_LOOKS:
         if (p->slot == slots) {
-            tell(0, "a publication finds no slot");
+            require(0, "a publication finds no slot");
             return 0;
         }
         if (p->slot == w->slot && w->newest > 0 && fault != WRITES_THE_NEWEST) {
@@ -104,52 +104,52 @@ static int publishes(world *w) {
     case P_TAKES:
         if (fault == TAKES_UNASKED || same(*s, p->seen)) {
             s->state = TAKEN;
-            p->at = fault == RAISES_FIRST ? P_RAISES : fault == SHOWS_BEFORE_WRITING ? P_SHOWS : P_WRITES;
+            p->at = fault == STORES_FIRST ? P_STORES : fault == MARKS_BEFORE_WRITING ? P_MARKS : P_WRITES;
         } else {
             p->slot++, p->at = P_LOOKS;
         }
         return 1;
     case P_WRITES:
-        tell(s->readers == 0, "a slot is written while it is read");
+        require(s->readers == 0, "a slot is written while it is read");
         s->number = p->number;
-        p->at = fault == SHOWS_BEFORE_WRITING ? P_RAISES : P_SHOWS;
+        p->at = fault == MARKS_BEFORE_WRITING ? P_STORES : P_MARKS;
         return 1;
-    case P_SHOWS:
+    case P_MARKS:
         s->state = PRESENT;
-        p->at = fault == SHOWS_BEFORE_WRITING && s->number != p->number ? P_WRITES : fault == RAISES_FIRST ? P_BEGINS : P_RAISES;
+        p->at = fault == MARKS_BEFORE_WRITING && s->number != p->number ? P_WRITES : fault == STORES_FIRST ? P_BEGINS : P_STORES;
         if (fault == RETURNS_FIRST) {
             p->returned = p->number;
         }
         return 1;
-    case P_RAISES:
+    case P_STORES:
         w->newest = p->number, w->slot = p->slot;
         p->returned = p->number;
-        p->at = fault == RAISES_FIRST ? P_WRITES : P_BEGINS;
+        p->at = fault == STORES_FIRST ? P_WRITES : P_BEGINS;
         return 1;
     default: return 0;
     }
 }
 
-/* The try of a reader failed, since somebody else made a step. */
-static void fails(reader *r) {
-    tell(r->disturbed, "a try fails though nobody else made a step");
-    r->at = R_HEARS, r->disturbed = 0;
+/* The try of a reader failed, since another thread made a step. */
+static void fail_try(reader *r) {
+    require(r->disturbed, "a try fails though no other thread made a step");
+    r->at = R_OBSERVES, r->disturbed = 0;
 }
 
-/* A view is kept, with the number that was heard. */
-static void keeps(reader *r, uint8_t number) {
-    tell(number >= r->last, "a reader's numbers go back");
-    tell(number >= r->floor, "a view is older than what was published when it began");
-    r->last = number, r->views++, r->at = R_BEGINS;
-    kept++;
+/* A snapshot is kept, with the watermark that was observed. */
+static void keep_snapshot(reader *r, uint8_t number) {
+    require(number >= r->last, "a reader's numbers go back");
+    require(number >= r->floor, "a snapshot is older than what was published when it began");
+    r->last = number, r->snapshots++, r->at = R_BEGINS;
+    taken++;
 }
 
 /* One step of a reader; whether it has one. */
-static int reads(world *w, reader *r) {
+static int step_reader(world *w, reader *r) {
     slot *s = &w->slots[r->slot];
     switch (r->at) {
     case R_BEGINS:
-        if (r->views == views) {
+        if (r->snapshots == snapshots) {
             r->at = R_DONE;
             return 1;
         }
@@ -157,14 +157,14 @@ static int reads(world *w, reader *r) {
             return 0; /* nothing was published yet */
         }
         r->floor = w->publisher.returned, r->disturbed = 0;
-        r->at = fault == HEARS_ONCE && r->views > 0 ? R_LOOKS : R_HEARS;
+        r->at = fault == OBSERVES_ONCE && r->snapshots > 0 ? R_LOOKS : R_OBSERVES;
         return 1;
-    case R_HEARS:
+    case R_OBSERVES:
         r->number = w->newest, r->slot = w->slot, r->at = R_LOOKS, r->disturbed = 0;
         return 1;
     case R_LOOKS:
         if (s->state != PRESENT) {
-            fails(r);
+            fail_try(r);
         } else {
             r->seen = *s, r->at = fault == READS_UNCOUNTED ? R_READS : R_COUNTS;
         }
@@ -173,11 +173,11 @@ static int reads(world *w, reader *r) {
         if (same(*s, r->seen)) {
             s->readers++, r->at = fault == LEAVES_FIRST ? R_LEAVES : R_READS;
         } else {
-            fails(r);
+            fail_try(r);
         }
         return 1;
     case R_READS:
-        tell(s->state == PRESENT, "what is read is being written");
+        require(s->state == PRESENT, "what is read is being written");
         r->got = s->number;
         r->at = fault == LEAVES_FIRST || fault == READS_UNCOUNTED ? R_KEEPS : R_LEAVES;
         return 1;
@@ -186,10 +186,10 @@ static int reads(world *w, reader *r) {
         return 1;
     case R_KEEPS:
         if (r->got == r->number || fault == TAKES_ANY || (fault == TAKES_ANY_NEWER && r->got >= r->number)) {
-            tell(r->got > 0, "a view is of no slot that was published");
-            keeps(r, r->got);
+            require(r->got > 0, "a snapshot is of no slot that was published");
+            keep_snapshot(r, r->got);
         } else {
-            fails(r);
+            fail_try(r);
         }
         return 1;
     default: return 0;
@@ -199,7 +199,7 @@ static int reads(world *w, reader *r) {
 /* ---- every world once */
 
 static world *known;
-static size_t room, count;
+static size_t capacity, count;
 
 static uint64_t hash_of(const world *w) {
     const unsigned char *bytes = (const unsigned char *)w;
@@ -221,11 +221,11 @@ static void *memory(size_t number, size_t size) {
 /* Whether the world is a new one; then it is known from now on. No world that comes up is all zero, since a reader there is at no number. */
 static int is_new(const world *w) {
     static const world none;
-    if (2 * count >= room) {
+    if (2 * count >= capacity) {
         world *before = known;
-        const size_t old = room;
-        room = room == 0 ? 1 << 16 : 2 * room;
-        known = (world *)memory(room, sizeof *known);
+        const size_t old = capacity;
+        capacity = capacity == 0 ? 1 << 16 : 2 * capacity;
+        known = (world *)memory(capacity, sizeof *known);
         count = 0;
         for (size_t i = 0; i < old; i++) {
             if (memcmp(&before[i], &none, sizeof none) != 0) {
@@ -234,7 +234,7 @@ static int is_new(const world *w) {
         }
         free(before);
     }
-    for (size_t at = hash_of(w) % room;; at = (at + 1) % room) {
+    for (size_t at = hash_of(w) % capacity;; at = (at + 1) % capacity) {
         if (memcmp(&known[at], w, sizeof *w) == 0) {
             return 0;
         }
@@ -266,7 +266,7 @@ static void walk(void) {
         worlds++;
         for (int k = -1; k < readers; k++) {
             world next = w;
-            if ((k < 0 ? publishes(&next) : reads(&next, &next.readers[k])) && wrong == NULL) {
+            if ((k < 0 ? step_publisher(&next) : step_reader(&next, &next.readers[k])) && wrong == NULL) {
                 disturb(&next, k);
                 if (is_new(&next)) {
                     if (top == sizeof stack / sizeof *stack) {
@@ -281,13 +281,13 @@ static void walk(void) {
 
 int main(int words, char **word) {
     readers = words > 1 ? atoi(word[1]) : 0, slots = words > 2 ? atoi(word[2]) : 0;
-    publications = words > 3 ? atoi(word[3]) : 0, views = words > 4 ? atoi(word[4]) : 0;
+    publications = words > 3 ? atoi(word[3]) : 0, snapshots = words > 4 ? atoi(word[4]) : 0;
     fault = words > 5 ? atoi(word[5]) : NONE;
     if (readers < 1 || readers > MOST_READERS || slots < 1 || slots > MOST_SLOTS || fault < 0 || fault >= FAULTS) {
         return 2;
     }
     walk();
-    printf("%d readers, %d slots, %d publications, %d views each, fault %s: %lu worlds, %lu views, %s\n", readers, slots, publications, views,
-           fault_names[fault], worlds, kept, wrong == NULL ? "nothing wrong" : wrong);
+    printf("%d readers, %d slots, %d publications, %d snapshots each, fault %s: %lu worlds, %lu snapshots, %s\n", readers, slots, publications, snapshots,
+           fault_names[fault], worlds, taken, wrong == NULL ? "nothing wrong" : wrong);
     return (wrong == NULL) != (fault == NONE);
 }

@@ -1,0 +1,799 @@
+/* The admission gate of a shared hull (include/hull_shared.h, "waiting"): it bounds how many calls compete for the hull's ticket
+ * lock, and callers sleep in front of it, or at the slot of their number, or until the journal has space. It is in the archive of
+ * the proved calls, which neither sleep nor wake. What is proved of those calls holds however their callers wait. That no caller
+ * sleeps for ever, and that none is overtaken for long, rests on the argument below, which tests/shared/gate_model.c tries step by
+ * step and tests/shared tests.
+ *
+ * The state of the gate is one word (`state`), so that its changes have one order: how many calls are inside, how many callers are
+ * parked (sleep outside), whether one of them is designated to enter next (DESIGNATED), and whether the gate is closed to all but
+ * that one (CLOSED).
+ *
+ * 1. A caller that finds the gate closed spins briefly, then enqueues itself: under the lock of the queue it is counted as parked
+ *    and becomes the last in the queue, unless the gate is open to it by then. When a call leaves while callers are parked and none
+ *    is designated, it dequeues the first and designates it, in the same change of the word by which it leaves, and wakes only that
+ *    one. The designated caller spins until it enters; if the gate stays full it may enqueue itself again, in front of all, and
+ *    then is designated no more.
+ * 2. As long as callers are parked, or the gate is closed, there is a designated caller, which looks, or a call inside, which will
+ *    leave and designate the first. For a caller that enqueues itself finds the gate full, or closed to it, and then one is
+ *    designated; the designated caller enqueues itself only if the gate is full; and a call inside stays inside until it leaves. So
+ *    the first in the queue does not sleep for ever, as long as each call inside ends.
+ * 3. Callers that never park may enter first until the turn is over: HULL_SHARED_TURN after a designated caller entered, or after a
+ *    caller enqueued itself in an empty queue. From then on a call that leaves, or designates, closes the gate in the same change,
+ *    and the next caller to enter is the designated one. Before a parked caller there are at most all others that enqueued
+ *    themselves before it, and one of them enters in each turn.
+ * 4. A caller that gives up (a deadline) removes itself from the queue under its lock, or finds that it was designated. The
+ *    designated caller enters if the gate is open to it, and else gives up its designation, in one change of a word that is full:
+ *    the next call that leaves designates the next caller.
+ *
+ * 5. A seat with a number sleeps at the slot of its number (modulo 64: at most 64 numbers are out, so that no two seats share a
+ *    slot). It announces itself there (waiters + 1), reads the slot's epoch, and looks once more; only then it sleeps, unless the
+ *    epoch has changed since. A thread whose call was served has handed the next number on; if it then finds an announcement at
+ *    that number's slot, it changes the epoch and wakes the sleeper. All these steps have one order, in which each thread's steps
+ *    keep theirs. If the last look did not see the number handed on, then it was handed on after that look, and so after the
+ *    announcement and the reading of the epoch: the thread that hands it on finds the announcement and changes the epoch.
+ * 6. A call that found no space in the journal, if the gate waits for space, sleeps outside the gate and with no number, on a word
+ *    that each drain changes after its look. It read that word before it took its number: a drain after its call changes the word
+ *    after that reading. The thread that drained for the hook changes the word once more when the hook has ended, since another
+ *    thread may have to drain then.
+ *
+ * (Dice and Kogan, 2019, restrict in this way how many threads contend for a lock; handing it to the first of the queue when its
+ * time has come is as in Go's sync.Mutex.) */
+#include "helgrind.h"
+#include "hull_shared.h"
+#include "sleep.h"
+
+#include <errno.h>
+
+/* the proved functions that those of the same name here call, as tools/product.sh names them: they know no gate */
+size_t hull_proved_shared_seat_size(void);
+void hull_proved_shared_make_seat(hull_shared_seat *seat);
+uint32_t hull_proved_shared_acquire_seat(hull_shared *shared, hull_shared_seat *seat, uint32_t number);
+uint32_t hull_proved_shared_release_seat(hull_shared *shared, hull_shared_seat *seat);
+
+enum {
+    INSIDE = 255,          /* the bits of the word that count the calls inside */
+    DESIGNATED = 256,      /* a caller that was parked is awake and designated to enter next */
+    CLOSED = 512,          /* only the designated caller may enter */
+    PARKED = 1024,         /* the unit in which the parked callers are counted: those that sleep outside */
+    NEAR = 2,              /* at most so many numbers before its own a seat is near its turn */
+    LOOKS = 20,            /* so often a caller looks near its turn, or outside, before it sleeps */
+    DESIGNATED_LOOKS = 200 /* the same of the designated caller, which a leaving call has to wake again if it sleeps */
+};
+
+/* How long a thread waits before it drains again after memory was refused to a drain, in nanoseconds. */
+#define RETRY 10000000
+
+/* A slot where a seat with a number sleeps; as large as a line of the cache. */
+struct slot {
+    uint32_t epoch;
+    uint32_t waiters;
+    unsigned char padding[56];
+};
+
+/* The wait node of one seat: where it sleeps outside, and since when its call has been inside. In the queue a seat is its number
+ * plus 1, and no seat is 0. */
+struct wait_node {
+    uint32_t is_designated; /* the word that it sleeps on */
+    uint32_t is_queued;
+    uint32_t next;
+    uint32_t previous;
+    uint64_t since; /* 0 if no call of the seat is inside */
+    uint64_t turn;
+    uint32_t has_turn;
+    unsigned char padding[20];
+};
+
+struct gate {
+    /* set before calls are made */
+    const hull_shared *shared; /* the shared hull of this gate, as long as seats are acquired */
+    hull_shared_hook *hook;
+    void *context;
+    hull_shared_segment *segment;
+    uint32_t out;    /* the seats that were acquired with this gate and not released */
+    uint32_t beside; /* how many calls may be inside at once, minus 1 */
+    uint32_t waits;  /* whether a call that found no space waits for some */
+    unsigned char padding_1[20];
+    /* written by each call */
+    uint64_t turn; /* the number that is served now, 0 before the first */
+    uint32_t held;
+    unsigned char padding_2[52];
+    /* the word of the gate, and the queue */
+    uint32_t state;
+    uint32_t queue_lock; /* also of the count of parked callers in the word */
+    uint32_t first;
+    uint32_t last;
+    uint64_t turn_ends; /* the gate may be closed for the designated caller from then on */
+    uint32_t designated; /* the seat that was designated last */
+    unsigned char padding_3[36];
+    /* space in the journal */
+    uint32_t drains;    /* changed when there may be space again; callers that wait for space sleep on it */
+    uint32_t for_space; /* how many callers wait for space */
+    uint32_t drainer;   /* the seat that drains for the hook, plus 1, or 0 */
+    uint64_t drainer_since;
+    uint32_t refused; /* whether memory was refused to the previous drain */
+    unsigned char padding_4[36];
+    struct slot slots[HULL_SHARED_SEATS_MAX];
+    struct wait_node nodes[HULL_SHARED_SEATS_MAX];
+};
+
+typedef char gate_fits[sizeof(struct gate) <= sizeof(hull_shared_gate) ? 1 : -1];
+
+/* The gate with which a seat was acquired, and its number; after the proved seat in its storage. */
+struct binding {
+    struct gate *gate;
+    uint32_t number;
+};
+
+static size_t binding_offset(void) {
+    const size_t unit = sizeof(void *);
+    return (hull_proved_shared_seat_size() + unit - 1) / unit * unit;
+}
+
+static struct binding *binding_of(hull_shared_seat *seat) {
+    return (struct binding *)((unsigned char *)seat + binding_offset());
+}
+
+size_t hull_shared_seat_size(void) {
+    return binding_offset() + sizeof(struct binding);
+}
+
+void hull_shared_make_seat(hull_shared_seat *seat) {
+    hull_proved_shared_make_seat(seat);
+    memset(binding_of(seat), 0, sizeof(struct binding));
+}
+
+/* Binds the gate to the shared hull, unless it is bound to another one; returns whether it is bound to this one. */
+static int bind_gate(struct gate *gate, const hull_shared *shared) {
+    const hull_shared *other = NULL;
+    return __atomic_compare_exchange_n(&gate->shared, &other, shared, 0, __ATOMIC_SEQ_CST, __ATOMIC_SEQ_CST) || other == shared;
+}
+
+static void unbind_if_unused(struct gate *gate) {
+    if (__atomic_load_n(&gate->out, __ATOMIC_RELAXED) == 0) {
+        __atomic_store_n(&gate->turn, 0, __ATOMIC_RELAXED);
+        __atomic_store_n(&gate->held, 0, __ATOMIC_RELAXED);
+        __atomic_store_n(&gate->shared, NULL, __ATOMIC_SEQ_CST);
+    }
+}
+
+uint32_t hull_shared_acquire_seat(hull_shared *shared, hull_shared_gate *opaque, hull_shared_seat *seat, uint32_t number) {
+    struct gate *gate = (struct gate *)opaque;
+    uint32_t code;
+    if (gate != NULL) {
+        hull_mark_atomic(gate, sizeof *gate);
+        if (!bind_gate(gate, shared)) {
+            return HULL_OTHER_GATE;
+        }
+    }
+    code = hull_proved_shared_acquire_seat(shared, seat, number);
+    if (code == HULL_ACQUIRED) {
+        binding_of(seat)->gate = gate;
+        binding_of(seat)->number = number;
+    }
+    if (gate != NULL) {
+        __atomic_fetch_add(&gate->out, code == HULL_ACQUIRED, __ATOMIC_RELAXED);
+        unbind_if_unused(gate);
+    }
+    return code;
+}
+
+uint32_t hull_shared_release_seat(hull_shared *shared, hull_shared_seat *seat) {
+    struct binding *binding = binding_of(seat);
+    uint32_t code = hull_proved_shared_release_seat(shared, seat);
+    if (code == HULL_RELEASED && binding->gate != NULL) {
+        __atomic_fetch_sub(&binding->gate->out, 1, __ATOMIC_RELAXED);
+        unbind_if_unused(binding->gate);
+        binding->gate = NULL;
+    }
+    return code;
+}
+
+int hull_shared_gate_init(hull_shared_gate *opaque, uint32_t inside) {
+    if (inside < 1 || inside > HULL_SHARED_SEATS_MAX) {
+        return 0;
+    }
+    memset(opaque, 0, sizeof *opaque);
+    ((struct gate *)opaque)->beside = inside - 1;
+    return 1;
+}
+
+void hull_shared_gate_wait_for_space(hull_shared_gate *opaque, int waits) {
+    ((struct gate *)opaque)->waits = waits != 0;
+}
+
+int hull_shared_gate_on_half_full(hull_shared_gate *opaque, hull_shared_hook *hook, void *context) {
+    struct gate *gate = (struct gate *)opaque;
+    if (gate->segment == NULL) {
+        gate->segment = hull_shared_segment_new();
+    }
+    gate->context = context;
+    gate->hook = gate->segment == NULL ? NULL : hook;
+    return gate->segment != NULL;
+}
+
+void hull_shared_gate_end(hull_shared_gate *opaque) {
+    struct gate *gate = (struct gate *)opaque;
+    if (gate->segment != NULL) {
+        hull_shared_segment_end(gate->segment);
+        hull_shared_segment_free(gate->segment);
+    }
+    gate->segment = NULL;
+    gate->hook = NULL;
+}
+
+uint64_t hull_shared_now(void) {
+    return hull_now();
+}
+
+/* ---- the queue, under its lock */
+
+static struct wait_node *node_of(struct gate *gate, uint32_t seat) {
+    return &gate->nodes[seat - 1];
+}
+
+static void enqueue_last(struct gate *gate, uint32_t seat) {
+    struct wait_node *node = node_of(gate, seat);
+    node->is_queued = 1;
+    node->next = 0;
+    node->previous = gate->last;
+    *(gate->last == 0 ? &gate->first : &node_of(gate, gate->last)->next) = seat;
+    gate->last = seat;
+}
+
+static void enqueue_first(struct gate *gate, uint32_t seat) {
+    struct wait_node *node = node_of(gate, seat);
+    node->is_queued = 1;
+    node->next = gate->first;
+    node->previous = 0;
+    *(gate->first == 0 ? &gate->last : &node_of(gate, gate->first)->previous) = seat;
+    gate->first = seat;
+}
+
+static void dequeue(struct gate *gate, uint32_t seat) {
+    struct wait_node *node = node_of(gate, seat);
+    node->is_queued = 0;
+    *(node->previous == 0 ? &gate->first : &node_of(gate, node->previous)->next) = node->next;
+    *(node->next == 0 ? &gate->last : &node_of(gate, node->next)->previous) = node->previous;
+}
+
+/* ---- the word of the gate */
+
+static int is_open(const struct gate *gate, uint32_t state, int is_designated) {
+    return (state & INSIDE) <= gate->beside && (is_designated || (state & CLOSED) == 0);
+}
+
+static int try_change(struct gate *gate, uint32_t state, uint32_t next) {
+    return __atomic_compare_exchange_n(&gate->state, &state, next, 0, __ATOMIC_SEQ_CST, __ATOMIC_RELAXED);
+}
+
+static uint32_t load_state(const struct gate *gate) {
+    return __atomic_load_n(&gate->state, __ATOMIC_SEQ_CST);
+}
+
+static void begin_turn(struct gate *gate) {
+    __atomic_store_n(&gate->turn_ends, hull_now() + HULL_SHARED_TURN, __ATOMIC_RELAXED);
+}
+
+/* Returns CLOSED if the turn is over, else 0. */
+static uint32_t closing_bit(const struct gate *gate) {
+    return hull_now() >= __atomic_load_n(&gate->turn_ends, __ATOMIC_RELAXED) ? CLOSED : 0;
+}
+
+/* If callers are parked and none is designated, dequeues the first, designates it and wakes it: if `leaving`, in the change by
+ * which the calling thread leaves; else only if the gate is open to it. */
+static void designate_next(struct gate *gate, int leaving) {
+    uint32_t state, next, seat = 0;
+    hull_lock(&gate->queue_lock);
+    do {
+        state = load_state(gate);
+        next = state - (leaving ? 1 : 0);
+        seat = 0;
+        if (state >= PARKED && (state & DESIGNATED) == 0 && (leaving || is_open(gate, state, 1))) {
+            seat = gate->first;
+            next = ((next - PARKED) | DESIGNATED) | closing_bit(gate);
+        }
+    } while (next != state && !try_change(gate, state, next));
+    if (seat != 0) {
+        dequeue(gate, seat);
+        __atomic_store_n(&gate->designated, seat, __ATOMIC_RELAXED);
+    }
+    hull_unlock(&gate->queue_lock);
+    if (seat != 0) {
+        HULL_SHARED_STEP("to wake the designated caller");
+        __atomic_store_n(&node_of(gate, seat)->is_designated, 1, __ATOMIC_SEQ_CST);
+        hull_wake(&node_of(gate, seat)->is_designated, 1);
+    }
+}
+
+/* Enters if the gate is open to the caller; returns whether it did. It may fail because other threads change the word. */
+static int try_enter(struct gate *gate, int is_designated) {
+    uint32_t state = load_state(gate), next = state + 1;
+    if (!is_open(gate, state, is_designated)) {
+        return 0;
+    }
+    if (is_designated) {
+        next &= ~(uint32_t)(DESIGNATED | CLOSED);
+    }
+    if (!try_change(gate, state, next)) {
+        return 0;
+    }
+    if (is_designated) {
+        begin_turn(gate);
+        if (gate->beside > 0) {
+            designate_next(gate, 0);
+        }
+    }
+    return 1;
+}
+
+/* Enqueues the seat and counts it as parked, unless the gate is open to it; returns whether it did. The designated caller becomes
+ * the first in the queue, and is designated no more. */
+static int try_park(struct gate *gate, uint32_t seat, int is_designated) {
+    uint32_t state, next;
+    hull_lock(&gate->queue_lock);
+    do {
+        state = load_state(gate);
+        next = state + PARKED;
+        if (is_open(gate, state, is_designated)) {
+            hull_unlock(&gate->queue_lock);
+            return 0;
+        }
+        if (is_designated) {
+            next &= ~(uint32_t)DESIGNATED;
+        }
+        __atomic_store_n(&node_of(gate, seat)->is_designated, 0, __ATOMIC_SEQ_CST);
+    } while (!try_change(gate, state, next));
+    if (is_designated) {
+        enqueue_first(gate, seat);
+    } else {
+        if (state < PARKED && (state & DESIGNATED) == 0) {
+            begin_turn(gate);
+        }
+        enqueue_last(gate, seat);
+    }
+    hull_unlock(&gate->queue_lock);
+    return 1;
+}
+
+/* Removes the seat from the queue. Returns whether it was queued; if not, it is designated. */
+static int unpark(struct gate *gate, uint32_t seat) {
+    uint32_t state;
+    int was_queued;
+    hull_lock(&gate->queue_lock);
+    was_queued = node_of(gate, seat)->is_queued != 0;
+    if (was_queued) {
+        dequeue(gate, seat);
+        do {
+            state = load_state(gate);
+        } while (!try_change(gate, state, state - PARKED));
+    }
+    hull_unlock(&gate->queue_lock);
+    return was_queued;
+}
+
+/* Sleeps outside until the seat is designated. Returns whether it is; if not, the deadline passed first, and the seat is queued no
+ * more. */
+static int await_designation(struct gate *gate, uint32_t seat, uint64_t until) {
+    uint32_t *word = &node_of(gate, seat)->is_designated;
+    while (__atomic_load_n(word, __ATOMIC_SEQ_CST) == 0) {
+        HULL_SHARED_STEP("not designated yet");
+        if (until != HULL_NEVER && hull_now() >= until && unpark(gate, seat)) {
+            return 0;
+        }
+        hull_sleep(word, 0, until);
+    }
+    return 1;
+}
+
+/* Gives up the designation after the deadline, or enters if the gate is open. Returns whether it entered. */
+static int enter_or_resign(struct gate *gate) {
+    for (;;) {
+        uint32_t state = load_state(gate);
+        if (try_enter(gate, 1)) {
+            return 1;
+        }
+        if (!is_open(gate, state, 1) && try_change(gate, state, state & ~(uint32_t)(DESIGNATED | CLOSED))) {
+            return 0;
+        }
+    }
+}
+
+/* Enters at once if no call is inside and the gate is not closed; returns whether it did. */
+static int enter_at_once(struct gate *gate) {
+    uint32_t state;
+    do {
+        state = load_state(gate);
+        if ((state & (INSIDE | CLOSED)) != 0) {
+            return 0;
+        }
+    } while (!try_change(gate, state, state + 1));
+    return 1;
+}
+
+/* Waits at the gate, and enters. Returns whether it did by the deadline. */
+static int enter(struct gate *gate, uint32_t seat, uint64_t until) {
+    int is_designated = 0;
+    unsigned looks = 0;
+    if (until == 0) {
+        return enter_at_once(gate);
+    }
+    while (!try_enter(gate, is_designated)) {
+        if (looks < (is_designated ? DESIGNATED_LOOKS : LOOKS)) {
+            hull_pause(looks++);
+            continue;
+        }
+        HULL_SHARED_STEP("the gate was closed");
+        if (until != HULL_NEVER && hull_now() >= until) {
+            return is_designated && enter_or_resign(gate);
+        }
+        if (try_park(gate, seat, is_designated)) {
+            HULL_SHARED_STEP("counted as parked");
+            if (!await_designation(gate, seat, until)) {
+                return 0;
+            }
+            is_designated = 1;
+            looks = 0;
+        }
+    }
+    return 1;
+}
+
+/* Leaves. If callers are parked and none is designated, designates the first of them; if the turn is over, closes the gate to all
+ * but the designated caller. */
+static void leave(struct gate *gate) {
+    for (;;) {
+        uint32_t state = load_state(gate), next = state - 1;
+        if (state >= PARKED && (state & DESIGNATED) == 0) {
+            HULL_SHARED_STEP("to designate the next");
+            designate_next(gate, 1);
+            return;
+        }
+        if ((state & (DESIGNATED | CLOSED)) == DESIGNATED) {
+            next |= closing_bit(gate);
+        }
+        if (try_change(gate, state, next)) {
+            return;
+        }
+    }
+}
+
+/* ---- numbers */
+
+/* Stores the number that is served: of two threads that store theirs, if two may be inside, the later number. */
+static void store_turn(struct gate *gate, uint64_t number) {
+    uint64_t seen = __atomic_load_n(&gate->turn, __ATOMIC_RELAXED);
+    if (gate->beside == 0) {
+        __atomic_store_n(&gate->turn, number, __ATOMIC_RELAXED);
+        return;
+    }
+    while ((seen == 0 || (int64_t)(number - seen) > 0) &&
+           !__atomic_compare_exchange_n(&gate->turn, &seen, number, 0, __ATOMIC_RELAXED, __ATOMIC_RELAXED)) {
+    }
+}
+
+void hull_shared_handed_on(hull_shared_gate *opaque, uint64_t number) {
+    struct gate *gate = (struct gate *)opaque;
+    struct slot *slot = &gate->slots[number % HULL_SHARED_SEATS_MAX];
+    int saved_errno = errno;
+    store_turn(gate, number);
+    if (__atomic_load_n(&slot->waiters, __ATOMIC_SEQ_CST) != 0) {
+        HULL_SHARED_STEP("to wake");
+        __atomic_fetch_add(&slot->epoch, 1, __ATOMIC_SEQ_CST);
+        hull_wake(&slot->epoch, 1);
+    }
+    errno = saved_errno;
+}
+
+/* Wakes all threads that wait for space. */
+static void announce_space(struct gate *gate) {
+    __atomic_fetch_add(&gate->drains, 1, __ATOMIC_SEQ_CST);
+    if (__atomic_load_n(&gate->for_space, __ATOMIC_SEQ_CST) != 0) {
+        hull_wake(&gate->drains, 0x7fffffff);
+    }
+}
+
+/* Sleeps until there may be space again, unless there has been a drain since the word `drains` was `seen`. While drains are refused
+ * memory nothing changes that word, so that the sleepers don't wake one another in turn: each tries to drain after RETRY. */
+static void wait_for_drain(struct gate *gate, uint32_t seen, uint64_t until) {
+    uint64_t again = __atomic_load_n(&gate->refused, __ATOMIC_SEQ_CST) != 0 ? hull_now() + RETRY : HULL_NEVER;
+    __atomic_fetch_add(&gate->for_space, 1, __ATOMIC_SEQ_CST);
+    hull_sleep(&gate->drains, seen, again < until ? again : until);
+    __atomic_fetch_sub(&gate->for_space, 1, __ATOMIC_SEQ_CST);
+}
+
+/* Looks once; if the number was served, wakes the thread that waits for the next one. */
+static hull_shared_reply look_and_wake(struct gate *gate, hull_shared_seat *seat, hull_shared_target to) {
+    hull_shared_reply reply = to.segment != NULL ? hull_shared_look_and_drain(seat, to.segment)
+                              : to.out != NULL ? hull_shared_look_into(seat, to.out, to.capacity)
+                                               : hull_shared_look(seat);
+    switch (reply.answer.code) {
+    case HULL_NOT_YET:
+    case HULL_NO_NUMBER:
+    case HULL_VACANT:
+    case HULL_NO_SPACE: return reply;
+    }
+    HULL_SHARED_STEP("served");
+    __atomic_store_n(&gate->held, reply.held, __ATOMIC_RELAXED);
+    hull_shared_handed_on((hull_shared_gate *)gate, reply.turn + 1);
+    if (to.segment != NULL && reply.answer.code != HULL_FULL) {
+        announce_space(gate);
+    }
+    return reply;
+}
+
+/* Sleeps at the slot of the seat's number, unless a last look finds it served. Returns the reply of that look. */
+static hull_shared_reply look_and_sleep(struct gate *gate, hull_shared_seat *seat, uint64_t number, hull_shared_target to) {
+    struct slot *slot = &gate->slots[number % HULL_SHARED_SEATS_MAX];
+    hull_shared_reply reply;
+    uint32_t epoch;
+    __atomic_fetch_add(&slot->waiters, 1, __ATOMIC_SEQ_CST);
+    epoch = __atomic_load_n(&slot->epoch, __ATOMIC_SEQ_CST);
+    HULL_SHARED_STEP("announced");
+    reply = look_and_wake(gate, seat, to);
+    if (reply.answer.code == HULL_NOT_YET) {
+        HULL_SHARED_STEP("looked");
+        hull_sleep(&slot->epoch, epoch, HULL_NEVER);
+    }
+    __atomic_fetch_sub(&slot->waiters, 1, __ATOMIC_SEQ_CST);
+    return reply;
+}
+
+/* Waits until the number that the seat has taken is served; returns the answer to its call. */
+static hull_shared_reply wait_for_turn(struct gate *gate, hull_shared_seat *seat, hull_shared_target to) {
+    hull_shared_reply reply = look_and_wake(gate, seat, to);
+    unsigned looks = 0;
+    while (reply.answer.code == HULL_NOT_YET) {
+        uint64_t before = reply.turn - __atomic_load_n(&gate->turn, __ATOMIC_RELAXED);
+        if (before <= NEAR && looks < LOOKS) {
+            hull_pause(looks++);
+            reply = look_and_wake(gate, seat, to);
+        } else {
+            reply = look_and_sleep(gate, seat, reply.turn, to);
+        }
+    }
+    return reply;
+}
+
+/* ---- calls */
+
+/* A call of a seat at its gate. */
+struct call {
+    struct gate *gate;
+    hull_shared_seat *seat;
+    uint32_t number; /* the seat's, plus 1 */
+    uint32_t kind;
+    int64_t x;
+    int64_t y;
+    uint64_t until;
+};
+
+static hull_shared_reply refusal(uint32_t code) {
+    hull_shared_reply none;
+    memset(&none, 0, sizeof none);
+    none.answer.code = code;
+    return none;
+}
+
+/* Makes a call once, waits for its answer and returns it; returns BUSY if it could not enter by the deadline. */
+static hull_shared_reply make_once(const struct call *call, hull_shared_target to) {
+    struct gate *gate = call->gate;
+    struct wait_node *node = node_of(gate, call->number);
+    hull_shared_reply reply;
+    if (!enter(gate, call->number, call->until)) {
+        return refusal(HULL_BUSY);
+    }
+    __atomic_store_n(&node->since, hull_now_coarse(), __ATOMIC_RELAXED);
+    hull_mark_after(&gate->state);
+    reply = hull_shared_take(call->seat, call->kind, call->x, call->y);
+    if (reply.answer.code == HULL_TAKEN) {
+        __atomic_store_n(&node->turn, reply.turn, __ATOMIC_RELAXED);
+        __atomic_store_n(&node->has_turn, 1, __ATOMIC_RELEASE);
+        reply = wait_for_turn(gate, call->seat, to);
+        __atomic_store_n(&node->has_turn, 0, __ATOMIC_RELAXED);
+    }
+    hull_mark_before(&gate->state);
+    __atomic_store_n(&node->since, 0, __ATOMIC_RELAXED);
+    leave(gate);
+    return reply;
+}
+
+/* Calls the hook; the thread is not cancelled meanwhile. */
+static void run_hook(struct gate *gate) {
+    int before;
+    pthread_setcancelstate(PTHREAD_CANCEL_DISABLE, &before);
+    gate->hook(gate->context, gate->segment);
+    pthread_setcancelstate(before, &before);
+}
+
+/* Drains by the seat of a call, and calls the hook. Returns whether there is space again. */
+static int drain_and_call_hook(const struct call *call) {
+    struct gate *gate = call->gate;
+    hull_shared_target to = {NULL, 0, gate->segment};
+    struct call count = *call;
+    uint32_t capacity = hull_shared_capacity(call->seat);
+    if (hull_shared_segment_space(gate->segment) < capacity) {
+        hull_shared_segment_end(gate->segment);
+        hull_shared_segment_reserve(gate->segment, capacity);
+    }
+    if (hull_shared_segment_space(gate->segment) < capacity) {
+        return 0;
+    }
+    count.kind = HULL_KIND_COUNT;
+    if (!make_once(&count, to).has_line) {
+        return 0;
+    }
+    run_hook(gate);
+    hull_shared_segment_end(gate->segment);
+    hull_shared_segment_reserve(gate->segment, capacity);
+    return 1;
+}
+
+/* Makes this seat the one that drains for the hook; returns whether it is. It is not if there is no hook, or another one drains. */
+static int become_drainer(const struct call *call) {
+    struct gate *gate = call->gate;
+    uint32_t none = 0;
+    return gate->hook != NULL &&
+           __atomic_compare_exchange_n(&gate->drainer, &none, call->number, 0, __ATOMIC_SEQ_CST, __ATOMIC_RELAXED);
+}
+
+/* Drains for the hook as the only thread that does; returns whether there is space again. After the hook it wakes the threads that
+ * wait for space, since another of them may have to drain; it also wakes them when memory is refused for the first time, to try
+ * again from then on. */
+static int drain_for_hook(const struct call *call) {
+    struct gate *gate = call->gate;
+    int has_space, was_refused;
+    __atomic_store_n(&gate->drainer_since, hull_now_coarse(), __ATOMIC_RELAXED);
+    hull_mark_after(&gate->drainer);
+    has_space = drain_and_call_hook(call);
+    hull_mark_before(&gate->drainer);
+    was_refused = __atomic_exchange_n(&gate->refused, !has_space, __ATOMIC_SEQ_CST) != 0;
+    __atomic_store_n(&gate->drainer, 0, __ATOMIC_SEQ_CST);
+    if (has_space || !was_refused) {
+        announce_space(gate);
+    }
+    return has_space;
+}
+
+/* Makes a call. If it found no space, makes it again after a drain, if the gate waits for space or drains by itself. The word
+ * `drains` is read before a number is taken: a drain after the call changes it. */
+static hull_shared_reply make(const struct call *call, hull_shared_target to) {
+    struct gate *gate = call->gate;
+    for (;;) {
+        uint32_t drains = __atomic_load_n(&gate->drains, __ATOMIC_SEQ_CST);
+        hull_shared_reply reply = make_once(call, to);
+        if (to.segment != NULL || reply.answer.code == HULL_BUSY) {
+            return reply;
+        }
+        if (reply.answer.code != HULL_FULL) {
+            if (gate->hook != NULL && reply.held > 0 && reply.held >= hull_shared_capacity(call->seat) / 2) {
+                (void)(become_drainer(call) && drain_for_hook(call));
+            }
+            return reply;
+        }
+        if (become_drainer(call) && drain_for_hook(call)) {
+            continue;
+        }
+        if (!gate->waits || call->until == 0) {
+            return reply;
+        }
+        HULL_SHARED_STEP("no space");
+        wait_for_drain(gate, drains, call->until);
+        if (call->until != HULL_NEVER && hull_now() >= call->until) {
+            return reply;
+        }
+    }
+}
+
+hull_shared_reply hull_shared_call_into(hull_shared_gate *opaque, hull_shared_seat *seat, uint32_t kind, int64_t x, int64_t y,
+                                        hull_shared_target to, uint64_t until) {
+    struct binding *binding = binding_of(seat);
+    struct call call = {(struct gate *)opaque, seat, binding->number + 1, kind, x, y, until};
+    int saved_errno = errno;
+    hull_shared_reply reply;
+    if (call.gate == NULL || binding->gate != call.gate) {
+        return refusal(binding->gate == NULL && hull_shared_capacity(seat) == 0 ? HULL_VACANT : HULL_OTHER_GATE);
+    }
+    if (to.segment != NULL && hull_shared_segment_space(to.segment) < hull_shared_capacity(seat)) {
+        return refusal(HULL_NO_SPACE);
+    }
+    reply = make(&call, to);
+    errno = saved_errno;
+    return reply;
+}
+
+int hull_shared_gate_drain(hull_shared_gate *opaque, hull_shared_seat *seat) {
+    struct binding *binding = binding_of(seat);
+    struct call call = {(struct gate *)opaque, seat, binding->number + 1, HULL_KIND_COUNT, 0, 0, HULL_NEVER};
+    int saved_errno = errno, is_done;
+    if (call.gate == NULL || binding->gate != call.gate || call.gate->hook == NULL) {
+        return 0;
+    }
+    for (;;) {
+        uint32_t drains = __atomic_load_n(&call.gate->drains, __ATOMIC_SEQ_CST);
+        if (become_drainer(&call)) {
+            break;
+        }
+        HULL_SHARED_STEP("another drains");
+        wait_for_drain(call.gate, drains, HULL_NEVER);
+    }
+    is_done = drain_for_hook(&call);
+    errno = saved_errno;
+    return is_done;
+}
+
+static const hull_shared_target no_target = {NULL, 0, NULL};
+
+hull_shared_reply hull_shared_call(hull_shared_gate *opaque, hull_shared_seat *seat, uint32_t kind, int64_t x, int64_t y) {
+    return hull_shared_call_into(opaque, seat, kind, x, y, no_target, HULL_NEVER);
+}
+
+hull_shared_reply hull_shared_try_call(hull_shared_gate *opaque, hull_shared_seat *seat, uint32_t kind, int64_t x, int64_t y) {
+    return hull_shared_call_into(opaque, seat, kind, x, y, no_target, 0);
+}
+
+hull_shared_reply hull_shared_call_until(hull_shared_gate *opaque, hull_shared_seat *seat, uint32_t kind, int64_t x, int64_t y,
+                                         uint64_t until) {
+    return hull_shared_call_into(opaque, seat, kind, x, y, no_target, until);
+}
+
+hull_shared_reply hull_shared_drain(hull_shared_gate *opaque, hull_shared_seat *seat, hull_shared_segment *segment, uint32_t kind,
+                                    int64_t x, int64_t y) {
+    hull_shared_target to = {NULL, 0, segment};
+    if (hull_shared_segment_space(segment) < hull_shared_capacity(seat)) {
+        return refusal(HULL_NO_SPACE);
+    }
+    return hull_shared_call_into(opaque, seat, kind, x, y, to, HULL_NEVER);
+}
+
+hull_shared_reply hull_shared_vertices(hull_shared_gate *opaque, hull_shared_seat *seat, hull_point *out, size_t capacity) {
+    hull_point none = {0, 0};
+    hull_shared_target to = {capacity == 0 ? &none : out, capacity, NULL};
+    return hull_shared_call_into(opaque, seat, HULL_KIND_VERTICES, 0, 0, to, HULL_NEVER);
+}
+
+/* ---- the state */
+
+static uint64_t elapsed(uint64_t now, uint64_t since) {
+    return now > since ? now - since : 0;
+}
+
+/* Finds the seat whose call has the number that is served, or else the one that has been inside for longest; returns since when it
+ * has been inside, or 0 if none is. */
+static uint64_t find_holder(const struct gate *gate, uint64_t turn, uint32_t *seat) {
+    uint64_t first = 0;
+    uint32_t k;
+    for (k = 0; k < HULL_SHARED_SEATS_MAX; k++) {
+        const struct wait_node *node = &gate->nodes[k];
+        uint64_t since = __atomic_load_n(&node->since, __ATOMIC_RELAXED);
+        if (since != 0 && (first == 0 || since < first)) {
+            first = since;
+            *seat = k;
+        }
+        if (since != 0 && __atomic_load_n(&node->has_turn, __ATOMIC_ACQUIRE) != 0 && __atomic_load_n(&node->turn, __ATOMIC_RELAXED) == turn) {
+            *seat = k;
+            return since;
+        }
+    }
+    return first;
+}
+
+hull_shared_state hull_shared_stats(const hull_shared_gate *opaque) {
+    const struct gate *gate = (const struct gate *)opaque;
+    uint32_t state = load_state(gate), drainer = __atomic_load_n(&gate->drainer, __ATOMIC_SEQ_CST);
+    uint64_t now = hull_now_coarse(), since;
+    hull_shared_state stats;
+    memset(&stats, 0, sizeof stats);
+    stats.out = __atomic_load_n(&gate->out, __ATOMIC_RELAXED);
+    stats.inside = state & INSIDE;
+    stats.sleepers = state / PARKED;
+    stats.for_space = __atomic_load_n(&gate->for_space, __ATOMIC_RELAXED);
+    stats.held = __atomic_load_n(&gate->held, __ATOMIC_RELAXED);
+    stats.turn = __atomic_load_n(&gate->turn, __ATOMIC_RELAXED);
+    stats.seat = HULL_SHARED_SEATS_MAX;
+    stats.designated = (state & DESIGNATED) == 0 ? HULL_SHARED_SEATS_MAX : __atomic_load_n(&gate->designated, __ATOMIC_RELAXED) - 1;
+    stats.drainer = drainer == 0 ? HULL_SHARED_SEATS_MAX : drainer - 1;
+    stats.drains_for = drainer == 0 ? 0 : elapsed(now, __atomic_load_n(&gate->drainer_since, __ATOMIC_RELAXED));
+    since = find_holder(gate, stats.turn, &stats.seat);
+    stats.seat_for = since == 0 ? 0 : elapsed(now, since);
+    return stats;
+}
