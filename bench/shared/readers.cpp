@@ -103,7 +103,7 @@ public:
     Seats() : Shared(0) {}
     unsigned long ask(unsigned me, const std::atomic<bool> &stops, Points points) override {
         return asked(stops, points, [&](std::int64_t x, std::int64_t y) {
-            return hull_shared_call(&gate_, seats_[me], HULL_KIND_PLACE, x, y).told.code;
+            return hull_shared_call(&gate_, seats_[me], HULL_KIND_PLACE, x, y).answer.code;
         });
     }
 };
@@ -115,7 +115,7 @@ public:
     unsigned long ask(unsigned me, const std::atomic<bool> &stops, Points points) override {
         std::vector<hull_point> vertices(1 << 12);
         return asked(stops, points, [&](std::int64_t x, std::int64_t y) {
-            const hull_shared_view snapshot = hull_shared_read(readers_[me]);
+            const hull_shared_snapshot snapshot = hull_shared_read(readers_[me]);
             hull_shared_snapshot_vertices(readers_[me], vertices.data(), vertices.size());
             return hull_polygon_place(vertices.data(), snapshot.count, x, y).code;
         });
@@ -129,7 +129,7 @@ public:
     unsigned long ask(unsigned me, const std::atomic<bool> &stops, Points points) override {
         std::vector<hull_point> vertices(1 << 12);
         hull_shared_reader *const reader = readers_[me];
-        hull_shared_view snapshot = hull_shared_read(reader);
+        hull_shared_snapshot snapshot = hull_shared_read(reader);
         hull_shared_snapshot_vertices(reader, vertices.data(), vertices.size());
         return asked(stops, points, [&](std::int64_t x, std::int64_t y) {
             if (hull_shared_is_newest(reader) == 0) {

@@ -41,7 +41,7 @@ BOTH = """#include "hull.h"
 int main(void) {
     hull_set *h = hull_new(10);
     hull_free(h);
-    return hull_shared_line_init(&(hull_shared_line){0}, 1), 0;
+    return hull_shared_gate_init(&(hull_shared_gate){0}, 1), 0;
 }
 """
 CMAKE = """cmake_minimum_required(VERSION 3.13)
