@@ -319,7 +319,7 @@ int main(int words, char **word) {
         const char *name;
         Way *way;
         double best[3];
-    } rows[] = {{"bare outline", &bare, {}}, {"reader, looks first", &looks, {}}, {"reader, each a view", &snapshots, {}},
+    } rows[] = {{"bare polygon", &bare, {}}, {"reader, looks first", &looks, {}}, {"reader, each a snapshot", &snapshots, {}},
                 {"shared_mutex", &locked, {}}, {"atomic shared_ptr", &copied, {}}, {"seats", &seats, {}}};
     for (Row &row : rows) {
         fill(*row.way, points);
@@ -347,7 +347,7 @@ int main(int words, char **word) {
             without = std::min(without, inner_change(0, lines, points, count));
             with = std::min(with, inner_change(most_threads, lines, points, count));
         }
-        std::printf("a change that leaves the corners, %s: %.0f ns, with readers %.0f: %.2f times\n",
+        std::printf("a change that leaves the vertices, %s: %.0f ns, with readers %.0f: %.2f times\n",
                     lines == 0 ? "no journal" : "journal held", without, with, with / without);
     }
     double taken = 1e18, none = 1e18;
