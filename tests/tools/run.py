@@ -61,8 +61,8 @@ PLACES = (
     ("another version", "rust/hull/Cargo.toml", 'version = "', 'version = "9', "Cargo.toml: FAILED, the version: it says '9"),
     ("a case unlike the others", "crates/hull_reply/src/request.rt", "Call::Place(point_of", "Call::Add(point_of",
      "hull_reply/src/request.rt: FAILED, a case for each kind: it says 'Kind::Place"),
-    ("a case that is missing", "crates/hull_reply/specs/Told.antt", "Tells r reply.Absent = IsBare code.Absent r\n", "",
-     "hull_reply/specs/Told.antt: FAILED, a case for each reply: it says"),
+    ("a case that is missing", "crates/hull_reply/specs/Encoded.antt", "Encodes r reply.Absent = IsBare code.Absent r\n", "",
+     "hull_reply/specs/Encoded.antt: FAILED, a case for each reply: it says"),
     ("a number left out", "tables/calls.txt", "code 9 ABSENT", "code 90 ABSENT", "tables/calls.txt: FAILED, the numbers of each code"),
 )
 # what a check can tell of a function whose proof names what a change took away, and of one with an open goal
