@@ -244,9 +244,9 @@ hull_reply hull_bridges(const hull_set *h, uint32_t level, hull_bridge *out, siz
 /* Removes all points and frees their memory; the limit stays. Returns HULL_CLEARED. */
 hull_reply hull_clear(hull_set *h);
 
-/* A convex polygon is an array of vertices as hull_vertices writes it. The functions below
- * answer what those above answer of the set that it was taken from, as the set was then, in O(log h) for h vertices
- * (hull_polygon_area in O(h)). They write nothing and allocate nothing, so any number of threads may query one array at once.
+/* A convex polygon is an array of vertices as hull_vertices writes it. The functions below answer what those above answer of
+ * the set that it was taken from, as the set was then, in O(log h) for h vertices (hull_polygon_area in O(h)). They write
+ * nothing and allocate nothing, so any number of threads may query one array at once.
  *
  * hull_polygon_call answers the kinds HULL_KIND_PLACE, _TANGENTS, _EXTREME, _AREA and _VERTICES, and returns HULL_UNKNOWN_KIND
  * for all others.

@@ -747,8 +747,8 @@ private:
 namespace detail {
 
 // Returns the vertices of polygons.
-inline std::vector<hull_corners> all_vertices(const std::vector<Polygon> &polygons) {
-    std::vector<hull_corners> all;
+inline std::vector<hull_polygon> all_vertices(const std::vector<Polygon> &polygons) {
+    std::vector<hull_polygon> all;
     with_memory([&] { all.reserve(polygons.size()); });
     for (const Polygon &polygon : polygons) {
         all.push_back({polygon.data(), polygon.size()});
@@ -759,7 +759,7 @@ inline std::vector<hull_corners> all_vertices(const std::vector<Polygon> &polygo
 } // namespace detail
 
 template <class Self> std::vector<Relation> PolygonQuestions<Self>::relations(const std::vector<Polygon> &others) const {
-    const std::vector<hull_corners> all = detail::all_vertices(others);
+    const std::vector<hull_polygon> all = detail::all_vertices(others);
     std::vector<std::uint8_t> numbers;
     std::vector<Relation> relations;
     detail::with_memory([&] { numbers.resize(all.size()), relations.reserve(all.size()); });
@@ -775,7 +775,7 @@ template <class Self> std::vector<Relation> PolygonQuestions<Self>::relations(co
 inline std::vector<std::pair<std::size_t, std::size_t>> pairs_within_distance(const std::vector<Polygon> &polygons,
                                                                               std::uint64_t numerator = 0,
                                                                               std::uint32_t denominator = 1) {
-    const std::vector<hull_corners> all = detail::all_vertices(polygons);
+    const std::vector<hull_polygon> all = detail::all_vertices(polygons);
     std::vector<hull_pair> pairs;
     hull_reply r = {};
     for (r.number = all.size(); r.code != HULL_NUMBER;) {
@@ -1195,16 +1195,16 @@ private:
     }
 
     hull_reply reply_of(const hull_shared_reply &r) {
-        switch (r.told.code) {
+        switch (r.answer.code) {
         case HULL_FULL:
         case HULL_BUSY:
         case HULL_OUT_OF_RANGE:
-        case HULL_ZERO_DIRECTION: detail::fail(r.told.code);
+        case HULL_ZERO_DIRECTION: detail::fail(r.answer.code);
         default:
             if (r.has_line != 0) {
                 turn_ = r.line;
             }
-            return r.told;
+            return r.answer;
         }
     }
 
@@ -1245,7 +1245,7 @@ public:
     // Takes the newest snapshot, if this is not it: it shows what each call did that had returned before. Vertices of the snapshot
     // before are no longer valid. If others were in the way a thousand times, the snapshot is the one before, and this is false.
     bool read() {
-        const hull_shared_view v = hull_shared_read(alive());
+        const hull_shared_snapshot v = hull_shared_read(alive());
         if (!is_copied_ || v.lines != lines_) {
             is_copied_ = false;
             if (vertices_.size() < v.count) {

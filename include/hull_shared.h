@@ -106,8 +106,7 @@ void hull_shared_make_segment(hull_shared_segment *storage);
 
 /* The same in memory from malloc; null if it refuses. */
 static inline hull_shared *hull_shared_new(void) {
-    hull_shared *shared =
-        (hull_shared *)hull_storage_new(hull_shared_size(), hull_shared_alignment());
+    hull_shared *shared = (hull_shared *)hull_storage_new(hull_shared_size(), hull_shared_alignment());
     if (shared != NULL) {
         hull_shared_make(shared);
     }

@@ -282,11 +282,11 @@ void hull_python_seat_free(hull_python_seat *s) {
 static hull_reply ask(hull_python_seat *s, uint32_t kind, int64_t x, int64_t y, hull_shared_target to) {
     hull_shared_reply reply;
     memset(&reply, 0, sizeof reply);
-    reply.told.code = HULL_VACANT;
+    reply.answer.code = HULL_VACANT;
     if (s->shared != NULL) {
         reply = hull_shared_call_into(&s->shared->gate, s->seat, kind, x, y, to, until(s));
     }
-    switch (reply.told.code) {
+    switch (reply.answer.code) {
     case HULL_VACANT:
     case HULL_OUT_OF_RANGE:
     case HULL_ZERO_DIRECTION:
@@ -297,7 +297,7 @@ static hull_reply ask(hull_python_seat *s, uint32_t kind, int64_t x, int64_t y, 
             s->has_turn = 1, s->turn = reply.line;
         }
     }
-    return reply.told;
+    return reply.answer;
 }
 
 hull_reply hull_python_ask(hull_python_seat *s, uint32_t kind, int64_t x, int64_t y) {
@@ -440,7 +440,7 @@ static hull_reply read_into(hull_python_reader *r, hull_point *out, size_t capac
     memset(&reply, 0, sizeof reply);
     reply.code = HULL_VACANT;
     if (r->shared != NULL) {
-        const hull_shared_view snapshot = hull_shared_read(r->reader);
+        const hull_shared_snapshot snapshot = hull_shared_read(r->reader);
         reply = hull_shared_snapshot_vertices(r->reader, out, capacity);
         reply.x = snapshot.has_line;
         reply.high = snapshot.line;

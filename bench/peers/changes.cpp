@@ -232,7 +232,7 @@ int main(int argc, char **argv) {
     std::printf("%s, %zu points: insert %.0f ns, churn %.0f ns a change\n", shape.c_str(), count, ours.insert, ours.churn);
     print("CGAL Delaunay hierarchy", ours, cgal);
     if (tries_array) {
-        print("corners in an array", ours, vertices);
+        print("vertices in an array", ours, vertices);
     }
     return 0;
 }

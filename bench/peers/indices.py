@@ -39,7 +39,7 @@ def main():
                     least[ask] = min(least[ask], time.process_time() - begin)
             missing = len(set(found[ours]) ^ set(map(int, found[theirs])))
             print(f"{shape} of {count:9,}: {least[ours] * 1e3:9.2f} ms, SciPy {least[theirs] * 1e3:9.2f} ms: {least[theirs] / least[ours]:5.2f}; "
-                  f"{len(found[ours])} corners, {missing} of them in one of the two alone")
+                  f"{len(found[ours])} vertices, {missing} of them in one of the two alone")
 
 
 main()

@@ -37,7 +37,7 @@ python=$(command -v /usr/bin/python3 || command -v python3 || :)
 if [ -n "$python" ] && "$python" -c 'import scipy' 2>/dev/null; then
     PYTHONPATH=$room/lib/hull "$python" "$here/indices.py" "${1:-3}"
 else
-    echo 'skipped: which input a corner is, since there is no SciPy'
+    echo 'skipped: which input a vertex is, since there is no SciPy'
 fi
 if ! printf '%s\n' '#include <boost/geometry.hpp>' '#include <geos_c.h>' | c++ -fsyntax-only -x c++ - 2>/dev/null; then
     echo 'skipped: a set that stands, since there are no headers of GEOS and Boost'

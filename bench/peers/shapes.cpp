@@ -70,7 +70,7 @@ std::vector<Shape> drawn(int count) {
 // Returns pairs of shapes that are near one another, in no order.
 std::vector<std::pair<const Shape *, const Shape *>> neighbours(const std::vector<Shape> &all) {
     std::vector<std::pair<const Shape *, const Shape *>> near;
-    std::vector<hull_corners> vertices;
+    std::vector<hull_polygon> vertices;
     for (const Shape &shape : all) {
         vertices.push_back({shape.vertices.data(), shape.vertices.size()});
     }
@@ -217,7 +217,7 @@ std::size_t all_by_box2d(const std::vector<Shape> &all) {
 }
 
 void all_pairs(const std::vector<Shape> &all, int rounds) {
-    std::vector<hull_corners> vertices;
+    std::vector<hull_polygon> vertices;
     for (const Shape &shape : all) {
         vertices.push_back({shape.vertices.data(), shape.vertices.size()});
     }

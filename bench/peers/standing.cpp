@@ -298,14 +298,14 @@ void time_loads(Table &table, const Points &points, bool slow) {
 void time_vertices(Table &table, const Ours &ours, const Ours &known, const Chain &chain) {
     const size_t count = chain.vertices.size();
     Points out(count), copy(count);
-    table.time("corners", "hull_vertices", count, [&] { return hull_vertices(ours.place, out.data(), count).number; });
-    table.time("corners", "hull_vertices, known", count, [&] { return hull_vertices(known.place, out.data(), count).number; });
-    table.time("corners", "a pass over an array", count, [&] {
+    table.time("vertices", "hull_vertices", count, [&] { return hull_vertices(ours.place, out.data(), count).number; });
+    table.time("vertices", "hull_vertices, known", count, [&] { return hull_vertices(known.place, out.data(), count).number; });
+    table.time("vertices", "a pass over an array", count, [&] {
         std::copy(chain.vertices.begin(), chain.vertices.end(), copy.begin());
         return copy.size();
     });
     if (!std::equal(out.begin(), out.end(), chain.vertices.begin(), [](Point a, Point b) { return a.x == b.x && a.y == b.y; })) {
-        std::printf("the corners differ\n");
+        std::printf("the vertices differ\n");
         std::exit(1);
     }
 }
@@ -332,7 +332,7 @@ void time_places(Table &table, const Ours &ours, const Ours &known, const Chain 
     time("hull_place", [&](size_t i) { return hull_place(ours.place, asked[i].x, asked[i].y).code != HULL_OUTSIDE; });
     time("hull_place, known", [&](size_t i) { return hull_place(known.place, asked[i].x, asked[i].y).code != HULL_OUTSIDE; });
     time("bisection behind a call", [&](size_t i) { return place_by_a_call(chain, asked[i].x, asked[i].y).code != HULL_OUTSIDE; });
-    time("corners and bisection", [&](size_t i) { return chain.covers(asked[i]); });
+    time("vertices and bisection", [&](size_t i) { return chain.covers(asked[i]); });
     time("GEOS prepared", [&](size_t i) { return geos.intersects(i); });
     if (all) {
         time("CGAL bounded_side_2", [&](size_t i) {
@@ -557,7 +557,7 @@ void time_extremes(Table &table, const Ours &ours, const Ours &known, const Chai
     const size_t by_a_call = table.time("extreme", "bisection behind a call", n, [&] {
         return count_of(asked, [&](size_t i) { return static_cast<size_t>(extreme_by_a_call(chain, asked[i].x, asked[i].y).x); });
     });
-    const size_t other = table.time("extreme", "corners and bisection", n, [&] {
+    const size_t other = table.time("extreme", "vertices and bisection", n, [&] {
         return count_of(asked, [&](size_t i) { return static_cast<size_t>(chain.extreme(asked[i].x, asked[i].y).x); });
     });
     if (ours_sum != other || polygon_sum != other || known_sum != other || by_a_call != other) {
@@ -612,7 +612,7 @@ int main(int argc, char **argv) {
         time_relations(table, chain, asked);
         time_lengths(table, chain, some);
     }
-    std::printf("%s, %zu points, %zu corners\n", shape.c_str(), count, chain.vertices.size());
+    std::printf("%s, %zu points, %zu vertices\n", shape.c_str(), count, chain.vertices.size());
     table.print();
     const double one = place_time(chain, asked, 1, 5 * rounds), four = place_time(chain, asked, 4, 5 * rounds);
     std::printf("  %-9s %-34s %10.1f ns  of one thread's speed %.2f\n", "place", "hull_polygon_place by 4 threads", four, one / four);

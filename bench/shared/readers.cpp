@@ -103,7 +103,7 @@ public:
     Seats() : Shared(0) {}
     unsigned long ask(unsigned me, const std::atomic<bool> &stops, Points points) override {
         return asked(stops, points, [&](std::int64_t x, std::int64_t y) {
-            return hull_shared_call(&gate_, seats_[me], HULL_KIND_PLACE, x, y).told.code;
+            return hull_shared_call(&gate_, seats_[me], HULL_KIND_PLACE, x, y).answer.code;
         });
     }
 };
@@ -115,7 +115,7 @@ public:
     unsigned long ask(unsigned me, const std::atomic<bool> &stops, Points points) override {
         std::vector<hull_point> vertices(1 << 12);
         return asked(stops, points, [&](std::int64_t x, std::int64_t y) {
-            const hull_shared_view snapshot = hull_shared_read(readers_[me]);
+            const hull_shared_snapshot snapshot = hull_shared_read(readers_[me]);
             hull_shared_snapshot_vertices(readers_[me], vertices.data(), vertices.size());
             return hull_polygon_place(vertices.data(), snapshot.count, x, y).code;
         });
@@ -129,7 +129,7 @@ public:
     unsigned long ask(unsigned me, const std::atomic<bool> &stops, Points points) override {
         std::vector<hull_point> vertices(1 << 12);
         hull_shared_reader *const reader = readers_[me];
-        hull_shared_view snapshot = hull_shared_read(reader);
+        hull_shared_snapshot snapshot = hull_shared_read(reader);
         hull_shared_snapshot_vertices(reader, vertices.data(), vertices.size());
         return asked(stops, points, [&](std::int64_t x, std::int64_t y) {
             if (hull_shared_is_newest(reader) == 0) {
@@ -319,7 +319,7 @@ int main(int words, char **word) {
         const char *name;
         Way *way;
         double best[3];
-    } rows[] = {{"bare outline", &bare, {}}, {"reader, looks first", &looks, {}}, {"reader, each a view", &snapshots, {}},
+    } rows[] = {{"bare polygon", &bare, {}}, {"reader, looks first", &looks, {}}, {"reader, each a snapshot", &snapshots, {}},
                 {"shared_mutex", &locked, {}}, {"atomic shared_ptr", &copied, {}}, {"seats", &seats, {}}};
     for (Row &row : rows) {
         fill(*row.way, points);
@@ -347,7 +347,7 @@ int main(int words, char **word) {
             without = std::min(without, inner_change(0, lines, points, count));
             with = std::min(with, inner_change(most_threads, lines, points, count));
         }
-        std::printf("a change that leaves the corners, %s: %.0f ns, with readers %.0f: %.2f times\n",
+        std::printf("a change that leaves the vertices, %s: %.0f ns, with readers %.0f: %.2f times\n",
                     lines == 0 ? "no journal" : "journal held", without, with, with / without);
     }
     double taken = 1e18, none = 1e18;

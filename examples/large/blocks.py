@@ -53,7 +53,7 @@ def by_one_process(asked, blocks):
 def kill_one(client):
     """Kills the worker that holds most polygons, with them."""
     address, held = max(client.has_what().items(), key=lambda it: len(it[1]))
-    print("a worker is killed that holds", len(held), "outlines", file=sys.stderr)
+    print("a worker is killed that holds", len(held), "polygons", file=sys.stderr)
     os.kill(client.run(os.getpid, workers=[address])[address], signal.SIGKILL)
 
 

@@ -26,7 +26,7 @@ work() {
 
 crates=${*:-$(grep -rlF '#[test]' "$top"/crates/*/src --include='*.rt' | sed "s#^$top/crates/##; s#/.*##" | sort -u)}
 # the longest first
-for crate in hullbook outline_tests book_tests set_tests explorer; do
+for crate in hullbook polygon_tests book_tests set_tests explorer; do
     case " $(echo $crates) " in *" $crate "*) crates="$crate $(echo " $(echo $crates) " | sed "s/ $crate / /")" ;; esac
 done
 for worker in $(seq "$(getconf _NPROCESSORS_ONLN)"); do work & done

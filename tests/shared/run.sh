@@ -2,7 +2,7 @@
 # Tests that a hull that threads share does in C, C++, Rust and Python what it promises: installs the libraries into a temporary folder,
 # compiles the programs of this folder and of examples/shared against them, and runs them: threads that make CALLS mixed calls each (64 of
 # them a tenth, and eight in Rust and in Python a tenth), with one, two or all of them admitted at a time, also with threads delayed between
-# the steps of waiting; `bin/hullbook check` judges their journal. Eight threads of which one drains the journal, and eight that keep none; up
+# the steps of waiting; `hullbook check` judges their journal. Eight threads of which one drains the journal, and eight that keep none; up
 # to 64 at hulls with few lines that drain themselves; every code; each request for memory refused in turn; what calls promise while they
 # wait (waits.c); every order of the steps of the admission gate (gate_model.c) and of snapshots (snapshot_model.c); every order of the steps
 # of two seats and a reader over the library itself (orders.c); snapshots of 60 readers beside calls (readers.c); journal files whose process
@@ -16,6 +16,8 @@ here=$(cd "$(dirname "$0")" && pwd)
 examples=$top/examples/shared
 calls=${1:-20000}
 kills=${2:-40}
+# the program that judges journals: that of these sources, or the released one, so that no proof is begun here
+hullbook=$("$top/tools/product.sh" program hullbook) || hullbook=$top/dist/$(uname -m)/hullbook
 
 if ! is_there cc; then
     echo "there is no cc: nothing was tried"
@@ -64,7 +66,7 @@ passes() {
 
 # whether hullbook says that the journal is legal
 legal() {
-    "$top/bin/hullbook" check "$1" >"$room/verdict" 2>&1
+    "$hullbook" check "$1" >"$room/verdict" 2>&1
 }
 
 in_c() {
@@ -125,7 +127,7 @@ judged() {
         set -- "$@" "$room/segments/segment.$number"
         shift
     done
-    "$top/bin/hullbook" check "$@" >"$room/verdict" 2>&1
+    "$hullbook" check "$@" >"$room/verdict" 2>&1
 }
 
 # whether it says that the second of them is illegal at its first line
@@ -265,7 +267,7 @@ edges() {
 # whether the segments of a file are one legal journal
 in_segments() {
     rm -rf "$room/split" && mkdir "$room/split" && csplit -s -z -n 6 -f "$room/split/" "$1" '/^hullbook/' '{*}' &&
-        "$top/bin/hullbook" check "$room/split"/* >"$room/verdict" 2>&1
+        "$hullbook" check "$room/split"/* >"$room/verdict" 2>&1
 }
 
 # the same with a fault, which has to be found: NAME, and a script of sed for the file
@@ -279,7 +281,7 @@ killed_wrongly() {
 
 # a service whose process is killed and started again, and faults that are planted beneath it
 services() {
-    build "$here/service.c" && "$room/service" $((2 * calls)) 3 "$room/service.journal" "$top/bin/hullbook" >"$room/told" &&
+    build "$here/service.c" && "$room/service" $((2 * calls)) 3 "$room/service.journal" "$hullbook" >"$room/told" &&
         in_segments "$room/service.journal"
     count "a service of 64 threads is killed and started again: $(cat "$room/told")" $?
     served_wrongly 'lines are reported as durable before they are written' \
@@ -292,7 +294,7 @@ served_wrongly() {
     sed -E "$2" "$top/c/journal.c" >"$room/journal.c"
     ! cmp -s "$room/journal.c" "$top/c/journal.c" || echo "nothing is changed by $2"
     build "$here/service.c" "$room/journal.c" -I"$top/c" &&
-        ! "$room/service" 6000000 120 "$room/wrong.journal" "$top/bin/hullbook" >"$room/told" 2>&1
+        ! "$room/service" 6000000 120 "$room/wrong.journal" "$hullbook" >"$room/told" 2>&1
     count "$1, beneath a service: found ($(tail -n 1 "$room/told"))" $?
 }
 
@@ -403,7 +405,7 @@ if is_there c++; then
     count "calls on one shared hull from several threads of C++ wait for each other" $?
     c++ -std=c++17 -Wall -Wextra -Werror -O2 -I"$prefix/include" "$here/segments.cpp" -L"$prefix/lib" -lhull -lhull_shared \
         -lpthread -o "$room/segments_cpp" && "$room/segments_cpp" "$room/taken" &&
-        "$top/bin/hullbook" check "$room/taken.1" "$room/taken.2" >"$room/verdict" 2>&1
+        "$hullbook" check "$room/taken.1" "$room/taken.2" >"$room/verdict" 2>&1
     count "segments of a journal in C++, and a hull that continues the first: both are one legal journal" $?
 else
     skip "C++" c++
