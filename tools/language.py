@@ -67,7 +67,10 @@ def main(words):
         limits = {it: min(limits.get(it, counts[it]), counts[it]) for it in RARE}
         with open(f"{kit.TOP}/{LIMITS}", "w", encoding="utf-8") as text:
             text.write(HEAD + "".join(f"{name} {limit}\n" for name, limit in limits.items()))
-    print(f"{size} words", *(f"'{name}' {1000 * len(occurrences(whole, pattern)) / size:.2f} per 1,000" for name, pattern in FREQUENT.items()), sep=", ")
+    pages_only = "\n".join(text for path, text in texts.items() if not path.startswith("crates/"))
+    for what, text in (("all", whole), ("without the comments of Rattle", pages_only)):
+        count = len(text.split())
+        print(f"{what}: {count} words", *(f"'{name}' {1000 * len(occurrences(text, it)) / count:.2f} per 1,000" for name, it in FREQUENT.items()), sep=", ")
     faults = [f"'{it}': FAILED, {counts[it]} times, and {LIMITS} allows {limits.get(it, 0)}: tools/language.py --where '{it}'" for it in RARE if counts[it] > limits.get(it, 0)]
     print(*(f"'{it}' {counts[it]} times, {1000 * counts[it] / size:.2f} per 1,000" for it in RARE), *faults, sep="\n")
     print(f"{len(RARE) - len(faults)} passed, {len(faults)} failed")
