@@ -147,7 +147,7 @@ typedef struct hull_point {
 typedef struct hull_held {
     int64_t x;
     int64_t y;
-    uint32_t times;
+    uint32_t multiplicity;
 } hull_held;
 
 /* Returns the same, for a library that was built with these headers and is loaded at run time. */

@@ -46,7 +46,7 @@ export interface Tangents {
 /** A point and its multiplicity. */
 export interface Held {
     point: Point;
-    times: number;
+    multiplicity: number;
 }
 /** What a fork of the tree stores: the bridges of its two halves, each by its left and its right end. */
 export interface Bridges {

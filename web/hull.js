@@ -45,7 +45,7 @@ const PLACES = { [CODE.inside]: "inside", [CODE.on]: "on", [CODE.outside]: "outs
 const REPLY = { size: 56, x: 8, y: 16, otherX: 24, otherY: 32, number: 40, high: 48 };
 const REQUEST = { size: 24, x: 8, y: 16 };
 const POINT = { size: 16, y: 8 };
-const HELD = { size: 24, y: 8, times: 16 };
+const HELD = { size: 24, y: 8, multiplicity: 16 };
 const BRIDGE = { size: 72, upper: 8, lower: 40 };
 const WITNESS = { size: 72, first: 8 };
 const DISTANCE_BOUNDS = { shift: 4, lower: 8, upper: 16, numerator: 24, denominator: 48 };
@@ -442,16 +442,16 @@ class HullOfInstance extends Questions {
     }
 
     loadHeld(held) {
-        const rows = Array.from(held ?? [], ({ point, times }) => {
-            if (!Number.isInteger(times) || times < 1 || times > MULTIPLICITY_LIMIT) throw new OutOfRange("a multiplicity is from 1 to 65535");
-            return [...pairOf(point).map(checked), times];
+        const rows = Array.from(held ?? [], ({ point, multiplicity }) => {
+            if (!Number.isInteger(multiplicity) || multiplicity < 1 || multiplicity > MULTIPLICITY_LIMIT) throw new OutOfRange("a multiplicity is from 1 to 65535");
+            return [...pairOf(point).map(checked), multiplicity];
         });
         const instance = this._live(), array = instance.take(Math.max(1, rows.length) * HELD.size), { view } = instance.heap;
-        rows.forEach(([x, y, times], i) => {
+        rows.forEach(([x, y, multiplicity], i) => {
             const at = array + i * HELD.size;
             writeWhole(view, at, x);
             writeWhole(view, at + HELD.y, y);
-            view.setUint32(at + HELD.times, times, true);
+            view.setUint32(at + HELD.multiplicity, multiplicity, true);
         });
         try {
             instance.ask("hull_load_held", this.#at, BigInt(array), BigInt(rows.length));
@@ -467,7 +467,7 @@ class HullOfInstance extends Questions {
         instance.ask("hull_held_from", this.#at, least, least, BigInt(at), BigInt(capacity));
         return Array.from({ length: instance.number() }, (_, i) => {
             const here = at + i * HELD.size;
-            return { point: instance.point(here), times: instance.heap.view.getUint32(here + HELD.times, true) };
+            return { point: instance.point(here), multiplicity: instance.heap.view.getUint32(here + HELD.multiplicity, true) };
         });
     }
 

@@ -269,10 +269,10 @@ static void check_held_points(void) {
     CHECK(number(hull_held_from(h, -far, -far, all, NUMBER), HULL_NUMBER, count) && count == NUMBER / 2 + 4);
     int right = 1;
     for (size_t i = 0; i < count; i++) {
-        right &= number(hull_multiplicity(h, all[i].x, all[i].y), HULL_NUMBER, all[i].times);
+        right &= number(hull_multiplicity(h, all[i].x, all[i].y), HULL_NUMBER, all[i].multiplicity);
         right &= i == 0 || all[i - 1].x < all[i].x || (all[i - 1].x == all[i].x && all[i - 1].y < all[i].y);
     }
-    CHECK(right && all[0].x == -far && all[1].times == 2);
+    CHECK(right && all[0].x == -far && all[1].multiplicity == 2);
 
     size_t seen = 0;
     hull_point from = {-far, -far};
@@ -281,7 +281,7 @@ static void check_held_points(void) {
         more = (size_t)hull_held_from(h, from.x, from.y, piece, 7).number;
         right &= seen + more <= count && memcmp(piece, all + seen, more * sizeof *piece) == 0;
         for (size_t i = more; i < 7; i++) {
-            right &= piece[i].x == 0 && piece[i].y == 0 && piece[i].times == 0;
+            right &= piece[i].x == 0 && piece[i].y == 0 && piece[i].multiplicity == 0;
         }
         seen += more;
         from = more > 0 ? hull_held_after(piece[more - 1]) : from;
@@ -316,11 +316,11 @@ static void check_held_points(void) {
     refused_from = 0, asked = 0;
     CHECK(bare(hull_held_from(h, 0, 0, piece, 2), HULL_NO_MEMORY));
     refused_from = -1;
-    some[1].times++;
+    some[1].multiplicity++;
     CHECK(bare(hull_load_held(h, some, 2), HULL_OUT_OF_RANGE));
-    some[1].times = 0;
+    some[1].multiplicity = 0;
     CHECK(bare(hull_load_held(h, some, 2), HULL_OUT_OF_RANGE));
-    some[1].times = 1, some[1].y = 0;
+    some[1].multiplicity = 1, some[1].y = 0;
     CHECK(bare(hull_load_held(h, some, 2), HULL_OUT_OF_ORDER));
     some[1].y = -1;
     CHECK(bare(hull_load_held(h, some, 3), HULL_OUT_OF_ORDER));

@@ -229,7 +229,7 @@ static void one_thread() {
     CHECK(refuses(Refusal::out_of_range, [&] { h.load({{0, far + 1}}); }));
     h.load({{9, 9}, {1, 2}, {9, 9}});
     std::vector<hull::Held> held = h.held();
-    CHECK(held.size() == 2 && held[0].x == 1 && held[0].times == 1 && held[1].y == 9 && held[1].times == 2);
+    CHECK(held.size() == 2 && held[0].x == 1 && held[0].multiplicity == 1 && held[1].y == 9 && held[1].multiplicity == 2);
     hull::Hull twin = h.copy();
     h.load({});
     CHECK(twin.size() == 2 && twin.multiplicity({9, 9}) == 2 && twin.limit() == h.limit() && h.held().empty());

@@ -73,10 +73,10 @@ fn loads() {
     assert_eq!((hull.load(&[]), hull.len()), (Ok(0), 0));
     hull.load(&[point(9, 9), point(1, 2), point(9, 9)]).unwrap();
     let mut held = hull.held().unwrap();
-    assert_eq!(held, [Held { point: point(1, 2), times: 1 }, Held { point: point(9, 9), times: 2 }]);
+    assert_eq!(held, [Held { point: point(1, 2), multiplicity: 1 }, Held { point: point(9, 9), multiplicity: 2 }]);
     let mut twin = hull.try_clone().unwrap();
     assert_eq!((hull.load(&[]), hull.held(), twin.limit()), (Ok(0), Ok(vec![]), hull.limit()));
-    let mut one = [Held { point: point(0, 0), times: 0 }];
+    let mut one = [Held { point: point(0, 0), multiplicity: 0 }];
     assert_eq!((twin.held_from(point(1, 3), &mut one), one[0]), (Ok(1), held[1]));
     held.swap(0, 1);
     assert_eq!((twin.load_held(&held), twin.len()), (Err(Fault::OutOfOrder), 2));

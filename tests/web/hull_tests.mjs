@@ -62,7 +62,7 @@ await tried("the points with their multiplicities, and the stored bridges", () =
     hull.add(-FAR, FAR);
     wanted.set(`${-FAR},${FAR}`, 1);
     const held = hull.held(), isBefore = ([a, b], [c, d]) => a < c || (a === c && b < d);
-    assert.deepEqual(new Map(held.map(({ point, times }) => [point.join(), times])), wanted);
+    assert.deepEqual(new Map(held.map(({ point, multiplicity }) => [point.join(), multiplicity])), wanted);
     assert.ok(held.every(({ point }, i) => i === 0 || isBefore(held[i - 1].point, point)));
     let forks = 0;
     for (let level = 0, bridges; (bridges = hull.bridges(level)).length > 0; level++) {
@@ -184,8 +184,8 @@ await tried("what is no points is refused, and what can be passed over once is r
     assert.equal(hull.count(), 2);
     assert.deepEqual([...hull.addAll([[1, 2], [5, 6]].values())], [2, 1]);
     assert.equal(hull.removeAll(new Set([[5, 6]])), 1);
-    assert.throws(() => hull.loadHeld([{ point: [3, 3], times: 1 }, { point: [1, 1], times: 1 }]), faults.NoPoints);
-    assert.throws(() => hull.loadHeld([{ point: [3, 3], times: 0 }]), faults.OutOfRange);
+    assert.throws(() => hull.loadHeld([{ point: [3, 3], multiplicity: 1 }, { point: [1, 1], multiplicity: 1 }]), faults.NoPoints);
+    assert.throws(() => hull.loadHeld([{ point: [3, 3], multiplicity: 0 }]), faults.OutOfRange);
     const copy = hull.copy();
     assert.deepEqual(copy.held(), hull.held());
     assert.throws(() => hull.extremeAll([[1, 0], [0, 0]]), faults.ZeroDirection);

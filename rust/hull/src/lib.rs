@@ -191,7 +191,7 @@ impl Hull {
     pub fn held(&self) -> Result<Vec<Held>, Fault> {
         let mut all = Vec::new();
         all.try_reserve_exact(self.len()).map_err(|_| Fault::NoMemory)?;
-        all.resize(self.len(), Held { point: NOWHERE, times: 0 });
+        all.resize(self.len(), Held { point: NOWHERE, multiplicity: 0 });
         let first = Point { x: -COORDINATE_LIMIT, y: -COORDINATE_LIMIT };
         let count = self.held_from(first, &mut all)?;
         all.truncate(count);

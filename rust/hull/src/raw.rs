@@ -36,7 +36,7 @@ pub struct Held {
     /// The point.
     pub point: Point,
     /// Its multiplicity.
-    pub times: u32,
+    pub multiplicity: u32,
 }
 
 #[repr(C)]
