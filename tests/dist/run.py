@@ -219,8 +219,11 @@ def try_terminal(tries):
         tries.see(f"no word more elsewhere: {words[0]}", status == 2 and told in ("hullbook: usage\n", "hullbook: line 2: fault 2\n"), told)
 
 
-def try_page(tries):
-    """The released page runs from disk in a browser with no window: calls are made, and their answers shown."""
+def try_page(tries, stale):
+    """The released page, if it was made of these sources, runs from disk in a browser with no window: calls are made, and their answers shown."""
+    if "web/index.html" in stale:
+        print("skipped: the page: it has other sources than the release")
+        return
     browser = next((it for it in ("chromium", "chromium-browser") if shutil.which(it, path=tries.path)), None)
     if not browser or not tries.has("node", "the page"):
         print("skipped: the page: there is no chromium or no node")
@@ -341,7 +344,7 @@ def main():
     with tempfile.TemporaryDirectory() as room:
         tries = Tries(room)
         try_clone(tries, stale)
-        try_page(tries)
+        try_page(tries, stale)
         if not any(it.startswith("x86_64/hull") for it in stale):
             try_install(tries)
             try_packages(tries)
