@@ -12,7 +12,7 @@ use bridge_search::both_bridges;
 use lattice::{Point, Side};
 
 /// The vertices of a bucket are a candidate list of its points: a bridge search on them finds the bridges of all points.
-pub fn vertices_are_a_candidates(bucket: &Bucket, side: Side)
+pub fn vertices_are_candidates(bucket: &Bucket, side: Side)
     ensures { IsCandidateList side (On (tree_of_slice bucket.now (all_of bucket.now))) (Contains bucket.now.points) }
 {
     buckets_are_sound(bucket);

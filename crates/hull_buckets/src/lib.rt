@@ -15,10 +15,10 @@
 //!     }
 //! }
 //! assert!(bucket.vertices(Side::Lower) == 0b1001 && bucket.vertices(Side::Upper) == 0b1101);
-//! assert!(extreme(Run::new(&bucket), Direction::new(0, 1)?) == Point::new(2, 3)?);
+//! assert!(extreme(Slice::new(&bucket), Direction::new(0, 1)?) == Point::new(2, 3)?);
 //! let second = bucket.split();
 //! assert!(bucket.points().len() == 2 && second.vertices(Side::Upper) == 0b11);
-//! assert!(both_bridges(Run::new(&bucket), Run::new(&second)).0.0 == (Point::new(0, 0)?, Point::new(2, 3)?));
+//! assert!(both_bridges(Slice::new(&bucket), Slice::new(&second)).0.0 == (Point::new(0, 0)?, Point::new(2, 3)?));
 //! ```
 #![tactic(auto)]
 
@@ -31,7 +31,7 @@ mod repairing;
 mod row;
 mod slice;
 
-pub use bridges::{bridges_of, vertices_are_a_candidates};
+pub use bridges::{bridges_of, vertices_are_candidates};
 pub use bucket::{Bucket, buckets_are_sound};
 pub use slice::Slice;
 

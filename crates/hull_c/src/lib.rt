@@ -1,4 +1,4 @@
-//! A convex hull for C: a static library over a [`Prepared`](settled_set::Prepared)
+//! A convex hull for C: a static library over a [`Prepared`](prepared_set::Prepared)
 //! [`BucketTree`](bucket_tree::BucketTree), whose header is `include/hull.h`.
 //!
 //! A set is in storage that the caller provides. Changes and questions are one export, [`hull_call`], by their kind;

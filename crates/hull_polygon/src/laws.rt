@@ -35,22 +35,22 @@ pub fn none_inside_divided()
 {}
 
 /// No covered point of a path, points with fractions as coordinates included, comes before the one at the quotient that
-/// [`Polygon::raycast`](crate::Polygon::cast_ray) returns.
+/// [`Polygon::raycast`](crate::Polygon::raycast) returns.
 pub fn none_before()
     ensures { NoneBefore }
 {}
 
-/// The point at the quotient that [`Polygon::raycast`](crate::Polygon::cast_ray) returns is covered.
+/// The point at the quotient that [`Polygon::raycast`](crate::Polygon::raycast) returns is covered.
 pub fn enters_there()
     ensures { EntersThere }
 {}
 
-/// No covered point of a ray comes after the one that [`Polygon::raycast_exit`](crate::Polygon::last_on_ray) returns.
+/// No covered point of a ray comes after the one that [`Polygon::raycast_exit`](crate::Polygon::raycast_exit) returns.
 pub fn none_after()
     ensures { NoneAfter }
 {}
 
-/// The point that [`Polygon::raycast_exit`](crate::Polygon::last_on_ray) returns is covered.
+/// The point that [`Polygon::raycast_exit`](crate::Polygon::raycast_exit) returns is covered.
 pub fn leaves_there()
     ensures { LeavesThere }
 {}

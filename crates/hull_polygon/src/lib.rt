@@ -18,7 +18,7 @@
 //! assert!(polygon.place(Point::new(2, 1)?) == Place::Inside);
 //! assert!(polygon.extreme(Direction::new(0, 1)?) == Some(Point::new(2, 3)?));
 //! assert!(polygon.area2() == 12); // the doubled area
-//! assert!(polygon.meets_segment(Point::new(0, 3)?, Point::new(4, 1)?));
+//! assert!(polygon.intersects_segment(Point::new(0, 3)?, Point::new(4, 1)?));
 //! assert!(polygon.nearest(Point::new(2, -5)?) == Some(Nearest::Edge(vertices[0], vertices[1])));
 //! ```
 #![tactic(auto)]

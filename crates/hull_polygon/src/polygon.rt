@@ -27,7 +27,7 @@ impl<'a> Polygon<'a> {
     ghost use Rattle.hull_polygon.specs.Lent.{vertices_of};
 
     /// Returns the polygon of these vertices, or `None` if they are not the vertices of a set, or more than
-    /// [`POINT_LIMIT`]. One pass, as [`is_polygon`](crate::is_outline).
+    /// [`POINT_LIMIT`]. One pass, as [`is_polygon`](crate::is_polygon).
     pub fn new(vertices: &'a [Point]) -> Option<Polygon<'a>>
         ensures polygon { MatchOption result (¬ IsShortPolygon vertices.now)
             (λ polygon. (vertices_of polygon ≡ vertices.now) × IsShortPolygon vertices.now) }

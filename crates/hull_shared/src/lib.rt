@@ -9,13 +9,13 @@
 //! # A shared hull for two threads
 //!
 //! ```
-//! open(&mut shared hull, alloc, 1000, 0, 64, 2); // up to 1000 points, numbers from 0, 64 calls, 2 seats
-//! lend(&mut shared hull, &mut room, 0); // seat 0, for the thread that has the storage
-//! take(&mut room, 1, 3, 4); // a number for `add 3 4`
-//! let reply = look(&mut room); // until its code is not that of `NotYet`; `look_into` writes vertices to an array
-//! give_back(&mut shared hull, &mut room);
-//! close(&mut shared hull); // once all seats are released
-//! text(&mut shared hull, &mut out); // the journal, which `hullbook check` judges
+//! open(&mut shared_hull, alloc, 1000, 0, 64, 2); // up to 1000 points, numbers from 0, 64 calls, 2 seats
+//! acquire(&mut shared_hull, &mut seat, 0); // seat 0, for the thread that has the storage
+//! take(&mut seat, 1, 3, 4); // a number for `add 3 4`
+//! let reply = look(&mut seat); // until its code is not that of `NotYet`; `look_into` writes vertices to an array
+//! release(&mut shared_hull, &mut seat);
+//! close(&mut shared_hull); // once all seats are released
+//! text(&mut shared_hull, &mut out); // the journal, which `hullbook check` judges
 //! ```
 #![tactic(auto)]
 

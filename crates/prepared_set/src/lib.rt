@@ -6,7 +6,7 @@
 //! array, each takes one or two bisections of adjacent points instead of one or a few paths down a tree.
 //!
 //! Questions take `&self` and write nothing, so any number of threads may ask one set at once, prepared or not. Only
-//! [`prepare`](Prepared::settle) and changes need exclusive access.
+//! [`prepare`](Prepared::prepare) and changes need exclusive access.
 #![tactic(auto)]
 
 mod gathering;
