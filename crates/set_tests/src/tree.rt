@@ -209,9 +209,9 @@ fn add_again(tree: &mut HullTree, p: Point) -> bool {
 /// Whether these are the vertices of a tree of this many points. If memory is refused, the second attempt lists them.
 fn has_vertices(tree: &HullTree, vertices: &[Point], count: u32) -> bool {
     match tree.vertices() {
-        Ok(vertices) => vertices.as_slice() == vertices,
+        Ok(found) => found.as_slice() == vertices,
         Err(NoMemory) => match tree.vertices() {
-            Ok(vertices) => tree.count() == count && vertices.as_slice() == vertices,
+            Ok(found) => tree.count() == count && found.as_slice() == vertices,
             Err(NoMemory) => false,
         },
     }

@@ -12,7 +12,7 @@ use std::test::Fail;
 /// Whether these are the vertices of a tree, if there is memory for them.
 fn has_vertices(tree: &BucketTree, vertices: &[Point]) -> bool {
     match tree.vertices() {
-        Ok(vertices) => vertices.as_slice() == vertices,
+        Ok(found) => found.as_slice() == vertices,
         Err(_) => false,
     }
 }
