@@ -1,8 +1,8 @@
 /* The admission gate of a shared hull (include/hull_shared.h, "waiting"): it bounds how many calls compete for the hull's ticket
  * lock, and callers sleep in front of it, or at the slot of their number, or until the journal has space. It is in the archive of
  * the proved calls, which neither sleep nor wake. What is proved of those calls holds however their callers wait. That no caller
- * sleeps for ever, and that none is overtaken for long, rests on the argument below, which tests/shared/gate_model.c tries step by
- * step and tests/shared tests.
+ * sleeps for ever, and that none is overtaken for long, rests on the argument below, which tests/shared/gate_model.c and
+ * tests/shared/combining_model.c try step by step and tests/shared tests.
  *
  * The state of the gate is one word (`state`), so that its changes have one order: how many calls are inside, how many callers are
  * parked (sleep outside), whether one of them is designated to enter next (DESIGNATED), and whether the gate is closed to all but
@@ -25,12 +25,18 @@
  *    designated caller enters if the gate is open to it, and else gives up its designation, in one change of a word that is full:
  *    the next call that leaves designates the next caller.
  *
- * 5. A seat with a number sleeps at the slot of its number (modulo 64: at most 64 numbers are out, so that no two seats share a
- *    slot). It announces itself there (waiters + 1), reads the slot's epoch, and looks once more; only then it sleeps, unless the
- *    epoch has changed since. A thread whose call was served has handed the next number on; if it then finds an announcement at
- *    that number's slot, it changes the epoch and wakes the sleeper. All these steps have one order, in which each thread's steps
- *    keep theirs. If the last look did not see the number handed on, then it was handed on after that look, and so after the
- *    announcement and the reading of the epoch: the thread that hands it on finds the announcement and changes the epoch.
+ * 5. A seat with a number has the slot of that number (modulo 64: at most 64 numbers are out, so that no two seats share a slot). It
+ *    announces itself there and looks once more; if its number is not served, it posts itself: from then on its thread leaves the seat
+ *    to another one, and sleeps, until its word says that its call was served or that it is to look itself. A thread whose call was
+ *    served has handed the next number on, and claims the seat that is posted at that number's slot: it looks with that seat, writes
+ *    the reply there and says so in the seat's word; and so on, up to SERVES_MOST calls (flat combining: Hendler, Incze, Shavit and
+ *    Tzafrir, 2010). The seat that it claims after the last of these it lets look itself. A seat that is only announced it marks:
+ *    posting fails then, and the seat looks again. All these steps have one order, in which each thread's steps keep theirs. If the
+ *    look after the announcement did not see the number handed on, then it was handed on after that look, and so after the
+ *    announcement: the thread that hands it on finds the announcement and marks it, or finds the post. Claiming and marking are
+ *    changes of one word, so that a post is claimed once. A seat takes its next number only after its word was changed, so that one
+ *    seat is never posted twice, and the slot is used again only 64 numbers later: after this number was handed on, and so after its
+ *    claim. (tests/shared/combining_model.c tries this step by step.)
  * 6. A call that found no space in the journal, if the gate waits for space, sleeps outside the gate and with no number, on a word
  *    that each drain changes after its look. It read that word before it took its number: a drain after its call changes the word
  *    after that reading. The thread that drained for the hook changes the word once more when the hook has ended, since another
@@ -43,6 +49,7 @@
 #include "sleep.h"
 
 #include <errno.h>
+#include <sched.h>
 
 /* the proved functions that those of the same name here call, as tools/product.sh names them: they know no gate */
 size_t hull_proved_shared_seat_size(void);
@@ -55,33 +62,51 @@ enum {
     DESIGNATED = 256,      /* a caller that was parked is awake and designated to enter next */
     CLOSED = 512,          /* only the designated caller may enter */
     PARKED = 1024,         /* the unit in which the parked callers are counted: those that sleep outside */
-    NEAR = 2,              /* at most so many numbers before its own a seat is near its turn */
-    LOOKS = 20,            /* so often a caller looks near its turn, or outside, before it sleeps */
-    DESIGNATED_LOOKS = 200 /* the same of the designated caller, which a leaving call has to wake again if it sleeps */
+    LOOKS = 20,            /* so often a caller looks outside before it sleeps */
+    DESIGNATED_LOOKS = 200, /* the same of the designated caller, which a leaving call has to wake again if it sleeps */
+    POSTED_LOOKS = 9,      /* so often a caller that is posted looks at its word, */
+    POSTED_YIELDS = 3,     /* and so often after it gave its processor to another thread, before it sleeps */
+    SERVES_MOST = 64       /* so many calls of others a thread serves after its own */
 };
+
+/* How many calls of others a thread serves after its own, and for how long, in nanoseconds; tests define less. */
+#ifndef HULL_SHARED_SERVES
+#define HULL_SHARED_SERVES SERVES_MOST
+#define HULL_SHARED_SERVES_FOR 50000
+#endif
 
 /* How long a thread waits before it drains again after memory was refused to a drain, in nanoseconds. */
 #define RETRY 10000000
 
-/* A slot where a seat with a number sleeps; as large as a line of the cache. */
+/* The slot of a number; as large as a line of the cache. Its word has the lower 56 bits of the number that used it last, the seat of
+ * that number, and what that seat does there: number * ONE_NUMBER + seat * ONE_SEAT + ANNOUNCED, for example. */
 struct slot {
-    uint32_t epoch;
-    uint32_t waiters;
+    uint64_t word;
     unsigned char padding[56];
 };
 
-/* The wait node of one seat: where it sleeps outside, and since when its call has been inside. In the queue a seat is its number
- * plus 1, and no seat is 0. */
+enum { CLAIMED, ANNOUNCED, POSTED, MARKED, ACTION = 3 /* the bits of these */ };
+enum { ONE_SEAT = 4, ONE_NUMBER = 256 /* the units of the word */ };
+
+/* The notice of a posted seat: its thread waits or sleeps; or another thread has served its call, or has left the look to it. */
+enum { WAITS, SLEEPS, IS_SERVED, IS_TO_LOOK };
+
+/* The wait node of one seat: where it sleeps, and since when its call has been inside. In the queue a seat is its number plus 1, and
+ * no seat is 0. */
 struct wait_node {
-    uint32_t is_designated; /* the word that it sleeps on */
+    uint32_t is_designated; /* the word that it sleeps on outside */
     uint32_t is_queued;
     uint32_t next;
     uint32_t previous;
     uint64_t since; /* 0 if no call of the seat is inside */
     uint64_t turn;
-    uint32_t has_turn;
-    unsigned char padding[20];
+    uint32_t has_turn; /* HAS_TURN, or HAD_TURN after another thread served that number, or 0 */
+    uint32_t notice;   /* the word that it sleeps on while it is posted */
+    hull_shared_seat *seat;
+    unsigned char padding[16];
 };
+
+enum { HAS_TURN = 1, HAD_TURN };
 
 struct gate {
     /* set before calls are made */
@@ -96,7 +121,9 @@ struct gate {
     /* written by each call */
     uint64_t turn; /* the number that is served now, 0 before the first */
     uint32_t held;
-    unsigned char padding_2[52];
+    uint32_t server;   /* the seat whose thread serves others, or 0 */
+    uint64_t combined; /* how many calls were served for others */
+    unsigned char padding_2[40];
     /* the word of the gate, and the queue */
     uint32_t state;
     uint32_t queue_lock; /* also of the count of parked callers in the word */
@@ -118,10 +145,13 @@ struct gate {
 
 typedef char gate_fits[sizeof(struct gate) <= sizeof(hull_shared_gate) ? 1 : -1];
 
-/* The gate with which a seat was acquired, and its number; after the proved seat in its storage. */
+/* The gate with which a seat was acquired, and its number; and while it is posted what its call writes to, and the reply. After the
+ * proved seat in its storage. */
 struct binding {
     struct gate *gate;
     uint32_t number;
+    hull_shared_target to;
+    hull_shared_reply reply;
 };
 
 static size_t binding_offset(void) {
@@ -152,6 +182,7 @@ static void unbind_if_unused(struct gate *gate) {
     if (__atomic_load_n(&gate->out, __ATOMIC_RELAXED) == 0) {
         __atomic_store_n(&gate->turn, 0, __ATOMIC_RELAXED);
         __atomic_store_n(&gate->held, 0, __ATOMIC_RELAXED);
+        __atomic_store_n(&gate->combined, 0, __ATOMIC_RELAXED);
         __atomic_store_n(&gate->shared, NULL, __ATOMIC_SEQ_CST);
     }
 }
@@ -169,6 +200,9 @@ uint32_t hull_shared_acquire_seat(hull_shared *shared, hull_shared_gate *opaque,
     if (code == HULL_ACQUIRED) {
         binding_of(seat)->gate = gate;
         binding_of(seat)->number = number;
+    }
+    if (code == HULL_ACQUIRED && gate != NULL) {
+        gate->nodes[number].seat = seat;
     }
     if (gate != NULL) {
         __atomic_fetch_add(&gate->out, code == HULL_ACQUIRED, __ATOMIC_RELAXED);
@@ -471,19 +505,6 @@ static void store_turn(struct gate *gate, uint64_t number) {
     }
 }
 
-void hull_shared_handed_on(hull_shared_gate *opaque, uint64_t number) {
-    struct gate *gate = (struct gate *)opaque;
-    struct slot *slot = &gate->slots[number % HULL_SHARED_SEATS_MAX];
-    int saved_errno = errno;
-    store_turn(gate, number);
-    if (__atomic_load_n(&slot->waiters, __ATOMIC_SEQ_CST) != 0) {
-        HULL_SHARED_STEP("to wake");
-        __atomic_fetch_add(&slot->epoch, 1, __ATOMIC_SEQ_CST);
-        hull_wake(&slot->epoch, 1);
-    }
-    errno = saved_errno;
-}
-
 /* Wakes all threads that wait for space. */
 static void announce_space(struct gate *gate) {
     __atomic_fetch_add(&gate->drains, 1, __ATOMIC_SEQ_CST);
@@ -501,60 +522,7 @@ static void wait_for_drain(struct gate *gate, uint32_t seen, uint64_t until) {
     __atomic_fetch_sub(&gate->for_space, 1, __ATOMIC_SEQ_CST);
 }
 
-/* Looks once; if the number was served, wakes the thread that waits for the next one. */
-static hull_shared_reply look_and_wake(struct gate *gate, hull_shared_seat *seat, hull_shared_target to) {
-    hull_shared_reply reply = to.segment != NULL ? hull_shared_look_and_drain(seat, to.segment)
-                              : to.out != NULL ? hull_shared_look_into(seat, to.out, to.capacity)
-                                               : hull_shared_look(seat);
-    switch (reply.answer.code) {
-    case HULL_NOT_YET:
-    case HULL_NO_NUMBER:
-    case HULL_VACANT:
-    case HULL_NO_SPACE: return reply;
-    }
-    HULL_SHARED_STEP("served");
-    __atomic_store_n(&gate->held, reply.held, __ATOMIC_RELAXED);
-    hull_shared_handed_on((hull_shared_gate *)gate, reply.turn + 1);
-    if (to.segment != NULL && reply.answer.code != HULL_FULL) {
-        announce_space(gate);
-    }
-    return reply;
-}
-
-/* Sleeps at the slot of the seat's number, unless a last look finds it served. Returns the reply of that look. */
-static hull_shared_reply look_and_sleep(struct gate *gate, hull_shared_seat *seat, uint64_t number, hull_shared_target to) {
-    struct slot *slot = &gate->slots[number % HULL_SHARED_SEATS_MAX];
-    hull_shared_reply reply;
-    uint32_t epoch;
-    __atomic_fetch_add(&slot->waiters, 1, __ATOMIC_SEQ_CST);
-    epoch = __atomic_load_n(&slot->epoch, __ATOMIC_SEQ_CST);
-    HULL_SHARED_STEP("announced");
-    reply = look_and_wake(gate, seat, to);
-    if (reply.answer.code == HULL_NOT_YET) {
-        HULL_SHARED_STEP("looked");
-        hull_sleep(&slot->epoch, epoch, HULL_NEVER);
-    }
-    __atomic_fetch_sub(&slot->waiters, 1, __ATOMIC_SEQ_CST);
-    return reply;
-}
-
-/* Waits until the number that the seat has taken is served; returns the answer to its call. */
-static hull_shared_reply wait_for_turn(struct gate *gate, hull_shared_seat *seat, hull_shared_target to) {
-    hull_shared_reply reply = look_and_wake(gate, seat, to);
-    unsigned looks = 0;
-    while (reply.answer.code == HULL_NOT_YET) {
-        uint64_t before = reply.turn - __atomic_load_n(&gate->turn, __ATOMIC_RELAXED);
-        if (before <= NEAR && looks < LOOKS) {
-            hull_pause(looks++);
-            reply = look_and_wake(gate, seat, to);
-        } else {
-            reply = look_and_sleep(gate, seat, reply.turn, to);
-        }
-    }
-    return reply;
-}
-
-/* ---- calls */
+/* ---- looks */
 
 /* A call of a seat at its gate. */
 struct call {
@@ -574,6 +542,203 @@ static hull_shared_reply refusal(uint32_t code) {
     return none;
 }
 
+/* Looks once with a seat; returns whether its call was served. */
+static int look(struct gate *gate, hull_shared_seat *seat, const hull_shared_target *to, hull_shared_reply *reply) {
+    *reply = to->segment != NULL ? hull_shared_look_and_drain(seat, to->segment)
+             : to->out != NULL ? hull_shared_look_into(seat, to->out, to->capacity)
+                               : hull_shared_look(seat);
+    switch (reply->answer.code) {
+    case HULL_NOT_YET:
+    case HULL_NO_NUMBER:
+    case HULL_VACANT:
+    case HULL_NO_SPACE: return 0;
+    }
+    HULL_SHARED_STEP("served");
+    __atomic_store_n(&gate->held, reply->held, __ATOMIC_RELAXED);
+    store_turn(gate, reply->turn + 1);
+    if (to->segment != NULL && reply->answer.code != HULL_FULL) {
+        announce_space(gate);
+    }
+    return 1;
+}
+
+/* ---- posted seats */
+
+static uint64_t *slot_of(struct gate *gate, uint64_t number) {
+    return &gate->slots[number % HULL_SHARED_SEATS_MAX].word;
+}
+
+static int try_change_slot(uint64_t *slot, uint64_t *seen, uint64_t next) {
+    return __atomic_compare_exchange_n(slot, seen, next, 0, __ATOMIC_SEQ_CST, __ATOMIC_SEQ_CST);
+}
+
+/* Claims the seat that is posted with a number which was handed on: returns it, or 0 if none is posted. If it is only announced, it
+ * is marked, and looks again. */
+static uint32_t claim(struct gate *gate, uint64_t number) {
+    uint64_t *slot = slot_of(gate, number), seen = __atomic_load_n(slot, __ATOMIC_SEQ_CST);
+    while ((seen ^ number * ONE_NUMBER) < ONE_NUMBER && ((seen & ACTION) == POSTED || (seen & ACTION) == ANNOUNCED)) {
+        int is_posted = (seen & ACTION) == POSTED;
+        HULL_SHARED_STEP("to claim or to mark");
+        if (try_change_slot(slot, &seen, (seen & ~(uint64_t)ACTION) | (is_posted ? CLAIMED : MARKED))) {
+            return is_posted ? (uint32_t)(seen % ONE_NUMBER / ONE_SEAT) + 1 : 0;
+        }
+    }
+    return 0;
+}
+
+/* Gives a posted seat its notice; returns whether its thread sleeps, and has to be woken. */
+static int notify(struct wait_node *node, uint32_t notice) {
+    HULL_SHARED_STEP("to notify");
+    return __atomic_exchange_n(&node->notice, notice, __ATOMIC_SEQ_CST) == SLEEPS;
+}
+
+static void wake_posted(struct wait_node *node) {
+    HULL_SHARED_STEP("to wake");
+    hull_wake(&node->notice, 1);
+}
+
+/* Leaves the look with a claimed seat to its thread. */
+static void leave_look(struct wait_node *node) {
+    if (notify(node, IS_TO_LOOK)) {
+        wake_posted(node);
+    }
+}
+
+void hull_shared_handed_on(hull_shared_gate *opaque, uint64_t number) {
+    struct gate *gate = (struct gate *)opaque;
+    int saved_errno = errno;
+    uint32_t seat;
+    store_turn(gate, number);
+    seat = claim(gate, number);
+    if (seat != 0) {
+        leave_look(node_of(gate, seat));
+    }
+    errno = saved_errno;
+}
+
+/* Whether the thread of a call whose reply left so many lines is to drain for the hook. */
+static int is_drain_due(const struct call *call, uint32_t held) {
+    return call->gate->hook != NULL && held > 0 && held >= hull_shared_capacity(call->seat) / 2 &&
+           __atomic_load_n(&call->gate->drainer, __ATOMIC_RELAXED) == 0;
+}
+
+/* Looks with a claimed seat, for its thread; returns whether its call was served. */
+static int serve(struct gate *gate, struct wait_node *node) {
+    struct binding *binding = binding_of(node->seat);
+    int is_served;
+    hull_mark_after(binding);
+    is_served = look(gate, node->seat, &binding->to, &binding->reply);
+    hull_mark_before(binding);
+    __atomic_store_n(&node->has_turn, is_served ? HAD_TURN : HAS_TURN, __ATOMIC_RELAXED);
+    return is_served;
+}
+
+/* Returns until when a call serves others. */
+static uint64_t end_of_serving(const struct call *call) {
+    uint64_t end = hull_now() + HULL_SHARED_SERVES_FOR;
+    return end < call->until ? end : call->until;
+}
+
+/* Serves the claimed seats from this number on, which was handed on, for their threads, and then wakes those that sleep. It ends at a
+ * number that is not posted; and after HULL_SHARED_SERVES calls, after HULL_SHARED_SERVES_FOR, at the deadline of the call that was
+ * made before, and if a thread has to drain, which at first `held` lines say: then the thread of the next seat is to look. */
+static void serve_claimed(const struct call *call, uint32_t seat, uint64_t number, uint32_t held) {
+    struct gate *gate = call->gate;
+    struct wait_node *sleepers[SERVES_MOST];
+    uint32_t asleep = 0, served = 0, k, server = call->number;
+    uint64_t end = end_of_serving(call);
+    __atomic_store_n(&gate->server, server, __ATOMIC_RELAXED);
+    for (; seat != 0; seat = claim(gate, ++number)) {
+        struct wait_node *node = node_of(gate, seat);
+        if (served == HULL_SHARED_SERVES || hull_now() >= end || is_drain_due(call, held) || !serve(gate, node)) {
+            leave_look(node);
+            break;
+        }
+        served++;
+        held = binding_of(node->seat)->reply.held;
+        if (notify(node, IS_SERVED)) {
+            sleepers[asleep++] = node;
+        }
+    }
+    __atomic_compare_exchange_n(&gate->server, &server, 0, 0, __ATOMIC_RELAXED, __ATOMIC_RELAXED);
+    __atomic_fetch_add(&gate->combined, served, __ATOMIC_RELAXED);
+    for (k = 0; k < asleep; k++) {
+        wake_posted(sleepers[k]);
+    }
+}
+
+static uint64_t announcement(const struct call *call, uint64_t number) {
+    return number * ONE_NUMBER + (call->number - 1) * ONE_SEAT + ANNOUNCED;
+}
+
+/* Announces the seat of a call at the slot of its number; it is not posted yet. */
+static void announce(const struct call *call, uint64_t number, const hull_shared_target *to) {
+    binding_of(call->seat)->to = *to;
+    __atomic_store_n(&node_of(call->gate, call->number)->notice, WAITS, __ATOMIC_RELAXED);
+    __atomic_store_n(slot_of(call->gate, number), announcement(call, number), __ATOMIC_SEQ_CST);
+    HULL_SHARED_STEP("announced");
+}
+
+/* Posts the announced seat, which has looked since; returns whether it is posted. If not, it was marked, and has to look again. */
+static int post(const struct call *call, uint64_t number) {
+    uint64_t word = announcement(call, number);
+    HULL_SHARED_STEP("looked");
+    hull_mark_before(binding_of(call->seat));
+    return try_change_slot(slot_of(call->gate, number), &word, word - ANNOUNCED + POSTED);
+}
+
+/* Waits until a posted seat has its notice; returns it. */
+static uint32_t await_notice(uint32_t *notice) {
+    unsigned looks = 0;
+    for (;;) {
+        uint32_t seen = __atomic_load_n(notice, __ATOMIC_SEQ_CST);
+        if (seen == IS_SERVED || seen == IS_TO_LOOK) {
+            return seen;
+        }
+        if (looks < POSTED_LOOKS) {
+            hull_pause(looks++);
+        } else if (looks < POSTED_LOOKS + POSTED_YIELDS) {
+            looks++;
+            sched_yield();
+        } else if (seen == SLEEPS || __atomic_compare_exchange_n(notice, &seen, SLEEPS, 0, __ATOMIC_SEQ_CST, __ATOMIC_SEQ_CST)) {
+            HULL_SHARED_STEP("to sleep");
+            hull_sleep(notice, SLEEPS, HULL_NEVER);
+        }
+    }
+}
+
+/* Waits until the number that the seat of a call has taken is served; returns the answer. If it looked itself, it then serves those
+ * that are posted after it. */
+static hull_shared_reply wait_for_turn(const struct call *call, uint64_t number, const hull_shared_target *to) {
+    struct gate *gate = call->gate;
+    struct binding *binding = binding_of(call->seat);
+    uint64_t turn = __atomic_load_n(&gate->turn, __ATOMIC_RELAXED);
+    hull_shared_reply reply;
+    uint32_t next;
+    int is_served;
+    reply.answer.code = HULL_NOT_YET;
+    is_served = (turn == number || turn == 0 || gate->beside == 0) && look(gate, call->seat, to, &reply);
+    while (!is_served && reply.answer.code == HULL_NOT_YET) {
+        announce(call, number, to);
+        is_served = look(gate, call->seat, to, &reply);
+        if (!is_served && reply.answer.code == HULL_NOT_YET && post(call, number)) {
+            uint32_t notice = await_notice(&node_of(gate, call->number)->notice);
+            hull_mark_after(binding);
+            if (notice == IS_SERVED) {
+                return binding->reply;
+            }
+            is_served = look(gate, call->seat, to, &reply);
+        }
+    }
+    next = is_served ? claim(gate, number + 1) : 0;
+    if (next != 0) {
+        serve_claimed(call, next, number + 1, reply.held);
+    }
+    return reply;
+}
+
+/* ---- calls */
+
 /* Makes a call once, waits for its answer and returns it; returns BUSY if it could not enter by the deadline. */
 static hull_shared_reply make_once(const struct call *call, hull_shared_target to) {
     struct gate *gate = call->gate;
@@ -587,8 +752,8 @@ static hull_shared_reply make_once(const struct call *call, hull_shared_target t
     reply = hull_shared_take(call->seat, call->kind, call->x, call->y);
     if (reply.answer.code == HULL_TAKEN) {
         __atomic_store_n(&node->turn, reply.turn, __ATOMIC_RELAXED);
-        __atomic_store_n(&node->has_turn, 1, __ATOMIC_RELEASE);
-        reply = wait_for_turn(gate, call->seat, to);
+        __atomic_store_n(&node->has_turn, HAS_TURN, __ATOMIC_RELEASE);
+        reply = wait_for_turn(call, reply.turn, &to);
         __atomic_store_n(&node->has_turn, 0, __ATOMIC_RELAXED);
     }
     hull_mark_before(&gate->state);
@@ -757,24 +922,31 @@ static uint64_t elapsed(uint64_t now, uint64_t since) {
     return now > since ? now - since : 0;
 }
 
-/* Finds the seat whose call has the number that is served, or else the one that has been inside for longest; returns since when it
- * has been inside, or 0 if none is. */
+/* Finds the seat whose thread serves others, or whose call has the number that is served, or else the one that has been inside for
+ * longest, those last whose calls other threads have served; returns since when it has been inside, or 0 if none is. */
 static uint64_t find_holder(const struct gate *gate, uint64_t turn, uint32_t *seat) {
+    const uint64_t last = UINT64_C(1) << 63;
+    uint32_t k, server = __atomic_load_n(&gate->server, __ATOMIC_RELAXED);
     uint64_t first = 0;
-    uint32_t k;
+    if (server != 0) {
+        *seat = server - 1;
+        return __atomic_load_n(&gate->nodes[server - 1].since, __ATOMIC_RELAXED);
+    }
     for (k = 0; k < HULL_SHARED_SEATS_MAX; k++) {
         const struct wait_node *node = &gate->nodes[k];
         uint64_t since = __atomic_load_n(&node->since, __ATOMIC_RELAXED);
+        uint32_t has_turn = since == 0 ? 0 : __atomic_load_n(&node->has_turn, __ATOMIC_ACQUIRE);
+        if (has_turn == HAS_TURN && __atomic_load_n(&node->turn, __ATOMIC_RELAXED) == turn) {
+            *seat = k;
+            return since;
+        }
+        since |= has_turn == HAD_TURN ? last : 0;
         if (since != 0 && (first == 0 || since < first)) {
             first = since;
             *seat = k;
         }
-        if (since != 0 && __atomic_load_n(&node->has_turn, __ATOMIC_ACQUIRE) != 0 && __atomic_load_n(&node->turn, __ATOMIC_RELAXED) == turn) {
-            *seat = k;
-            return since;
-        }
     }
-    return first;
+    return first & ~last;
 }
 
 hull_shared_state hull_shared_stats(const hull_shared_gate *opaque) {
@@ -795,5 +967,6 @@ hull_shared_state hull_shared_stats(const hull_shared_gate *opaque) {
     stats.drains_for = drainer == 0 ? 0 : elapsed(now, __atomic_load_n(&gate->drainer_since, __ATOMIC_RELAXED));
     since = find_holder(gate, stats.turn, &stats.seat);
     stats.seat_for = since == 0 ? 0 : elapsed(now, since);
+    stats.combined = __atomic_load_n(&gate->combined, __ATOMIC_RELAXED);
     return stats;
 }

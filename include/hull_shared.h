@@ -343,15 +343,19 @@ uint32_t hull_shared_is_newest(hull_shared_reader *reader);
  *   HULL_SHARED_BY_PTHREADS, by mutexes and condition variables. Deadlines are of CLOCK_MONOTONIC.
  *
  * If a thread ends or is stopped for good while its call is admitted, it keeps its number, and all others wait:
- * hull_shared_stats returns its seat. Nothing takes a number back, since what it began may be half done. */
+ * hull_shared_stats returns its seat. Nothing takes a number back, since what it began may be half done. One that ends while it
+ * sleeps with a number is served by the thread of an earlier call (hull_shared_gate_init), unless that one ends its serving just
+ * before it; an array or a segment of its call must stay until then. */
 
 /* How long new calls may pass those that sleep, in nanoseconds. */
 #define HULL_SHARED_TURN 500000
 
 /* Sets how many calls the gate admits at once: returns 1; or 0 if `inside` is not 1 to 64, and the gate is unchanged. With 1,
- * which all zero means, calls are fast and enter as described above; with as many as there are seats each call is served in
- * the order in which the calls began, and waits for every one before it to be made by its own thread. Call it again only when
- * no seat is acquired with the gate. */
+ * which all zero means, calls enter as described above. With as many as there are seats (strict order) no call waits for
+ * admission, and each is served in the order in which the calls took their numbers: none passes one that waits. A thread whose
+ * call was served then serves those that wait with the next numbers, in place of their threads: at most 64, for some 50
+ * microseconds, and not after the deadline of its own call. So memory for a call may be allocated and freed, and its array or
+ * segment written, by another thread than its own. Call it again only when no seat is acquired with the gate. */
 int hull_shared_gate_init(hull_shared_gate *gate, uint32_t inside);
 
 /* Decides whether a call that finds the journal full waits until a drain has made space, and is made then, instead of failing
@@ -420,8 +424,8 @@ hull_shared_reply hull_shared_drain(hull_shared_gate *gate, hull_shared_seat *se
  * reply the call has its line, also with TOO_SMALL. If `capacity` is 0 the array may be null. */
 hull_shared_reply hull_shared_vertices(hull_shared_gate *gate, hull_shared_seat *seat, hull_point *out, size_t capacity);
 
-/* Wakes the thread that sleeps with this number, which was handed on before. If you call hull_shared_look yourself, call this
- * after each reply and HULL_FULL, with the turn of the reply plus one. */
+/* Wakes the thread that sleeps with this number, which was handed on before: it looks then. If you call hull_shared_look
+ * yourself, call this after each reply and HULL_FULL, with the turn of the reply plus one. */
 void hull_shared_handed_on(hull_shared_gate *gate, uint64_t number);
 
 /* The state of a gate at one moment, to watch a service; while calls go on, its numbers may be of different moments. */
@@ -432,11 +436,12 @@ typedef struct hull_shared_state {
     uint32_t for_space;  /* how many sleep and wait for space */
     uint32_t held;       /* how many lines the journal had after the last call at this gate */
     uint64_t turn;       /* the number that is served now, the one after that call's; 0 before the first, and if no seat is acquired */
-    uint32_t seat;       /* the seat whose admitted call has that number, or is to take it; HULL_SHARED_SEATS_MAX if there is none */
+    uint32_t seat;       /* the seat that has that number, serves it for another, or is to take it; HULL_SHARED_SEATS_MAX if there is none */
     uint32_t designated; /* the seat that is designated to enter next; HULL_SHARED_SEATS_MAX if there is none */
     uint32_t drainer;    /* the seat that drains for the hook; HULL_SHARED_SEATS_MAX if none does */
     uint64_t seat_for;   /* how many nanoseconds that seat's call has been admitted, to some milliseconds */
     uint64_t drains_for; /* how many nanoseconds that one has drained, to some milliseconds */
+    uint64_t combined;   /* how many calls were served by other threads than their own; 0 if no seat is acquired */
 } hull_shared_state;
 
 /* Returns the state of the gate. It takes no number and waits for nothing; any thread may call it, with or without a seat. */

@@ -1606,7 +1606,7 @@ class _State(ctypes.Structure):
     _fields_ = [
         ("out", ctypes.c_uint32), ("inside", ctypes.c_uint32), ("sleepers", ctypes.c_uint32), ("for_space", ctypes.c_uint32),
         ("held", ctypes.c_uint32), ("turn", ctypes.c_uint64), ("seat", ctypes.c_uint32), ("designated", ctypes.c_uint32),
-        ("drainer", ctypes.c_uint32), ("seat_for", ctypes.c_uint64), ("drains_for", ctypes.c_uint64),
+        ("drainer", ctypes.c_uint32), ("seat_for", ctypes.c_uint64), ("drains_for", ctypes.c_uint64), ("combined", ctypes.c_uint64),
     ]
 
 
@@ -1631,6 +1631,8 @@ class Stats(NamedTuple):
     #: The seat that drains for the hull's file, if one does, and for how many seconds.
     drainer: Optional[int]
     drains_for: float
+    #: How many calls were served by other threads than their own.
+    combined: int
 
 
 def _new_shared(readers: SupportsIndex) -> Any:
@@ -1788,7 +1790,7 @@ class SharedHull:
         _shared_library().hull_python_stats(self._shared, ctypes.addressof(state))
         seat, designated, drainer = (number if number < SEAT_LIMIT else None for number in (state.seat, state.designated, state.drainer))
         return Stats(state.out, state.inside, state.sleepers, state.for_space, state.held, state.turn, seat, state.seat_for / 1e9,
-                     designated, drainer, state.drains_for / 1e9)
+                     designated, drainer, state.drains_for / 1e9, state.combined)
 
     def acquire_seat(self, number: SupportsIndex) -> Seat:
         """Acquires the seat of a number, 0 and up, for one thread; NoSeat if it is acquired or there is none."""

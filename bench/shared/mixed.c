@@ -1,11 +1,12 @@
-/* Mixed calls from 1, 2, 4, 8 and 64 threads: through hull_shared, beside a mutex round a set of one thread.
+/* Mixed calls from 1, 2, 4, 8, 16 and 64 threads: through hull_shared, beside a mutex round a set of one thread (that of pthreads,
+ * which std::mutex is in C++).
  *
  *     mixed POINTS CALLS ROUNDS BUSY
  *
  * Each round makes each set again, adds so many random points, and has the threads make so many calls in all: half of them
  * questions, the others additions and removals of random points in turn. The mutex, seats of whose calls one is admitted at a
- * time, and seats that all have numbers at once (first come, first served) take turns; of each the least and the median time of
- * the rounds. Beside them BUSY processes spin. */
+ * time, and seats that all have numbers at once (strict order: first come, first served) take turns; of each the least and the median
+ * time of the rounds, and in brackets the median of the processor time. Beside them BUSY processes spin. */
 #include "hull.h"
 #include "hull_shared.h"
 #include <pthread.h>
@@ -30,10 +31,19 @@ static hull_shared_seat *seats[MOST_THREADS];
 static pthread_barrier_t start;
 static long calls_of_each;
 
-static double now(void) {
+/* seconds of a run, and of the processors in it */
+typedef struct {
+    double wall, processor;
+} seconds;
+
+static double at(clockid_t clock) {
     struct timespec t;
-    clock_gettime(CLOCK_MONOTONIC, &t);
+    clock_gettime(clock, &t);
     return (double)t.tv_sec + (double)t.tv_nsec * 1e-9;
+}
+
+static double now(void) {
+    return at(CLOCK_MONOTONIC);
 }
 
 /* returns a random coordinate that is not 0 (xorshift; Marsaglia, 2003) */
@@ -82,9 +92,10 @@ static void *work(void *given) {
 }
 
 /* returns the seconds from the first thread's beginning to the last one's end */
-static double timed(unsigned threads, one_call call) {
+static seconds timed(unsigned threads, one_call call) {
     pthread_t ids[MOST_THREADS];
     worker workers[MOST_THREADS];
+    double before = at(CLOCK_PROCESS_CPUTIME_ID);
     pthread_barrier_init(&start, NULL, threads);
     for (unsigned k = 0; k < threads; k++) {
         workers[k] = (worker){k, call, 0, 0};
@@ -99,10 +110,10 @@ static double timed(unsigned threads, one_call call) {
         end = workers[k].end > end ? workers[k].end : end;
     }
     pthread_barrier_destroy(&start);
-    return end - begin;
+    return (seconds){end - begin, at(CLOCK_PROCESS_CPUTIME_ID) - before};
 }
 
-static double through_mutex(unsigned threads, long points, unsigned inside) {
+static seconds through_mutex(unsigned threads, long points, unsigned inside) {
     (void)inside;
     uint64_t state = 7;
     plain = hull_new(HULL_LIMIT_MAX);
@@ -113,12 +124,12 @@ static double through_mutex(unsigned threads, long points, unsigned inside) {
         int64_t x = coordinate(&state);
         hull_add(plain, x, coordinate(&state));
     }
-    double took = timed(threads, by_mutex);
+    seconds took = timed(threads, by_mutex);
     hull_free(plain);
     return took;
 }
 
-static double through_seats(unsigned threads, long points, unsigned inside) {
+static seconds through_seats(unsigned threads, long points, unsigned inside) {
     uint64_t state = 7;
     uint32_t capacity = (uint32_t)(points + threads * calls_of_each);
     hull_shared_gate_init(&gate, inside);
@@ -136,7 +147,7 @@ static double through_seats(unsigned threads, long points, unsigned inside) {
         int64_t x = coordinate(&state);
         by_seat(0, HULL_KIND_ADD, x, coordinate(&state));
     }
-    double took = timed(threads, by_seat);
+    seconds took = timed(threads, by_seat);
     for (unsigned k = 0; k < threads; k++) {
         hull_shared_release_seat(shared, seats[k]);
         hull_shared_seat_free(seats[k]);
@@ -150,9 +161,9 @@ static double through_seats(unsigned threads, long points, unsigned inside) {
 /* the ways that are timed */
 static const struct {
     const char *name;
-    double (*through)(unsigned threads, long points, unsigned inside);
+    seconds (*through)(unsigned threads, long points, unsigned inside);
     unsigned inside;
-} ways[] = {{"mutex", through_mutex, 0}, {"seats", through_seats, 1}, {"first come", through_seats, MOST_THREADS}};
+} ways[] = {{"mutex", through_mutex, 0}, {"seats", through_seats, 1}, {"strict order", through_seats, MOST_THREADS}};
 enum { WAYS = sizeof ways / sizeof ways[0] };
 
 static int rises(const void *a, const void *b) {
@@ -178,36 +189,45 @@ static void end(const pid_t *busy, long count) {
     }
 }
 
+/* prints the row of so many threads from the nanoseconds of the rounds of each way */
+static void print_row(unsigned threads, double took[WAYS][MOST_ROUNDS], double used[WAYS][MOST_ROUNDS], long rounds) {
+    printf("%2u threads:", threads);
+    for (unsigned way = 0; way < WAYS; way++) {
+        qsort(took[way], (size_t)rounds, sizeof took[way][0], rises);
+        qsort(used[way], (size_t)rounds, sizeof used[way][0], rises);
+        printf(" %s %6.0f %6.0f (%6.0f)", ways[way].name, took[way][0], took[way][rounds / 2], used[way][rounds / 2]);
+    }
+    for (unsigned way = 1; way < WAYS; way++) {
+        printf("; %s of the mutex's speed %.2f %.2f", ways[way].name, took[0][0] / took[way][0],
+               took[0][rounds / 2] / took[way][rounds / 2]);
+    }
+    printf("\n");
+    fflush(stdout);
+}
+
 int main(int words, char **word) {
-    static const unsigned counts[] = {1, 2, 4, 8, 64};
+    static const unsigned counts[] = {1, 2, 4, 8, 16, 64};
+    static double took[WAYS][MOST_ROUNDS], used[WAYS][MOST_ROUNDS];
     long points = words > 1 ? atol(word[1]) : 1000, calls = words > 2 ? atol(word[2]) : 200000;
     long rounds = words > 3 ? atol(word[3]) : 5, count = words > 4 ? atol(word[4]) : 0;
     pid_t busy[MOST_BUSY];
     if (rounds < 1 || rounds > MOST_ROUNDS || count < 0 || count > MOST_BUSY) {
         return 2;
     }
-    printf("C: %ld points, %ld calls in all, %ld rounds, beside %ld busy processes; ns a call, least and median\n", points,
-           calls, rounds, count);
+    printf("C: %ld points, %ld calls in all, %ld rounds, beside %ld busy processes; ns a call, least and median, and in brackets "
+           "the processor's, median\n",
+           points, calls, rounds, count);
     begin(busy, count);
     for (unsigned i = 0; i < sizeof counts / sizeof counts[0]; i++) {
-        double took[WAYS][MOST_ROUNDS];
         calls_of_each = calls / counts[i];
         for (long round = 0; round < rounds; round++) {
             for (unsigned way = 0; way < WAYS; way++) {
-                took[way][round] = ways[way].through(counts[i], points, ways[way].inside) / (double)calls * 1e9;
+                seconds run = ways[way].through(counts[i], points, ways[way].inside);
+                took[way][round] = run.wall / (double)calls * 1e9;
+                used[way][round] = run.processor / (double)calls * 1e9;
             }
         }
-        printf("%2u threads:", counts[i]);
-        for (unsigned way = 0; way < WAYS; way++) {
-            qsort(took[way], (size_t)rounds, sizeof took[way][0], rises);
-            printf(" %s %6.0f %6.0f", ways[way].name, took[way][0], took[way][rounds / 2]);
-        }
-        for (unsigned way = 1; way < WAYS; way++) {
-            printf("; %s of the mutex's speed %.2f %.2f", ways[way].name, took[0][0] / took[way][0],
-                   took[0][rounds / 2] / took[way][rounds / 2]);
-        }
-        printf("\n");
-        fflush(stdout);
+        print_row(counts[i], took, used, rounds);
     }
     end(busy, count);
     return 0;

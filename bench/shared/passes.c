@@ -1,5 +1,6 @@
-/* passes THREADS SECONDS: so many threads make calls on a shared hull for so long, one after the other. Prints how long a call
- * waited at most, by how many others one was overtaken at most, and the least and the most calls of a thread. */
+/* passes THREADS SECONDS [INSIDE]: so many threads make calls on a shared hull for so long, one after the other, of which one or so many are
+ * admitted at once. Prints how long a call waited at most, by how many others one was overtaken at most, and the least and the most calls of
+ * a thread. */
 #include "hull_shared.h"
 
 #include <pthread.h>
@@ -35,9 +36,9 @@ static void *work(void *own) {
 int main(int count, char **words) {
     pthread_t threads[HULL_SHARED_SEATS_MAX];
     uint64_t waited = 0, passed = 0, all = 0, least = UINT64_MAX, most = 0;
-    unsigned many = count == 3 ? (unsigned)atoi(words[1]) : 0;
+    unsigned many = count >= 3 ? (unsigned)atoi(words[1]) : 0, inside = count > 3 ? (unsigned)atoi(words[3]) : 1;
     shared = hull_shared_new();
-    if (many < 1 || many > HULL_SHARED_SEATS_MAX || hull_shared_open_without_journal(shared, 100000, 0, many) != HULL_OPEN) {
+    if (many < 1 || many > HULL_SHARED_SEATS_MAX || !hull_shared_gate_init(&gate, inside) || hull_shared_open_without_journal(shared, 100000, 0, many) != HULL_OPEN) {
         return 2;
     }
     for (size_t k = 0; k < many; k++) {
@@ -56,7 +57,7 @@ int main(int count, char **words) {
         most = results[k].made > most ? results[k].made : most;
         all += results[k].made;
     }
-    printf("%2u threads: a call waited %.1f ms at most, and was passed by %llu others; %llu to %llu calls a thread, %.0f ns a call\n", many,
+    printf("%2u threads, %u inside: a call waited %.1f ms at most, and was passed by %llu others; %llu to %llu calls a thread, %.0f ns a call\n", many, inside,
            (double)waited / 1e6, (unsigned long long)passed, (unsigned long long)least, (unsigned long long)most,
            (double)atoi(words[2]) * 1e9 / (double)all);
     return 0;

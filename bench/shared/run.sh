@@ -1,6 +1,6 @@
 #!/bin/sh
-# One hull for several threads, timed: mixed calls from 1, 2, 4, 8 and 64 threads through a shared hull, beside a mutex
-# round a hull of one thread, in C and in Rust; and calls of four threads with a journal that is held, drained, written to a file or
+# One hull for several threads, timed: mixed calls from 1, 2, 4, 8, 16 and 64 threads through a shared hull, beside a mutex
+# round a hull of one thread, in C (also in strict order) and in Rust; and calls of four threads with a journal that is held, drained, written to a file or
 # with none; how long a call waits at most; and threads that ask while one changes, by readers and by other ways. Needs cc, c++ and
 # rustc, and a quiet machine.
 #
@@ -23,6 +23,7 @@ cc -std=gnu11 -O2 -I"$room/include" "$here/drained.c" -L"$room/lib" -lhull_share
 cc -std=gnu11 -O2 -I"$room/include" "$here/passes.c" -L"$room/lib" -lhull_shared -lpthread -o "$room/passes"
 for threads in 8 64; do
     "$room/passes" "$threads" 8
+    "$room/passes" "$threads" 8 "$threads"
 done
 for round in 1 2 3 4; do
     for mode in held drained written none; do

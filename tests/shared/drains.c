@@ -1,8 +1,9 @@
-/* drains THREADS CALLS EVERY FOLDER: so many threads make so many calls each over one hull, whose first thread drains it each time that
+/* drains THREADS CALLS EVERY FOLDER [INSIDE]: so many threads make so many calls each over one hull, whose first thread drains it each time that
  * EVERY calls were made since, and writes the text to FOLDER/segment.1, FOLDER/segment.2 and so on; the text of the closed shared hull
  * is the last. The shared hull has space for twice the calls of all, so that it is never full. The status is 0 only if each call was
  * served, and the segments have all calls, each with the number after the last of the segment before as its first number; standard
- * output has how many segments there are. With a folder of "-" no line is kept, and there are no segments. */
+ * output has how many segments there are. With a folder of "-" no line is kept, and there are no segments. The gate admits one call at a
+ * time, or so many. */
 #include "hull_shared.h"
 
 #include <pthread.h>
@@ -90,7 +91,7 @@ static int close_shared(void) {
 
 int main(int count, char **words) {
     pthread_t ids[HULL_SHARED_SEATS_MAX];
-    int bad = count != 5;
+    int bad = count < 5;
     if (bad) {
         return 2;
     }
@@ -98,6 +99,7 @@ int main(int count, char **words) {
     calls = strtoul(words[2], NULL, 10);
     every = strtoul(words[3], NULL, 10);
     folder = words[4];
+    hull_shared_gate_init(&gate, count > 5 ? (uint32_t)strtoul(words[5], NULL, 10) : 1);
     has_journal = strcmp(folder, "-") != 0;
     others = threads - 1;
     hull_shared_gate_init(&gate, 1);

@@ -1,5 +1,5 @@
-/* full THREADS CALLS CAPACITY FOLDER: so many threads, none of which drains, make so many mixed calls each over one shared hull that
- * keeps so few lines; the gate drains by itself, and waits for space. The segments go to the files segment.1, segment.2 and so on of
+/* full THREADS CALLS CAPACITY FOLDER [INSIDE]: so many threads, none of which drains, make so many mixed calls each over one shared hull that
+ * keeps so few lines; the gate admits one of them at a time, or so many, drains by itself, and waits for space. The segments go to the files segment.1, segment.2 and so on of
  * the folder, in their order, and the text of the closed shared hull is the last; how many they are goes to standard output. The
  * status is 0 only if each call was served, each has its line, and every code at the end was as it should be. With SLOW defined, each
  * segment takes long to write. */
@@ -91,13 +91,13 @@ static void write_last(void) {
 
 int main(int argc, char **words) {
     pthread_t threads[HULL_SHARED_SEATS_MAX];
-    uint32_t many = argc == 5 ? (uint32_t)atoi(words[1]) : 0;
+    uint32_t many = argc >= 5 ? (uint32_t)atoi(words[1]) : 0;
     if (many < 1 || many > HULL_SHARED_SEATS_MAX) {
         return 2;
     }
     calls = strtoul(words[2], NULL, 10);
     folder = words[4];
-    hull_shared_gate_init(&gate, 1);
+    hull_shared_gate_init(&gate, argc > 5 ? (uint32_t)atoi(words[5]) : 1);
     hull_shared_gate_wait_for_space(&gate, 1);
     shared = hull_shared_new();
     bad |= !hull_shared_gate_on_half_full(&gate, write_segment, NULL);

@@ -98,72 +98,13 @@ typedef struct state {
     thread threads[MOST];
 } state;
 
+#include "states.h"
+
 static unsigned many, calls, inside, fault;
 static const char *modes; /* threads of one mode are beside one another */
 
-/* ---- the states that are known, and from which to which a step leads */
-
-static state *states;
-static uint32_t *slots;
-static size_t known, capacity, slot_count;
-static struct edge {
-    uint32_t from, to;
-} *edges;
-static size_t edge_count, edge_capacity;
 static const char *wrong;
 static unsigned most_passed;
-
-static void *grow(void *block, size_t bytes) {
-    block = realloc(block, bytes);
-    if (block == NULL) {
-        fprintf(stderr, "gate_model: no memory\n");
-        exit(3);
-    }
-    return block;
-}
-
-static uint64_t hash_of(const state *s) {
-    const unsigned char *bytes = (const unsigned char *)s;
-    uint64_t hash = 14695981039346656037u; /* Fowler, Noll and Vo, 1991 */
-    for (size_t i = 0; i < sizeof *s; i++) {
-        hash = (hash ^ bytes[i]) * 1099511628211u;
-    }
-    return hash ^ hash >> 29;
-}
-
-static void rehash(void) {
-    slot_count = slot_count == 0 ? 1 << 16 : 2 * slot_count;
-    slots = grow(slots, slot_count * sizeof *slots);
-    memset(slots, 0xff, slot_count * sizeof *slots);
-    for (size_t i = 0; i < known; i++) {
-        size_t at = hash_of(&states[i]) & (slot_count - 1);
-        while (slots[at] != UINT32_MAX) {
-            at = (at + 1) & (slot_count - 1);
-        }
-        slots[at] = (uint32_t)i;
-    }
-}
-
-/* The number of a state, which is new or known. */
-static uint32_t number_of(const state *s) {
-    if (2 * known >= slot_count) {
-        rehash();
-    }
-    size_t at = hash_of(s) & (slot_count - 1);
-    while (slots[at] != UINT32_MAX) {
-        if (memcmp(&states[slots[at]], s, sizeof *s) == 0) {
-            return slots[at];
-        }
-        at = (at + 1) & (slot_count - 1);
-    }
-    if (known == capacity) {
-        capacity = capacity == 0 ? 1 << 16 : 2 * capacity;
-        states = grow(states, capacity * sizeof *states);
-    }
-    states[known] = *s;
-    slots[at] = (uint32_t)known;
-    return (uint32_t)known++;
-}
 
 /* Compares two threads by all that distinguishes them, except their numbers: smaller is earlier. */
 static int order_of(const state *s, unsigned a, unsigned b) {
@@ -210,14 +151,9 @@ static state normalized(const state *s) {
 static void add_step(uint32_t from, const state *to, int is_early) {
     state same = normalized(to);
     uint32_t number = number_of(&same);
-    if (number == from || is_early) {
-        return;
+    if (number != from && !is_early) {
+        add_edge(from, number);
     }
-    if (edge_count == edge_capacity) {
-        edge_capacity = edge_capacity == 0 ? 1 << 18 : 2 * edge_capacity;
-        edges = grow(edges, edge_capacity * sizeof *edges);
-    }
-    edges[edge_count++] = (struct edge){from, number};
 }
 
 /* ---- the steps */
@@ -670,42 +606,6 @@ static void explore(void) {
     }
 }
 
-/* Whether from each state some order leads to the end, though no sleeper wakes early. */
-static int all_end(void) {
-    uint32_t *begin = calloc(known + 2, sizeof *begin), *into = malloc((edge_count + 1) * sizeof *into);
-    uint32_t *todo = malloc((known + 1) * sizeof *todo);
-    unsigned char *ends = calloc(known, 1);
-    size_t count = 0;
-    if (begin == NULL || into == NULL || todo == NULL || ends == NULL) {
-        exit(3);
-    }
-    for (size_t i = 0; i < edge_count; i++) {
-        begin[edges[i].to + 2]++;
-    }
-    for (size_t i = 2; i < known + 2; i++) {
-        begin[i] += begin[i - 1];
-    }
-    for (size_t i = 0; i < edge_count; i++) {
-        into[begin[edges[i].to + 1]++] = edges[i].from;
-    }
-    for (size_t i = 0; i < known; i++) {
-        if (is_end(&states[i])) {
-            ends[i] = 1;
-            todo[count++] = (uint32_t)i;
-        }
-    }
-    for (size_t i = 0; i < count; i++) {
-        for (uint32_t e = begin[todo[i]]; e < begin[todo[i] + 1]; e++) {
-            if (!ends[into[e]]) {
-                ends[into[e]] = 1;
-                todo[count++] = into[e];
-            }
-        }
-    }
-    free(begin), free(into), free(todo), free(ends);
-    return count == known;
-}
-
 int main(int count, char **words) {
     many = count >= 5 ? (unsigned)atoi(words[1]) : 0;
     calls = count >= 5 ? (unsigned)atoi(words[2]) : 0;
@@ -717,7 +617,7 @@ int main(int count, char **words) {
         return 2;
     }
     explore();
-    if (wrong == NULL && !all_end()) {
+    if (wrong == NULL && !all_end(is_end)) {
         wrong = "some sleep for ever";
     }
     printf("%u threads of %u calls, %u inside, %s, fault %s: %zu states, passed %u times, %s\n", many, calls, inside, modes,

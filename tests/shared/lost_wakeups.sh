@@ -76,21 +76,28 @@ done
 
 # at the slots
 copy
-change '/^ +HULL_SHARED_STEP\("announced"\);/{N;s/reply = .*$/memset(\&reply, 0, sizeof reply); reply.answer.code = HULL_NOT_YET; reply.turn = number;/}'
+change '/^        announce\(call, number, to\);/{N;s/\n.*$/\n        reply.answer.code = HULL_NOT_YET;/}'
 try 'a seat does not look once more after its announcement' hang 8
 
 copy
-change '/fetch_add\(&slot->waiters/d; s/^( +)HULL_SHARED_STEP\("looked"\);/&\n\1__atomic_fetch_add(\&slot->waiters, 1, __ATOMIC_SEQ_CST);\n\1epoch = __atomic_load_n(\&slot->epoch, __ATOMIC_SEQ_CST);/'
-change 's/^( +)__atomic_fetch_sub\(&slot->waiters, 1/\1if (reply.answer.code == HULL_NOT_YET) &/'
-try 'a seat announces itself after its last look' hang 8
+change 's/\(is_posted \? CLAIMED : MARKED\)/(is_posted ? CLAIMED : ANNOUNCED)/'
+try 'a thread that hands on does not mark a seat that is only announced' hang 8
 
 copy
-change '/fetch_add\(&slot->epoch/d; s/^( +)hull_wake\(&slot->epoch, 1\);/&\n\1HULL_SHARED_STEP("woken");\n\1__atomic_fetch_add(\&slot->epoch, 1, __ATOMIC_SEQ_CST);/'
-try 'a thread that hands on wakes before it changes the epoch' hang 8
+change 's/^    return try_change_slot\(slot_of\(call->gate, number\), &word, word - ANNOUNCED \+ POSTED\);/    __atomic_store_n(slot_of(call->gate, number), word - ANNOUNCED + POSTED, __ATOMIC_SEQ_CST); return 1;/'
+try 'a seat is posted over its mark' hang 8
 
 copy
-change 's/^( +)hull_wake\(&slot->epoch, 1\);/\1;/'
-try 'a thread that hands on wakes none' hang 8
+change 's/^( +)hull_wake\(&node->notice, 1\);/\1;/'
+try 'a thread that serves others or hands on wakes none' hang 8
+
+copy
+change '/^    HULL_SHARED_STEP\("to notify"\);/{N;s/\n.*$/\n    int sleeps = __atomic_load_n(\&node->notice, __ATOMIC_SEQ_CST) == SLEEPS; HULL_SHARED_STEP("seen"); __atomic_store_n(\&node->notice, notice, __ATOMIC_SEQ_CST); return sleeps;/}'
+try 'a notice is given by a look and a store' hang 8
+
+copy
+change 's/^            leave_look\(node\);/            ;/; s/^( +)SERVES_MOST = 64 /\1SERVES_MOST = 2 /'
+try 'a thread that serves no more leaves the next without a notice' hang 8
 
 # at the gate
 copy

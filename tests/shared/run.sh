@@ -4,10 +4,11 @@
 # them a tenth, and eight in Rust and in Python a tenth), with one, two or all of them admitted at a time, also with threads delayed between
 # the steps of waiting; `hullbook check` judges their journal. Eight threads of which one drains the journal, and eight that keep none; up
 # to 64 at hulls with few lines that drain themselves; every code; each request for memory refused in turn; what calls promise while they
-# wait (waits.c); every order of the steps of the admission gate (gate_model.c) and of snapshots (snapshot_model.c); every order of the steps
-# of two seats and a reader over the library itself (orders.c); snapshots of 60 readers beside calls (readers.c); journal files whose process
-# is killed (kills.c) or that are damaged (edges.c); a service of 64 threads that is killed and continued (service.c); and wake-ups out of
-# order (lost_wakeups.sh). What is missing here (a compiler, python3, valgrind) is named and counts nothing.
+# wait (waits.c); calls that the threads of others serve (combining.c); every order of the steps of the admission gate (gate_model.c), of
+# calls that others serve (combining_model.c) and of snapshots (snapshot_model.c); every order of the steps of two seats and a reader over the
+# library itself (orders.c); snapshots of 60 readers beside calls (readers.c); journal files whose process is killed (kills.c) or that are
+# damaged (edges.c); a service of 64 threads that is killed and continued (service.c); and wake-ups out of order (lost_wakeups.sh). What is
+# missing here (a compiler, python3, valgrind) is named and counts nothing.
 #
 #     tests/shared/run.sh [CALLS [KILLS]]    20000 and 40 if not given; `.ci/run --all-mutants` takes 100000 and 150
 set -u
@@ -87,7 +88,6 @@ in_c() {
         for inside in 1 2 "$threads"; do
             each=$calls
             [ "$threads" -ne 64 ] || each=$((calls / 10))
-            [ "$inside" -eq 1 ] || each=$((each / 10))
             storm "$threads" "$each" "$inside"
         done
     done
@@ -151,26 +151,34 @@ drains() {
     count "a segment that is missing, doubled or exchanged is illegal at its first line" $?
     "$room/drains" 8 "$calls" 1 - >"$room/said"
     count "8 threads of $calls calls without a journal" $?
+    rm -rf "$room/segments" && mkdir "$room/segments"
+    "$room/drains" 8 "$calls" $((calls / 10)) "$room/segments" 8 >"$room/said" && judged $(seq "$(cat "$room/said")") &&
+        [ "$(lines)" -ge $((8 * calls)) ]
+    count "the same in strict order: $(cat "$room/said") segments" $?
 }
 
-# threads, none of which drains, over a hull of few lines, whose gate drains by itself: THREADS CALLS CAPACITY
+# threads, none of which drains, over a hull of few lines, whose gate drains by itself: THREADS CALLS CAPACITY INSIDE
 full() {
     rm -rf "$room/segments" && mkdir "$room/segments"
-    "$room/full" "$1" "$2" "$3" "$room/segments" >"$room/said" && judged $(seq "$(cat "$room/said")")
-    count "$1 threads of $2 calls at $3 lines, which drain by themselves: all served, $(cat "$room/said") segments, one legal journal" $?
+    "$room/full" "$1" "$2" "$3" "$room/segments" "$4" >"$room/said" && judged $(seq "$(cat "$room/said")")
+    count "$1 threads of $2 calls at $3 lines, which drain by themselves, $4 inside: all served, $(cat "$room/said") segments, one legal journal" $?
 }
 
 storms_of_full_hulls() {
     build "$here/full.c"
     count "full.c compiles" $?
-    full 4 "$calls" 20000
-    full 64 $((calls / 10)) 2000
-    full 8 $((calls / 10)) 200
-    full 2 $((calls / 100)) 1
+    for inside in 1 64; do
+        full 4 "$calls" 20000 "$inside"
+        full 64 $((calls / 10)) 2000 "$inside"
+        full 8 $((calls / 10)) 200 "$inside"
+        full 2 $((calls / 100)) 1 "$inside"
+    done
     build_slow "$here/full.c"
-    full 8 $((calls / 100)) 200
+    full 8 $((calls / 100)) 200 1
+    full 8 $((calls / 100)) 200 8
     build_by_pthreads "$here/full.c"
-    full 8 $((calls / 100)) 200
+    full 8 $((calls / 100)) 200 1
+    full 8 $((calls / 100)) 200 8
 }
 
 # threads that read while others make calls: SEATS READERS CALLS
@@ -214,6 +222,8 @@ readings() {
 waits() {
     build "$here/gate_steps.c" && "$room/gate_steps"
     count "each step of the gate" $?
+    build "$here/combining.c" && "$room/combining"
+    count "calls that the threads of others serve: limits, deadlines, drains, hooks, threads that are cancelled or die" $?
     build "$here/waits.c" -Wl,--wrap=malloc && "$room/waits"
     count "errno, deadlines, other gates, threads that are cancelled or die" $?
     build_by_pthreads "$here/waits.c" -Wl,--wrap=malloc,--wrap=clock_gettime && "$room/waits"
@@ -299,6 +309,7 @@ served_wrongly() {
 }
 
 models() {
+    combining_models
     build "$here/gate_model.c"
     count "gate_model.c compiles" $?
     model 3 3 1 ccc
@@ -313,6 +324,25 @@ models() {
         done
         ! grep -q 'nothing wrong' "$room/told"
         count "a fault of the gate is found: $(sed 's/.*fault \(.*\): .* times, /\1: /' "$room/told")" $?
+    done
+}
+
+# every order of the steps of seats that others serve, and the faults that are planted there
+combining_models() {
+    build "$here/combining_model.c"
+    count "combining_model.c compiles" $?
+    for words in "3 2 ccc" "3 3 ccc" "4 1 cccc" "3 2 cco" "4 1 ccco" "3 2 ccd" "4 1 ccdd"; do
+        # shellcheck disable=SC2086 # the words are separated by spaces
+        "$room/combining_model" $words >"$room/told"
+        count "every order of calls that others serve: $(cat "$room/told")" $?
+    done
+    for fault in $(seq 16); do
+        for words in "2 2 cc" "3 2 ccc"; do
+            # shellcheck disable=SC2086 # the words are separated by spaces
+            ! "$room/combining_model" $words "$fault" >"$room/told" || break
+        done
+        ! grep -q 'nothing wrong' "$room/told"
+        count "a fault of serving others is found: $(sed 's/.*fault \(.*\): .* states, /\1: /' "$room/told")" $?
     done
 }
 

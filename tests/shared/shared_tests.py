@@ -165,6 +165,7 @@ class Calls(unittest.TestCase):
         for time in (-1, float("nan")):
             self.assertRaises(ValueError, two.wait_at_most, time)
         self.assertEqual((hull.stats().held, hull.stats().turn, hull.stats().seat, hull.stats().inside), (1, 4, None, 0))
+        self.assertEqual(hull.stats().combined, 0)
         two.wait_at_most(None)
         thread = threading.Thread(target=two.add, args=(1, 1))
         thread.start()

@@ -155,6 +155,7 @@ int main(int count, char **words) {
     }
     hull_shared_state state = hull_shared_stats(&gate);
     bad |= !is_each_once(threads) || state.inside != 0 || state.sleepers != 0 || state.for_space != 0 || state.turn != threads * calls;
+    bad |= state.combined >= threads * calls || (words[3][0] == '1' && words[3][1] == 0 && state.combined != 0);
     bad |= state.seat != HULL_SHARED_SEATS_MAX || (words[3][0] == '1' && words[3][1] == 0 && state.held != threads * calls);
     bad |= hull_shared_call(&gate, seats[0], HULL_KIND_COUNT, 0, 0).answer.code != HULL_FULL;
     for (unsigned k = 0; k < threads; k++) {

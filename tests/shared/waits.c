@@ -354,6 +354,7 @@ int main(void) {
     check_waiting_for_space();
     check_short_deadlines(1);
     check_short_deadlines(3);
+    check_short_deadlines(SEATS);
     check_cancelled(1);
     check_cancelled(2);
     check_cancelled(SEATS);

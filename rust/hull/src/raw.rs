@@ -145,6 +145,7 @@ pub(crate) struct State {
     pub drainer: u32,
     pub seat_for: u64,
     pub drains_for: u64,
+    pub combined: u64,
 }
 
 pub(crate) type Hook = extern "C" fn(context: *mut u8, segment: *mut u8);

@@ -199,6 +199,8 @@ pub struct Stats {
     pub designated: Option<u32>,
     /// The seat that drains for [`SharedHull::on_half_full`], and for how long it has.
     pub drainer: Option<(u32, Duration)>,
+    /// How many calls were served by other threads than their own.
+    pub combined: u64,
 }
 
 /// One hull that up to [`SEAT_LIMIT`] threads change and query at once. Each call takes effect at one moment between its beginning
@@ -345,6 +347,7 @@ impl SharedHull {
             seat: seat(state.seat, state.seat_for),
             designated: Some(state.designated).filter(|seat| *seat < SEAT_LIMIT),
             drainer: seat(state.drainer, state.drains_for),
+            combined: state.combined,
         }
     }
 
