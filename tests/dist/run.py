@@ -44,9 +44,15 @@ int main(void) {
     return hull_shared_gate_init(&(hull_shared_gate){0}, 1), 0;
 }
 """
+# a program that asks for another major version finds none
+CMAKE_OF_ANOTHER_VERSION = """cmake_minimum_required(VERSION 3.13)
+project(user C)
+find_package(hull 2.4 QUIET)
+message(STATUS "found: ${hull_FOUND}")
+"""
 CMAKE = """cmake_minimum_required(VERSION 3.13)
 project(user C)
-find_package(hull 1.0 REQUIRED)
+find_package(hull 3.0 REQUIRED)
 add_executable(user user.c)
 target_link_libraries(user hull::hull)
 """
@@ -251,6 +257,8 @@ def try_install(tries):
     if tries.has("cmake", "CMake"):
         tries.lay("cmake", user__c=C_PROGRAM, CMakeLists__txt=CMAKE)
         tries.prints("CMake", "1", "sh", "-c", f"cmake -B out -DCMAKE_PREFIX_PATH={tries.room}/prefix . >log 2>&1 && cmake --build out >>log 2>&1 && out/user || cat log", at="cmake")
+        tries.lay("cmake_of_another_version", CMakeLists__txt=CMAKE_OF_ANOTHER_VERSION)
+        tries.prints("CMake finds no other major version", "-- found: 0", "sh", "-c", f"cmake -B out -DCMAKE_PREFIX_PATH={tries.room}/prefix . | grep found:", at="cmake_of_another_version")
     if tries.has("meson", "Meson") and tries.has("ninja", "Meson"):
         tries.lay("meson", user__c=C_PROGRAM, meson__build=MESON)
         tries.prints("Meson", "1", "sh", "-c", "meson setup out >log 2>&1 && ninja -C out >>log 2>&1 && out/user || cat log", at="meson", env=here)
