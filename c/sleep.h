@@ -64,7 +64,7 @@ static inline void hull_wake(uint32_t *word, int many) {
 
 #else
 
-/* What all threads sleep on: all words share it, so all sleepers are woken and look at their words. */
+/* The condition that all threads sleep on: all words share it, so all sleepers are woken and look at their words. */
 static struct {
     pthread_mutex_t lock;
     pthread_cond_t changed;

@@ -1,4 +1,4 @@
-/* What a library is linked with to be tried: its calls are slowed down, and those are counted that begin on a hull, a shared hull, a seat
+/* Linked with a library to try it: its calls are slowed down, and those are counted that begin on a hull, a shared hull, a seat
  * or a segment while another is under way there; and the request for memory that is chosen is refused. The linker sends what is wrapped here
  * (--wrap, for each SLOW of this file, and for malloc, calloc and realloc). With SHARED defined it is for libhull_shared. */
 #ifdef SHARED

@@ -46,11 +46,11 @@ static const char *const fault_names[FAULTS] = {
     "gives the notice before the call is made", "gives the notice by a look and a store", "wakes before it gives the notice", "wakes nobody",
     "ends serving without a notice", "ends serving and says that the next was served"};
 
-/* What a seat does at a slot, and its notices. */
+/* The states of a seat at a slot, and its notices. */
 enum { CLAIMED, ANNOUNCED, POSTED, MARKED };
 enum { WAITS, SLEEPS, IS_SERVED, IS_TO_LOOK };
 
-/* Where a thread is: what it does next. */
+/* A thread's next step. */
 enum {
     OUT,           /* takes a number, or has made all calls */
     LOOKS_FIRST,   /* wait_for_turn: looks, since its turn may have come */

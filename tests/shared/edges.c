@@ -323,7 +323,7 @@ static void closes_beside_waiters(void) {
 
 /* ---- what is reported */
 
-/* What the process before left in the cache only is written again and synced, and a cut is synced, before a line is reported. */
+/* Bytes that the process before left in the cache only are written again and synced, and a cut is synced, before a line is reported. */
 static void syncs_before_it_reports(void) {
     put_text(SEGMENT NEXT "6 0 add 1 1 = added\nend 1\n");
     logs = 1;
@@ -667,7 +667,7 @@ static void reads_what_it_wrote(void) {
 
 /* ---- chosen points */
 
-/* Where a table with a fixed hash, as it was once used here, had the point. */
+/* The slot of the point in a table with a fixed hash. */
 static uint64_t hash_of(int64_t x, int64_t y) {
     uint64_t mixed = (uint64_t)x * UINT64_C(0x9E3779B97F4A7C15) ^ (uint64_t)y * UINT64_C(0xC2B2AE3D27D4EB4F);
     return (mixed ^ mixed >> 32) * UINT64_C(0x9E3779B97F4A7C15) >> 20;

@@ -39,7 +39,7 @@ static const char *const fault_names[FAULTS] = {
     "falls asleep without a look at its word", "designates one while another is designated", "enters a closed gate at once",
     "enters and leaves the gate closed", "gives up and is still counted"};
 
-/* Where a thread is: what it does next. */
+/* A thread's next step. */
 enum {
     OUT,          /* begins a call, or has made all */
     LOOKS,        /* try_enter: looks at the word */

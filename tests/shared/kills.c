@@ -34,14 +34,14 @@ struct record {
     uint32_t is_there;
 };
 
-/* What of a file is on the disk. */
+/* The part of a file that is on the disk. */
 struct disk {
     uint64_t inode;
     uint64_t synced; /* its bytes from the first on */
     uint64_t lost;   /* from there on the system takes bytes for written that are not */
 };
 
-/* What the process that is killed leaves beside the file. */
+/* The record that the killed process leaves beside the file. */
 static struct shared {
     struct disk disks[64];
     uint64_t reported; /* the lines before this one were reported as durable by an opening */

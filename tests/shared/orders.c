@@ -19,7 +19,7 @@ typedef struct {
     int64_t x, y;
 } request;
 
-/* What the seats ask for: vertices that come and go, points inside, and a question. */
+/* The calls of the seats: vertices that come and go, points inside, and a question. */
 static const request asked[SEATS][MOST_CALLS] = {
     {{HULL_KIND_ADD, 0, 0}, {HULL_KIND_ADD, 4, 0}, {HULL_KIND_REMOVE, 0, 0}, {HULL_KIND_ADD, 1, 1}},
     {{HULL_KIND_ADD, 0, 4}, {HULL_KIND_PLACE, 1, 1}, {HULL_KIND_ADD, 0, 0}, {HULL_KIND_REMOVE, 0, 4}},

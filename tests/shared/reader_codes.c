@@ -21,7 +21,7 @@ static hull_shared_snapshot check_snapshot(const char *what, hull_shared_reader 
     return snapshot;
 }
 
-/* What is refused, and how a reader is acquired and released. */
+/* Refusals, and how a reader is acquired and released. */
 static void check_codes(hull_shared *shared, hull_shared_reader *one, hull_shared_reader *two) {
     check("acquire from a fresh shared hull", hull_shared_acquire_reader(shared, one), HULL_NOT_OPEN);
     check("release to a fresh shared hull", hull_shared_release_reader(shared, one), HULL_NOT_OPEN);

@@ -1,4 +1,4 @@
-/* What the programs that bring about every code share: a gate, a call's code, a comparison that is printed if it fails, and requests for
+/* Shared by the programs that bring about every code: a gate, a call's code, a comparison that is printed if it fails, and requests for
  * memory of which one is refused. A program has one such file. */
 #include "hull_shared.h"
 

@@ -45,7 +45,7 @@ struct change {
     uint32_t multiplicity; /* of the point after it */
 };
 
-/* What a thread leaves, whenever it is killed: changes from `durable_to` to `begun` are not reported as durable. */
+/* The record that a thread leaves, whenever it is killed: changes from `durable_to` to `begun` are not reported as durable. */
 struct thread {
     uint64_t calls; /* answered in all lives */
     uint64_t begun;
@@ -317,7 +317,7 @@ static void fail(const char *what, uint64_t number) {
     exit(1);
 }
 
-/* What the whole segments of the file leave. */
+/* The points that the whole segments of the file leave. */
 struct left {
     uint64_t next;
     uint32_t multiplicity[POINTS];

@@ -35,10 +35,10 @@ static const char *const fault_names[FAULTS] = {
 
 enum { EMPTY, TAKEN, PRESENT };
 
-/* Where the publisher is. */
+/* The publisher's next step. */
 enum { P_BEGINS, P_LOOKS, P_TAKES, P_WRITES, P_MARKS, P_STORES, P_DONE };
 
-/* Where a reader is. */
+/* A reader's next step. */
 enum { R_BEGINS, R_OBSERVES, R_LOOKS, R_COUNTS, R_READS, R_LEAVES, R_KEEPS, R_DONE };
 
 typedef struct {

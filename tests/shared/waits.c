@@ -1,4 +1,4 @@
-/* What calls at a gate promise beside their answers: errno stays, no gate serves two shared hulls, a call gives up in time, a thread that
+/* The promises of calls at a gate beside their answers: errno stays, no gate serves two shared hulls, a call gives up in time, a thread that
  * is cancelled or dies delays no others than the header says, and the seat that is inside is reported. The status is 0 only if each is so;
  * a hang ends the program after a minute. */
 #include "hull_shared.h"

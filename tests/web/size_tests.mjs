@@ -1,4 +1,4 @@
-// What the page takes as it ships, and whether what was left out of it is missed: size_tests.mjs PAGE
+// The size of the page as it ships, and whether a part that was left out of it is missed: size_tests.mjs PAGE
 import { strict as assert } from "node:assert";
 import { readFileSync } from "node:fs";
 import { gunzipSync, gzipSync } from "node:zlib";
