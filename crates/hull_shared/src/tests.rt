@@ -1,10 +1,9 @@
 //! A property that no contract can state: that calls which may be refused are served.
 use crate::acquiring::{acquire, release};
 use crate::closing::{close, end};
-use crate::looking::{look, take};
 use crate::opening::open;
 use crate::reader::SharedReader;
-use crate::reading::{acquire_reader, return_reader, set_max_readers, snapshot};
+use crate::reading::{acquire_reader, return_reader, set_max_readers};
 use crate::reopening::reopen;
 use crate::seat::SharedSeat;
 use crate::shared_hull::{FreshSharedHull, SharedHull};
@@ -96,34 +95,5 @@ fn a_shared_hull_waits_for_its_reader(rt: HostRuntime) {
             Code::Released.number(),
             Code::Closed.number()
         ]
-    );
-}
-
-/// A reader's snapshot shows the point that a seat has added.
-#[test]
-fn a_snapshot_shows_the_added_point(rt: HostRuntime) {
-    let mut shared_hull = SharedHull::Fresh(FreshSharedHull::of_none());
-    let mut seat = SharedSeat::Vacant;
-    let mut reader = SharedReader::Vacant;
-    let _readers_set = set_max_readers(&mut shared_hull, 1);
-    let _opened = open(&mut shared_hull, rt.alloc(), 100, 0, 64, 1);
-    let _seat_acquired = acquire(&mut shared_hull, &mut seat, 0);
-    let _reader_acquired = acquire_reader(&mut shared_hull, &mut reader);
-    let _taken = take(&mut seat, 1, 3, 4);
-    let _added = look(&mut seat);
-    let shown = snapshot(&mut reader);
-    let _reader_released = return_reader(&mut shared_hull, &mut reader);
-    let _seat_released = release(&mut shared_hull, &mut seat);
-    let _closed = close(&mut shared_hull);
-    let _ended = end(&mut shared_hull);
-    let SharedHull::Fresh(_) = shared_hull else {
-        panic!(rt; "the shared hull was not ended")
-    };
-    let SharedSeat::Vacant = seat else {
-        panic!(rt; "the seat was not released")
-    };
-    assert_eq!(rt;
-        (shown.code, shown.lines, shown.count),
-        (Code::SnapshotTaken.number(), 1, 1)
     );
 }
