@@ -66,9 +66,9 @@ fn one_point<S: HullSet>(rt: &impl Abort, set: &mut S) -> Result<(), Fail> {
     let p = at(3, 4)?;
     let first: AddReply = set.add(p);
     let again: AddReply = set.add(p);
-    let times: u32 = set.multiplicity(p);
+    let multiplicity: u32 = set.multiplicity(p);
     assert_eq!(rt;
-        (first, again, times),
+        (first, again, multiplicity),
         (AddReply::Added, AddReply::Again(2), 2)
     );
     assert!(rt; has_vertices(set, &[(3, 4)])?);

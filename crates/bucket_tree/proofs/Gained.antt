@@ -14,9 +14,9 @@ use Rattle.hull_geometry.proofs.PointSets.{set_right, set_apart}
 use Rattle.std.proofs.lemmas.List.Elements.{All-weaker}
 use Rattle.hull_set.specs.Held.{once}
 use Rattle.hull_buckets.specs.Buckets.{BucketValue}
-use Rattle.bucket_tree.specs.Counts.{counted, times_at}
+use Rattle.bucket_tree.specs.Counts.{counted, multiplicity_at}
 use Rattle.bucket_tree.specs.declared.node.Node.{Node, Leaf, Fork', Taken}
-use Rattle.bucket_tree.specs.Nodes.{points_below, times_below, HasBuckets}
+use Rattle.bucket_tree.specs.Nodes.{points_below, multiplicities_below, HasBuckets}
 use Rattle.std.specs.Prelude.{IsTrue, get_or}
 use Rattle.hull_geometry.proofs.PointLists.{get_or_free}
 use Rattle.bucket_tree.proofs.Rows.{counted_row}
@@ -46,12 +46,12 @@ all_before p xs (y ∷ ys) s l n = all_of (λ t. IsBefore t p) xs (λ t m.
 -- ---- nodes
 
 -- below a node there are as many counts as points
-pub counts_below : (n : Node) → HasBuckets n → length (times_below n) ≡ length (points_below n)
+pub counts_below : (n : Node) → HasBuckets n → length (multiplicities_below n) ≡ length (points_below n)
 counts_below (Leaf b) h = h.counted
 counts_below (Fork' height i right_first left right last_left upper lower) h = omega (
   arith,
   length-append (points_below left) (points_below right),
-  length-append (times_below left) (times_below right),
+  length-append (multiplicities_below left) (multiplicities_below right),
   counts_below left h.0,
   counts_below right h.1,
 )
@@ -59,8 +59,8 @@ counts_below Taken h = absurd h
 
 -- what a node holds, by two in whose row its points are
 pub held_row : (n l r : Node) (q : Pair) → HasBuckets l → points_below n ≡ points_below l ++ points_below r
-    → times_below n ≡ times_below l ++ times_below r → times_at n q ≡ times_at l q + times_at r q
-held_row n l r q h e f = grind (arith, common_steps, counted, times_below, points_below, counted_row, counts_below)
+    → multiplicities_below n ≡ multiplicities_below l ++ multiplicities_below r → multiplicity_at n q ≡ multiplicity_at l q + multiplicity_at r q
+held_row n l r q h e f = grind (arith, common_steps, counted, multiplicities_below, points_below, counted_row, counts_below)
 
 -- ---- by the words of the code
 
@@ -88,9 +88,9 @@ parts_points : (b whole first second f g : BucketValue) → whole ≡ b → whol
 parts_points b whole first second f g e h u v = grind (arith, common_steps)
 
 -- and so are their multiplicities
-parts_times : (b whole first second f g : BucketValue) → whole ≡ b → whole.times ≡ first.times ++ second.times
-    → f ≡ first → g ≡ second → f.times ++ g.times ≡ b.times
-parts_times b whole first second f g e h u v = grind (arith, common_steps)
+parts_multiplicities : (b whole first second f g : BucketValue) → whole ≡ b → whole.multiplicities ≡ first.multiplicities ++ second.multiplicities
+    → f ≡ first → g ≡ second → f.multiplicities ++ g.multiplicities ≡ b.multiplicities
+parts_multiplicities b whole first second f g e h u v = grind (arith, common_steps)
 
 -- with a point in one of them they have those of the bucket with it
 pub parts_gain : (b whole first second f g : BucketValue) (P : List Pair) (p : Pair) → whole ≡ b
@@ -101,6 +101,6 @@ parts_gain b whole first second f g P p e h u v k =
 
 -- and have the multiplicities of the bucket, and the point once more
 pub parts_held : (b whole first second f g : BucketValue) (n : ℕ) (p q : Pair) → whole ≡ b
-    → whole.points ≡ first.points ++ second.points → whole.times ≡ first.times ++ second.times → f ≡ first → g ≡ second
-    → n ≡ counted (f.points ++ g.points) (f.times ++ g.times) q + once p q → n ≡ counted b.points b.times q + once p q
-parts_held b whole first second f g n p q e h t u v k = grind (arith, common_steps, counted, once, parts_points, whole, parts_times)
+    → whole.points ≡ first.points ++ second.points → whole.multiplicities ≡ first.multiplicities ++ second.multiplicities → f ≡ first → g ≡ second
+    → n ≡ counted (f.points ++ g.points) (f.multiplicities ++ g.multiplicities) q + once p q → n ≡ counted b.points b.multiplicities q + once p q
+parts_held b whole first second f g n p q e h t u v k = grind (arith, common_steps, counted, once, parts_points, whole, parts_multiplicities)

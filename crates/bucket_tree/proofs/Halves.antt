@@ -11,7 +11,7 @@ use Rattle.hull_buckets.proofs.Words.{next_power}
 use Rattle.hull_geometry.proofs.PointSets.{set_left, set_right}
 use Rattle.bucket_tree.specs.Loads.{IsLoad}
 
-module _ (points : List Pair) (times : List ℕ) (forks middle : ℕ) (load : IsLoad points times forks) (some : 0 < forks)
+module _ (points : List Pair) (multiplicity : List ℕ) (forks middle : ℕ) (load : IsLoad points multiplicity forks) (some : 0 < forks)
     (is : middle ≡ length points / 2) where
   -- the two together
   whole : IsPointSet (take middle points ++ drop middle points)
@@ -27,14 +27,14 @@ module _ (points : List Pair) (times : List ℕ) (forks middle : ℕ) (load : Is
   taken = length-take-le middle points (omega (arith, is))
 
   -- the first half
-  pub first_load : IsLoad (take middle points) (take middle times) (forks - 1)
+  pub first_load : IsLoad (take middle points) (take middle multiplicity) (forks - 1)
   first_load = record {
     parts = record {
       some = omega (arith, taken, is, load.enough, power, same, pow_pos (forks - 1));
       few = omega (arith, taken, is, load.parts.few);
       ordered = set_left (take middle points) (drop middle points) whole;
-      counted = omega (arith, taken, length-take-le middle times (omega (arith, is, load.parts.counted)));
-      held = All-take IsMultiplicity middle times load.parts.held;
+      counted = omega (arith, taken, length-take-le middle multiplicity (omega (arith, is, load.parts.counted)));
+      held = All-take IsMultiplicity middle multiplicity load.parts.held;
     };
     enough = omega (arith, taken, is, load.enough, power, same);
     space = omega (arith, taken, is, load.space, power, same);
@@ -42,14 +42,14 @@ module _ (points : List Pair) (times : List ℕ) (forks middle : ℕ) (load : Is
   }
 
   -- and the second
-  pub second_load : IsLoad (drop middle points) (drop middle times) (forks - 1)
+  pub second_load : IsLoad (drop middle points) (drop middle multiplicity) (forks - 1)
   second_load = record {
     parts = record {
       some = omega (arith, length-drop middle points, is, load.enough, power, same, pow_pos (forks - 1));
       few = omega (arith, length-drop middle points, is, load.parts.few);
       ordered = set_right (take middle points) (drop middle points) whole;
-      counted = omega (arith, length-drop middle points, length-drop middle times, load.parts.counted);
-      held = All-drop IsMultiplicity middle times load.parts.held;
+      counted = omega (arith, length-drop middle points, length-drop middle multiplicity, load.parts.counted);
+      held = All-drop IsMultiplicity middle multiplicity load.parts.held;
     };
     enough = omega (arith, length-drop middle points, is, load.enough, power, same);
     space = omega (arith, length-drop middle points, is, load.space, power, same);

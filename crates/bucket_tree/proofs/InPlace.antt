@@ -16,10 +16,10 @@ use Rattle.hull_buckets.specs.Buckets.{BucketValue, IsBucket}
 use Rattle.hull_set.specs.Held.{once}
 use Rattle.bucket_tree.specs.Changes.{HasEdgesBehind, IsBridgeBetween, IsUnaffectedOver, IsBehind}
 use Rattle.bucket_tree.specs.Changes.{IsRenewed, IsSameBut, edge_on}
-use Rattle.bucket_tree.specs.Counts.{counted, times_at, Alters, Kind, Comes, Goes}
+use Rattle.bucket_tree.specs.Counts.{counted, multiplicity_at, Alters, Kind, Comes, Goes}
 use Rattle.bucket_tree.specs.InPlace.{AreFewFor, HasChanged, HasChangedIn, IsBehindPart, IsInPlace, IsRenewedAfter}
 use Rattle.bucket_tree.specs.InPlace.{IsToRenew, IsUnsearched}
-use Rattle.bucket_tree.specs.Nodes.{points_below, times_below, node_height, AreNear, AreInRow, IsWellBuilt}
+use Rattle.bucket_tree.specs.Nodes.{points_below, multiplicities_below, node_height, AreNear, AreInRow, IsWellBuilt}
 use Rattle.bucket_tree.specs.declared.renewal.Changed.{Changed}
 use Rattle.bucket_tree.specs.declared.node.Fork.{Fork as Below}
 use Rattle.bucket_tree.specs.declared.node.Node.{Node, Leaf, Fork}
@@ -42,7 +42,7 @@ pub record IsApart (n : Node) (h : ℕ) (f : Below) : Type 0 where
   pub row : AreInRow f.left f.right
   pub near : AreNear (node_height f.left) (node_height f.right)
   pub points : points_below n ≡ points_below f.left ++ points_below f.right
-  pub times : times_below n ≡ times_below f.left ++ times_below f.right
+  pub multiplicities : multiplicities_below n ≡ multiplicities_below f.left ++ multiplicities_below f.right
   pub height : node_height n ≡ max (node_height f.left) (node_height f.right) + 1
   pub label : h ≡ max (node_height f.left) (node_height f.right) + 1
   pub first : f.right_first ≡ first_of (points_below f.right)
@@ -57,7 +57,7 @@ apart n h f e w =
       row = halves_row n h f e w;
       near = b.balanced.0;
       points = ap points_below e;
-      times = ap times_below e;
+      multiplicities = ap multiplicities_below e;
       height = ap node_height e;
       label = b.labelled.2;
       first = b.labelled.1;
@@ -107,13 +107,13 @@ fork_at left p n h b f g e v w built here =
     let a = subst (IsApart n h) (sym v) (apart n h b e built) in
     record {
       apart = a;
-      at = at left p n f.left f.right g.right_first a.row a.points a.times
+      at = at left p n f.left f.right g.right_first a.row a.points a.multiplicities
           (ap (λ (z : Below). z.right_first) (w ∙ sym v) ∙ a.first) here;
     }
 
 -- the multiplicity of p in the fork is that in the subtree
 pub same_below : (left : Bool) (p : Pair) (n : Node) (h : ℕ) (f : Below) → IsForkAt left p n h f
-    → times_at n p ≡ times_at (cond left f.left f.right) p
+    → multiplicity_at n p ≡ multiplicity_at (cond left f.left f.right) p
 same_below left p n h f i = same_at left p n f.left f.right i.at
 
 -- the part is well built, lower, and has no more points than it may have
@@ -249,9 +249,9 @@ module _ (left : Bool) (p : Pair) (n : Node) (h : ℕ) (f : Below) (k : Node) (b
   both_points = ap (λ z. points_below z ++ points_below g.value.right) r.left
       ∙ ap (λ z. points_below (cond left k f.left) ++ points_below z) r.right
 
-  both_times : times_below (Fork h g) ≡ times_below (cond left k f.left) ++ times_below (cond left f.right k)
-  both_times = ap (λ z. times_below z ++ times_below g.value.right) r.left
-      ∙ ap (λ z. times_below (cond left k f.left) ++ times_below z) r.right
+  both_multiplicities : multiplicities_below (Fork h g) ≡ multiplicities_below (cond left k f.left) ++ multiplicities_below (cond left f.right k)
+  both_multiplicities = ap (λ z. multiplicities_below z ++ multiplicities_below g.value.right) r.left
+      ∙ ap (λ z. multiplicities_below (cond left k f.left) ++ multiplicities_below z) r.right
 
   in_place_with : node_height (cond left f.left f.right) + 1 ≤ node_height n → IsInPlace p n (Fork h g) above
   in_place_with lower =
@@ -290,7 +290,7 @@ changed_with left put p n h f g k below above b i d few low e r = go put d alter
 
     altered : Alters (kind_of put) p n (Fork h b)
     altered = alters_with left (kind_of put) p n f.left f.right k (Fork h b) i.at part.built
-        (both_points left p n h f k below above b i part s) (both_times left p n h f k below above b i part s)
+        (both_points left p n h f k below above b i part s) (both_multiplicities left p n h f k below above b i part s)
         (altered_by put p (cond left f.left f.right) k below d)
 
     go : (put : Bool) → HasChanged put p (cond left f.left f.right) k below → Alters (kind_of put) p n (Fork h b)
@@ -312,11 +312,11 @@ module _ (p : Pair) (n : Node) (b : Box BucketValue _) (w v : BucketValue) (r : 
     where
       go : (r : Result Changed ℕ) → IfErr r (λ _. v ≡ w) → IfErr r (λ _. Leaf (with_value b v) ≡ n)
       go (Ok change) h = tt
-      go (Err times) h = ap (λ z. Leaf (with_value b z)) (h ∙ d) ∙ sym e
+      go (Err multiplicity) h = ap (λ z. Leaf (with_value b z)) (h ∙ d) ∙ sym e
 
-  pub leaf_returned : IfErr r (λ times. times ≡ counted w.points w.times p) → IfErr r (λ times. times ≡ times_at n p)
-  leaf_returned h = subst (λ z. IfErr r (λ times. times ≡ z))
-      (ap (λ (z : BucketValue). counted z.points z.times p) d ∙ sym (ap (λ z. times_at z p) e)) h
+  pub leaf_returned : IfErr r (λ multiplicity. multiplicity ≡ counted w.points w.multiplicities p) → IfErr r (λ multiplicity. multiplicity ≡ multiplicity_at n p)
+  leaf_returned h = subst (λ z. IfErr r (λ multiplicity. multiplicity ≡ z))
+      (ap (λ (z : BucketValue). counted z.points z.multiplicities p) d ∙ sym (ap (λ z. multiplicity_at z p) e)) h
 
 -- a bucket with other points is in place where it was
 leaf_in_place : (p : Pair) (b c : Box BucketValue _) (v : BucketValue) (change : Changed) → c.value ≡ v → IsBucket v
@@ -335,8 +335,8 @@ changed_leaf true p b c v change f h d = record {
   absent = d.absent;
   in_place = leaf_in_place p b c v change f h d.unsearched;
   gained = subst (λ (z : BucketValue). (z.points ≡ with_point p b.value.points)
-      × ((q : Pair) → counted z.points z.times q ≡ counted b.value.points b.value.times q + once p q)) (sym f)
-      (d.points, d.times);
+      × ((q : Pair) → counted z.points z.multiplicities q ≡ counted b.value.points b.value.multiplicities q + once p q)) (sym f)
+      (d.points, d.multiplicities);
 }
 changed_leaf false p b c v change f h d = record {
   once = d.held;
@@ -345,7 +345,7 @@ changed_leaf false p b c v change f h d = record {
 }
   where
     lost : (c.value.points ≡ without_point p b.value.points)
-        × ((q : Pair) → counted b.value.points b.value.times q ≡ counted c.value.points c.value.times q + once p q)
+        × ((q : Pair) → counted b.value.points b.value.multiplicities q ≡ counted c.value.points c.value.multiplicities q + once p q)
     lost = grind (arith, common_steps, without_point, counted, once)
 
 -- so a leaf changed, if its bucket did

@@ -8,7 +8,7 @@ use Rattle.lattice.specs.Covers.{IsPointSet, with_point, without_point}
 use Rattle.lattice.specs.Plane.{Pair, IsBefore}
 use Rattle.lattice.specs.Standing.{IsInnerToEdge, WithoutPoint}
 use Rattle.hull_geometry.specs.CandidateLists.{IsCandidateList}
-use Rattle.hull_set.proofs.Times.{same_or_other}
+use Rattle.hull_set.proofs.HeldMultiplicities.{same_or_other}
 use Rattle.lattice.specs.declared.side.Side.{Side}
 use Rattle.lattice.proofs.Order.{before_trans, before_irrefl, before_not, before_apart, after_apart}
 use Rattle.lattice.proofs.Standing.{stands}

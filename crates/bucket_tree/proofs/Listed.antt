@@ -8,8 +8,8 @@ use Rattle.std.proofs.lemmas.List.{take_more}
 use Rattle.std.proofs.lemmas.List.Sums.{sum_by-cons}
 use Rattle.lattice.specs.Plane.{Pair}
 use Rattle.lattice.specs.Covers.{IsPointSet}
-use Rattle.hull_set.proofs.Times.{same_held}
-use Rattle.leaf_trees.specs.Entries.{several, IsMultiplicity, AreEntries, points_listed, times_listed}
+use Rattle.hull_set.proofs.HeldMultiplicities.{same_held}
+use Rattle.leaf_trees.specs.Entries.{several, IsMultiplicity, AreEntries, points_listed, multiplicity_listed}
 use Rattle.leaf_trees.specs.Entries.{held_listed}
 use Rattle.bucket_tree.specs.Counts.{counted}
 use Rattle.bucket_tree.specs.Lists.{paired, numbers_listed}
@@ -76,12 +76,12 @@ paired_points (p ∷ ps) [] e = absurd (omega (arith, e))
 paired_points (p ∷ ps) (t ∷ ts) e = ap (λ (z : List Pair). p ∷ z) (paired_points ps ts (omega (arith, e)))
 
 -- the set that they list
-pub paired_times : (S : List Pair) (T : List ℕ) (q : Pair) → times_listed (paired S T) q ≡ counted S T q
-paired_times [] T q = refl
-paired_times (p ∷ ps) [] q = refl
-paired_times (p ∷ ps) (t ∷ ts) q =
+pub paired_multiplicity : (S : List Pair) (T : List ℕ) (q : Pair) → multiplicity_listed (paired S T) q ≡ counted S T q
+paired_multiplicity [] T q = refl
+paired_multiplicity (p ∷ ps) [] q = refl
+paired_multiplicity (p ∷ ps) (t ∷ ts) q =
     sum_by-cons (λ (e : Pair × ℕ). several e.1 e.0 q) (p, t) (paired ps ts)
-    ∙ ap (λ (n : ℕ). several t p q + n) (paired_times ps ts q)
+    ∙ ap (λ (n : ℕ). several t p q + n) (paired_multiplicity ps ts q)
 
 -- each with a multiplicity that a point may have
 pub paired_held : (S : List Pair) (T : List ℕ) → All IsMultiplicity T
@@ -121,6 +121,6 @@ module _ (S : List Pair) (T : List ℕ) (s : IsPointSet S) (e : length T ≡ len
 
   -- which list the same set as the two lists
   pub paired_hold : (f : Pair → ℕ) → ((q : Pair) → f q ≡ counted S T q)
-      → held_listed (paired S T) ≡ record { points = S; times = f }
-  paired_hold f g = same_held (points_listed (paired S T)) S (λ q. times_listed (paired S T) q) f (paired_points S T e)
-      (λ q. paired_times S T q ∙ sym (g q))
+      → held_listed (paired S T) ≡ record { points = S; multiplicities = f }
+  paired_hold f g = same_held (points_listed (paired S T)) S (λ q. multiplicity_listed (paired S T) q) f (paired_points S T e)
+      (λ q. paired_multiplicity S T q ∙ sym (g q))

@@ -18,7 +18,7 @@ use Rattle.hull_geometry.proofs.PointLists.{all_of, cut, only_member}
 use Rattle.hull_geometry.proofs.ChangedSets.{absent_between}
 use Rattle.hull_geometry.proofs.SetLaws.{members_without}
 use Rattle.hull_set.specs.Held.{once}
-use Rattle.hull_set.proofs.Times.{same_false, same_true}
+use Rattle.hull_set.proofs.HeldMultiplicities.{same_false, same_true}
 use Rattle.bucket_tree.specs.Counts.{counted}
 use Rattle.leaf_trees.specs.Entries.{several}
 use Rattle.bucket_tree.specs.Nodes.{AreNear, IsHeightOver}

@@ -15,8 +15,8 @@ use Rattle.hull_geometry.proofs.SetLaws.{ordered_with, ordered_without}
 use Rattle.hull_set.specs.declared.TheConstants.{POINT_LIMIT}
 use Rattle.leaf_trees.proofs.Rows.{with_left, with_right, with_length, without_left, without_right, without_short}
 use Rattle.bucket_tree.specs.Changes.{IsBridgeBetween, IsClearOf, IsUnaffectedOver, edge_on, is_affected}
-use Rattle.bucket_tree.specs.Counts.{times_at, Alters, HasLost, IsCounted, Kind, Comes, Goes, altered}
-use Rattle.bucket_tree.specs.Nodes.{points_below, times_below, node_height, AreInRow, IsWellBuilt}
+use Rattle.bucket_tree.specs.Counts.{multiplicity_at, Alters, HasLost, IsCounted, Kind, Comes, Goes, altered}
+use Rattle.bucket_tree.specs.Nodes.{points_below, multiplicities_below, node_height, AreInRow, IsWellBuilt}
 use Rattle.bucket_tree.specs.declared.node.Fork.{Fork as Below}
 use Rattle.bucket_tree.specs.declared.node.Node.{Node, Fork}
 use Rattle.bucket_tree.specs.declared.renewal.Affected.{Affected}
@@ -87,28 +87,28 @@ differs kind p n m s h =
 pub record IsAt (left : Bool) (p : Pair) (n l r : Node) : Type 0 where
   pub row : AreInRow l r
   pub points : points_below n ≡ points_below l ++ points_below r
-  pub times : times_below n ≡ times_below l ++ times_below r
+  pub multiplicities : multiplicities_below n ≡ multiplicities_below l ++ multiplicities_below r
   pub here : BelongsTo left p (first_of (points_below r))
 
 -- by the first point of the second subtree, as it is stored
 pub at : (left : Bool) (p : Pair) (n l r : Node) (first : Pair) → AreInRow l r
-    → points_below n ≡ points_below l ++ points_below r → times_below n ≡ times_below l ++ times_below r
+    → points_below n ≡ points_below l ++ points_below r → multiplicities_below n ≡ multiplicities_below l ++ multiplicities_below r
     → first ≡ first_of (points_below r) → BelongsTo left p first → IsAt left p n l r
-at left p n l r first row points times e b =
-    record { row = row; points = points; times = times; here = subst (BelongsTo left p) e b }
+at left p n l r first row points multiplicity e b =
+    record { row = row; points = points; multiplicities = multiplicity; here = subst (BelongsTo left p) e b }
 
 -- the multiplicity of p in the node is that in the subtree
-pub same_at : (left : Bool) (p : Pair) (n l r : Node) → IsAt left p n l r → times_at n p ≡ times_at (cond left l r) p
+pub same_at : (left : Bool) (p : Pair) (n l r : Node) → IsAt left p n l r → multiplicity_at n p ≡ multiplicity_at (cond left l r) p
 same_at true p n l r i =
-    let z = counted_none (points_below r) (times_below r) p
+    let z = counted_none (points_below r) (multiplicities_below r) p
     (All-weaker (IsBefore p) (λ t. ¬ (t ≡ p)) (λ t k. after_apart t p k) (points_below r)
     (all_after p (points_below l) (points_below r) i.row.in_order i.here)) in
-    omega (arith, held_row n l r p i.row.left_built.buckets i.points i.times, z)
+    omega (arith, held_row n l r p i.row.left_built.buckets i.points i.multiplicities, z)
 same_at false p n l r i =
-    let z = counted_none (points_below l) (times_below l) p
+    let z = counted_none (points_below l) (multiplicities_below l) p
     (All-weaker (λ t. IsBefore t p) (λ t. ¬ (t ≡ p)) (λ t k. before_apart t p k) (points_below l)
     (all_before p (points_below l) (points_below r) i.row.in_order (some_below r i.row.right_built.buckets) i.here)) in
-    omega (arith, held_row n l r p i.row.left_built.buckets i.points i.times, z)
+    omega (arith, held_row n l r p i.row.left_built.buckets i.points i.multiplicities, z)
 
 -- with the part changed the points of both are the node's, changed
 points_with : (left : Bool) (kind : Kind) (p : Pair) (n l r m : Node) → IsAt left p n l r
@@ -150,18 +150,18 @@ few_with left kind p n l r m i h space =
 -- and a node over both has changed as the part
 pub alters_with : (left : Bool) (kind : Kind) (p : Pair) (n l r m whole : Node) → IsAt left p n l r → IsWellBuilt m
     → points_below whole ≡ points_below (cond left m l) ++ points_below (cond left r m)
-    → times_below whole ≡ times_below (cond left m l) ++ times_below (cond left r m)
+    → multiplicities_below whole ≡ multiplicities_below (cond left m l) ++ multiplicities_below (cond left r m)
     → Alters kind p (cond left l r) m → Alters kind p n whole
 alters_with left kind p n l r m whole i w e f h =
     (e ∙ points_with left kind p n l r m i h, λ q. counts left e f h q)
   where
     counts : (left : Bool) → points_below whole ≡ points_below (cond left m l) ++ points_below (cond left r m)
-        → times_below whole ≡ times_below (cond left m l) ++ times_below (cond left r m)
-        → Alters kind p (cond left l r) m → (q : Pair) → IsCounted kind p q (times_at n q) (times_at whole q)
-    counts true e f h q = counted_beside kind p q (times_at l q) (times_at m q) (times_at r q) _ _ (h.1 q)
-        (held_row n l r q i.row.left_built.buckets i.points i.times) (held_row whole m r q w.buckets e f)
-    counts false e f h q = counted_beside kind p q (times_at r q) (times_at m q) (times_at l q) _ _ (h.1 q)
-        (omega (arith, held_row n l r q i.row.left_built.buckets i.points i.times))
+        → multiplicities_below whole ≡ multiplicities_below (cond left m l) ++ multiplicities_below (cond left r m)
+        → Alters kind p (cond left l r) m → (q : Pair) → IsCounted kind p q (multiplicity_at n q) (multiplicity_at whole q)
+    counts true e f h q = counted_beside kind p q (multiplicity_at l q) (multiplicity_at m q) (multiplicity_at r q) _ _ (h.1 q)
+        (held_row n l r q i.row.left_built.buckets i.points i.multiplicities) (held_row whole m r q w.buckets e f)
+    counts false e f h q = counted_beside kind p q (multiplicity_at r q) (multiplicity_at m q) (multiplicity_at l q) _ _ (h.1 q)
+        (omega (arith, held_row n l r q i.row.left_built.buckets i.points i.multiplicities))
         (omega (arith, held_row whole l m q i.row.left_built.buckets e f))
 
 -- if the subtree has lost its only point, the other one is the rest
@@ -173,7 +173,7 @@ lost_with_none true p n l r i h high = (
       ∙ altered_in true Goes p (points_below l) (points_below r) i.row.in_order
       (some_below r i.row.right_built.buckets) i.here
       ∙ ap (without_point p) (sym i.points),
-  λ q. omega (arith, held_row n l r q i.row.left_built.buckets i.points i.times, h.1 q),
+  λ q. omega (arith, held_row n l r q i.row.left_built.buckets i.points i.multiplicities, h.1 q),
   (omega (arith, high, h.2), omega (arith, high, h.2)),
 )
 lost_with_none false p n l r i h high = (
@@ -182,16 +182,16 @@ lost_with_none false p n l r i h high = (
       ∙ altered_in false Goes p (points_below l) (points_below r) i.row.in_order
       (some_below r i.row.right_built.buckets) i.here
       ∙ ap (without_point p) (sym i.points),
-  λ q. omega (arith, held_row n l r q i.row.left_built.buckets i.points i.times, h.1 q),
+  λ q. omega (arith, held_row n l r q i.row.left_built.buckets i.points i.multiplicities, h.1 q),
   (omega (arith, high, h.2), omega (arith, high, h.2)),
 )
 
 -- a fork has a point in the half in which it is
 pub count_in : (left : Bool) (n : Node) (h : ℕ) (f : Box Below _) (p : Pair) → n ≡ Fork h f → IsWellBuilt n
-    → BelongsTo left p f.value.right_first → times_at n p ≡ times_at (cond left f.value.left f.value.right) p
+    → BelongsTo left p f.value.right_first → multiplicity_at n p ≡ multiplicity_at (cond left f.value.left f.value.right) p
 count_in left n h f p e w b = same_at left p n f.value.left f.value.right
     (at left p n f.value.left f.value.right f.value.right_first (halves_row n h f e w) (ap points_below e)
-    (ap times_below e) (subst IsWellBuilt e w).labelled.1 b)
+    (ap multiplicities_below e) (subst IsWellBuilt e w).labelled.1 b)
 
 -- ---- bridges
 

@@ -17,11 +17,11 @@ use Rattle.hull_buckets.specs.Buckets.{BucketValue, mask_on}
 use Rattle.hull_buckets.specs.Slices.{width_of, left_slice, right_slice, end_of_slice, start_of_slice}
 use Rattle.hull_buckets.specs.Slices.{tree_by, tree_to, tree_of_slice, all_of}
 use Rattle.hull_buckets.specs.Masks.{lowest_of}
-use Rattle.bucket_tree.specs.Counts.{counted, times_at, IsSameButTimes, IsRecounted}
+use Rattle.bucket_tree.specs.Counts.{counted, multiplicity_at, IsSameButMultiplicities, IsRecounted}
 use Rattle.leaf_trees.specs.Entries.{several}
 use Rattle.bucket_tree.specs.declared.node.Fork.{Fork as Below}
 use Rattle.bucket_tree.specs.declared.node.Node.{Node, Leaf, Fork}
-use Rattle.bucket_tree.specs.Nodes.{tree_of, tree_of_bucket, points_below, times_below, node_height}
+use Rattle.bucket_tree.specs.Nodes.{tree_of, tree_of_bucket, points_below, multiplicities_below, node_height}
 use Rattle.bucket_tree.specs.Nodes.{AreInRow, IsWellBuilt}
 use Rattle.bucket_tree.proofs.BuiltLeaves.{leaf_built}
 use Rattle.bucket_tree.proofs.Gained.{held_row}
@@ -78,17 +78,17 @@ same_half a b p m =
     same_to a b p m (width_of (all_of a)) (all_of a) ∙ ap (tree_of_slice b) (rw (m Upper, m Lower) refl)
 
 -- so for a leaf
-pub recounted_leaf : (times : ℕ) (p : Pair) (n : Node) (b c : Box BucketValue _) (v : BucketValue) → n ≡ Leaf b
-    → c.value ≡ v → IsSameButTimes b.value v
-    → ((q : Pair) → counted v.points v.times q + several (counted b.value.points b.value.times p) p q
-    ≡ counted b.value.points b.value.times q + several times p q) → IsRecounted times p n (Leaf c)
-recounted_leaf times p n b c v e f h k = rw e (record {
+pub recounted_leaf : (multiplicity : ℕ) (p : Pair) (n : Node) (b c : Box BucketValue _) (v : BucketValue) → n ≡ Leaf b
+    → c.value ≡ v → IsSameButMultiplicities b.value v
+    → ((q : Pair) → counted v.points v.multiplicities q + several (counted b.value.points b.value.multiplicities p) p q
+    ≡ counted b.value.points b.value.multiplicities q + several multiplicity p q) → IsRecounted multiplicity p n (Leaf c)
+recounted_leaf multiplicity p n b c v e f h k = rw e (record {
   built = leaf_built c v f h.bucket;
   same_tree = ap tree_of_bucket f ∙ same_half v b.value h.points h.vertices;
   same_points = ap (λ (z : BucketValue). z.points) f ∙ h.points;
   same_height = refl;
-  held = λ q. ap (λ (z : BucketValue). counted z.points z.times q
-      + several (counted b.value.points b.value.times p) p q) f ∙ k q;
+  held = λ q. ap (λ (z : BucketValue). counted z.points z.multiplicities q
+      + several (counted b.value.points b.value.multiplicities p) p q) f ∙ k q;
 })
 
 -- ---- a fork
@@ -105,8 +105,8 @@ like_itself : (n : Node) → IsWellBuilt n → IsLike n n
 like_itself n w = record { built = w; tree = refl; points = refl; height = refl }
 
 -- a part that was recounted
-like_recounted : (times : ℕ) (p : Pair) (n m : Node) → IsRecounted times p n m → IsLike n m
-like_recounted times p n m r =
+like_recounted : (multiplicity : ℕ) (p : Pair) (n m : Node) → IsRecounted multiplicity p n m → IsLike n m
+like_recounted multiplicity p n m r =
     record { built = r.built; tree = r.same_tree; points = r.same_points; height = r.same_height }
 
 -- so a fork over both is like the one that was
@@ -146,13 +146,13 @@ fork_like n h f l r e w u v =
         ∙ ap (λ z. ForkTree f.value.upper f.value.lower (tree_of f.value.left) z) v.tree
 
 -- a point of one half, of a fork that is read through a reference
-pub recounted_in : (left : Bool) (times : ℕ) (p : Pair) (n : Node) (h : ℕ) (f : Box Below _) (v : Below) (k : Node)
+pub recounted_in : (left : Bool) (multiplicity : ℕ) (p : Pair) (n : Node) (h : ℕ) (f : Box Below _) (v : Below) (k : Node)
     → v ≡ f.value → n ≡ Fork h f → IsWellBuilt n → BelongsTo left p f.value.right_first
-    → IsRecounted times p (cond left v.left v.right) k
-    → IsRecounted times p n (Fork h (with_value f (with_part left v k)))
-recounted_in left times p n h f v k u e w b r =
-    subst (λ z. IsRecounted times p n (Fork h (with_value f (with_part left z k)))) (sym u)
-    (let s = subst (λ (z : Below). IsRecounted times p (cond left z.left z.right) k) u r in
+    → IsRecounted multiplicity p (cond left v.left v.right) k
+    → IsRecounted multiplicity p n (Fork h (with_value f (with_part left v k)))
+recounted_in left multiplicity p n h f v k u e w b r =
+    subst (λ z. IsRecounted multiplicity p n (Fork h (with_value f (with_part left z k)))) (sym u)
+    (let s = subst (λ (z : Below). IsRecounted multiplicity p (cond left z.left z.right) k) u r in
     let like = whole left s in
     record {
       built = like.built;
@@ -166,25 +166,25 @@ recounted_in left times p n h f v k u e w b r =
     row : AreInRow f.value.left f.value.right
     row = halves_row n h f e w
 
-    whole : (left : Bool) → IsRecounted times p (cond left f.value.left f.value.right) k
+    whole : (left : Bool) → IsRecounted multiplicity p (cond left f.value.left f.value.right) k
         → IsLike n (Fork h (with_value f (with_part left f.value k)))
-    whole true s = fork_like n h f k f.value.right e w (like_recounted times p f.value.left k s)
+    whole true s = fork_like n h f k f.value.right e w (like_recounted multiplicity p f.value.left k s)
         (like_itself f.value.right row.right_built)
     whole false s = fork_like n h f f.value.left k e w (like_itself f.value.left row.left_built)
-        (like_recounted times p f.value.right k s)
+        (like_recounted multiplicity p f.value.right k s)
 
-    all : (q : Pair) → times_at n q ≡ times_at f.value.left q + times_at f.value.right q
-    all q = held_row n f.value.left f.value.right q row.left_built.buckets (ap points_below e) (ap times_below e)
+    all : (q : Pair) → multiplicity_at n q ≡ multiplicity_at f.value.left q + multiplicity_at f.value.right q
+    all q = held_row n f.value.left f.value.right q row.left_built.buckets (ap points_below e) (ap multiplicities_below e)
 
-    counts : (left : Bool) → IsRecounted times p (cond left f.value.left f.value.right) k → (q : Pair)
-        → (other : ℕ) × (times_at (Fork h (with_value f (with_part left f.value k))) q ≡ times_at k q + other)
-        × (times_at n q ≡ times_at (cond left f.value.left f.value.right) q + other)
+    counts : (left : Bool) → IsRecounted multiplicity p (cond left f.value.left f.value.right) k → (q : Pair)
+        → (other : ℕ) × (multiplicity_at (Fork h (with_value f (with_part left f.value k))) q ≡ multiplicity_at k q + other)
+        × (multiplicity_at n q ≡ multiplicity_at (cond left f.value.left f.value.right) q + other)
     counts true s q = (
-      times_at f.value.right q,
+      multiplicity_at f.value.right q,
       held_row (Fork h (with_value f (with_part true f.value k))) k f.value.right q s.built.buckets refl refl,
       all q,
     )
     counts false s q =
         let b = held_row (Fork h (with_value f (with_part false f.value k))) f.value.left k q
         row.left_built.buckets refl refl in
-        (times_at f.value.left q, omega (arith, b), omega (arith, all q))
+        (multiplicity_at f.value.left q, omega (arith, b), omega (arith, all q))

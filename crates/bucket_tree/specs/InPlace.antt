@@ -10,7 +10,7 @@ use Rattle.bucket_tree.specs.declared.node.Node.{Node}
 use Rattle.bucket_tree.specs.declared.node.Fork.{Fork}
 use Rattle.bucket_tree.specs.declared.renewal.Affected.{Affected}
 use Rattle.bucket_tree.specs.Changes.{ClosesBy, IsBehindLeft, IsBehindRight, IsUnaffectedOver, IsRenewed}
-use Rattle.bucket_tree.specs.Counts.{counted, times_at, HasGained, HasLost}
+use Rattle.bucket_tree.specs.Counts.{counted, multiplicity_at, HasGained, HasLost}
 use Rattle.bucket_tree.specs.Nodes.{points_below, node_height, IsWellBuilt}
 use Rattle.bucket_tree.specs.Turns.{most_turns}
 
@@ -24,13 +24,13 @@ pub record IsInPlace (p : Pair) (n m : Node) (change : Changed) : Type 0 where
 
 -- p, which was not there, was added to the points below a node
 pub record HasPutIn (p : Pair) (n m : Node) (change : Changed) : Type 0 where
-  pub absent : times_at n p ≡ 0
+  pub absent : multiplicity_at n p ≡ 0
   pub in_place : IsInPlace p n m change
   pub gained : HasGained false p n m
 
 -- p, of multiplicity one, was removed from them, and others stay
 pub record HasTakenOut (p : Pair) (n m : Node) (change : Changed) : Type 0 where
-  pub once : times_at n p ≡ 1
+  pub once : multiplicity_at n p ≡ 1
   pub in_place : IsInPlace p n m change
   pub lost : HasLost p n (Some m)
 
@@ -51,16 +51,16 @@ pub record IsUnsearched (p : Pair) (new : BucketValue) (change : Changed) : Type
 
 -- p, which was not there, was added to a bucket
 pub record HasPutInto (p : Pair) (old new : BucketValue) (change : Changed) : Type 0 where
-  pub absent : counted old.points old.times p ≡ 0
+  pub absent : counted old.points old.multiplicities p ≡ 0
   pub points : new.points ≡ with_point p old.points
-  pub times : (q : Pair) → counted new.points new.times q ≡ counted old.points old.times q + once p q
+  pub multiplicities : (q : Pair) → counted new.points new.multiplicities q ≡ counted old.points old.multiplicities q + once p q
   pub unsearched : IsUnsearched p new change
 
 -- p, of multiplicity one, was removed from a bucket
 pub record HasTakenFrom (p : Pair) (old new : BucketValue) (change : Changed) : Type 0 where
-  pub held : counted old.points old.times p ≡ 1
+  pub held : counted old.points old.multiplicities p ≡ 1
   pub points : new.points ≡ without_point p old.points
-  pub times : (q : Pair) → counted old.points old.times q ≡ counted new.points new.times q + once p q
+  pub multiplicities : (q : Pair) → counted old.points old.multiplicities q ≡ counted new.points new.multiplicities q + once p q
   pub unsearched : IsUnsearched p new change
 
 -- one of the two

@@ -2,11 +2,11 @@
 use Rattle.std.specs.Prelude.{ℕ, List, [], ◌∷◌, map, Option, Some, None}
 use Rattle.lattice.specs.Plane.{Pair}
 use Rattle.bucket_tree.specs.declared.node.Node.{Node}
-use Rattle.bucket_tree.specs.Nodes.{points_below, times_below}
+use Rattle.bucket_tree.specs.Nodes.{points_below, multiplicities_below}
 
 -- each point with its number
 abbrev pub paired : List Pair → List ℕ → List (Pair × ℕ)
-paired [] times = []
+paired [] multiplicities = []
 paired (p ∷ ps) [] = []
 paired (p ∷ ps) (t ∷ ts) = (p, t) ∷ paired ps ts
 
@@ -16,7 +16,7 @@ numbers_listed entries = map (λ (e : Pair × ℕ). e.1) entries
 
 -- the points below a node in order, each with its multiplicity
 abbrev pub entries_below : Node → List (Pair × ℕ)
-entries_below n = paired (points_below n) (times_below n)
+entries_below n = paired (points_below n) (multiplicities_below n)
 
 -- the points of a whole tree
 abbrev pub entries_of_root : Option Node → List (Pair × ℕ)

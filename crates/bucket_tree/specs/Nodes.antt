@@ -32,10 +32,10 @@ points_below (Fork' height i right_first left right last_left upper lower) = poi
 points_below Taken = []
 
 -- the multiplicity of each of them
-abbrev pub times_below : Node → List ℕ
-times_below (Leaf b) = b.value.times
-times_below (Fork' height i right_first left right last_left upper lower) = times_below left ++ times_below right
-times_below Taken = []
+abbrev pub multiplicities_below : Node → List ℕ
+multiplicities_below (Leaf b) = b.value.multiplicities
+multiplicities_below (Fork' height i right_first left right last_left upper lower) = multiplicities_below left ++ multiplicities_below right
+multiplicities_below Taken = []
 
 -- the height of a node: the number of forks above its deepest bucket
 abbrev pub node_height : Node → ℕ

@@ -3,7 +3,7 @@ use Rattle.std.specs.Prelude.{ℕ, List, [], Option, Some, None}
 use Rattle.lattice.specs.Plane.{Pair}
 use Rattle.hull_set.specs.Held.{Held}
 use Rattle.bucket_tree.specs.declared.node.Node.{Node}
-use Rattle.bucket_tree.specs.Counts.{times_at}
+use Rattle.bucket_tree.specs.Counts.{multiplicity_at}
 use Rattle.bucket_tree.specs.Nodes.{IsWellBuilt, points_below, node_height}
 
 -- its points, in order
@@ -12,13 +12,13 @@ points_of_root None = []
 points_of_root (Some n) = points_below n
 
 -- the multiplicity of each point
-abbrev pub times_of_root : Option Node → Pair → ℕ
-times_of_root None = λ q. 0
-times_of_root (Some n) = times_at n
+abbrev pub multiplicity_of_root : Option Node → Pair → ℕ
+multiplicity_of_root None = λ q. 0
+multiplicity_of_root (Some n) = multiplicity_at n
 
 -- the set that it contains
 abbrev pub held_by : Option Node → Held
-held_by root = record { points = points_of_root root; times = times_of_root root }
+held_by root = record { points = points_of_root root; multiplicities = multiplicity_of_root root }
 
 -- it is nothing, or a well-built node
 abbrev pub IsWellBuiltRoot : Option Node → Type 0

@@ -3,12 +3,12 @@
 ghost use Rattle.std.specs.Prelude.{◌≡◌, ◌≤◌, ◌<◌, Bool, true, false, IfOk, IfErr, length};
 ghost use Rattle.hull_buckets.specs.Buckets.{IsBucket};
 ghost use Rattle.hull_set.specs.declared.TheConstants.{POINT_LIMIT};
-ghost use Rattle.bucket_tree.specs.Counts.{counted, times_at};
+ghost use Rattle.bucket_tree.specs.Counts.{counted, multiplicity_at};
 ghost use Rattle.bucket_tree.specs.InPlace.{AreFewFor, HasChanged, HasChangedIn, HasPutIn, HasTakenOut, IsRenewedAfter};
 ghost use Rattle.bucket_tree.specs.InPlace.{IsToRenew};
 ghost use Rattle.bucket_tree.specs.Nodes.{points_below, node_height, IsWellBuilt};
 
-use crate::find::times_of;
+use crate::find::find_multiplicity;
 use crate::insertion::{affected_at, put_at};
 use crate::node::{Fork, Node};
 use crate::removal::are_few;
@@ -24,7 +24,7 @@ trait InPlace {
     /// Changes a bucket if it can take the change. Otherwise leaves it unchanged, and returns the multiplicity of the point there.
     fn change(bucket: &mut Bucket, p: Point) -> Result<Changed, u16>
         ensures same { IfErr result (λ _. bucket.new ≡ bucket.old) }
-        ensures returned { IfErr result (λ times. times ≡ counted bucket.old.points bucket.old.times p) }
+        ensures returned { IfErr result (λ multiplicity. multiplicity ≡ counted bucket.old.points bucket.old.multiplicities p) }
         ensures bucket { IsBucket bucket.new }
         ensures change { IfOk result (HasChangedIn puts p bucket.old bucket.new) };
 
@@ -41,7 +41,7 @@ impl InPlace for Coming {
     fn change(bucket: &mut Bucket, p: Point) -> Result<Changed, u16> {
         buckets_are_sound(bucket);
         match bucket.place_of(p) {
-            Ok(place) => Err(bucket.times()[place]),
+            Ok(place) => Err(bucket.multiplicities()[place]),
             Err(place) => {
                 if bucket.is_full() {
                     return Err(0);
@@ -69,9 +69,9 @@ impl InPlace for Going {
         let Ok(place) = bucket.place_of(p) else {
             return Err(0);
         };
-        let times = bucket.times()[place];
-        if times != 1 || bucket.points().len() == 1 {
-            return Err(times);
+        let multiplicity = bucket.multiplicities()[place];
+        if multiplicity != 1 || bucket.points().len() == 1 {
+            return Err(multiplicity);
         }
         let sides = affected_at(bucket, place, p);
         bucket.remove(place);
@@ -122,10 +122,10 @@ fn change_in_place<C: InPlace>(node: &mut Node, p: Point) -> Result<Changed, u16
     requires low { node_height node.old ≤ 28 }
     ensures change { IfOk result (HasChanged C.puts p node.old node.new) }
     ensures same { IfErr result (λ _. node.new ≡ node.old) }
-    ensures returned { IfErr result (λ times. times ≡ times_at node.old p) }
+    ensures returned { IfErr result (λ multiplicity. multiplicity ≡ multiplicity_at node.old p) }
 {
     if C::merges(node) {
-        return Err(times_of(node, p));
+        return Err(find_multiplicity(node, p));
     }
     match node {
         Node::Leaf(bucket) => C::change(bucket, p),
@@ -133,12 +133,12 @@ fn change_in_place<C: InPlace>(node: &mut Node, p: Point) -> Result<Changed, u16
             if before(p, fork.right_first) {
                 match change_in_place::<C>(&mut fork.left, p) {
                     Ok(below) => Ok(after_left(fork, p, below)),
-                    Err(times) => Err(times),
+                    Err(multiplicity) => Err(multiplicity),
                 }
             } else {
                 match change_in_place::<C>(&mut fork.right, p) {
                     Ok(below) => Ok(after_right(fork, p, below)),
-                    Err(times) => Err(times),
+                    Err(multiplicity) => Err(multiplicity),
                 }
             }
         }
@@ -155,7 +155,7 @@ pub fn put_in_place(node: &mut Node, p: Point) -> Result<Changed, u16>
     requires low { node_height node.old ≤ 28 }
     ensures put { IfOk result (HasPutIn p node.old node.new) }
     ensures same { IfErr result (λ _. node.new ≡ node.old) }
-    ensures returned { IfErr result (λ times. times ≡ times_at node.old p) }
+    ensures returned { IfErr result (λ multiplicity. multiplicity ≡ multiplicity_at node.old p) }
 {
     change_in_place::<Coming>(node, p)
 }
@@ -169,7 +169,7 @@ pub fn take_in_place(node: &mut Node, p: Point) -> Result<Changed, u16>
     requires low { node_height node.old ≤ 28 }
     ensures taken { IfOk result (HasTakenOut p node.old node.new) }
     ensures same { IfErr result (λ _. node.new ≡ node.old) }
-    ensures returned { IfErr result (λ times. times ≡ times_at node.old p) }
+    ensures returned { IfErr result (λ multiplicity. multiplicity ≡ multiplicity_at node.old p) }
 {
     change_in_place::<Going>(node, p)
 }

@@ -50,8 +50,8 @@ pub(crate) fn put_at(bucket: &mut Bucket, place: usize, p: Point) -> Affected
     requires position { IsPositionOf bucket.old.points p (Err place) }
     requires space { length bucket.old.points < BUCKET_SIZE }
     ensures points { bucket.new.points ≡ with_point p bucket.old.points }
-    ensures times { (q : _) → counted bucket.new.points bucket.new.times q
-        ≡ counted bucket.old.points bucket.old.times q + once p q }
+    ensures multiplicities { (q : _) → counted bucket.new.points bucket.new.multiplicities q
+        ≡ counted bucket.old.points bucket.old.multiplicities q + once p q }
     ensures unaffected { IsUnaffectedOver p result bucket.new.points }
 {
     buckets_are_sound(bucket);
@@ -64,8 +64,8 @@ fn put(bucket: &mut Bucket, p: Point) -> Affected
     requires absent { ¬ Contains bucket.old.points p }
     requires space { length bucket.old.points < BUCKET_SIZE }
     ensures points { bucket.new.points ≡ with_point p bucket.old.points }
-    ensures times { (q : _) → counted bucket.new.points bucket.new.times q
-        ≡ counted bucket.old.points bucket.old.times q + once p q }
+    ensures multiplicities { (q : _) → counted bucket.new.points bucket.new.multiplicities q
+        ≡ counted bucket.old.points bucket.old.multiplicities q + once p q }
     ensures unaffected { IsUnaffectedOver p result bucket.new.points }
 {
     let Err(place) = bucket.place_of(p) else {
@@ -81,8 +81,8 @@ fn put_in_either(first: &mut Bucket, second: &mut Bucket, p: Point)
     requires first_space { length first.old.points < BUCKET_SIZE }
     requires second_space { length second.old.points < BUCKET_SIZE }
     ensures points { first.new.points ++ second.new.points ≡ with_point p (first.old.points ++ second.old.points) }
-    ensures times { (q : _) → counted (first.new.points ++ second.new.points) (first.new.times ++ second.new.times) q
-        ≡ counted (first.old.points ++ second.old.points) (first.old.times ++ second.old.times) q + once p q }
+    ensures multiplicities { (q : _) → counted (first.new.points ++ second.new.points) (first.new.multiplicities ++ second.new.multiplicities) q
+        ≡ counted (first.old.points ++ second.old.points) (first.old.multiplicities ++ second.old.multiplicities) q + once p q }
 {
     buckets_are_sound(first);
     buckets_are_sound(second);

@@ -6,7 +6,7 @@ ghost use Rattle.hull_geometry.specs.Positions.{first_of as first_in, last_of as
 ghost use Rattle.lattice.specs.declared.side.Side.{Side};
 ghost use Rattle.bucket_tree.specs.Changes.{IsBridgeBetween, edge_on};
 ghost use Rattle.hull_set.specs.declared.TheConstants.{POINT_LIMIT};
-ghost use Rattle.bucket_tree.specs.Nodes.{tree_of, points_below, times_below, node_height, AreNear, AreInRow};
+ghost use Rattle.bucket_tree.specs.Nodes.{tree_of, points_below, multiplicities_below, node_height, AreNear, AreInRow};
 ghost use Rattle.bucket_tree.specs.Nodes.{IsWellBuilt, IsHeightOver};
 
 use crate::node::{Fork, Node, first_of, height_of, last_of};
@@ -59,7 +59,7 @@ pub(crate) fn join(left: Node, right: Node, mut place: Box<Fork, Heap>) -> (Node
     requires low { max (node_height left) (node_height right) ≤ 28 }
     ensures built { IsWellBuilt result.0 }
     ensures points { points_below result.0 ≡ points_below left ++ points_below right }
-    ensures times { times_below result.0 ≡ times_below left ++ times_below right }
+    ensures multiplicities { multiplicities_below result.0 ≡ multiplicities_below left ++ multiplicities_below right }
     ensures height { node_height result.0 ≡ max (node_height left) (node_height right) + 1 }
     ensures turns { result.1 ≤ 4 * max (node_height left) (node_height right) + 24 }
 {
@@ -84,7 +84,7 @@ pub(crate) fn take_apart(node: Node) -> (Node, Node, Box<Fork, Heap>)
     ensures row { AreInRow result.0 result.1 }
     ensures near { AreNear (node_height result.0) (node_height result.1) }
     ensures points { points_below node ≡ points_below result.0 ++ points_below result.1 }
-    ensures times { times_below node ≡ times_below result.0 ++ times_below result.1 }
+    ensures multiplicities { multiplicities_below node ≡ multiplicities_below result.0 ++ multiplicities_below result.1 }
     ensures height { node_height node ≡ max (node_height result.0) (node_height result.1) + 1 }
     ensures split { result.2.value.right_first ≡ first_in (points_below result.1) }
     ensures last { result.2.value.last_left ≡ last_in (points_below result.0) }
@@ -107,7 +107,7 @@ pub(crate) fn rotate_right(left: Node, right: Node, place: Box<Fork, Heap>) -> (
     requires low { node_height left ≤ 28 }
     ensures built { IsWellBuilt result.0 }
     ensures points { points_below result.0 ≡ points_below left ++ points_below right }
-    ensures times { times_below result.0 ≡ times_below left ++ times_below right }
+    ensures multiplicities { multiplicities_below result.0 ≡ multiplicities_below left ++ multiplicities_below right }
     ensures height { IsHeightOver (node_height left) (node_height right) (node_height result.0) }
     ensures turns { result.1 ≤ 12 * node_height left + 72 }
 {
@@ -133,7 +133,7 @@ pub(crate) fn rotate_left(left: Node, right: Node, place: Box<Fork, Heap>) -> (N
     requires low { node_height right ≤ 28 }
     ensures built { IsWellBuilt result.0 }
     ensures points { points_below result.0 ≡ points_below left ++ points_below right }
-    ensures times { times_below result.0 ≡ times_below left ++ times_below right }
+    ensures multiplicities { multiplicities_below result.0 ≡ multiplicities_below left ++ multiplicities_below right }
     ensures height { IsHeightOver (node_height left) (node_height right) (node_height result.0) }
     ensures turns { result.1 ≤ 12 * node_height right + 72 }
 {

@@ -21,7 +21,7 @@ mod removal;
 mod renewal;
 mod tree;
 
-pub use find::times_of;
+pub use find::find_multiplicity;
 pub use fork_ref::ForkRef;
 pub use in_place::{put_in_place, take_in_place};
 pub use insertion::{Inserted, insert};

@@ -13,14 +13,14 @@ use leaf_trees::Bridge;
 use std::alloc::AllocError;
 
 /// Appends points, each with its number, to entries with capacity for them.
-fn push_all(points: &[Point], times: &[u16], entries: &mut Vec<(Point, u32), Heap>)
-    requires counted { length times.now ≡ length points.now }
+fn push_all(points: &[Point], multiplicities: &[u16], entries: &mut Vec<(Point, u32), Heap>)
+    requires counted { length multiplicities.now ≡ length points.now }
     requires space { vec_len entries.old + length points.now ≤ vec_capacity entries.old }
-    ensures entries { entries.new.items ≡ entries.old.items ++ paired points.now times.now }
+    ensures entries { entries.new.items ≡ entries.old.items ++ paired points.now multiplicities.now }
     ensures capacity { vec_capacity entries.new ≡ vec_capacity entries.old }
 {
     for i in 0..points.len() {
-        entries.push_reserved((points[i], u32::from(times[i])));
+        entries.push_reserved((points[i], u32::from(multiplicities[i])));
     }
 }
 
@@ -32,7 +32,7 @@ pub(crate) fn push_entries(node: &Node, entries: &mut Vec<(Point, u32), Heap>)
     ensures capacity { vec_capacity entries.new ≡ vec_capacity entries.old }
 {
     match node {
-        Node::Leaf(bucket) => push_all(bucket.points(), bucket.times(), entries),
+        Node::Leaf(bucket) => push_all(bucket.points(), bucket.multiplicities(), entries),
         Node::Fork(_, fork) => {
             push_entries(&fork.left, entries);
             push_entries(&fork.right, entries);
@@ -44,8 +44,8 @@ pub(crate) fn push_entries(node: &Node, entries: &mut Vec<(Point, u32), Heap>)
 /// Returns the index of the first point of a bucket that is not before `start`, or the number of its points.
 fn first_from(bucket: &Bucket, start: Point) -> usize
     ensures within { result ≤ length bucket.now.points }
-    ensures from { entries_from start (paired bucket.now.points bucket.now.times)
-        ≡ drop result (paired bucket.now.points bucket.now.times) }
+    ensures from { entries_from start (paired bucket.now.points bucket.now.multiplicities)
+        ≡ drop result (paired bucket.now.points bucket.now.multiplicities) }
 {
     buckets_are_sound(bucket);
     match bucket.place_of(start) {
@@ -64,16 +64,16 @@ fn push_bucket_from(
     requires few { vec_len entries.old ≤ most }
     requires space { most ≤ vec_capacity entries.old }
     ensures entries { entries.new.items
-        ≡ take most (entries.old.items ++ entries_from start (paired bucket.now.points bucket.now.times)) }
+        ≡ take most (entries.old.items ++ entries_from start (paired bucket.now.points bucket.now.multiplicities)) }
     ensures capacity { vec_capacity entries.new ≡ vec_capacity entries.old }
 {
     buckets_are_sound(bucket);
-    let (points, times) = (bucket.points(), bucket.times());
+    let (points, multiplicities) = (bucket.points(), bucket.multiplicities());
     let first = first_from(bucket, start);
     let count = (points.len() - first).min(most - entries.len());
     push_all(
         &points[first..first + count],
-        &times[first..first + count],
+        &multiplicities[first..first + count],
         entries,
     );
 }

@@ -4,8 +4,8 @@ ghost use Rattle.hull_geometry.specs.Monotone.{IsInwards};
 ghost use Rattle.hull_set.specs.declared.TheConstants.{POINT_LIMIT};
 ghost use Rattle.lattice.specs.declared.side.Side.{Side};
 ghost use Rattle.bucket_tree.specs.Changes.{IsBehind, IsUnaffectedOver, ClosesBy, is_affected};
-ghost use Rattle.bucket_tree.specs.Counts.{times_at, HasLost};
-ghost use Rattle.bucket_tree.specs.Nodes.{points_below, times_below, node_height, AreInRow, IsHeightOver, IsWellBuilt};
+ghost use Rattle.bucket_tree.specs.Counts.{multiplicity_at, HasLost};
+ghost use Rattle.bucket_tree.specs.Nodes.{points_below, multiplicities_below, node_height, AreInRow, IsHeightOver, IsWellBuilt};
 ghost use Rattle.bucket_tree.specs.Turns.{most_turns};
 ghost use Rattle.bucket_tree.specs.declared.node.Node.{Leaf};
 
@@ -35,7 +35,7 @@ pub struct Removed {
 /// Removes a point of multiplicity one from a bucket: nothing is left if it was the only one.
 fn remove_leaf(mut bucket: Box<Bucket, Heap>, p: Point) -> Removed
     requires built { IsWellBuilt (Leaf bucket) }
-    requires held { times_at (Leaf bucket) p ≡ 1 }
+    requires held { multiplicity_at (Leaf bucket) p ≡ 1 }
     ensures lost { HasLost p (Leaf bucket) result.rest }
     ensures unaffected { IfSome result.rest (λ n. IsUnaffectedOver p result.sides (points_below n)) }
     ensures turns { result.turns ≡ 0 }
@@ -96,7 +96,7 @@ fn merge(left: Node, right: Node, place: Box<Fork, Heap>, p: Point, sides: Affec
     requires behind { IsBehind p sides left right place.value }
     ensures built { IsWellBuilt result.node }
     ensures points { points_below result.node ≡ points_below left ++ points_below right }
-    ensures times { times_below result.node ≡ times_below left ++ times_below right }
+    ensures multiplicities { multiplicities_below result.node ≡ multiplicities_below left ++ multiplicities_below right }
     ensures height { node_height result.node ≡ 0 }
     ensures turns { result.turns ≡ 0 }
     ensures closes { ClosesBy p sides result.sides (points_below left ++ points_below right) }
@@ -133,7 +133,7 @@ fn prepare(
     requires low { max (node_height left) (node_height right) ≤ 28 }
     ensures built { IsWellBuilt result.node }
     ensures points { points_below result.node ≡ points_below left ++ points_below right }
-    ensures times { times_below result.node ≡ times_below left ++ times_below right }
+    ensures multiplicities { multiplicities_below result.node ≡ multiplicities_below left ++ multiplicities_below right }
     ensures height { IsHeightOver (node_height left) (node_height right) (node_height result.node)
         ⊎ ((height ≡ 1) × (node_height result.node ≡ 0)) }
     ensures turns { result.turns ≤ 12 * max (node_height left) (node_height right) + 72 }
@@ -164,7 +164,7 @@ fn other_part(part: Node, turns: u32) -> Removed
 /// Removes a point of multiplicity one from below a node. Allocates no memory.
 pub fn remove(node: Node, p: Point) -> Removed
     requires built { IsWellBuilt node }
-    requires held { times_at node p ≡ 1 }
+    requires held { multiplicity_at node p ≡ 1 }
     requires few { length (points_below node) ≤ POINT_LIMIT }
     requires low { node_height node ≤ 28 }
     ensures lost { HasLost p node result.rest }

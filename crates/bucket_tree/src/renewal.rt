@@ -9,7 +9,7 @@ ghost use Rattle.hull_geometry.specs.Positions.{first_of as first_in, last_of as
 ghost use Rattle.hull_set.specs.declared.TheConstants.{POINT_LIMIT};
 ghost use Rattle.lattice.specs.Plane.{IsBefore};
 ghost use Rattle.bucket_tree.specs.Changes.{IsBehind, IsBridgeBetween, IsClearOf, IsRenewed, IsSameBut, ReturnsOf, ClosesBy, edge_on};
-ghost use Rattle.bucket_tree.specs.Nodes.{tree_of, points_below, times_below, node_height, AreInRow, IsWellBuilt};
+ghost use Rattle.bucket_tree.specs.Nodes.{tree_of, points_below, multiplicities_below, node_height, AreInRow, IsWellBuilt};
 ghost use Rattle.bucket_tree.specs.Nodes.{AreNear, HasBuckets};
 ghost use Rattle.bucket_tree.specs.Nodes.{IsHeightOver};
 
@@ -163,7 +163,7 @@ fn renew(left: Node, right: Node, mut place: Box<Fork, Heap>, p: Point, sides: A
     requires low { max (node_height left) (node_height right) ≤ 28 }
     ensures built { IsWellBuilt result.node }
     ensures points { points_below result.node ≡ points_below left ++ points_below right }
-    ensures times { times_below result.node ≡ times_below left ++ times_below right }
+    ensures multiplicities { multiplicities_below result.node ≡ multiplicities_below left ++ multiplicities_below right }
     ensures height { node_height result.node ≡ max (node_height left) (node_height right) + 1 }
     ensures turns { result.turns ≤ 4 * max (node_height left) (node_height right) + 24 }
     ensures closes { ClosesBy p sides result.sides (points_below left ++ points_below right) }
@@ -196,7 +196,7 @@ pub(crate) fn balance(
     requires low { max (node_height left) (node_height right) ≤ 28 }
     ensures built { IsWellBuilt result.node }
     ensures points { points_below result.node ≡ points_below left ++ points_below right }
-    ensures times { times_below result.node ≡ times_below left ++ times_below right }
+    ensures multiplicities { multiplicities_below result.node ≡ multiplicities_below left ++ multiplicities_below right }
     ensures height { IsHeightOver (node_height left) (node_height right) (node_height result.node) }
     ensures turns { result.turns ≤ 12 * max (node_height left) (node_height right) + 72 }
     ensures closes { ClosesBy p sides result.sides (points_below left ++ points_below right) }

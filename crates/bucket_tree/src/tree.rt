@@ -9,10 +9,10 @@ ghost use Rattle.hull_set.specs.Replies.{Answers, after, reply_to_add, reply_to_
 ghost use Rattle.leaf_trees.specs.Entries.{several, IsMultiplicity};
 ghost use Rattle.bucket_tree.specs.Levels.{bridges_at};
 ghost use Rattle.bucket_tree.specs.Lists.{entries_of_root};
-ghost use Rattle.bucket_tree.specs.Roots.{held_by, points_of_root, times_of_root};
+ghost use Rattle.bucket_tree.specs.Roots.{held_by, points_of_root, multiplicity_of_root};
 ghost use Rattle.bucket_tree.specs.Sets.{LimitedTree, IsSound};
 
-use crate::find::times_of;
+use crate::find::find_multiplicity;
 use crate::in_place::{put_in_place, take_in_place};
 use crate::insertion::insert;
 use crate::listing::{push_entries, push_from, push_level};
@@ -85,13 +85,13 @@ impl BucketTree {
     }
 
     /// Returns the multiplicity of a point.
-    fn times(&self, p: Point) -> u32
-        ensures times { result ≡ times_of_root self.now.root p }
+    fn multiplicity(&self, p: Point) -> u32
+        ensures multiplicities { result ≡ multiplicity_of_root self.now.root p }
         ensures few { result ≤ MULTIPLICITY_LIMIT }
     {
         match &self.root {
             None => 0,
-            Some(root) => u32::from(times_of(root, p)),
+            Some(root) => u32::from(find_multiplicity(root, p)),
         }
     }
 
@@ -104,30 +104,30 @@ impl BucketTree {
     }
 
     /// Sets the multiplicity of a point of the set.
-    fn set_times(&mut self, p: Point, times: u32)
-        requires live { 1 ≤ times_of_root self.old.root p }
-        requires held { IsMultiplicity times }
+    fn set_multiplicity(&mut self, p: Point, multiplicity: u32)
+        requires live { 1 ≤ multiplicity_of_root self.old.root p }
+        requires held { IsMultiplicity multiplicity }
         ensures points { points_of_root self.new.root ≡ points_of_root self.old.root }
-        ensures times { (q : Pair) → times_of_root self.new.root q + several (times_of_root self.old.root p) p q
-            ≡ times_of_root self.old.root q + several times p q }
+        ensures multiplicities { (q : Pair) → multiplicity_of_root self.new.root q + several (multiplicity_of_root self.old.root p) p q
+            ≡ multiplicity_of_root self.old.root q + several multiplicity p q }
         ensures same_limit { self.new.limit ≡ self.old.limit }
     {
         let Some(root) = &mut self.root else {
             unreachable!()
         };
-        recount(root, p, times as u16);
+        recount(root, p, multiplicity as u16);
     }
 
     /// Adds a new point if its bucket has capacity left, and returns how many turns the searches took. Otherwise leaves all unchanged, and returns
     /// the multiplicity of the point.
     fn put_where_space(&mut self, p: Point) -> Result<u32, u32>
         requires space { length (points_of_root self.old.root) < self.old.limit }
-        ensures absent { IfOk result (λ _. times_of_root self.old.root p ≡ 0) }
+        ensures absent { IfOk result (λ _. multiplicity_of_root self.old.root p ≡ 0) }
         ensures new { IfOk result (λ _. held_by self.new.root ≡ with_new p (held_by self.old.root)) }
         ensures few { IfOk result (λ turns. turns ≤ 10000) }
         ensures same { IfErr result (λ _. self.new ≡ self.old) }
-        ensures returned { IfErr result (λ times. times ≡ times_of_root self.old.root p) }
-        ensures least { IfErr result (λ times. times ≤ MULTIPLICITY_LIMIT) }
+        ensures returned { IfErr result (λ multiplicity. multiplicity ≡ multiplicity_of_root self.old.root p) }
+        ensures least { IfErr result (λ multiplicity. multiplicity ≤ MULTIPLICITY_LIMIT) }
         ensures same_limit { self.new.limit ≡ self.old.limit }
     {
         let Some(root) = &mut self.root else {
@@ -138,14 +138,14 @@ impl BucketTree {
                 self.count += 1;
                 Ok(change.turns)
             }
-            Err(times) => Err(u32::from(times)),
+            Err(multiplicity) => Err(u32::from(multiplicity)),
         }
     }
 
     /// Adds a new point, for which the set has capacity: the first one, or one whose bucket has to be split. Returns how many turns the searches
     /// took. Fails with that number if memory was refused, which leaves all unchanged.
     fn put_in(&mut self, p: Point) -> Result<u32, u32>
-        requires absent { times_of_root self.old.root p ≡ 0 }
+        requires absent { multiplicity_of_root self.old.root p ≡ 0 }
         requires space { length (points_of_root self.old.root) < self.old.limit }
         ensures new { IfOk result (λ _. held_by self.new.root ≡ with_new p (held_by self.old.root)) }
         ensures refused { IfErr result (λ _. held_by self.new.root ≡ held_by self.old.root) }
@@ -172,12 +172,12 @@ impl BucketTree {
     /// Removes a point of multiplicity one if no subtree has to move, and returns how many turns the searches took. Otherwise leaves all unchanged,
     /// and returns the multiplicity of the point.
     fn take_where_others(&mut self, p: Point) -> Result<u32, u32>
-        ensures once { IfOk result (λ _. times_of_root self.old.root p ≡ 1) }
+        ensures once { IfOk result (λ _. multiplicity_of_root self.old.root p ≡ 1) }
         ensures without { IfOk result (λ _. held_by self.new.root ≡ with_none p (held_by self.old.root)) }
         ensures few { IfOk result (λ turns. turns ≤ 10000) }
         ensures same { IfErr result (λ _. self.new ≡ self.old) }
-        ensures returned { IfErr result (λ times. times ≡ times_of_root self.old.root p) }
-        ensures least { IfErr result (λ times. times ≤ MULTIPLICITY_LIMIT) }
+        ensures returned { IfErr result (λ multiplicity. multiplicity ≡ multiplicity_of_root self.old.root p) }
+        ensures least { IfErr result (λ multiplicity. multiplicity ≤ MULTIPLICITY_LIMIT) }
         ensures same_limit { self.new.limit ≡ self.old.limit }
     {
         let Some(root) = &mut self.root else {
@@ -188,13 +188,13 @@ impl BucketTree {
                 self.count -= 1;
                 Ok(change.turns)
             }
-            Err(times) => Err(u32::from(times)),
+            Err(multiplicity) => Err(u32::from(multiplicity)),
         }
     }
 
     /// Removes a point of multiplicity one, and returns how many turns the searches took.
     fn remove_point(&mut self, p: Point) -> u32
-        requires { times_of_root self.old.root p ≡ 1 }
+        requires { multiplicity_of_root self.old.root p ≡ 1 }
         ensures without { held_by self.new.root ≡ with_none p (held_by self.old.root) }
         ensures same_limit { self.new.limit ≡ self.old.limit }
         ensures few { result ≤ 10000 }
@@ -208,21 +208,21 @@ impl BucketTree {
         removed.turns
     }
 
-    /// Raises the multiplicity `times` of a point by one; a point that is not in the set finds it full.
-    fn count_up(&mut self, p: Point, times: u32) -> AddReply
-        requires returned { times ≡ times_of_root self.old.root p }
-        requires few { times ≤ MULTIPLICITY_LIMIT }
-        requires space { times ≡ 0 → length (points_of_root self.old.root) ≡ self.old.limit }
+    /// Raises the multiplicity `multiplicity` of a point by one; a point that is not in the set finds it full.
+    fn count_up(&mut self, p: Point, multiplicity: u32) -> AddReply
+        requires returned { multiplicity ≡ multiplicity_of_root self.old.root p }
+        requires few { multiplicity ≤ MULTIPLICITY_LIMIT }
+        requires space { multiplicity ≡ 0 → length (points_of_root self.old.root) ≡ self.old.limit }
         ensures reply { Answers Rules.Counted (held_by self.old.root) self.old.limit (Call.Add p) (reply_to_add result) }
         ensures effect { held_by self.new.root ≡ after (held_by self.old.root) (Call.Add p) (reply_to_add result) }
         ensures same_limit { self.new.limit ≡ self.old.limit }
     {
         bucket_trees_are_sound(self);
-        if times == 0 || times == MULTIPLICITY_LIMIT {
+        if multiplicity == 0 || multiplicity == MULTIPLICITY_LIMIT {
             return AddReply::TooMany;
         }
-        self.set_times(p, times + 1);
-        AddReply::Again(times + 1)
+        self.set_multiplicity(p, multiplicity + 1);
+        AddReply::Again(multiplicity + 1)
     }
 
     /// Adds `p` once; see [`add_counted`](BucketTree::add_counted).
@@ -232,20 +232,20 @@ impl BucketTree {
         ensures effect { held_by self.new.root ≡ after (held_by self.old.root) (Call.Add p) (reply_to_add result.0) }
         ensures same_limit { self.new.limit ≡ self.old.limit }
         ensures few { result.1 ≤ 10000 }
-        ensures again { (times : ℕ) → result.0 ≡ AddReply.Again times → result.1 ≡ 0 }
+        ensures again { (multiplicity : ℕ) → result.0 ≡ AddReply.Again multiplicity → result.1 ≡ 0 }
         ensures too_many { result.0 ≡ AddReply.TooMany → result.1 ≡ 0 }
     {
         bucket_trees_are_sound(self);
         if self.is_full() {
-            let times = self.times(p);
-            return (self.count_up(p, times), 0);
+            let multiplicity = self.multiplicities(p);
+            return (self.count_up(p, multiplicity), 0);
         }
-        let times = match self.put_where_space(p) {
+        let multiplicity = match self.put_where_space(p) {
             Ok(turns) => return (AddReply::Added, turns),
-            Err(times) => times,
+            Err(multiplicity) => multiplicity,
         };
-        if times > 0 {
-            return (self.count_up(p, times), 0);
+        if multiplicity > 0 {
+            return (self.count_up(p, multiplicity), 0);
         }
         match self.put_in(p) {
             Ok(turns) => (AddReply::Added, turns),
@@ -264,16 +264,16 @@ impl BucketTree {
         ensures none { result.0 ≢ RemoveReply.Removed → result.1 ≡ 0 }
     {
         bucket_trees_are_sound(self);
-        let times = match self.take_where_others(p) {
+        let multiplicity = match self.take_where_others(p) {
             Ok(turns) => return (RemoveReply::Removed, turns),
-            Err(times) => times,
+            Err(multiplicity) => multiplicity,
         };
-        if times == 0 {
+        if multiplicity == 0 {
             return (RemoveReply::Absent, 0);
         }
-        if times > 1 {
-            self.set_times(p, times - 1);
-            return (RemoveReply::Left(times - 1), 0);
+        if multiplicity > 1 {
+            self.set_multiplicity(p, multiplicity - 1);
+            return (RemoveReply::Left(multiplicity - 1), 0);
         }
         (RemoveReply::Removed, self.remove_point(p))
     }
@@ -288,7 +288,7 @@ impl BucketTree {
         ensures same_limit { self.new.limit ≡ self.old.limit }
         ensures sound { IsSound self.new.root }
         ensures few { result.1 ≤ 10000 }
-        ensures again { (times : ℕ) → result.0 ≡ AddReply.Again times → result.1 ≡ 0 }
+        ensures again { (multiplicity : ℕ) → result.0 ≡ AddReply.Again multiplicity → result.1 ≡ 0 }
         ensures too_many { result.0 ≡ AddReply.TooMany → result.1 ≡ 0 }
     {
         let answer = self.hold_more(p);
@@ -334,7 +334,7 @@ impl HullSet for BucketTree {
 
     fn multiplicity(&self, p: Point) -> u32 {
         bucket_trees_are_sound(self);
-        self.times(p)
+        self.multiplicities(p)
     }
 
     fn add(&mut self, p: Point) -> AddReply {

@@ -80,19 +80,19 @@ on_both b m n Upper = n
 -- what makes a bucket
 pub made : (P : List Pair) (T : List ℕ) (lower upper : ℕ) → 0 < length P → length P ≤ BUCKET_SIZE → IsPointSet P
     → length T ≡ length P → All IsMultiplicity T → IsMaskOf Lower P lower → IsMaskOf Upper P upper
-    → IsBucket (record { points = P; times = T; lower = lower; upper = upper })
+    → IsBucket (record { points = P; multiplicities = T; lower = lower; upper = upper })
 made P T lower upper some few s counted held m n = grind (arith, common_steps, some, on_both)
 
 -- the multiplicity of one point changed
-pub held_anew : (b : BucketValue) (T : List ℕ) (i times : ℕ) → IsBucket b → IsMultiplicity times
-    → T ≡ slice_set b.times i times
-    → IsBucket (record { points = b.points; times = T; lower = b.lower; upper = b.upper })
-held_anew b T i times k held e = record {
+pub held_anew : (b : BucketValue) (T : List ℕ) (i multiplicity : ℕ) → IsBucket b → IsMultiplicity multiplicity
+    → T ≡ slice_set b.multiplicities i multiplicity
+    → IsBucket (record { points = b.points; multiplicities = T; lower = b.lower; upper = b.upper })
+held_anew b T i multiplicity k held e = record {
   some = k.some;
   few = k.few;
   ordered = k.ordered;
-  counted = ap (λ (z : List ℕ). length z) e ∙ length-set b.times i times ∙ k.counted;
-  held = subst (All IsMultiplicity) (sym e) (All-set IsMultiplicity b.times i times held k.held);
+  counted = ap (λ (z : List ℕ). length z) e ∙ length-set b.multiplicities i multiplicity ∙ k.counted;
+  held = subst (All IsMultiplicity) (sym e) (All-set IsMultiplicity b.multiplicities i multiplicity held k.held);
   vertices = on_both _ (k.vertices Lower) (k.vertices Upper);
 }
 
@@ -115,19 +115,19 @@ grown_mask side S P p i mask at e m =
     subst (λ (z : List Pair). IsMaskOf side z mask) (sym (ap (without_place i) e ∙ insert_undone S p i at.0)) m
 
 -- the bucket is one
-pub grown : (b : BucketValue) (P : List Pair) (T : List ℕ) (p : Pair) (i times lower upper : ℕ) → IsBucket b
-    → IsPositionOf b.points p (Err i) → length b.points < BUCKET_SIZE → IsMultiplicity times → P ≡ insert b.points i p
-    → T ≡ insert b.times i times → IsMaskOf Lower P lower → IsMaskOf Upper P upper
-    → IsBucket (record { points = P; times = T; lower = lower; upper = upper })
-grown b P T p i times lower upper k at space held e f m n = record {
+pub grown : (b : BucketValue) (P : List Pair) (T : List ℕ) (p : Pair) (i multiplicity lower upper : ℕ) → IsBucket b
+    → IsPositionOf b.points p (Err i) → length b.points < BUCKET_SIZE → IsMultiplicity multiplicity → P ≡ insert b.points i p
+    → T ≡ insert b.multiplicities i multiplicity → IsMaskOf Lower P lower → IsMaskOf Upper P upper
+    → IsBucket (record { points = P; multiplicities = T; lower = lower; upper = upper })
+grown b P T p i multiplicity lower upper k at space held e f m n = record {
   some = omega (arith, count);
   few = omega (arith, count, space);
   ordered = grown_set b.points P p i k.ordered at e;
   counted = ap (λ (z : List ℕ). length z) f
-      ∙ (let a = length-insert b.times i times (omega (arith, k.counted, at.0)) in omega (arith, a, count, k.counted));
+      ∙ (let a = length-insert b.multiplicities i multiplicity (omega (arith, k.counted, at.0)) in omega (arith, a, count, k.counted));
   held = subst (All IsMultiplicity) (sym f)
-      (All-append IsMultiplicity (take i b.times) (times ∷ drop i b.times) (All-take IsMultiplicity i b.times k.held)
-      (All-cons IsMultiplicity times (drop i b.times) held (All-drop IsMultiplicity i b.times k.held)));
+      (All-append IsMultiplicity (take i b.multiplicities) (multiplicity ∷ drop i b.multiplicities) (All-take IsMultiplicity i b.multiplicities k.held)
+      (All-cons IsMultiplicity multiplicity (drop i b.multiplicities) held (All-drop IsMultiplicity i b.multiplicities k.held)));
   vertices = on_both _ m n;
 }
   where
@@ -148,18 +148,18 @@ shrunk_points S P i s l e = e ∙ removed S i ∙ taken_away S i s l
 
 -- the bucket is one
 pub shrunk : (b : BucketValue) (P : List Pair) (T : List ℕ) (i lower upper : ℕ) → IsBucket b → i < length b.points
-    → 1 < length b.points → P ≡ remove b.points i → T ≡ remove b.times i → IsMaskOf Lower P lower
+    → 1 < length b.points → P ≡ remove b.points i → T ≡ remove b.multiplicities i → IsMaskOf Lower P lower
     → IsMaskOf Upper P upper
-    → IsBucket (record { points = P; times = T; lower = lower; upper = upper })
+    → IsBucket (record { points = P; multiplicities = T; lower = lower; upper = upper })
 shrunk b P T i lower upper k l others e f m n = record {
   some = omega (arith, count, others);
   few = omega (arith, count, k.few);
   ordered = subst IsPointSet (sym (e ∙ removed b.points i)) (others_set b.points i k.ordered l);
   counted = ap (λ (z : List ℕ). length z) f
-      ∙ (let a = length-remove b.times i (omega (arith, k.counted, l)) in omega (arith, a, count, k.counted));
+      ∙ (let a = length-remove b.multiplicities i (omega (arith, k.counted, l)) in omega (arith, a, count, k.counted));
   held = subst (All IsMultiplicity) (sym f)
-      (All-append IsMultiplicity (take i b.times) (drop (suc i) b.times) (All-take IsMultiplicity i b.times k.held)
-      (All-drop IsMultiplicity (suc i) b.times k.held));
+      (All-append IsMultiplicity (take i b.multiplicities) (drop (suc i) b.multiplicities) (All-take IsMultiplicity i b.multiplicities k.held)
+      (All-drop IsMultiplicity (suc i) b.multiplicities k.held));
   vertices = on_both _ m n;
 }
   where
@@ -192,16 +192,16 @@ merged_set a more P k s order e =
     subst IsPointSet (sym e) (set_append a.points more k.ordered s (λ t u m n. order t u m n))
 
 -- a bucket and points after it
-pub merged : (a : BucketValue) (more P : List Pair) (more_times T : List ℕ) (lower upper : ℕ) → IsBucket a
-    → IsPointSet more → length more_times ≡ length more → All IsMultiplicity more_times
+pub merged : (a : BucketValue) (more P : List Pair) (more_multiplicities T : List ℕ) (lower upper : ℕ) → IsBucket a
+    → IsPointSet more → length more_multiplicities ≡ length more → All IsMultiplicity more_multiplicities
     → IsAllBefore (Contains a.points) (Contains more) → length a.points + length more ≤ BUCKET_SIZE
-    → P ≡ a.points ++ more → T ≡ a.times ++ more_times → IsMaskOf Lower P lower → IsMaskOf Upper P upper
-    → IsBucket (record { points = P; times = T; lower = lower; upper = upper })
-merged a more P more_times T lower upper k s counted held order space e f m n =
+    → P ≡ a.points ++ more → T ≡ a.multiplicities ++ more_multiplicities → IsMaskOf Lower P lower → IsMaskOf Upper P upper
+    → IsBucket (record { points = P; multiplicities = T; lower = lower; upper = upper })
+merged a more P more_multiplicities T lower upper k s counted held order space e f m n =
     made P T lower upper (omega (arith, count, k.some)) (omega (arith, count, space)) (merged_set a more P k s order e)
     (ap (λ (z : List ℕ). length z) f
-    ∙ (let t = length-append a.times more_times in omega (arith, t, count, k.counted, counted)))
-    (subst (All IsMultiplicity) (sym f) (All-append IsMultiplicity a.times more_times k.held held)) m n
+    ∙ (let t = length-append a.multiplicities more_multiplicities in omega (arith, t, count, k.counted, counted)))
+    (subst (All IsMultiplicity) (sym f) (All-append IsMultiplicity a.multiplicities more_multiplicities k.held held)) m n
   where
     count : length P ≡ length a.points + length more
     count = ap (λ (z : List Pair). length z) e ∙ length-append a.points more
@@ -215,13 +215,13 @@ cut_set b P len k within e =
 
 -- the first points of a bucket
 pub cut_short : (b : BucketValue) (P : List Pair) (T : List ℕ) (len lower upper : ℕ) → IsBucket b → 0 < len
-    → len ≤ length b.points → P ≡ take len b.points → T ≡ take len b.times → IsMaskOf Lower P lower
-    → IsMaskOf Upper P upper → IsBucket (record { points = P; times = T; lower = lower; upper = upper })
+    → len ≤ length b.points → P ≡ take len b.points → T ≡ take len b.multiplicities → IsMaskOf Lower P lower
+    → IsMaskOf Upper P upper → IsBucket (record { points = P; multiplicities = T; lower = lower; upper = upper })
 cut_short b P T len lower upper k some within e f m n =
     made P T lower upper (omega (arith, count, some)) (omega (arith, count, within, k.few)) (cut_set b P len k within e)
     (ap (λ (z : List ℕ). length z) f
-    ∙ (let t = length-take-le len b.times (omega (arith, within, k.counted)) in omega (arith, t, count)))
-    (subst (All IsMultiplicity) (sym f) (All-take IsMultiplicity len b.times k.held)) m n
+    ∙ (let t = length-take-le len b.multiplicities (omega (arith, within, k.counted)) in omega (arith, t, count)))
+    (subst (All IsMultiplicity) (sym f) (All-take IsMultiplicity len b.multiplicities k.held)) m n
   where
     count : length P ≡ len
     count = ap (λ (z : List Pair). length z) e ∙ length-take-le len b.points within

@@ -13,14 +13,14 @@ use Rattle.hull_buckets.specs.declared.TheConstants.{BUCKET_SIZE}
 -- a bucket as contracts see it: its points, the multiplicity of each, and the indices of the vertices of its two chains
 pub record BucketValue : Type 0 where
   pub points : List Pair
-  pub times : List ℕ
+  pub multiplicities : List ℕ
   pub lower : ℕ
   pub upper : ℕ
 
 -- the first elements of two arrays, as many as the first argument, and two masks
 abbrev pub seen : ℕ → List Pair → List ℕ → ℕ → ℕ → BucketValue
-seen len points times lower upper =
-    record { points = take len points; times = take len times; lower = lower; upper = upper }
+seen len points multiplicity lower upper =
+    record { points = take len points; multiplicities = take len multiplicity; lower = lower; upper = upper }
 
 -- the indices of the vertices of the chain on a side
 abbrev pub mask_on : Side → BucketValue → ℕ
@@ -29,7 +29,7 @@ mask_on Upper b = b.upper
 
 -- a multiplicity that a point of a bucket may have
 abbrev pub IsMultiplicity : ℕ → Type 0
-IsMultiplicity times = (1 ≤ times) × (times ≤ MULTIPLICITY_LIMIT)
+IsMultiplicity multiplicity = (1 ≤ multiplicity) × (multiplicity ≤ MULTIPLICITY_LIMIT)
 
 -- a mask has the indices of the vertices of the chain of these points on a side, and no other
 pub record IsMaskOf (side : Side) (points : List Pair) (mask : ℕ) : Type 0 where
@@ -42,8 +42,8 @@ pub record IsBucket (b : BucketValue) : Type 0 where
   pub some : 0 < length b.points
   pub few : length b.points ≤ BUCKET_SIZE
   pub ordered : IsPointSet b.points
-  pub counted : length b.times ≡ length b.points
-  pub held : All IsMultiplicity b.times
+  pub counted : length b.multiplicities ≡ length b.points
+  pub held : All IsMultiplicity b.multiplicities
   pub vertices : (side : Side) → IsMaskOf side b.points (mask_on side b)
 
 -- a mask had the vertices of the chain of these points and of one more, which was at an index

@@ -21,7 +21,7 @@ use std::marker::Model;
 #[derive(Drop)]
 pub struct Bucket {
     points: [Point; BUCKET_SIZE],
-    times: [u16; BUCKET_SIZE],
+    multiplicities: [u16; BUCKET_SIZE],
     len: usize,
     lower: u64,
     upper: u64,
@@ -34,23 +34,23 @@ impl Model for Bucket {
 
     ghost Value = { BucketValue };
 
-    ghost view = { λ b. seen b.len b.points b.times b.lower b.upper };
+    ghost view = { λ b. seen b.len b.points b.multiplicities b.lower b.upper };
 
-    ghost invariant = { λ b. (b.len ≤ BUCKET_SIZE) × IsBucket (seen b.len b.points b.times b.lower b.upper) };
+    ghost invariant = { λ b. (b.len ≤ BUCKET_SIZE) × IsBucket (seen b.len b.points b.multiplicities b.lower b.upper) };
 }
 
 impl Bucket {
     ghost use Rattle.hull_buckets.specs.Buckets.{IsMultiplicity, IsMaskOf, IsCovered, mask_on};
 
     /// Makes a bucket of one point.
-    pub fn new(point: Point, times: u16) -> Bucket
-        requires { IsMultiplicity times }
+    pub fn new(point: Point, multiplicity: u16) -> Bucket
+        requires { IsMultiplicity multiplicity }
         ensures points { result.points ≡ point ∷ [] }
-        ensures times { result.times ≡ times ∷ [] }
+        ensures multiplicities { result.multiplicities ≡ multiplicity ∷ [] }
     {
         Bucket {
             points: [point; BUCKET_SIZE],
-            times: [times; BUCKET_SIZE],
+            multiplicities: [multiplicity; BUCKET_SIZE],
             len: 1,
             lower: 1,
             upper: 1,
@@ -68,12 +68,12 @@ impl Bucket {
     }
 
     /// Returns the multiplicity of each point, in the order of the points.
-    pub fn times(&self) -> &[u16]
-        ensures times { result.now ≡ self.now.times }
+    pub fn multiplicities(&self) -> &[u16]
+        ensures multiplicities { result.now ≡ self.now.multiplicities }
         ensures counted { length result.now ≡ length self.now.points }
         ensures held { All IsMultiplicity result.now }
     {
-        &self.times[..self.len]
+        &self.multiplicities[..self.len]
     }
 
     /// Whether the bucket has no capacity left.
@@ -111,26 +111,26 @@ impl Bucket {
     }
 
     /// Sets the multiplicity of the point at an index.
-    pub fn set_times(&mut self, place: usize, times: u16)
+    pub fn set_multiplicity(&mut self, place: usize, multiplicity: u16)
         requires within { place < length self.old.points }
-        requires held { IsMultiplicity times }
-        ensures times { self.new.times ≡ slice_set self.old.times place times }
+        requires held { IsMultiplicity multiplicity }
+        ensures multiplicities { self.new.multiplicities ≡ slice_set self.old.multiplicities place multiplicity }
         ensures points { self.new.points ≡ self.old.points }
         ensures vertices { (side : Side) → mask_on side self.new ≡ mask_on side self.old }
     {
-        put_over(&mut self.times, self.len, place, times);
+        put_over(&mut self.multiplicities, self.len, place, multiplicity);
     }
 
     /// Inserts a point at its index.
-    pub fn insert(&mut self, place: usize, point: Point, times: u16)
+    pub fn insert(&mut self, place: usize, point: Point, multiplicity: u16)
         requires position { IsPositionOf self.old.points point (Err place) }
         requires space { length self.old.points < BUCKET_SIZE }
-        requires held { IsMultiplicity times }
+        requires held { IsMultiplicity multiplicity }
         ensures points { self.new.points ≡ with_point point self.old.points }
-        ensures times { self.new.times ≡ insert self.old.times place times }
+        ensures multiplicities { self.new.multiplicities ≡ insert self.old.multiplicities place multiplicity }
     {
         put_in(&mut self.points, self.len, place, point);
-        put_in(&mut self.times, self.len, place, times);
+        put_in(&mut self.multiplicities, self.len, place, multiplicity);
         self.len += 1;
         let points = &self.points[..self.len];
         self.lower = with_vertex(Side::Lower, points, self.lower, place);
@@ -142,10 +142,10 @@ impl Bucket {
         requires within { place < length self.old.points }
         requires others { 1 < length self.old.points }
         ensures points { self.new.points ≡ without_point (point_at self.old.points place) self.old.points }
-        ensures times { self.new.times ≡ remove self.old.times place }
+        ensures multiplicities { self.new.multiplicities ≡ remove self.old.multiplicities place }
     {
         drain(&mut self.points, self.len, place);
-        drain(&mut self.times, self.len, place);
+        drain(&mut self.multiplicities, self.len, place);
         self.len -= 1;
         let points = &self.points[..self.len];
         self.lower = without_vertex(Side::Lower, points, self.lower, place);
@@ -153,42 +153,42 @@ impl Bucket {
     }
 
     /// Makes a bucket of points in order, each with its multiplicity.
-    pub fn from_parts(points: &[Point], times: &[u16]) -> Bucket
+    pub fn from_parts(points: &[Point], multiplicities: &[u16]) -> Bucket
         requires some { 0 < length points.now }
         requires few { length points.now ≤ BUCKET_SIZE }
         requires ordered { IsPointSet points.now }
-        requires counted { length times.now ≡ length points.now }
-        requires held { All IsMultiplicity times.now }
+        requires counted { length multiplicities.now ≡ length points.now }
+        requires held { All IsMultiplicity multiplicities.now }
         ensures points { result.points ≡ points.now }
-        ensures times { result.times ≡ times.now }
+        ensures multiplicities { result.multiplicities ≡ multiplicities.now }
     {
         Bucket::with_vertices(
             points,
-            times,
+            multiplicities,
             all_vertices(Side::Lower, points),
             all_vertices(Side::Upper, points),
         )
     }
 
     /// Makes a bucket of points in order, each with its multiplicity, whose vertices are known.
-    fn with_vertices(points: &[Point], times: &[u16], lower: u64, upper: u64) -> Bucket
+    fn with_vertices(points: &[Point], multiplicities: &[u16], lower: u64, upper: u64) -> Bucket
         requires some { 0 < length points.now }
         requires few { length points.now ≤ BUCKET_SIZE }
         requires ordered { IsPointSet points.now }
-        requires counted { length times.now ≡ length points.now }
-        requires held { All IsMultiplicity times.now }
+        requires counted { length multiplicities.now ≡ length points.now }
+        requires held { All IsMultiplicity multiplicities.now }
         requires below { IsMaskOf Lower points.now lower }
         requires above { IsMaskOf Upper points.now upper }
         ensures points { result.points ≡ points.now }
-        ensures times { result.times ≡ times.now }
+        ensures multiplicities { result.multiplicities ≡ multiplicities.now }
     {
         let mut own_points = [points[0]; BUCKET_SIZE];
-        let mut own_times = [times[0]; BUCKET_SIZE];
+        let mut own_multiplicities = [multiplicities[0]; BUCKET_SIZE];
         put_behind(&mut own_points, 0, points);
-        put_behind(&mut own_times, 0, times);
+        put_behind(&mut own_multiplicities, 0, multiplicities);
         Bucket {
             points: own_points,
-            times: own_times,
+            multiplicities: own_multiplicities,
             len: points.len(),
             lower,
             upper,
@@ -200,7 +200,7 @@ impl Bucket {
         requires some { 0 < len }
         requires within { len < length self.old.points }
         ensures points { self.new.points ≡ take len self.old.points }
-        ensures times { self.new.times ≡ take len self.old.times }
+        ensures multiplicities { self.new.multiplicities ≡ take len self.old.multiplicities }
     {
         let points = &self.points[..self.len];
         self.lower = vertices_before(Side::Lower, points, self.lower, len);
@@ -212,14 +212,14 @@ impl Bucket {
     pub fn split(&mut self) -> Bucket
         requires { 1 < length self.old.points }
         ensures points { self.old.points ≡ self.new.points ++ result.points }
-        ensures times { self.old.times ≡ self.new.times ++ result.times }
+        ensures multiplicities { self.old.multiplicities ≡ self.new.multiplicities ++ result.multiplicities }
         ensures middle { length self.new.points ≡ length self.old.points / 2 }
     {
-        let (points, times) = (self.points(), self.times());
+        let (points, multiplicities) = (self.points(), self.multiplicities());
         let middle = points.len() / 2;
         let second = Bucket::with_vertices(
             &points[middle..],
-            &times[middle..],
+            &multiplicities[middle..],
             vertices_from(Side::Lower, points, self.lower, middle),
             vertices_from(Side::Upper, points, self.upper, middle),
         );
@@ -232,11 +232,11 @@ impl Bucket {
         requires order { IsAllBefore (Contains self.old.points) (Contains other.now.points) }
         requires space { length self.old.points + length other.now.points ≤ BUCKET_SIZE }
         ensures points { self.new.points ≡ self.old.points ++ other.now.points }
-        ensures times { self.new.times ≡ self.old.times ++ other.now.times }
+        ensures multiplicities { self.new.multiplicities ≡ self.old.multiplicities ++ other.now.multiplicities }
     {
-        let (more, more_times) = (other.points(), other.times());
+        let (more, more_multiplicities) = (other.points(), other.multiplicities());
         put_behind(&mut self.points, self.len, more);
-        put_behind(&mut self.times, self.len, more_times);
+        put_behind(&mut self.multiplicities, self.len, more_multiplicities);
         self.len += more.len();
         let points = &self.points[..self.len];
         self.lower = all_vertices(Side::Lower, points);

@@ -25,7 +25,7 @@ pub struct HullHeld {
     /// The second coordinate.
     pub y: i64,
     /// Its multiplicity.
-    pub times: u32,
+    pub multiplicities: u32,
 }
 
 impl Model for HullHeld {
@@ -34,9 +34,9 @@ impl Model for HullHeld {
 
     ghost Value = { Pair × ℕ };
 
-    ghost view = { λ h. (record { x = h.x; y = h.y }, h.times) };
+    ghost view = { λ h. (record { x = h.x; y = h.y }, h.multiplicity) };
 
-    ghost inverse = { λ e. record { x = e.0.x; y = e.0.y; times = e.1 } };
+    ghost inverse = { λ e. record { x = e.0.x; y = e.0.y; multiplicity = e.1 } };
 }
 
 impl HullHeld {
@@ -47,7 +47,7 @@ impl HullHeld {
         HullHeld {
             x: entry.0.x(),
             y: entry.0.y(),
-            times: entry.1,
+            multiplicity: entry.1,
         }
     }
 }
@@ -89,10 +89,10 @@ fn entry_of(asked: HullHeld) -> Result<(Point, u32), Code>
     ensures fault { IfErr result (λ fault. ¬ IsEntry asked × (fault ≡ Code.OutOfRange)) }
 {
     let point = point_of(asked.x, asked.y)?;
-    if asked.times == 0 || asked.times > MULTIPLICITY_LIMIT {
+    if asked.multiplicity == 0 || asked.multiplicity > MULTIPLICITY_LIMIT {
         return Err(Code::OutOfRange);
     }
-    Ok((point, asked.times))
+    Ok((point, asked.multiplicity))
 }
 
 /// Whether all numbers of an array are in range.

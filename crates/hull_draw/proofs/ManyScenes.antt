@@ -36,7 +36,7 @@ shots_more journal size k (s ∷ ss) scene so_far h = (
 -- the mark of the point that a call names comes before those of the calls after it
 pub called_point : (line : Line) (p : Pair) (after rest : List Line) → call_point line.call ≡ Some p
     → rest ≡ line ∷ after
-    → called_marks rest ≡ record { point = p; times = 1 } ∷ called_marks after
+    → called_marks rest ≡ record { point = p; multiplicity = 1 } ∷ called_marks after
 unfolding called_marks
 called_point line p after rest named e =
     ap called_marks e ∙ ap (λ (q : Option Pair). point_marks q ++ called_marks after) named

@@ -79,7 +79,7 @@ in_whole p t (x ∷ xs) =
 
 -- a point is the point of its own mark
 own_mark : (p : Pair) → IsMarked (point_marks (Some p)) p
-own_mark p = (record { point = p; times = 1 }, (0, omega arith, refl), refl)
+own_mark p = (record { point = p; multiplicity = 1 }, (0, omega arith, refl), refl)
 
 -- after `add q` a point is in the set only if it was before, or it is q
 after_added : (held : Held) (q : Pair) (reply : Reply) (p : Pair) → Contains (after held (Add q) reply).points p

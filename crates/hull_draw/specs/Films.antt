@@ -56,7 +56,7 @@ call_point _ = None
 -- its mark
 abbrev pub point_marks : Option Pair → List Mark
 point_marks None = []
-point_marks (Some p) = record { point = p; times = 1 } ∷ []
+point_marks (Some p) = record { point = p; multiplicity = 1 } ∷ []
 
 -- the marks of all points that calls name
 unfoldable pub called_marks : List Line → List Mark

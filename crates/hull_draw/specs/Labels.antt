@@ -31,24 +31,24 @@ is_clear (Some last) place =
 -- a point has a label at its spot: its multiplicity is more than one, and the label is clear of the last one before
 -- it
 abbrev pub has_label : Option Spot → Spot → ℕ → Bool
-has_label last place times = not (times == 1) && is_clear last place
+has_label last place multiplicity = not (multiplicity == 1) && is_clear last place
 
 -- of these marks those that have a label, if the last one before them is at a spot that may be passed
 unfoldable pub labelled : ℕ → Frame → Option Spot → List Mark → List Mark
 labelled size frame last [] = []
-labelled size frame last (m ∷ ms) = if has_label last (label_place size frame m.point) m.times
+labelled size frame last (m ∷ ms) = if has_label last (label_place size frame m.point) m.multiplicity
     then m ∷ labelled size frame (Some (label_place size frame m.point)) ms
     else labelled size frame last ms
 
 -- a label
 abbrev pub label_text : Spot → ℕ → List ℕ
-label_text place times =
-    returned (codes "<text class='t' x='") place.x ++ returned (codes "' y='") place.y ++ returned (codes "'>") times
+label_text place multiplicity =
+    returned (codes "<text class='t' x='") place.x ++ returned (codes "' y='") place.y ++ returned (codes "'>") multiplicity
     ++ codes "</text>\n"
 
 -- the label of a mark
 abbrev pub mark_label_text : ℕ → Frame → Mark → List ℕ
-mark_label_text size frame m = label_text (label_place size frame m.point) m.times
+mark_label_text size frame m = label_text (label_place size frame m.point) m.multiplicity
 
 -- the marks that may have labels: none if there are too many to be read
 abbrev pub readable : List Mark → List Mark

@@ -28,7 +28,7 @@ pub record SceneValue : Type 0 where
 -- the marks are the set's points in their order, each with its multiplicity
 pub record AreMarks (held : Held) (marks : List Mark) : Type 0 where
   pub points : map (λ m. m.point) marks ≡ held.points
-  pub times : All (λ m. m.times ≡ held.times m.point) marks
+  pub multiplicities : All (λ m. m.multiplicity ≡ held.multiplicities m.point) marks
 
 -- The scene shows the set: its marks, the vertices and the area of its hull.
 pub record Shows (held : Held) (scene : SceneValue) : Type 0 where

@@ -59,20 +59,20 @@ fn is_clear(last: Option<Spot>, place: Spot) -> bool
 }
 
 /// Whether a point of this multiplicity has a label at its spot, if the last one before it is at `last`.
-fn has_label(last: Option<Spot>, place: Spot, times: u32) -> bool
-    ensures { result ≡ has_label last place times }
+fn has_label(last: Option<Spot>, place: Spot, multiplicity: u32) -> bool
+    ensures { result ≡ has_label last place multiplicity }
 {
-    times != 1 && is_clear(last, place)
+    multiplicity != 1 && is_clear(last, place)
 }
 
 /// Writes a label.
-fn label_after<W: Sink>(done: Done, out: &mut W, place: Spot, times: u32) -> Done
+fn label_after<W: Sink>(done: Done, out: &mut W, place: Spot, multiplicity: u32) -> Done
     requires { OnOk done (W.failed out.old < 2 ^ 64 - 1) }
-    ensures { WritesAfter W.contents W.failed done result out.old out.new (label_text place times) }
+    ensures { WritesAfter W.contents W.failed done result out.old out.new (label_text place multiplicity) }
 {
     let done = returned_after(done, out, b"<text class='t' x='", place.x);
     let done = returned_after(done, out, b"' y='", place.y);
-    let done = returned_after(done, out, b"'>", times);
+    let done = returned_after(done, out, b"'>", multiplicity);
     put_after(done, out, b"</text>\n")
 }
 
@@ -95,8 +95,8 @@ fn all_labels_after<W: Sink>(
     let mut last = None;
     while let Some((mark, after)) = rest.split_first() {
         let place = label_place(size, frame, mark.point);
-        if has_label(last, place, mark.times) {
-            done = label_after(done, out, place, mark.times);
+        if has_label(last, place, mark.multiplicity) {
+            done = label_after(done, out, place, mark.multiplicity);
             last = Some(place);
         }
         rest = after;

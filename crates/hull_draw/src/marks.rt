@@ -22,7 +22,7 @@ pub struct Mark {
     /// The point.
     pub point: Point,
     /// Its multiplicity.
-    pub times: u32,
+    pub multiplicities: u32,
 }
 
 /// Puts the points below a node, in order, after those that are there.
@@ -56,10 +56,10 @@ pub(crate) fn marks(alloc: Global, set: &HullTree) -> Result<Vec<Mark>, AllocErr
     let mut marks = Vec::new(alloc);
     let points = points(alloc, set)?;
     for point in &points {
-        let times = set.multiplicity(*point);
+        let multiplicity = set.multiplicity(*point);
         marks.push(Mark {
             point: *point,
-            times,
+            multiplicity,
         })?;
     }
     Ok(marks)

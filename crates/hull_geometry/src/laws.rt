@@ -59,6 +59,6 @@ pub fn bridge_ends_at_what_came<L: PointSet, R: PointSet>(side: Side)
 {}
 
 /// Two slices of the vertices of a set have a bridge that follows from the chains of their vertices, without a search.
-pub fn runs_have_their_bridge<L: PointSet, R: PointSet>(side: Side)
+pub fn slices_have_their_bridge<L: PointSet, R: PointSet>(side: Side)
     ensures { RunsHaveTheirBridge side L.has R.has }
 {}

@@ -14,7 +14,7 @@ mod location;
 pub use hand::Hand;
 pub use laws::{
     bridge_ends_at_what_came, bridge_is_of_candidate_lists, candidate_lists_answer,
-    chain_is_a_candidate_list, doubled_area_is_unique, runs_have_their_bridge,
+    chain_is_a_candidate_list, doubled_area_is_unique, slices_have_their_bridge,
     under_an_edge_is_inner, vertex_list_is_unique, with_point_adds_the_point,
     without_point_takes_the_point,
 };

@@ -54,6 +54,6 @@ pub record IsPlainSet (limit : ℕ) (entries : List (Pair × ℕ)) (o : HullChai
   pub high : limit ≤ POINT_LIMIT
   pub few : length (keys_of entries) ≤ limit
   pub in_order : IsPointSet (keys_of entries)
-  pub each_held : All (λ times. 1 ≤ times) (values_of entries)
+  pub each_held : All (λ multiplicity. 1 ≤ multiplicity) (values_of entries)
   pub hull_chains : IsHullChainsOf (keys_of entries) o
   pub space : HasSpace o (length (keys_of entries))

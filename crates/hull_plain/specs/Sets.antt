@@ -13,13 +13,13 @@ pub record LimitedSet : Type 0 where
   pub entries : List (Pair × ℕ)
 
 -- the multiplicity of a point: the number of its entry, and 0 if it has none
-abbrev pub times_in : List (Pair × ℕ) → Pair → ℕ
-times_in [] q = 0
-times_in (e ∷ es) q = if is_same_pair e.0 q then e.1 else times_in es q
+abbrev pub multiplicity_in : List (Pair × ℕ) → Pair → ℕ
+multiplicity_in [] q = 0
+multiplicity_in (e ∷ es) q = if is_same_pair e.0 q then e.1 else multiplicity_in es q
 
 -- the contents of these entries
 abbrev pub held_in : List (Pair × ℕ) → Held
-held_in entries = record { points = keys_of entries; times = times_in entries }
+held_in entries = record { points = keys_of entries; multiplicities = multiplicity_in entries }
 
 -- the trait `HullSet` for a plain set: its contents, its bound, and that its points are in order
 abbrev pub plain_set : Ghosts LimitedSet

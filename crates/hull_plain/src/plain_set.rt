@@ -77,18 +77,18 @@ impl HullSet for PlainSet {
 
     fn multiplicity(&self, p: Point) -> u32 {
         match self.points.get(&p) {
-            Some(times) => u32::from(*times),
+            Some(multiplicity) => u32::from(*multiplicity),
             None => 0,
         }
     }
 
     fn add(&mut self, p: Point) -> AddReply {
-        if let Some(times) = self.points.get_mut(&p) {
-            if u32::from(*times) == MULTIPLICITY_LIMIT {
+        if let Some(multiplicity) = self.points.get_mut(&p) {
+            if u32::from(*multiplicity) == MULTIPLICITY_LIMIT {
                 return AddReply::TooMany;
             }
-            *times += 1;
-            return AddReply::Again(u32::from(*times));
+            *multiplicity += 1;
+            return AddReply::Again(u32::from(*multiplicity));
         }
         let count = self.points.len();
         if count >= self.limit as usize {
@@ -105,12 +105,12 @@ impl HullSet for PlainSet {
     }
 
     fn remove(&mut self, p: Point) -> RemoveReply {
-        let Some(times) = self.points.get_mut(&p) else {
+        let Some(multiplicity) = self.points.get_mut(&p) else {
             return RemoveReply::Absent;
         };
-        if *times > 1 {
-            *times -= 1;
-            return RemoveReply::Left(u32::from(*times));
+        if *multiplicity > 1 {
+            *multiplicity -= 1;
+            return RemoveReply::Left(u32::from(*multiplicity));
         }
         self.points.remove(&p);
         self.hull_chains.remove(p, &self.points);

@@ -27,7 +27,7 @@ pub record IsServed {S : Type 0} (K : Ghosts S) (call : plain.Call) (old new : S
 
 -- the reply is the multiplicity of the point
 abbrev pub IsMultiplicityOf : {S : Type 0} → Ghosts S → Pair → S → HullReply → Type 0
-IsMultiplicityOf K p set encoded = IsNumber Number ((K.held set).times p) encoded
+IsMultiplicityOf K p set encoded = IsNumber Number ((K.held set).multiplicities p) encoded
 
 -- the request was applied: a call was made; or the reply is the multiplicity of a point or the error of the request,
 -- and the set is unchanged

@@ -111,11 +111,11 @@ pub fn encoded(reply: Reply) -> HullReply
         // written by tools/table.py: a case for each reply
         Reply::Added => HullReply::bare(Code::Added),
         Reply::Already => unreachable!(),
-        Reply::Again(times) => HullReply::numbered(Code::Again, u64::from(times)),
+        Reply::Again(multiplicity) => HullReply::numbered(Code::Again, u64::from(multiplicity)),
         Reply::TooMany => HullReply::bare(Code::TooMany),
         Reply::NoMemory => HullReply::bare(Code::NoMemory),
         Reply::Removed => HullReply::bare(Code::Removed),
-        Reply::Left(times) => HullReply::numbered(Code::Left, u64::from(times)),
+        Reply::Left(multiplicity) => HullReply::numbered(Code::Left, u64::from(multiplicity)),
         Reply::Absent => HullReply::bare(Code::Absent),
         Reply::Farthest(point) => HullReply::with_point(Code::Point, point),
         Reply::Empty => HullReply::bare(Code::Empty),

@@ -1,3 +1,3 @@
 pub mod UniqueReplies
 pub mod OrderedMaps
-pub mod Times
+pub mod HeldMultiplicities

@@ -129,7 +129,7 @@ already held limit rules p _ e a b = absurd b
 
 -- the reply to `add p` is `again` if points are counted and p has less than the greatest multiplicity
 again : (held : Held) (limit : ℕ) (rules : Rules) (p : Pair) (n : ℕ) (r : Reply) → rules ≡ Counted
-    → Contains held.points p → n ≡ held.times p + 1 → n ≤ MULTIPLICITY_LIMIT → AnswersAdd rules held limit p r
+    → Contains held.points p → n ≡ held.multiplicities p + 1 → n ≤ MULTIPLICITY_LIMIT → AnswersAdd rules held limit p r
     → AgreesWith (reply.Again n) r
 again held limit rules p n reply.Added e a h l b = absurd (b.0 a)
 again held limit rules p n reply.NoMemory e a h l b = absurd (b.0 a)
@@ -151,7 +151,7 @@ full held limit rules p _ n e b = absurd b
 
 -- the reply to `add p` is `too-many` if points are counted and p has the greatest multiplicity
 most : (held : Held) (limit : ℕ) (rules : Rules) (p : Pair) (r : Reply) → rules ≡ Counted → Contains held.points p
-    → held.times p ≡ MULTIPLICITY_LIMIT → AnswersAdd rules held limit p r → AgreesWith reply.TooMany r
+    → held.multiplicities p ≡ MULTIPLICITY_LIMIT → AnswersAdd rules held limit p r → AgreesWith reply.TooMany r
 most held limit rules p reply.Added e a h b = absurd (b.0 a)
 most held limit rules p reply.NoMemory e a h b = absurd (b.0 a)
 most held limit rules p reply.Already e a h b = absurd (one_rule rules b.0 e)
@@ -183,19 +183,19 @@ add_unique held limit rules p _ s a b = absurd a
 
 -- the reply to `remove p` is `removed` if p has multiplicity 1, or is not counted
 removed : (held : Held) (rules : Rules) (p : Pair) (r : Reply) → Contains held.points p
-    → (rules ≡ Counted → held.times p ≡ 1) → AnswersRemove rules held p r → AgreesWith reply.Removed r
+    → (rules ≡ Counted → held.multiplicities p ≡ 1) → AnswersRemove rules held p r → AgreesWith reply.Removed r
 removed held rules p reply.Removed a h b = inl refl
-removed held rules p (reply.Left n) a h b = let e : held.times p ≡ 1 = h b.0 in absurd (omega (arith, e, b.2, b.3))
+removed held rules p (reply.Left n) a h b = let e : held.multiplicities p ≡ 1 = h b.0 in absurd (omega (arith, e, b.2, b.3))
 removed held rules p reply.Absent a h b = absurd (b a)
 removed held rules p _ a h b = absurd b
 
 -- the reply to `remove p` is `left` if points are counted and p has a greater multiplicity
 left : (held : Held) (rules : Rules) (p : Pair) (n : ℕ) (r : Reply) → rules ≡ Counted → Contains held.points p
-    → held.times p ≡ n + 1 → 1 ≤ n → AnswersRemove rules held p r → AgreesWith (reply.Left n) r
-left held rules p n reply.Removed e a h l b = let f : held.times p ≡ 1 = b.1 e in absurd (omega (arith, f, h, l))
+    → held.multiplicities p ≡ n + 1 → 1 ≤ n → AnswersRemove rules held p r → AgreesWith (reply.Left n) r
+left held rules p n reply.Removed e a h l b = let f : held.multiplicities p ≡ 1 = b.1 e in absurd (omega (arith, f, h, l))
 left held rules p n (reply.Left m) e a h l b = inl (ap reply.Left (same m b.2))
   where
-    same : (m : ℕ) → held.times p ≡ m + 1 → n ≡ m
+    same : (m : ℕ) → held.multiplicities p ≡ m + 1 → n ≡ m
     same m g = omega (arith, h, g)
 left held rules p n reply.Absent e a h l b = absurd (b a)
 left held rules p n _ e a h l b = absurd b

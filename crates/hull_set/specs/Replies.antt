@@ -30,17 +30,17 @@ AnswersAdd rules held limit p reply.Added = ¬ Contains held.points p × (length
 AnswersAdd rules held limit p reply.NoMemory = ¬ Contains held.points p × (length held.points < limit)
 AnswersAdd rules held limit p reply.Already = (rules ≡ Set) × Contains held.points p
 AnswersAdd rules held limit p (reply.Again n) =
-    (rules ≡ Counted) × Contains held.points p × (n ≡ held.times p + 1) × (2 ≤ n) × (n ≤ MULTIPLICITY_LIMIT)
+    (rules ≡ Counted) × Contains held.points p × (n ≡ held.multiplicities p + 1) × (2 ≤ n) × (n ≤ MULTIPLICITY_LIMIT)
 AnswersAdd rules held limit p reply.TooMany =
     (¬ Contains held.points p × (length held.points ≡ limit))
-    ⊎ ((rules ≡ Counted) × Contains held.points p × (held.times p ≡ MULTIPLICITY_LIMIT))
+    ⊎ ((rules ≡ Counted) × Contains held.points p × (held.multiplicities p ≡ MULTIPLICITY_LIMIT))
 AnswersAdd rules held limit p _ = ⊥
 
 -- the replies to `remove p`: if points are counted, `removed` if p has multiplicity 1, and `left n` if it has
 -- multiplicity n+1, with n at least 1
 abbrev pub AnswersRemove : Rules → Held → Pair → Reply → Type 0
-AnswersRemove rules held p reply.Removed = Contains held.points p × (rules ≡ Counted → held.times p ≡ 1)
-AnswersRemove rules held p (reply.Left n) = (rules ≡ Counted) × Contains held.points p × (held.times p ≡ n + 1) × (1 ≤ n)
+AnswersRemove rules held p reply.Removed = Contains held.points p × (rules ≡ Counted → held.multiplicities p ≡ 1)
+AnswersRemove rules held p (reply.Left n) = (rules ≡ Counted) × Contains held.points p × (held.multiplicities p ≡ n + 1) × (1 ≤ n)
 AnswersRemove rules held p reply.Absent = ¬ Contains held.points p
 AnswersRemove rules held p _ = ⊥
 

@@ -104,7 +104,7 @@ pub trait HullSet {
 
     /// Returns the multiplicity of `p`: 0 if it is not in the set.
     fn multiplicity(&self, p: Point) -> u32
-        ensures times { result ≡ (held self.now).times p }
+        ensures multiplicities { result ≡ (held self.now).multiplicities p }
         ensures few { result ≤ MULTIPLICITY_LIMIT }
         ensures live { Contains (held self.now).points p ↔ (1 ≤ result) };
 

@@ -68,8 +68,8 @@ same_halves h = cc
 -- what holds of both halves of a fork holds of the fork
 pub by_halves : (n l r : node.Node) (v : Tree) (a : ℕ) → halves_of n ≡ Some (l, r) → IsDearerByAtMost (tree_of l) v a
     → IsDearerByAtMost (tree_of r) v a → IsDearerByAtMost (tree_of n) v a
-by_halves (node.Node' upper lower height near times node.None') l r v a e h g = absurd (cc)
-by_halves (node.Node' upper lower height near times
+by_halves (node.Node' upper lower height near multiplicity node.None') l r v a e h g = absurd (cc)
+by_halves (node.Node' upper lower height near multiplicity
     (node.Some' i (halves.Halves' left right last_left right_first))) l r v a e h g = parts
   where
     from_left : IsDearerByAtMost (tree_of left) v a

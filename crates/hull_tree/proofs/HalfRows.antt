@@ -10,9 +10,9 @@ use Rattle.bridge_search.proofs.Turns.{on_first, first_by}
 use Rattle.lattice.proofs.Order.{before_trans, before_total}
 use Rattle.hull_tree.specs.declared.node.Node as node
 use Rattle.hull_tree.specs.declared.node.Halves as halves
-use Rattle.hull_tree.specs.Nodes.{tree_of, halves_of, below_of, left_half, right_half, times_below, IsWellBuilt}
+use Rattle.hull_tree.specs.Nodes.{tree_of, halves_of, below_of, left_half, right_half, multiplicity_below, IsWellBuilt}
 use Rattle.hull_tree.specs.Nodes.{DifferByAtMost}
-use Rattle.hull_tree.specs.Changes.{points_below, height_at, points_within, times_within, height_within, AreInRow}
+use Rattle.hull_tree.specs.Changes.{points_below, height_at, points_within, multiplicity_within, height_within, AreInRow}
 use Rattle.hull_tree.specs.Changes.{AreSeparated}
 use Rattle.hull_geometry.proofs.PointSets.{set_left, set_right}
 use Rattle.hull_tree.proofs.PointRows.{all_before_of_set}
@@ -23,7 +23,7 @@ pub record IsOver (n : node.Node) (h : halves.Halves) : Type 0 where
   pub separated : AreSeparated h
   pub halves : halves_of n ≡ Some (left_half h, right_half h)
   pub points : points_below n ≡ points_within h
-  pub times : (q : Pair) → times_below n q ≡ times_within h q
+  pub multiplicities : (q : Pair) → multiplicity_below n q ≡ multiplicity_within h q
   pub first : first_of (tree_of n) ≡ first_of (tree_of (left_half h))
   pub last : last_of (tree_of n) ≡ last_of (tree_of (right_half h))
   pub height : height_at n ≡ height_within h + 1
@@ -36,18 +36,18 @@ same_below e = cc
 -- a well-built fork is over its halves
 pub over_halves : (n : node.Node) (h : halves.Halves) → IsWellBuilt n → below_of n ≡ Some h → IsOver n h
 unfolding node.out-Node halves.out-Halves denote.Hole.Carrier.out
-over_halves (node.Node' upper lower height near times node.None') h b e = absurd (cc)
-over_halves (node.Node' upper lower height near times
+over_halves (node.Node' upper lower height near multiplicity node.None') h b e = absurd (cc)
+over_halves (node.Node' upper lower height near multiplicity
     (node.Some' i (halves.Halves' left right last_left right_first))) h b e =
     subst (λ (z : halves.Halves). IsOver
-    (node.Node' upper lower height near times (node.Some' i (halves.Halves' left right last_left right_first))) z)
+    (node.Node' upper lower height near multiplicity (node.Some' i (halves.Halves' left right last_left right_first))) z)
     (same_below e) record {
       separated = record {
         row = record {
           left_built = record { bridged = b.bridged.3; balanced = b.balanced.1; labelled = b.labelled.3 };
           right_built = record { bridged = b.bridged.4; balanced = b.balanced.2; labelled = b.labelled.4 };
           in_order = points_in_order
-              (tree_of (node.Node' upper lower height near times
+              (tree_of (node.Node' upper lower height near multiplicity
               (node.Some' i (halves.Halves' left right last_left right_first)))) b.bridged;
         };
         ends_left = b.labelled.0;
@@ -55,7 +55,7 @@ over_halves (node.Node' upper lower height near times
       };
       halves = refl;
       points = refl;
-      times = λ q. refl;
+      multiplicities = λ q. refl;
       first = refl;
       last = refl;
       height = refl;

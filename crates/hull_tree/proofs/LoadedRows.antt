@@ -12,7 +12,7 @@ use Rattle.hull_set.specs.declared.TheConstants.{POINT_LIMIT}
 use Rattle.leaf_trees.specs.Heights.{greatest_height}
 use Rattle.hull_tree.specs.declared.node.Node.{Node}
 use Rattle.leaf_trees.specs.Entries.{several, IsMultiplicity, points_listed, AreEntries}
-use Rattle.hull_tree.specs.Nodes.{tree_of, times_below, IsWellBuilt}
+use Rattle.hull_tree.specs.Nodes.{tree_of, multiplicity_below, IsWellBuilt}
 use Rattle.hull_tree.specs.Changes.{points_below, height_at, AreInRow}
 use Rattle.hull_tree.specs.Sets.{IsLimited}
 use Rattle.hull_tree.specs.Loaded.{IsOver, IsHalvings}
@@ -60,13 +60,13 @@ low_over es n h l = grind (arith, common_steps, at_most_28, tree_of, length-keys
 -- the node over all entries, of one over the first part and one over the rest
 pub over_both : (m : ℕ) (es : List (Pair × ℕ)) (l r n : Node) → IsOver (take m es) l → IsOver (drop m es) r
     → IsWellBuilt n → points_below n ≡ points_below l ++ points_below r
-    → ((q : Pair) → times_below n q ≡ times_below l q + times_below r q)
+    → ((q : Pair) → multiplicity_below n q ≡ multiplicity_below l q + multiplicity_below r q)
     → IsHalvings (length es) (height_at n) → IsOver es n
 over_both m es l r n a b w e t h =
     subst (λ (z : List (Pair × ℕ)). IsOver z n) (take-append-drop m es) record {
       built = w;
       points = rw (points_of_both (take m es) (drop m es)) (rw (← a.points, ← b.points) e);
-      times = λ q. t q ∙ (rw (a.times q, b.times q)
+      multiplicities = λ q. t q ∙ (rw (a.multiplicities q, b.multiplicities q)
           (sym (sum_by-append (λ (e : Pair × ℕ). several e.1 e.0 q) (take m es) (drop m es))));
       height = subst (λ (z : List (Pair × ℕ)). IsHalvings (length z) (height_at n)) (sym (take-append-drop m es)) h;
     }

@@ -18,7 +18,7 @@ use Rattle.hull_tree.proofs.PointRows.{all_before_of_set}
 
 -- what a node has in its box is below it
 pub rolled_below : (e f : Pair × Pair) (k : ℕ) (c : Bool) (n : ℕ) (b : _)
-    → below_of (node.roll-Node record { upper = e; lower = f; height = k; near = c; times = n; below = Some b })
+    → below_of (node.roll-Node record { upper = e; lower = f; height = k; near = c; multiplicities = n; below = Some b })
     ≡ Some b.value
 unfolding node.roll-Node node.out-Node denote.Hole.Carrier.out denote.Hole.Carrier.roll
 rolled_below e f k c n b = refl
@@ -32,15 +32,15 @@ pub record IsUnder (n : node.Node) (h : halves.Halves) : Type 0 where
 -- the halves of a fork that is yet to be renewed
 pub under_fork : (n : node.Node) (h : halves.Halves) → IsSeparated n → below_of n ≡ Some h → IsUnder n h
 unfolding node.out-Node halves.out-Halves denote.Hole.Carrier.out
-under_fork (node.Node' upper lower height near times node.None') h p e = absurd (cc)
-under_fork (node.Node' upper lower height near times
+under_fork (node.Node' upper lower height near multiplicity node.None') h p e = absurd (cc)
+under_fork (node.Node' upper lower height near multiplicity
     (node.Some' i (halves.Halves' left right last_left right_first))) h p e = grind (arith, common_steps, near, last_left, same_below)
 
 -- a fork over two halves that store the points at their split is still to be renewed
 pub separated_fork : (n : node.Node) (h : halves.Halves) → below_of n ≡ Some h → AreSeparated h → IsSeparated n
 unfolding node.out-Node halves.out-Halves denote.Hole.Carrier.out
-separated_fork (node.Node' upper lower height near times node.None') h e p = absurd (cc)
-separated_fork (node.Node' upper lower height near times
+separated_fork (node.Node' upper lower height near multiplicity node.None') h e p = absurd (cc)
+separated_fork (node.Node' upper lower height near multiplicity
     (node.Some' i (halves.Halves' left right last_left right_first))) h e p = grind (arith, common_steps, same_below)
 
 -- with its bridges and its height it is well built
@@ -52,8 +52,8 @@ pub renewed_well : (n : node.Node) (h : halves.Halves) (e f : Pair × Pair) (k :
     → c ≡ (are_near (tree_of (left_half h)) && are_near (tree_of (right_half h)))
     → IsWellBuilt (keeping n e f k c)
 unfolding node.out-Node halves.out-Halves denote.Hole.Carrier.out
-renewed_well (node.Node' upper lower height near times node.None') h e f k c p is d u w a t = absurd (cc)
-renewed_well (node.Node' upper lower height near times
+renewed_well (node.Node' upper lower height near multiplicity node.None') h e f k c p is d u w a t = absurd (cc)
+renewed_well (node.Node' upper lower height near multiplicity
     (node.Some' i (halves.Halves' left right last_left right_first))) h e f k c p is d u w a t =
     let b : halves.Halves' left right last_left right_first ≡ h = same_below is in
     record {
@@ -84,8 +84,8 @@ pub dearer_on_both : (n : node.Node) (h : halves.Halves) (e f : Pair × Pair) (k
     → IsDearerByAtMost (left_of (tree_of n)) (tree_of (keeping n e f k t)) a
     × IsDearerByAtMost (right_of (tree_of n)) (tree_of (keeping n e f k t)) a
 unfolding node.out-Node halves.out-Halves denote.Hole.Carrier.out
-dearer_on_both (node.Node' upper lower height near times node.None') h e f k t a p is c = absurd (cc)
-dearer_on_both (node.Node' upper lower height near times
+dearer_on_both (node.Node' upper lower height near multiplicity node.None') h e f k t a p is c = absurd (cc)
+dearer_on_both (node.Node' upper lower height near multiplicity
     (node.Some' i (halves.Halves' left right last_left right_first))) h e f k t a p is c =
     let b : halves.Halves' left right last_left right_first ≡ h = same_below is in
     by_fork e f (tree_of left) (tree_of right) a

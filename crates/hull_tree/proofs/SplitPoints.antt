@@ -14,7 +14,7 @@ use Rattle.hull_tree.specs.declared.node.Node.{Node}
 use Rattle.hull_tree.specs.declared.node.Halves.{Halves}
 use Rattle.hull_set.specs.Held.{once}
 use Rattle.hull_tree.proofs.Multiplicities.{leaf_once, none_left, none_right}
-use Rattle.hull_tree.specs.Nodes.{tree_of, below_of, left_half, right_half, times_below, IsWellBuilt}
+use Rattle.hull_tree.specs.Nodes.{tree_of, below_of, left_half, right_half, multiplicity_below, IsWellBuilt}
 use Rattle.hull_tree.specs.Changes.{points_below, IsSeparatedAt}
 use Rattle.hull_tree.proofs.PointRows.{all_before_of_set}
 use Rattle.hull_tree.proofs.ChangedRows.{without_only, added, taken}
@@ -189,47 +189,47 @@ without_leaf t p e = ap (λ z. without_point p (points_of z)) e ∙ without_only
 pub record IsRest (n s : Node) (p : Pair) : Type 0 where
   pub built : IsWellBuilt s
   pub points : points_below s ≡ without_point p (points_below n)
-  pub times : (q : Pair) → times_below s q + once p q ≡ times_below n q
+  pub multiplicities : (q : Pair) → multiplicity_below s q + once p q ≡ multiplicity_below n q
 
 -- if p, with multiplicity one, is all of the left half, the right one is the rest
-rest_right : (n s : Node) (h : Halves) (p : Pair) → IsOver n h → tree_of (left_half h) ≡ Leaf p → times_below n p ≡ 1
+rest_right : (n s : Node) (h : Halves) (p : Pair) → IsOver n h → tree_of (left_half h) ≡ Leaf p → multiplicity_below n p ≡ 1
     → s ≡ right_half h → IsRest n s p
 rest_right n s h p o e c d =
     let b : IsBefore p (first_of (tree_of (right_half h))) =
     all_before_of_set (tree_of (left_half h)) (tree_of (right_half h)) o.separated.row.in_order p
     (first_of (tree_of (right_half h))) (subst (λ t. On t p) (sym e) refl)
     (on_first (tree_of (right_half h))) in
-    let a : times_below (left_half h) p ≡ 1 =
-    omega (arith, c, o.times p, none_right (left_half h) (right_half h) p o.separated.row b) in
+    let a : multiplicity_below (left_half h) p ≡ 1 =
+    omega (arith, c, o.multiplicities p, none_right (left_half h) (right_half h) p o.separated.row b) in
     let m : without_point p (points_below (left_half h)) ≡ [] = without_leaf (tree_of (left_half h)) p e in
     rw d record {
       built = o.separated.row.right_built;
       points = sym (ap (without_point p) o.points ∙ change_left taken (left_half h) (right_half h) p o.separated.row b
           ∙ ap (λ z. z ++ points_below (right_half h)) m);
-      times = λ q. omega (arith, o.times q, leaf_once (left_half h) p e a q);
+      multiplicities = λ q. omega (arith, o.multiplicities q, leaf_once (left_half h) p e a q);
     }
 
 -- otherwise p is all of the right half, and the left one is the rest
-rest_left : (n s : Node) (h : Halves) (p : Pair) → IsOver n h → tree_of (right_half h) ≡ Leaf p → times_below n p ≡ 1
+rest_left : (n s : Node) (h : Halves) (p : Pair) → IsOver n h → tree_of (right_half h) ≡ Leaf p → multiplicity_below n p ≡ 1
     → s ≡ left_half h → IsRest n s p
 rest_left n s h p o e c d =
     let b : ¬ IsBefore p (first_of (tree_of (right_half h))) =
     λ i. before_irrefl p (subst (λ t. IsBefore p (first_of t)) e i) in
-    let a : times_below (right_half h) p ≡ 1 =
-    omega (arith, c, o.times p, none_left (left_half h) (right_half h) p o.separated.row b) in
+    let a : multiplicity_below (right_half h) p ≡ 1 =
+    omega (arith, c, o.multiplicities p, none_left (left_half h) (right_half h) p o.separated.row b) in
     let m : without_point p (points_below (right_half h)) ≡ [] = without_leaf (tree_of (right_half h)) p e in
     rw d record {
       built = o.separated.row.left_built;
       points = sym (ap (without_point p) o.points ∙ change_right taken (left_half h) (right_half h) p o.separated.row b
           ∙ ap (λ z. points_below (left_half h) ++ z) m ∙ append-nil (points_below (left_half h)));
-      times = λ q. omega (arith, o.times q, leaf_once (right_half h) p e a q);
+      multiplicities = λ q. omega (arith, o.multiplicities q, leaf_once (right_half h) p e a q);
     }
 
 -- if p, with multiplicity one, is all of one half, the other one is the rest
 pub rest_below : (n s : Node) (g h : Halves) (p : Pair) → IsWellBuilt n → below_of n ≡ Some h → g ≡ h
     → (tree_of (left_half g) ≡ Leaf p) ⊎ (tree_of (right_half g) ≡ Leaf p)
     → (tree_of (left_half h) ≡ Leaf p → s ≡ right_half h) → (¬ (tree_of (left_half h) ≡ Leaf p) → s ≡ left_half h)
-    → times_below n p ≡ 1 → IsRest n s p
+    → multiplicity_below n p ≡ 1 → IsRest n s p
 rest_below n s g h p b i e d f k c =
     let o : IsOver n h = over_halves n h b i in
     elim (subst (λ (z : Halves). (tree_of (left_half z) ≡ Leaf p) ⊎ (tree_of (right_half z) ≡ Leaf p)) e d) [

@@ -10,7 +10,7 @@ use Rattle.hull_tree.specs.declared.node.Node.{Node}
 use Rattle.hull_tree.specs.declared.node.Node as node
 use Rattle.hull_tree.specs.declared.node.Halves.{Halves}
 use Rattle.hull_tree.specs.declared.node.Halves as halves
-use Rattle.hull_tree.specs.Nodes.{tree_of, left_half, right_half, before_split, after_split, times_below}
+use Rattle.hull_tree.specs.Nodes.{tree_of, left_half, right_half, before_split, after_split, multiplicity_below}
 use Rattle.hull_tree.specs.Nodes.{IsWellBuilt, DifferByAtMost}
 
 -- the points below a node, in order
@@ -38,8 +38,8 @@ abbrev pub points_within : Halves → List Pair
 points_within h = points_below (left_half h) ++ points_below (right_half h)
 
 -- the multiplicity of each point in them
-abbrev pub times_within : Halves → Pair → ℕ
-times_within h q = times_below (left_half h) q + times_below (right_half h) q
+abbrev pub multiplicity_within : Halves → Pair → ℕ
+multiplicity_within h q = multiplicity_below (left_half h) q + multiplicity_below (right_half h) q
 
 -- the height of the higher one of them
 abbrev pub height_within : Halves → ℕ
@@ -55,8 +55,8 @@ AreSeparated h = IsSeparatedAt (left_half h) (right_half h) (before_split h) (af
 
 -- a fork over two such halves, whose edges and height may still have to be renewed
 abbrev pub IsSeparated : Node → Type 0
-IsSeparated (node.Node' upper lower height near times node.None') = ⊥
-IsSeparated (node.Node' upper lower height near times (node.Some' i (halves.Halves' left right last_left right_first))) =
+IsSeparated (node.Node' upper lower height near multiplicity node.None') = ⊥
+IsSeparated (node.Node' upper lower height near multiplicity (node.Some' i (halves.Halves' left right last_left right_first))) =
     IsSeparatedAt left right last_left right_first
 
 -- the height of a node's left half; for a leaf its own

@@ -11,8 +11,8 @@ use Rattle.hull_tree.specs.declared.node.Halves as halves
 
 -- the tree of a node: a node with nothing below it is one point, which is both ends of the edges that it stores
 abbrev pub tree_of : Node → Tree
-tree_of (node.Node' upper lower height near times node.None') = Leaf upper.0
-tree_of (node.Node' upper lower height near times (node.Some' i (halves.Halves' left right last_left right_first))) =
+tree_of (node.Node' upper lower height near multiplicity node.None') = Leaf upper.0
+tree_of (node.Node' upper lower height near multiplicity (node.Some' i (halves.Halves' left right last_left right_first))) =
     Fork upper lower (tree_of left) (tree_of right)
 
 -- the left one of two halves
@@ -33,7 +33,7 @@ after_split h = (out-Halves h).right_first
 
 -- the node with other edges, another height and another flag whether its points are near, and the same halves
 abbrev pub keeping : Node → Pair × Pair → Pair × Pair → ℕ → Bool → Node
-keeping (node.Node' upper lower height near times below) e f h n = node.Node' e f h n times below
+keeping (node.Node' upper lower height near multiplicity below) e f h n = node.Node' e f h n multiplicity below
 
 -- the halves of a fork; for a leaf nothing
 abbrev pub below_of : Node → Option Halves
@@ -41,27 +41,27 @@ below_of n = option_map (λ b. b.value) (out-Node n).below
 
 -- the left and the right half of a fork; for a leaf nothing
 abbrev pub halves_of : Node → Option (Node × Node)
-halves_of (node.Node' upper lower height near times node.None') = None
-halves_of (node.Node' upper lower height near times (node.Some' i (halves.Halves' left right last_left right_first))) =
+halves_of (node.Node' upper lower height near multiplicity node.None') = None
+halves_of (node.Node' upper lower height near multiplicity (node.Some' i (halves.Halves' left right last_left right_first))) =
     Some (left, right)
 
 -- the point of a leaf; for a fork nothing
 abbrev pub point_of : Node → Option Pair
-point_of (node.Node' upper lower height near times node.None') = Some upper.0
-point_of (node.Node' upper lower height near times
+point_of (node.Node' upper lower height near multiplicity node.None') = Some upper.0
+point_of (node.Node' upper lower height near multiplicity
     (node.Some' i (halves.Halves' left right last_left right_first))) = None
 
 -- the multiplicity of a leaf's point; for a fork nothing
 abbrev pub multiplicity_of : Node → Option ℕ
-multiplicity_of (node.Node' upper lower height near times node.None') = Some times
-multiplicity_of (node.Node' upper lower height near times
+multiplicity_of (node.Node' upper lower height near multiplicity node.None') = Some multiplicity
+multiplicity_of (node.Node' upper lower height near multiplicity
     (node.Some' i (halves.Halves' left right last_left right_first))) = None
 
 -- the multiplicity of each point below a node
-abbrev pub times_below : Node → Pair → ℕ
-times_below (node.Node' upper lower height near times node.None') q = several times upper.0 q
-times_below (node.Node' upper lower height near times
-    (node.Some' i (halves.Halves' left right last_left right_first))) q = times_below left q + times_below right q
+abbrev pub multiplicity_below : Node → Pair → ℕ
+multiplicity_below (node.Node' upper lower height near multiplicity node.None') q = several multiplicity upper.0 q
+multiplicity_below (node.Node' upper lower height near multiplicity
+    (node.Some' i (halves.Halves' left right last_left right_first))) q = multiplicity_below left q + multiplicity_below right q
 
 -- the numbers differ by at most this
 abbrev pub DifferByAtMost : ℕ → ℕ → ℕ → Type 0
@@ -75,9 +75,9 @@ IsBalanced (Fork e f u w) = DifferByAtMost 1 (height_of u) (height_of w) × IsBa
 -- each node stores its height and whether its points are near, each leaf the multiplicity of its point, and each fork the last point of its left half
 -- and the first one of its right half
 abbrev pub IsLabelled : Node → Type 0
-IsLabelled (node.Node' upper lower height near times node.None') =
-    (height ≡ 0) × IsMultiplicity times × (near ≡ is_near upper.0)
-IsLabelled (node.Node' upper lower height near times (node.Some' i (halves.Halves' left right last_left right_first))) =
+IsLabelled (node.Node' upper lower height near multiplicity node.None') =
+    (height ≡ 0) × IsMultiplicity multiplicity × (near ≡ is_near upper.0)
+IsLabelled (node.Node' upper lower height near multiplicity (node.Some' i (halves.Halves' left right last_left right_first))) =
     (last_left ≡ last_of (tree_of left)) × (right_first ≡ first_of (tree_of right))
     × (height ≡ height_of (Fork upper lower (tree_of left) (tree_of right))) × IsLabelled left × IsLabelled right
     × (near ≡ are_near (Fork upper lower (tree_of left) (tree_of right)))

@@ -26,13 +26,13 @@ at_most_prop m n = le_prop
 
 -- that a node is labelled has one proof
 pub IsLabelled-prop : (n : node.Node) → IsProp (IsLabelled n)
-IsLabelled-prop (node.Node' upper lower height near times node.None') =
+IsLabelled-prop (node.Node' upper lower height near multiplicity node.None') =
     let h : IsProp (height ≡ 0) = same_number height 0 in
-    let a : IsProp (1 ≤ times) = at_most_prop 1 times in
-    let b : IsProp (times ≤ MULTIPLICITY_LIMIT) = at_most_prop times MULTIPLICITY_LIMIT in
+    let a : IsProp (1 ≤ multiplicity) = at_most_prop 1 multiplicity in
+    let b : IsProp (multiplicity ≤ MULTIPLICITY_LIMIT) = at_most_prop multiplicity MULTIPLICITY_LIMIT in
     let n : IsProp (near ≡ is_near upper.0) = Bool-set near (is_near upper.0) in
     hlevel (h, a, b, n)
-IsLabelled-prop (node.Node' upper lower height near times
+IsLabelled-prop (node.Node' upper lower height near multiplicity
     (node.Some' i (halves.Halves' left right last_left right_first))) =
     let a : IsProp (last_left ≡ last_of (tree_of left)) = same_point last_left (last_of (tree_of left)) in
     let b : IsProp (right_first ≡ first_of (tree_of right)) = same_point right_first (first_of (tree_of right)) in

@@ -43,7 +43,7 @@ IsRootCostAtMost (Some root) p n = IsCostAtMost (tree_of root) p n
 -- if p was added to the tree that is now `root`, the turns are at least the cost of the forks above p; any other reply took none
 abbrev pub IsLeastCount : AddReply → Option Node → Pair → ℕ → Type 0
 IsLeastCount Added root p n = IsRootCostAtMost root p n
-IsLeastCount (Again times) root p n = n ≡ 0
+IsLeastCount (Again multiplicity) root p n = n ≡ 0
 IsLeastCount TooMany root p n = n ≡ 0
 IsLeastCount NoMemory root p n = n ≡ 0
 

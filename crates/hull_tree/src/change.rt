@@ -5,10 +5,10 @@ ghost use Rattle.lattice.specs.Covers.{with_point, without_point};
 ghost use Rattle.hull_set.specs.Held.{once};
 ghost use Rattle.bridge_search.specs.Trees.{Leaf, IsFork, first_of as first_in, last_of as last_in};
 ghost use Rattle.hull_tree.specs.Nodes.{tree_of, left_half, right_half, before_split, after_split};
-ghost use Rattle.hull_tree.specs.Nodes.{times_below, IsWellBuilt};
+ghost use Rattle.hull_tree.specs.Nodes.{multiplicity_below, IsWellBuilt};
 ghost use Rattle.leaf_trees.specs.Entries.{several, IsMultiplicity};
 ghost use Rattle.leaf_trees.specs.Heights.{greatest_height};
-ghost use Rattle.hull_tree.specs.Changes.{points_below, height_at, points_within, times_within, height_within};
+ghost use Rattle.hull_tree.specs.Changes.{points_below, height_at, points_within, multiplicity_within, height_within};
 ghost use Rattle.hull_tree.specs.Changes.{AreSeparated, IsAtMostOneMore};
 ghost use Rattle.hull_tree.specs.Turns.{IsCostAtMost, turns_a_level};
 
@@ -20,17 +20,17 @@ use hull_set::MULTIPLICITY_LIMIT;
 use lattice::{Point, before};
 
 /// Returns the multiplicity of a point below a node, with one comparison a fork.
-pub(crate) fn times_of(node: &Node, p: Point) -> u32
+pub(crate) fn find_multiplicity(node: &Node, p: Point) -> u32
     requires { IsWellBuilt node.now }
-    ensures { result ≡ times_below node.now p }
+    ensures { result ≡ multiplicity_below node.now p }
 {
     match &node.below {
-        None => { if p == node.upper.0 { node.times } else { 0 } }
+        None => { if p == node.upper.0 { node.multiplicities } else { 0 } }
         Some(halves) => {
             if before(p, halves.right_first) {
-                times_of(&halves.left, p)
+                find_multiplicity(&halves.left, p)
             } else {
-                times_of(&halves.right, p)
+                find_multiplicity(&halves.right, p)
             }
         }
     }
@@ -40,24 +40,24 @@ pub(crate) fn times_of(node: &Node, p: Point) -> u32
 /// before.
 pub(crate) fn raise(node: &mut Node, p: Point) -> u32
     requires { IsWellBuilt node.old }
-    ensures was { result ≡ times_below node.old p }
+    ensures was { result ≡ multiplicity_below node.old p }
     ensures built { IsWellBuilt node.new }
     ensures same_tree { tree_of node.new ≡ tree_of node.old }
     ensures absent { result ≡ 0 → node.new ≡ node.old }
     ensures full { result ≡ MULTIPLICITY_LIMIT → node.new ≡ node.old }
     ensures raised { 1 ≤ result → result < MULTIPLICITY_LIMIT → (q : Pair)
-        → times_below node.new q ≡ times_below node.old q + once p q }
+        → multiplicity_below node.new q ≡ multiplicity_below node.old q + once p q }
 {
     match &mut node.below {
         None => {
             if p != node.upper.0 {
                 return 0;
             }
-            let times = node.times;
-            if times < MULTIPLICITY_LIMIT {
-                node.times = times + 1;
+            let multiplicity = node.multiplicities;
+            if multiplicity < MULTIPLICITY_LIMIT {
+                node.multiplicities = multiplicity + 1;
             }
-            times
+            multiplicity
         }
         Some(halves) => {
             if before(p, halves.right_first) {
@@ -72,22 +72,22 @@ pub(crate) fn raise(node: &mut Node, p: Point) -> u32
 /// Lowers the multiplicity of a point below a node by one, if it is above one; nothing else changes. Returns its multiplicity before.
 pub(crate) fn lower(node: &mut Node, p: Point) -> u32
     requires { IsWellBuilt node.old }
-    ensures was { result ≡ times_below node.old p }
+    ensures was { result ≡ multiplicity_below node.old p }
     ensures built { IsWellBuilt node.new }
     ensures same_tree { tree_of node.new ≡ tree_of node.old }
     ensures few { result ≤ 1 → node.new ≡ node.old }
-    ensures lowered { 1 < result → (q : Pair) → times_below node.new q + once p q ≡ times_below node.old q }
+    ensures lowered { 1 < result → (q : Pair) → multiplicity_below node.new q + once p q ≡ multiplicity_below node.old q }
 {
     match &mut node.below {
         None => {
             if p != node.upper.0 {
                 return 0;
             }
-            let times = node.times;
-            if times > 1 {
-                node.times = times - 1;
+            let multiplicity = node.multiplicities;
+            if multiplicity > 1 {
+                node.multiplicities = multiplicity - 1;
             }
-            times
+            multiplicity
         }
         Some(halves) => {
             if before(p, halves.right_first) {
@@ -102,11 +102,11 @@ pub(crate) fn lower(node: &mut Node, p: Point) -> u32
 /// Makes the fork over two points with these multiplicities, in an existing box for the halves.
 fn separated(mut spare: Box<Halves, Heap>, first: (Point, u32), last: (Point, u32)) -> Node
     requires in_order { IsBefore first.0 last.0 }
-    requires times_first { IsMultiplicity first.1 }
-    requires times_last { IsMultiplicity last.1 }
+    requires multiplicity_first { IsMultiplicity first.1 }
+    requires multiplicity_last { IsMultiplicity last.1 }
     ensures built { IsWellBuilt result }
     ensures points { points_below result ≡ first.0 ∷ last.0 ∷ [] }
-    ensures times { (q : Pair) → times_below result q ≡ several first.1 first.0 q + several last.1 last.0 q }
+    ensures multiplicities { (q : Pair) → multiplicity_below result q ≡ several first.1 first.0 q + several last.1 last.0 q }
     ensures height { height_at result ≡ 1 }
     ensures cost_first { IsCostAtMost (tree_of result) first.0 0 }
     ensures cost_last { IsCostAtMost (tree_of result) last.0 0 }
@@ -122,19 +122,19 @@ fn separated(mut spare: Box<Halves, Heap>, first: (Point, u32), last: (Point, u3
 }
 
 /// Makes the fork over a point with its multiplicity and a new one, in an existing box for the halves.
-fn beside(point: Point, times: u32, p: Point, spare: Box<Halves, Heap>) -> Node
+fn beside(point: Point, multiplicity: u32, p: Point, spare: Box<Halves, Heap>) -> Node
     requires new { ¬ (p ≡ point) }
-    requires times { IsMultiplicity times }
+    requires multiplicities { IsMultiplicity multiplicity }
     ensures built { IsWellBuilt result }
     ensures points { points_below result ≡ with_point p (point ∷ []) }
-    ensures times { (q : Pair) → times_below result q ≡ several times point q + once p q }
+    ensures multiplicities { (q : Pair) → multiplicity_below result q ≡ several multiplicity point q + once p q }
     ensures height { height_at result ≡ 1 }
     ensures cost { IsCostAtMost (tree_of result) p 0 }
 {
     if before(p, point) {
-        separated(spare, (p, 1), (point, times))
+        separated(spare, (p, 1), (point, multiplicity))
     } else {
-        separated(spare, (point, times), (p, 1))
+        separated(spare, (point, multiplicity), (p, 1))
     }
 }
 
@@ -157,14 +157,14 @@ pub(crate) fn insert(node: &mut Node, p: Point, spare: Box<Halves, Heap>) -> u32
     requires low { height_at node.old ≤ greatest_height }
     ensures built { IsWellBuilt node.new }
     ensures points { points_below node.new ≡ with_point p (points_below node.old) }
-    ensures times { (q : Pair) → times_below node.new q ≡ times_below node.old q + once p q }
+    ensures multiplicities { (q : Pair) → multiplicity_below node.new q ≡ multiplicity_below node.old q + once p q }
     ensures height { IsAtMostOneMore (height_at node.old) (height_at node.new) }
     ensures few { result ≤ turns_a_level * height_at node.old }
     ensures cost { IsCostAtMost (tree_of node.new) p result }
 {
     match &mut node.below {
         None => {
-            *node = beside(node.upper.0, node.times, p, spare);
+            *node = beside(node.upper.0, node.multiplicities, p, spare);
             0
         }
         Some(halves) => {
@@ -182,7 +182,7 @@ fn insert_below(halves: &mut Halves, p: Point, spare: Box<Halves, Heap>) -> u32
     requires low { height_within halves.old ≤ greatest_height }
     ensures separated { AreSeparated halves.new }
     ensures points { points_within halves.new ≡ with_point p (points_within halves.old) }
-    ensures times { (q : Pair) → times_within halves.new q ≡ times_within halves.old q + once p q }
+    ensures multiplicities { (q : Pair) → multiplicity_within halves.new q ≡ multiplicity_within halves.old q + once p q }
     ensures left { IsAtMostOneMore (height_at (left_half halves.old)) (height_at (left_half halves.new)) }
     ensures right { IsAtMostOneMore (height_at (right_half halves.old)) (height_at (right_half halves.new)) }
     ensures few { result ≤ turns_a_level * height_within halves.old }
@@ -229,11 +229,11 @@ fn other_half(halves: &mut Halves, p: Point) -> Node
 pub(crate) fn remove(node: &mut Node, p: Point) -> u32
     requires built { IsWellBuilt node.old }
     requires fork { IsFork (tree_of node.old) }
-    requires once { times_below node.old p ≡ 1 }
+    requires once { multiplicity_below node.old p ≡ 1 }
     requires low { height_at node.old ≤ greatest_height }
     ensures built { IsWellBuilt node.new }
     ensures points { points_below node.new ≡ without_point p (points_below node.old) }
-    ensures times { (q : Pair) → times_below node.new q + once p q ≡ times_below node.old q }
+    ensures multiplicities { (q : Pair) → multiplicity_below node.new q + once p q ≡ multiplicity_below node.old q }
     ensures height { IsAtMostOneMore (height_at node.new) (height_at node.old) }
     ensures few { result ≤ turns_a_level * height_at node.old }
 {
@@ -252,13 +252,13 @@ pub(crate) fn remove(node: &mut Node, p: Point) -> u32
 #[cycle(remove)]
 fn remove_below(halves: &mut Halves, p: Point) -> u32
     requires separated { AreSeparated halves.old }
-    requires once { times_within halves.old p ≡ 1 }
+    requires once { multiplicity_within halves.old p ≡ 1 }
     requires more_left { ¬ (tree_of (left_half halves.old) ≡ Leaf p) }
     requires more_right { ¬ (tree_of (right_half halves.old) ≡ Leaf p) }
     requires low { height_within halves.old ≤ greatest_height }
     ensures separated { AreSeparated halves.new }
     ensures points { points_within halves.new ≡ without_point p (points_within halves.old) }
-    ensures times { (q : Pair) → times_within halves.new q + once p q ≡ times_within halves.old q }
+    ensures multiplicities { (q : Pair) → multiplicity_within halves.new q + once p q ≡ multiplicity_within halves.old q }
     ensures left { IsAtMostOneMore (height_at (left_half halves.new)) (height_at (left_half halves.old)) }
     ensures right { IsAtMostOneMore (height_at (right_half halves.new)) (height_at (right_half halves.old)) }
     ensures few { result ≤ turns_a_level * height_within halves.old }

@@ -4,7 +4,7 @@ ghost use Rattle.lattice.specs.Plane.{Pair};
 ghost use Rattle.bridge_search.specs.Trees.{IsFork, left_of, right_of, first_of as first_in, last_of as last_in};
 ghost use Rattle.leaf_trees.specs.Heights.{greatest_height};
 ghost use Rattle.hull_tree.specs.Nodes.{tree_of, halves_of, left_half, right_half, before_split, after_split};
-ghost use Rattle.hull_tree.specs.Nodes.{times_below, IsWellBuilt, DifferByAtMost};
+ghost use Rattle.hull_tree.specs.Nodes.{multiplicity_below, IsWellBuilt, DifferByAtMost};
 ghost use Rattle.hull_tree.specs.Changes.{points_below, height_at, left_height, right_height, IsSeparated, IsSeparatedAt};
 ghost use Rattle.hull_tree.specs.Turns.{IsDearerByAtMost, turns_a_fork};
 
@@ -45,7 +45,7 @@ pub(crate) fn take_apart(node: Node) -> (Node, Node, Box<Halves, Heap>)
     ensures halves { halves_of node ≡ Some (result.0, result.1) }
     ensures separated { IsSeparatedAt result.0 result.1 (before_split result.2.value) (after_split result.2.value) }
     ensures points { points_below node ≡ points_below result.0 ++ points_below result.1 }
-    ensures times { (q : Pair) → times_below node q ≡ times_below result.0 q + times_below result.1 q }
+    ensures multiplicities { (q : Pair) → multiplicity_below node q ≡ multiplicity_below result.0 q + multiplicity_below result.1 q }
     ensures first { first_in (tree_of node) ≡ first_in (tree_of result.0) }
     ensures last { last_in (tree_of node) ≡ last_in (tree_of result.1) }
     ensures height { height_at node ≡ max (height_at result.0) (height_at result.1) + 1 }
@@ -67,7 +67,7 @@ pub(crate) fn renew(node: &mut Node) -> u32
     requires low { max (left_height node.old) (right_height node.old) ≤ greatest_height }
     ensures built { IsWellBuilt node.new }
     ensures points { points_below node.new ≡ points_below node.old }
-    ensures times { (q : Pair) → times_below node.new q ≡ times_below node.old q }
+    ensures multiplicities { (q : Pair) → multiplicity_below node.new q ≡ multiplicity_below node.old q }
     ensures first { first_in (tree_of node.new) ≡ first_in (left_of (tree_of node.old)) }
     ensures last { last_in (tree_of node.new) ≡ last_in (right_of (tree_of node.old)) }
     ensures height { height_at node.new ≡ height_at node.old }
@@ -92,7 +92,7 @@ pub(crate) fn join(mut spare: Box<Halves, Heap>, left: Node, right: Node) -> (No
     requires low { max (height_at left) (height_at right) ≤ greatest_height }
     ensures built { IsWellBuilt result.0 }
     ensures points { points_below result.0 ≡ points_below left ++ points_below right }
-    ensures times { (q : Pair) → times_below result.0 q ≡ times_below left q + times_below right q }
+    ensures multiplicities { (q : Pair) → multiplicity_below result.0 q ≡ multiplicity_below left q + multiplicity_below right q }
     ensures first { first_in (tree_of result.0) ≡ first_in (tree_of left) }
     ensures last { last_in (tree_of result.0) ≡ last_in (tree_of right) }
     ensures height { height_at result.0 ≡ max (height_at left) (height_at right) + 1 }
@@ -109,7 +109,7 @@ pub(crate) fn join(mut spare: Box<Halves, Heap>, left: Node, right: Node) -> (No
         lower: (point, point),
         height: 0,
         near: false,
-        times: 0,
+        multiplicity: 0,
         below: Some(spare),
     };
     let turns = renew(&mut node);

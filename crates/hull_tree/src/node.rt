@@ -5,7 +5,7 @@ ghost use Rattle.bridge_search.specs.Trees.{Leaf, edge_of, lower_of, first_of as
 ghost use Rattle.bridge_search.specs.Trees.{height_of as height_in};
 ghost use Rattle.bridge_search.specs.Near.{are_near};
 ghost use Rattle.hull_tree.specs.declared.node.Node.{Node};
-ghost use Rattle.hull_tree.specs.Nodes.{tree_of, halves_of, point_of, multiplicity_of, times_below};
+ghost use Rattle.hull_tree.specs.Nodes.{tree_of, halves_of, point_of, multiplicity_of, multiplicity_below};
 ghost use Rattle.hull_tree.specs.Nodes.{IsLabelled};
 ghost use Rattle.leaf_trees.specs.Entries.{several, IsMultiplicity};
 
@@ -15,7 +15,7 @@ use lattice::{Point, is_near};
 /// A subtree: one point, or a fork over two subtrees.
 ///
 /// It stores its two bridges and its height itself, next to the pointer to its halves: so a search that goes down a half reads the edges that it
-/// compares from the node where it is. For a point, both ends of both edges are that point, and `times` is its multiplicity; for a fork `times` has
+/// compares from the node where it is. For a point, both ends of both edges are that point, and `multiplicity` is its multiplicity; for a fork `multiplicity` has
 /// no meaning. `near` is whether all its points are near: such halves are compared in 64 bits.
 #[cycle(node)]
 #[derive(Drop)]
@@ -24,7 +24,7 @@ pub struct Node {
     pub(crate) lower: (Point, Point),
     pub(crate) height: u16,
     pub(crate) near: bool,
-    pub(crate) times: u32,
+    pub(crate) multiplicity: u32,
     pub(crate) below: Option<Box<Halves, Heap>>,
 }
 
@@ -40,10 +40,10 @@ pub struct Halves {
 
 impl Node {
     /// Makes the node of one point with its multiplicity.
-    pub(crate) fn leaf(point: Point, times: u32) -> Node
-        requires { IsMultiplicity times }
+    pub(crate) fn leaf(point: Point, multiplicity: u32) -> Node
+        requires { IsMultiplicity multiplicity }
         ensures tree { tree_of result ≡ Leaf point }
-        ensures times { (q : Pair) → times_below result q ≡ several times point q }
+        ensures multiplicities { (q : Pair) → multiplicity_below result q ≡ several multiplicity point q }
         ensures labelled { IsLabelled result }
     {
         Node {
@@ -51,7 +51,7 @@ impl Node {
             lower: (point, point),
             height: 0,
             near: is_near(point),
-            times,
+            multiplicity,
             below: None,
         }
     }
@@ -101,7 +101,7 @@ impl Node {
         ensures { result ≡ multiplicity_of self.now }
     {
         match &self.below {
-            None => Some(self.times),
+            None => Some(self.multiplicities),
             Some(_) => None,
         }
     }

@@ -3,7 +3,7 @@ ghost use Rattle.std.specs.Prelude.{◌≡◌, ◌≤◌, ◌+◌, ◌++◌, max
 ghost use Rattle.lattice.specs.Plane.{Pair};
 ghost use Rattle.bridge_search.specs.Trees.{left_of, right_of};
 ghost use Rattle.leaf_trees.specs.Heights.{greatest_height};
-ghost use Rattle.hull_tree.specs.Nodes.{tree_of, before_split, after_split, times_below, IsWellBuilt, DifferByAtMost};
+ghost use Rattle.hull_tree.specs.Nodes.{tree_of, before_split, after_split, multiplicity_below, IsWellBuilt, DifferByAtMost};
 ghost use Rattle.hull_tree.specs.Changes.{points_below, height_at, left_height, right_height, IsSeparated, IsSeparatedAt};
 ghost use Rattle.hull_tree.specs.Changes.{IsAtMostOneMore, IsHeightOver};
 ghost use Rattle.hull_tree.specs.Turns.{IsDearerByAtMost, turns_a_level};
@@ -20,7 +20,7 @@ fn rotate_right(spare: Box<Halves, Heap>, left: Node, right: Node) -> (Node, u32
     requires low { height_at left ≤ greatest_height }
     ensures built { IsWellBuilt result.0 }
     ensures points { points_below result.0 ≡ points_below left ++ points_below right }
-    ensures times { (q : Pair) → times_below result.0 q ≡ times_below left q + times_below right q }
+    ensures multiplicities { (q : Pair) → multiplicity_below result.0 q ≡ multiplicity_below left q + multiplicity_below right q }
     ensures height { IsAtMostOneMore (height_at left) (height_at result.0) }
     ensures few { result.1 ≤ turns_a_level }
     ensures cost_left { IsDearerByAtMost (tree_of left) (tree_of result.0) result.1 }
@@ -47,7 +47,7 @@ fn rotate_left(spare: Box<Halves, Heap>, left: Node, right: Node) -> (Node, u32)
     requires low { height_at right ≤ greatest_height }
     ensures built { IsWellBuilt result.0 }
     ensures points { points_below result.0 ≡ points_below left ++ points_below right }
-    ensures times { (q : Pair) → times_below result.0 q ≡ times_below left q + times_below right q }
+    ensures multiplicities { (q : Pair) → multiplicity_below result.0 q ≡ multiplicity_below left q + multiplicity_below right q }
     ensures height { IsAtMostOneMore (height_at right) (height_at result.0) }
     ensures few { result.1 ≤ turns_a_level }
     ensures cost_left { IsDearerByAtMost (tree_of left) (tree_of result.0) result.1 }
@@ -74,7 +74,7 @@ pub(crate) fn rebalance(node: &mut Node) -> u32
     requires low { max (left_height node.old) (right_height node.old) ≤ greatest_height }
     ensures built { IsWellBuilt node.new }
     ensures points { points_below node.new ≡ points_below node.old }
-    ensures times { (q : Pair) → times_below node.new q ≡ times_below node.old q }
+    ensures multiplicities { (q : Pair) → multiplicity_below node.new q ≡ multiplicity_below node.old q }
     ensures height { IsHeightOver (left_height node.old) (right_height node.old) (height_at node.new) }
     ensures few { result ≤ turns_a_level }
     ensures cost_left { IsDearerByAtMost (left_of (tree_of node.old)) (tree_of node.new) result }

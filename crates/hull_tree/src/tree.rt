@@ -10,7 +10,7 @@ ghost use Rattle.hull_tree.specs.Levels.{bridges_at};
 ghost use Rattle.hull_tree.specs.Turns.{IsLeastCount, IsLeafDepth};
 
 use super::chain_range::push_from;
-use super::change::{insert, is_leaf, lower, raise, remove, times_of};
+use super::change::{insert, is_leaf, lower, raise, remove, find_multiplicity};
 use super::joining::blank;
 use super::levels::push_level;
 use super::load::{node_over, push_entries};
@@ -123,12 +123,12 @@ impl HullTree {
             self.count = 1;
             return (AddReply::Added, 0);
         };
-        let times = raise(root, p);
-        if times == MULTIPLICITY_LIMIT {
+        let multiplicity = raise(root, p);
+        if multiplicity == MULTIPLICITY_LIMIT {
             return (AddReply::TooMany, 0);
         }
-        if times > 0 {
-            return (AddReply::Again(times + 1), 0);
+        if multiplicity > 0 {
+            return (AddReply::Again(multiplicity + 1), 0);
         }
         if self.count >= self.limit {
             return (AddReply::TooMany, 0);
@@ -156,12 +156,12 @@ impl HullTree {
         let Some(root) = &mut self.root else {
             return (RemoveReply::Absent, 0);
         };
-        let times = lower(root, p);
-        if times == 0 {
+        let multiplicity = lower(root, p);
+        if multiplicity == 0 {
             return (RemoveReply::Absent, 0);
         }
-        if times > 1 {
-            return (RemoveReply::Left(times - 1), 0);
+        if multiplicity > 1 {
+            return (RemoveReply::Left(multiplicity - 1), 0);
         }
         self.count -= 1;
         if is_leaf(root, p) {
@@ -207,7 +207,7 @@ impl HullSet for HullTree {
     fn multiplicity(&self, p: Point) -> u32 {
         match &self.root {
             None => 0,
-            Some(root) => times_of(root, p),
+            Some(root) => find_multiplicity(root, p),
         }
     }
 

@@ -7,11 +7,11 @@ use Rattle.std.proofs.lemmas.List.Sums.{sum_by-cons}
 use Rattle.lattice.specs.Plane.{Pair}
 use Rattle.lattice.specs.Covers.{with_point, is_before}
 use Rattle.hull_set.specs.Held.{Held, once, nothing_held, with_new}
-use Rattle.hull_set.proofs.Times.{same_held}
+use Rattle.hull_set.proofs.HeldMultiplicities.{same_held}
 use Rattle.hull_geometry.proofs.PointLists.{AllPairs-none, cut_at}
 use Rattle.hull_geometry.proofs.PointSets.{same_set}
 use Rattle.hull_geometry.proofs.SetLaws.{with_point_law, without_point_law}
-use Rattle.hull_set.proofs.Times.{once_same, same_or_other, once_other}
+use Rattle.hull_set.proofs.HeldMultiplicities.{once_same, same_or_other, once_other}
 use Rattle.hull_set.specs.Replies.{Answers, after, reply_to_add, reply_to_remove}
 use Rattle.hull_set.specs.declared.call.Call.TheVariants.{Add, Remove}
 use Rattle.hull_set.specs.declared.rules.Rules.TheVariants.{Counted}
@@ -19,8 +19,8 @@ use Rattle.hull_set.specs.declared.set.AddReply.{AddReply}
 use Rattle.hull_set.specs.declared.set.AddReply.TheVariants as add
 use Rattle.hull_set.specs.declared.set.RemoveReply.{RemoveReply}
 use Rattle.hull_set.specs.declared.set.RemoveReply.TheVariants.{Removed, Left, Absent}
-use Rattle.leaf_trees.specs.Entries.{times_listed, held_after_adds, held_listed, AreEntries, IsTrueHeld}
-use Rattle.hull_set.specs.Held.{times_among}
+use Rattle.leaf_trees.specs.Entries.{multiplicity_listed, held_after_adds, held_listed, AreEntries, IsTrueHeld}
+use Rattle.hull_set.specs.Held.{multiplicity_among}
 use Rattle.leaf_trees.specs.Entries.{AreTooMany}
 use Rattle.leaf_trees.proofs.Rows.{with_length}
 use Rattle.leaf_trees.proofs.Counting.{live_of, listed_live}
@@ -47,12 +47,12 @@ after_held [] h k = k
 after_held (p ∷ ps) h k = after_held ps (with_new p h) (with_held h p k)
 
 -- the multiplicity of each point grows by the number of times that it was added
-pub after_times : (ps : List Pair) (h : Held) (q : Pair) → (held_after_adds h ps).times q ≡ h.times q + times_among ps q
-after_times [] h q = omega arith
-after_times (p ∷ ps) h q =
-    let r : (held_after_adds (with_new p h) ps).times q ≡ (h.times q + once p q) + times_among ps q =
-    after_times ps (with_new p h) q in
-    let s : times_among (p ∷ ps) q ≡ once p q + times_among ps q = sum_by-cons (λ p. once p q) p ps in
+pub after_multiplicity : (ps : List Pair) (h : Held) (q : Pair) → (held_after_adds h ps).multiplicities q ≡ h.multiplicities q + multiplicity_among ps q
+after_multiplicity [] h q = omega arith
+after_multiplicity (p ∷ ps) h q =
+    let r : (held_after_adds (with_new p h) ps).multiplicities q ≡ (h.multiplicities q + once p q) + multiplicity_among ps q =
+    after_multiplicity ps (with_new p h) q in
+    let s : multiplicity_among (p ∷ ps) q ≡ once p q + multiplicity_among ps q = sum_by-cons (λ p. once p q) p ps in
     omega (arith, r, s)
 
 -- the points of entries are exactly those with a multiplicity
@@ -73,9 +73,9 @@ nothing_is_held = subst IsTrueHeld none_listed (entries_held [] no_entries)
 
 -- a set in which each multiplicity is the old one plus the number of times among some points is the set after adding those points
 pub same_as_added : (h k : Held) (ps : List Pair) → IsTrueHeld h → IsTrueHeld k
-    → ((q : Pair) → k.times q ≡ h.times q + times_among ps q) → k ≡ held_after_adds h ps
+    → ((q : Pair) → k.multiplicities q ≡ h.multiplicities q + multiplicity_among ps q) → k ≡ held_after_adds h ps
 same_as_added h k ps g r e =
-    same_held k.points a.points k.times a.times
+    same_held k.points a.points k.multiplicities a.multiplicities
     (same_set k.points a.points r.in_order s.in_order
     (λ t m. (s.live t).1 (omega (arith, same t, (r.live t).0 m)))
     (λ t m. (r.live t).1 (omega (arith, same t, (s.live t).0 m)))) same
@@ -86,31 +86,31 @@ same_as_added h k ps g r e =
     s : IsTrueHeld a
     s = after_held ps h g
 
-    same : (q : Pair) → k.times q ≡ a.times q
-    same q = let z : a.times q ≡ h.times q + times_among ps q = after_times ps h q in omega (arith, e q, z)
+    same : (q : Pair) → k.multiplicities q ≡ a.multiplicities q
+    same q = let z : a.multiplicities q ≡ h.multiplicities q + multiplicity_among ps q = after_multiplicity ps h q in omega (arith, e q, z)
 
 -- entries whose multiplicities are those of a set plus the numbers of times among some points list the set after adding those points
 pub merged_is_added : (h : Held) (ps : List Pair) (held added es : List (Pair × ℕ)) → IsTrueHeld h → AreEntries es
-    → held_listed held ≡ h → ((q : Pair) → times_listed added q ≡ times_among ps q)
-    → ((q : Pair) → times_listed es q ≡ times_listed held q + times_listed added q)
+    → held_listed held ≡ h → ((q : Pair) → multiplicity_listed added q ≡ multiplicity_among ps q)
+    → ((q : Pair) → multiplicity_listed es q ≡ multiplicity_listed held q + multiplicity_listed added q)
     → held_listed es ≡ held_after_adds h ps
 merged_is_added h ps held added es t a e f g =
     same_as_added h (held_listed es) ps t (entries_held es a)
-    (λ q. omega (arith, g q, f q, ap (λ (z : Held). z.times q) e))
+    (λ q. omega (arith, g q, f q, ap (λ (z : Held). z.multiplicities q) e))
 
 -- ---- one by one
 
 -- adding to a point of the set leaves no multiplicity below the count of only that point
-once_few : (h : Held) (p q : Pair) → 1 ≤ h.times p → once p q ≤ h.times q
+once_few : (h : Held) (p q : Pair) → 1 ≤ h.multiplicities p → once p q ≤ h.multiplicities q
 once_few h p q l = grind (arith, common_steps, same_or_other, once, once_same, once_other)
 
 -- removing a point of the set lowers its multiplicity by one
-pub removed_times : (h k : Held) (limit : ℕ) (p q : Pair) (r : RemoveReply) → IsTrueHeld h → 1 ≤ h.times p
+pub removed_multiplicity : (h k : Held) (limit : ℕ) (p q : Pair) (r : RemoveReply) → IsTrueHeld h → 1 ≤ h.multiplicities p
     → Answers Counted h limit (Remove p) (reply_to_remove r) → k ≡ after h (Remove p) (reply_to_remove r)
-    → k.times q + once p q ≡ h.times q
-removed_times h k limit p q Removed t l a e = grind (arith, common_steps, once, once_few)
-removed_times h k limit p q (Left n) t l a e = grind (arith, common_steps, once, once_few)
-removed_times h k limit p q Absent t l a e = absurd (a ((t.live p).1 l))
+    → k.multiplicities q + once p q ≡ h.multiplicities q
+removed_multiplicity h k limit p q Removed t l a e = grind (arith, common_steps, once, once_few)
+removed_multiplicity h k limit p q (Left n) t l a e = grind (arith, common_steps, once, once_few)
+removed_multiplicity h k limit p q Absent t l a e = absurd (a ((t.live p).1 l))
 
 -- if `add` refuses a point with `TooMany`, adding it makes too many
 pub one_too_many : (h : Held) (limit : ℕ) (p : Pair) → Answers Counted h limit (Add p) (reply_to_add add.TooMany)
@@ -152,7 +152,7 @@ all_too_many h k ps i p limit e g l many =
       | inl m ↦
           inl (
             m.0,
-            omega (arith, m.1, ap (λ (z : Held). z.times m.0) whole, after_times (drop (suc i) ps) (with_new p k) m.0),
+            omega (arith, m.1, ap (λ (z : Held). z.multiplicities m.0) whole, after_multiplicity (drop (suc i) ps) (with_new p k) m.0),
           )
       | inr m ↦
           inr (omega (arith, m, ap (λ (z : Held). length z.points) whole, all_grow (with_new p k) (drop (suc i) ps)))
@@ -192,7 +192,7 @@ kept_by_remove h limit p Removed k a = record {
   );
 }
   where
-    gone : (t : Pair) → t ≡ p → 1 ≤ h.times t - once p t → ⊥
+    gone : (t : Pair) → t ≡ p → 1 ≤ h.multiplicities t - once p t → ⊥
     gone t e l = grind (arith, common_steps, once, once_same)
 kept_by_remove h limit p (Left n) k a = record {
   in_order = k.in_order;
@@ -200,7 +200,7 @@ kept_by_remove h limit p (Left n) k a = record {
     λ m. elim (same_or_other p t) [
       | inl e ↦
           let o : once p t ≡ 1 = subst (λ z. once p z ≡ 1) e (once_same p) in
-          let f : h.times t ≡ n + 1 = ap h.times (sym e) ∙ a.2 in
+          let f : h.multiplicities t ≡ n + 1 = ap h.multiplicities (sym e) ∙ a.2 in
           omega (arith, o, f, a.3)
       | inr d ↦ omega (arith, (k.live t).0 m, once_other p t d)
     ],

@@ -18,10 +18,10 @@ use Rattle.bridge_search.proofs.Leaves.{sets_in_row}
 use Rattle.hull_set.specs.Held.{once}
 use Rattle.hull_set.specs.PointLists.{is_same_pair}
 use Rattle.hull_geometry.proofs.PointLists.{AllPairs-none, AllPairs-cons, get_or_free, later}
-use Rattle.hull_set.proofs.Times.{same_or_other, once_same, returned_other}
+use Rattle.hull_set.proofs.HeldMultiplicities.{same_or_other, once_same, returned_other}
 use Rattle.leaf_trees.specs.Entries.{several, IsMultiplicity}
-use Rattle.leaf_trees.specs.Entries.{points_listed, times_listed, AreEntries}
-use Rattle.hull_set.specs.Held.{times_among}
+use Rattle.leaf_trees.specs.Entries.{points_listed, multiplicity_listed, AreEntries}
+use Rattle.hull_set.specs.Held.{multiplicity_among}
 use Rattle.leaf_trees.specs.Entries.{Precedes}
 use Rattle.hull_geometry.proofs.PointSets.{set_apart}
 use Rattle.leaf_trees.proofs.Multiplicities.{several_there, several_elsewhere}
@@ -103,14 +103,14 @@ followed es e f h n d m =
     }
 
 -- m + n times is m times and n times more
-more_times : (b : Bool) (m n : ℕ) → (if b then m + n else 0) ≡ (if b then m else 0) + (if b then n else 0)
-more_times true m n = refl
-more_times false m n = refl
+more_multiplicities : (b : Bool) (m n : ℕ) → (if b then m + n else 0) ≡ (if b then m else 0) + (if b then n else 0)
+more_multiplicities true m n = refl
+more_multiplicities false m n = refl
 
 -- the last point with a multiplicity that is n greater
-pub times_recounted : (es : List (Pair × ℕ)) (e : Pair × ℕ) (p q : Pair) (n : ℕ) → e.0 ≡ p
-    → times_listed (es ++ (p, e.1 + n) ∷ []) q ≡ times_listed (es ++ e ∷ []) q + several n p q
-times_recounted es e p q n s = grind (arith, common_steps, sum_by_push, several, more_times, is_same_pair)
+pub multiplicity_recounted : (es : List (Pair × ℕ)) (e : Pair × ℕ) (p q : Pair) (n : ℕ) → e.0 ≡ p
+    → multiplicity_listed (es ++ (p, e.1 + n) ∷ []) q ≡ multiplicity_listed (es ++ e ∷ []) q + several n p q
+multiplicity_recounted es e p q n s = grind (arith, common_steps, sum_by_push, several, more_multiplicities, is_same_pair)
 
 -- two points are different if the test returned so
 pub other_point : {r : Bool} (p q : Pair) → r ≡ not (is_same_pair p q) → r ≡ true → ¬ (p ≡ q)
@@ -122,8 +122,8 @@ other_point p q e t = returned_other p q (not_true _ (sym e ∙ t))
 
 -- a point is at least once more among all points than before its index
 pub counted_past : (xs : List Pair) (i : ℕ) (p : Pair) → p ≡ get_or xs i p → i < length xs
-    → times_among (take i xs) p + 1 ≤ times_among xs p
-counted_past xs i p e l = grind (arith, common_steps, times_among, once, sum_by_more_le, once_same)
+    → multiplicity_among (take i xs) p + 1 ≤ multiplicity_among xs p
+counted_past xs i p e l = grind (arith, common_steps, multiplicity_among, once, sum_by_more_le, once_same)
 
 -- the same point, whatever the default for a missing one
 pub at_place : (xs : List Pair) (i : ℕ) (p t : Pair) → p ≡ get_or xs i p → i < length xs → p ≡ get_or xs i t
@@ -131,26 +131,26 @@ at_place xs i p t e l = e ∙ get_or_free xs i p t l
 
 -- the multiplicity of each of the points of entries is at least one
 pub live_of : (es : List (Pair × ℕ)) (t : Pair) → All (λ (e : Pair × ℕ). IsMultiplicity e.1) es
-    → Contains (points_listed es) t → 1 ≤ times_listed es t
+    → Contains (points_listed es) t → 1 ≤ multiplicity_listed es t
 live_of [] t h (k, l, e) = absurd (omega (arith, l))
 live_of (x ∷ es) t h (zero, l, e) =
     let m : IsMultiplicity x.1 = All-head (λ (e : Pair × ℕ). IsMultiplicity e.1) x es h in
     let s : several x.1 x.0 t ≡ x.1 = subst (λ z. several x.1 x.0 z ≡ x.1) e (several_there x.1 x.0) in
     rw (sum_by-cons (λ (e : Pair × ℕ). several e.1 e.0 t) x es) (omega (arith, m.0, s))
 live_of (x ∷ es) t h (suc k, l, e) =
-    let r : 1 ≤ times_listed es t =
+    let r : 1 ≤ multiplicity_listed es t =
     live_of es t (All-tail (λ (e : Pair × ℕ). IsMultiplicity e.1) x es h) (k, omega (arith, l), e) in
     rw (sum_by-cons (λ (e : Pair × ℕ). several e.1 e.0 t) x es) (omega (arith, r))
 
 -- and a point with a multiplicity of at least one is one of them
-pub listed_live : (es : List (Pair × ℕ)) (t : Pair) → 1 ≤ times_listed es t → Contains (points_listed es) t
+pub listed_live : (es : List (Pair × ℕ)) (t : Pair) → 1 ≤ multiplicity_listed es t → Contains (points_listed es) t
 listed_live [] t h = absurd (omega (arith, h))
 listed_live (x ∷ es) t h =
     elim (same_or_other x.0 t) [
       | inl e ↦ (0, omega arith, e)
       | inr d ↦
           let z : several x.1 x.0 t ≡ 0 = several_elsewhere x.1 x.0 t d in
-          let r : 1 ≤ times_listed es t =
+          let r : 1 ≤ multiplicity_listed es t =
           omega (arith, h, z, sum_by-cons (λ (e : Pair × ℕ). several e.1 e.0 t) x es) in
           later x.0 t (points_listed es) (listed_live es t r)
     ]
@@ -159,17 +159,17 @@ listed_live (x ∷ es) t h =
 
 -- the entry at an index adds its multiplicity to the entries before it
 pub listed_more : (es : List (Pair × ℕ)) (i : ℕ) (e : Pair × ℕ) (q : Pair) → e ≡ get_or es i e → i < length es
-    → times_listed (take (i + 1) es) q ≡ times_listed (take i es) q + several e.1 e.0 q
-listed_more es i e q h l = grind (arith, common_steps, sum_by_more, several, times_listed)
+    → multiplicity_listed (take (i + 1) es) q ≡ multiplicity_listed (take i es) q + several e.1 e.0 q
+listed_more es i e q h l = grind (arith, common_steps, sum_by_more, several, multiplicity_listed)
 
 -- a point is at least once more among all points than before its index
 pub listed_past : (es : List (Pair × ℕ)) (i : ℕ) (e : Pair × ℕ) → e ≡ get_or es i e → i < length es
-    → times_listed (take i es) e.0 + e.1 ≤ times_listed es e.0
-listed_past es i e h l = grind (arith, common_steps, times_listed, several, sum_by_more_le, several_there)
+    → multiplicity_listed (take i es) e.0 + e.1 ≤ multiplicity_listed es e.0
+listed_past es i e h l = grind (arith, common_steps, multiplicity_listed, several, sum_by_more_le, several_there)
 
 -- a multiplicity among the first entries is at most the one among all
-pub listed_few : (es : List (Pair × ℕ)) (i : ℕ) (q : Pair) → times_listed (take i es) q ≤ times_listed es q
-listed_few es i q = grind (arith, common_steps, sum_by-append, several, times_listed, take-append-drop)
+pub listed_few : (es : List (Pair × ℕ)) (i : ℕ) (q : Pair) → multiplicity_listed (take i es) q ≤ multiplicity_listed es q
+listed_few es i q = grind (arith, common_steps, sum_by-append, several, multiplicity_listed, take-append-drop)
 
 -- no entry after an index is before the one there
 pub entry_behind : (es : List (Pair × ℕ)) (i k : ℕ) (d : Pair × ℕ) → AreEntries es → i < k → k < length es

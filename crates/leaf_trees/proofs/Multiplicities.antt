@@ -3,7 +3,7 @@ use Rattle.std.proofs.Common.{◌≡◌, ℕ, refl, sym, ◌∙◌, Bool, true, 
 use Rattle.std.specs.Prelude.{not}
 use Rattle.lattice.specs.Plane.{Pair}
 use Rattle.hull_set.specs.PointLists.{is_same_pair}
-use Rattle.hull_set.proofs.Times.{same_true, same_false, returned_same}
+use Rattle.hull_set.proofs.HeldMultiplicities.{same_true, same_false, returned_same}
 use Rattle.leaf_trees.specs.Entries.{several}
 
 -- in the set that contains only p, n times, the multiplicity of p is n

@@ -9,7 +9,7 @@ use Rattle.hull_set.specs.declared.reply.Reply.TheVariants.{Added, Again, TooMan
 use Rattle.hull_set.specs.declared.rules.Rules.TheVariants.{Counted}
 use Rattle.leaf_trees.specs.Entries.{IsTrueHeld}
 
-module _ (h : Held) (limit : ℕ) (p : Pair) (r : ℕ) (k : IsTrueHeld h) (was : r ≡ h.times p) where
+module _ (h : Held) (limit : ℕ) (p : Pair) (r : ℕ) (k : IsTrueHeld h) (was : r ≡ h.multiplicities p) where
   -- a point with a multiplicity is in the set
   pub live : 1 ≤ r → Contains h.points p
   live l = (k.live p).1 (omega (arith, was, l))

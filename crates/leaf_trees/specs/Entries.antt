@@ -10,28 +10,28 @@ use Rattle.hull_set.specs.declared.TheConstants.{MULTIPLICITY_LIMIT}
 
 -- the set that contains p with multiplicity n, and no other point
 abbrev pub several : ℕ → Pair → Pair → ℕ
-several times p q = if is_same_pair p q then times else 0
+several multiplicity p q = if is_same_pair p q then multiplicity else 0
 
 -- a multiplicity that a point of a set may have
 abbrev pub IsMultiplicity : ℕ → Type 0
-IsMultiplicity times = (1 ≤ times) × (times ≤ MULTIPLICITY_LIMIT)
+IsMultiplicity multiplicity = (1 ≤ multiplicity) × (multiplicity ≤ MULTIPLICITY_LIMIT)
 
 -- the points are in order, and are exactly those with a multiplicity of at least one
 pub record IsTrueHeld (h : Held) : Type 0 where
   pub in_order : IsPointSet h.points
-  pub live : (t : Pair) → Contains h.points t ↔ (1 ≤ h.times t)
+  pub live : (t : Pair) → Contains h.points t ↔ (1 ≤ h.multiplicities t)
 
 -- the points of the entries
 abbrev pub points_listed : List (Pair × ℕ) → List Pair
 points_listed entries = keys_of entries
 
 -- the multiplicity of a point in the entries
-abbrev pub times_listed : List (Pair × ℕ) → Pair → ℕ
-times_listed entries q = sum_by (λ (e : Pair × ℕ). several e.1 e.0 q) entries
+abbrev pub multiplicity_listed : List (Pair × ℕ) → Pair → ℕ
+multiplicity_listed entries q = sum_by (λ (e : Pair × ℕ). several e.1 e.0 q) entries
 
 -- the set that the entries list
 abbrev pub held_listed : List (Pair × ℕ) → Held
-held_listed entries = record { points = points_listed entries; times = λ q. times_listed entries q }
+held_listed entries = record { points = points_listed entries; multiplicities = λ q. multiplicity_listed entries q }
 
 -- entries: points in order, each with a multiplicity that a point may have
 pub record AreEntries (entries : List (Pair × ℕ)) : Type 0 where
@@ -52,5 +52,5 @@ pub record Precedes (xs : List (Pair × ℕ)) (i : ℕ) (ys : List (Pair × ℕ)
 -- if the points are added one by one, a point would get a greater multiplicity than one may have, or the set more points than its limit
 abbrev pub AreTooMany : Held → List Pair → ℕ → Type 0
 AreTooMany held points limit =
-    ((q : Pair) × (MULTIPLICITY_LIMIT < (held_after_adds held points).times q))
+    ((q : Pair) × (MULTIPLICITY_LIMIT < (held_after_adds held points).multiplicities q))
     ⊎ (limit < length (held_after_adds held points).points)

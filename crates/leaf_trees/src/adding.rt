@@ -1,7 +1,7 @@
 //! Adding points one by one, all or none of them.
 ghost use Rattle.std.specs.Prelude.{◌≡◌, ◌≤◌, ◌+◌, ◌∷◌, [], IfOk, IfErr, Err, length};
 ghost use Rattle.lattice.specs.Plane.{Pair};
-ghost use Rattle.hull_set.specs.Held.{once, times_among};
+ghost use Rattle.hull_set.specs.Held.{once, multiplicity_among};
 ghost use Rattle.leaf_trees.specs.Entries.{held_after_adds, AreTooMany, IsTrueHeld};
 
 use super::fault::LoadFault;
@@ -11,7 +11,7 @@ use lattice::Point;
 /// Adds a point, or returns why not.
 fn add_one<S: HullSet>(set: &mut S, p: Point) -> Result<(), LoadFault>
     requires { IsTrueHeld (S.held set.old) }
-    ensures times { IfOk result (λ _. (q : Pair) → (S.held set.new).times q ≡ (S.held set.old).times q + once p q) }
+    ensures multiplicities { IfOk result (λ _. (q : Pair) → (S.held set.new).multiplicities q ≡ (S.held set.old).multiplicities q + once p q) }
     ensures fault { IfErr result (λ _. S.held set.new ≡ S.held set.old) }
     ensures too_many { result ≡ Err LoadFault.TooMany → AreTooMany (S.held set.old) (p ∷ []) (S.bound set.old) }
     ensures kept { IsTrueHeld (S.held set.new) }
@@ -29,8 +29,8 @@ fn add_one<S: HullSet>(set: &mut S, p: Point) -> Result<(), LoadFault>
 /// Removes a point that is in the set.
 fn remove_one<S: HullSet>(set: &mut S, p: Point)
     requires kept { IsTrueHeld (S.held set.old) }
-    requires held { 1 ≤ (S.held set.old).times p }
-    ensures times { (q : Pair) → (S.held set.new).times q + once p q ≡ (S.held set.old).times q }
+    requires held { 1 ≤ (S.held set.old).multiplicities p }
+    ensures multiplicities { (q : Pair) → (S.held set.new).multiplicities q + once p q ≡ (S.held set.old).multiplicities q }
     ensures kept { IsTrueHeld (S.held set.new) }
     ensures limit { S.bound set.new ≡ S.bound set.old }
     ensures sound { S.sound set.new }
@@ -42,8 +42,8 @@ fn remove_one<S: HullSet>(set: &mut S, p: Point)
 fn remove_each<S: HullSet>(set: &mut S, points: &[Point])
     requires kept { IsTrueHeld (S.held set.old) }
     requires sound { S.sound set.old }
-    requires held { (q : Pair) → times_among points.now q ≤ (S.held set.old).times q }
-    ensures times { (q : Pair) → (S.held set.new).times q + times_among points.now q ≡ (S.held set.old).times q }
+    requires held { (q : Pair) → multiplicity_among points.now q ≤ (S.held set.old).multiplicities q }
+    ensures multiplicities { (q : Pair) → (S.held set.new).multiplicities q + multiplicity_among points.now q ≡ (S.held set.old).multiplicities q }
     ensures kept { IsTrueHeld (S.held set.new) }
     ensures limit { S.bound set.new ≡ S.bound set.old }
     ensures sound { S.sound set.new }

@@ -2,9 +2,9 @@
 ghost use Rattle.std.specs.Prelude.{◌≡◌, ◌≤◌, ◌<◌, ◌+◌, ◌⊎◌, ℕ, IfOk, IsTrue, false, length, vec_len, vec_capacity, Err};
 ghost use Rattle.std.specs.List.{Contains};
 ghost use Rattle.lattice.specs.Plane.{Pair, IsBefore};
-ghost use Rattle.hull_set.specs.Held.{times_among};
+ghost use Rattle.hull_set.specs.Held.{multiplicity_among};
 ghost use Rattle.hull_set.specs.PointLists.{IsAscending};
-ghost use Rattle.leaf_trees.specs.Entries.{several, IsMultiplicity, AreEntries, points_listed, times_listed, Precedes};
+ghost use Rattle.leaf_trees.specs.Entries.{several, IsMultiplicity, AreEntries, points_listed, multiplicity_listed, Precedes};
 
 use super::fault::LoadFault;
 use heap::Heap;
@@ -15,15 +15,15 @@ use lattice::{Point, before};
 /// appends the entry. Returns whether a point may have that multiplicity.
 fn count_in(entries: &mut Vec<(Point, u32), Heap>, entry: (Point, u32)) -> bool
     requires entries { AreEntries entries.old.items }
-    requires times { IsMultiplicity entry.1 }
+    requires multiplicities { IsMultiplicity entry.1 }
     requires last { (t : Pair) → Contains (points_listed entries.old.items) t → ¬ IsBefore entry.0 t }
     requires space { vec_len entries.old < vec_capacity entries.old }
     ensures entries { AreEntries entries.new.items }
     ensures among { (t : Pair) → Contains (points_listed entries.new.items) t
         → Contains (points_listed entries.old.items) t ⊎ (t ≡ entry.0) }
-    ensures times { IsTrue result
-        → (q : Pair) → times_listed entries.new.items q ≡ times_listed entries.old.items q + several entry.1 entry.0 q }
-    ensures too_often { result ≡ false → MULTIPLICITY_LIMIT < times_listed entries.old.items entry.0 + entry.1 }
+    ensures multiplicities { IsTrue result
+        → (q : Pair) → multiplicity_listed entries.new.items q ≡ multiplicity_listed entries.old.items q + several entry.1 entry.0 q }
+    ensures too_often { result ≡ false → MULTIPLICITY_LIMIT < multiplicity_listed entries.old.items entry.0 + entry.1 }
     ensures short { vec_len entries.new ≤ vec_len entries.old + 1 }
     ensures capacity { vec_capacity entries.new ≡ vec_capacity entries.old }
 {
@@ -51,8 +51,8 @@ fn counted(points: &[Point], entries: &mut Vec<(Point, u32), Heap>) -> bool
     requires none { vec_len entries.old ≡ 0 }
     requires space { length points.now ≤ vec_capacity entries.old }
     ensures entries { AreEntries entries.new.items }
-    ensures times { IsTrue result → (q : Pair) → times_listed entries.new.items q ≡ times_among points.now q }
-    ensures too_often { result ≡ false → (q : Pair) × (MULTIPLICITY_LIMIT < times_among points.now q) }
+    ensures multiplicities { IsTrue result → (q : Pair) → multiplicity_listed entries.new.items q ≡ multiplicity_among points.now q }
+    ensures too_often { result ≡ false → (q : Pair) × (MULTIPLICITY_LIMIT < multiplicity_among points.now q) }
 {
     for i in 0..points.len() {
         if !count_in(entries, (points[i], 1)) {
@@ -88,10 +88,10 @@ fn merged(
     requires none { vec_len entries.old ≡ 0 }
     requires space { length first.now + length second.now ≤ vec_capacity entries.old }
     ensures entries { AreEntries entries.new.items }
-    ensures times { IsTrue result → (q : Pair) → times_listed entries.new.items q
-        ≡ times_listed first.now q + times_listed second.now q }
+    ensures multiplicities { IsTrue result → (q : Pair) → multiplicity_listed entries.new.items q
+        ≡ multiplicity_listed first.now q + multiplicity_listed second.now q }
     ensures too_often { result ≡ false → (q : Pair)
-        × (MULTIPLICITY_LIMIT < times_listed first.now q + times_listed second.now q) }
+        × (MULTIPLICITY_LIMIT < multiplicity_listed first.now q + multiplicity_listed second.now q) }
 {
     let (mut i, mut j) = (0, 0);
     while i < first.len() || j < second.len() {
@@ -119,10 +119,10 @@ pub fn merged_entries(
     requires first { AreEntries first.now }
     requires second { AreEntries second.now }
     ensures entries { IfOk result (λ entries. AreEntries entries.items) }
-    ensures times { IfOk result (λ entries. (q : Pair) → times_listed entries.items q
-        ≡ times_listed first.now q + times_listed second.now q) }
+    ensures multiplicities { IfOk result (λ entries. (q : Pair) → multiplicity_listed entries.items q
+        ≡ multiplicity_listed first.now q + multiplicity_listed second.now q) }
     ensures too_often { result ≡ Err LoadFault.TooMany → (q : Pair)
-        × (MULTIPLICITY_LIMIT < times_listed first.now q + times_listed second.now q) }
+        × (MULTIPLICITY_LIMIT < multiplicity_listed first.now q + multiplicity_listed second.now q) }
 {
     let mut entries = Vec::with_capacity(alloc, first.len() + second.len())?;
     if merged(first, second, &mut entries) {
@@ -136,9 +136,9 @@ pub fn merged_entries(
 /// points.
 pub fn entries_of(alloc: Heap, points: &[Point]) -> Result<Vec<(Point, u32), Heap>, LoadFault>
     ensures entries { IfOk result (λ entries. AreEntries entries.items) }
-    ensures times { IfOk result (λ entries. (q : Pair) → times_listed entries.items q ≡ times_among points.now q) }
+    ensures multiplicities { IfOk result (λ entries. (q : Pair) → multiplicity_listed entries.items q ≡ multiplicity_among points.now q) }
     ensures too_often { result ≡ Err LoadFault.TooMany
-        → (q : Pair) × (MULTIPLICITY_LIMIT < times_among points.now q) }
+        → (q : Pair) × (MULTIPLICITY_LIMIT < multiplicity_among points.now q) }
     ensures none { IfOk result (λ entries. length points.now ≡ 0 → length entries.items ≡ 0) }
     ensures refused { result ≡ Err LoadFault.NoMemory → 1 ≤ length points.now }
 {

@@ -1,7 +1,7 @@
 //! Sets that list their points, and are made from such a list.
 ghost use Rattle.std.specs.Prelude.{◌≡◌, ◌≢◌, ◌≤◌, ◌+◌, ◌++◌, ℕ, List, [], Err, IfOk, IfErr, length, take, vec_len, vec_capacity};
 ghost use Rattle.lattice.specs.Plane.{Pair};
-ghost use Rattle.hull_set.specs.Held.{nothing_held, times_among};
+ghost use Rattle.hull_set.specs.Held.{nothing_held, multiplicity_among};
 ghost use Rattle.leaf_trees.specs.Entries.{AreEntries, AreTooMany, held_after_adds, held_listed};
 ghost use Rattle.leaf_trees.specs.ChainRanges.{IsChainRange, entries_from};
 
@@ -62,7 +62,7 @@ pub trait Listed: HullSet + Drop {
         requires high { limit ≤ POINT_LIMIT }
         requires low { 1 ≤ limit }
         ensures held { IfOk result (λ set. Self.held set ≡ held_after_adds nothing_held points.now) }
-        ensures times { IfOk result (λ set. (q : Pair) → (Self.held set).times q ≡ times_among points.now q) }
+        ensures multiplicities { IfOk result (λ set. (q : Pair) → (Self.held set).multiplicities q ≡ multiplicity_among points.now q) }
         ensures limit { IfOk result (λ set. Self.bound set ≡ limit) }
         ensures sound { IfOk result (λ set. Self.sound set) }
         ensures too_many { result ≡ Err LoadFault.TooMany → AreTooMany nothing_held points.now limit }

@@ -52,8 +52,8 @@ impl Both {
 
     /// Whether both answer alike, and `p` has the same multiplicity in both.
     fn are_alike(&self, p: Point, q: Point) -> bool {
-        let times = self.tree.multiplicity(p) == self.plain.multiplicity(p);
-        times && answer_alike(&self.tree, &self.plain, q)
+        let multiplicity = self.tree.multiplicity(p) == self.plain.multiplicity(p);
+        multiplicity && answer_alike(&self.tree, &self.plain, q)
     }
 }
 

@@ -26,8 +26,8 @@ struct Sets {
 /// Whether the entries list the set.
 fn are_entries(entries: &[(Point, u32)], plain: &PlainSet) -> bool {
     let mut alike = entries.len() == plain.count() as usize;
-    for (p, times) in entries {
-        alike = plain.multiplicity(*p) == *times && alike;
+    for (p, multiplicity) in entries {
+        alike = plain.multiplicity(*p) == *multiplicity && alike;
     }
     alike
 }

@@ -53,7 +53,7 @@ fn has_vertices(bucket: &Bucket, side: Side) -> bool {
 /// Whether points are in order, each has a multiplicity, and the masks are right.
 fn is_right(bucket: &Bucket) -> bool {
     let points = bucket.points();
-    let mut right = bucket.times().len() == points.len() && points.len() <= BUCKET_SIZE;
+    let mut right = bucket.multiplicities().len() == points.len() && points.len() <= BUCKET_SIZE;
     for place in 1..points.len() {
         right = before(points[place - 1], points[place]) && right;
     }
@@ -71,7 +71,7 @@ fn change(bucket: Bucket, p: Point, keeps_first: bool) -> Bucket {
     }
     match first.place_of(p) {
         Ok(place) if first.points().len() > 1 => first.remove(place),
-        Ok(place) => first.set_times(place, 2),
+        Ok(place) => first.set_multiplicity(place, 2),
         Err(place) => first.insert(place, p, 1),
     }
     first
@@ -144,7 +144,7 @@ fn all_vertices_separated_and_merged(rt: HostRuntime) {
         is_right(&first) && is_right(&second),
     );
     first.merge(&second);
-    let last = first.times().get(63).copied();
+    let last = first.multiplicities().get(63).copied();
     let whole = (first.points().len(), last, is_right(&first));
     assert!(rt; full == (true, u64::MAX, (1 << 63) + 1));
     assert!(rt; halves == (32, (1 << 31) + 1, true));

@@ -69,9 +69,9 @@ fn empty_set(rt: HostRuntime) {
 /// Adds a point until it has the greatest multiplicity. Returns the multiplicity up to which each reply was right.
 fn add_to_the_most(set: &mut PlainSet, p: Point) -> u32 {
     let mut held = 1;
-    for times in 2u32..=MOST {
-        if held == times - 1 && set.add(p) == AddReply::Again(times) {
-            held = times;
+    for multiplicity in 2u32..=MOST {
+        if held == multiplicity - 1 && set.add(p) == AddReply::Again(multiplicity) {
+            held = multiplicity;
         }
     }
     held

@@ -136,9 +136,9 @@ fn leaf_and_fork(rt: HostRuntime) {
 /// Adds a point until its multiplicity is 65535. Returns the multiplicity up to which each reply was right.
 fn add_to_the_most(tree: &mut HullTree, p: Point) -> u32 {
     let mut held = 1;
-    for times in 2u32..65536 {
-        if held == times - 1 && tree.add(p) == AddReply::Again(times) {
-            held = times;
+    for multiplicity in 2u32..65536 {
+        if held == multiplicity - 1 && tree.add(p) == AddReply::Again(multiplicity) {
+            held = multiplicity;
         }
     }
     held

@@ -120,9 +120,9 @@ fn each_failing_write_of_a_short_journal_leaves_a_beginning(rt: HostRuntime) -> 
 }
 
 // Returns a journal that adds points of a row, the last first, and each of them again and again.
-fn row_journal(alloc: Global, points: u32, times: u32) -> Result<Journal, Fail> {
+fn row_journal(alloc: Global, points: u32, multiplicity: u32) -> Result<Journal, Fail> {
     let mut lines = Vec::new(alloc);
-    for time in 1..=times {
+    for time in 1..=multiplicity {
         for i in 0..points {
             let call = Call::Add(Point::new(i64::from(points) - i64::from(i), 0)?);
             let reply = if time > 1 {
@@ -133,7 +133,7 @@ fn row_journal(alloc: Global, points: u32, times: u32) -> Result<Journal, Fail> 
             lines.push(Line::new(lines.len() as u64, 3, call, reply))?;
         }
     }
-    Ok(Journal::new(0, points, points.wrapping_mul(times), lines, Rules::Counted).ok_or("a limit")?)
+    Ok(Journal::new(0, points, points.wrapping_mul(multiplicity), lines, Rules::Counted).ok_or("a limit")?)
 }
 
 // Whether the lines of a short journal add the points of a row, each of them twenty times.

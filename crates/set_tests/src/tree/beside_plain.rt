@@ -15,8 +15,8 @@ fn push_points(points: &mut Vec<(Point, u32)>, node: &Node) -> Result<(), AllocE
         push_points(points, left)?;
         push_points(points, right)?;
     }
-    if let (Some(point), Some(times)) = (node.point(), node.multiplicity()) {
-        points.push((point, times))?;
+    if let (Some(point), Some(multiplicity)) = (node.point(), node.multiplicity()) {
+        points.push((point, multiplicity))?;
     }
     Ok(())
 }
@@ -24,11 +24,11 @@ fn push_points(points: &mut Vec<(Point, u32)>, node: &Node) -> Result<(), AllocE
 /// Whether these points are in order, and each of them has the same multiplicity in both.
 fn are_held_alike(points: &[(Point, u32)], tree: &HullTree, plain: &PlainSet) -> bool {
     for i in 0..points.len() {
-        let (point, times) = points[i];
+        let (point, multiplicity) = points[i];
         if i > 0 && !before(points[i - 1].0, point) {
             return false;
         }
-        if plain.multiplicity(point) != times || tree.multiplicity(point) != times {
+        if plain.multiplicity(point) != multiplicity || tree.multiplicity(point) != multiplicity {
             return false;
         }
     }

@@ -32,8 +32,8 @@ fn drawn(
 /// Whether the entries are the points of the plain set in order, each with the same multiplicity.
 pub(super) fn are_entries(entries: &[(Point, u32)], plain: &PlainSet) -> bool {
     for i in 0..entries.len() {
-        let (point, times) = entries[i];
-        if i > 0 && !before(entries[i - 1].0, point) || plain.multiplicity(point) != times {
+        let (point, multiplicity) = entries[i];
+        if i > 0 && !before(entries[i - 1].0, point) || plain.multiplicity(point) != multiplicity {
             return false;
         }
     }
@@ -126,9 +126,9 @@ fn extended_past_the_limit(rt: HostRuntime) -> Result<(), Fail> {
 }
 
 /// Returns a point this many times.
-fn repeated(alloc: Global, point: Point, times: u32) -> Result<Vec<Point>, AllocError> {
+fn repeated(alloc: Global, point: Point, multiplicity: u32) -> Result<Vec<Point>, AllocError> {
     let mut points = Vec::new(alloc);
-    for _ in 0..times {
+    for _ in 0..multiplicities {
         points.push(point)?;
     }
     Ok(points)

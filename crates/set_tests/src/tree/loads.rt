@@ -53,9 +53,9 @@ fn one_point_more_than_the_limit(rt: HostRuntime) -> Result<(), Fail> {
 }
 
 /// Returns a point this many times.
-fn repeated(alloc: Global, point: Point, times: u32) -> Result<Vec<Point>, AllocError> {
+fn repeated(alloc: Global, point: Point, multiplicity: u32) -> Result<Vec<Point>, AllocError> {
     let mut points = Vec::new(alloc);
-    for _ in 0..times {
+    for _ in 0..multiplicities {
         points.push(point)?;
     }
     Ok(points)
@@ -65,10 +65,10 @@ fn repeated(alloc: Global, point: Point, times: u32) -> Result<Vec<Point>, Alloc
 fn once_more_than_a_point_may_be_held(rt: HostRuntime) -> Result<(), Fail> {
     let p = at(&rt, 7, 7);
     let most = repeated(rt.alloc(), p, MULTIPLICITY_LIMIT)?;
-    let times = HullTree::from_points(rt.alloc(), 1, &most)?.multiplicity(p);
+    let multiplicity = HullTree::from_points(rt.alloc(), 1, &most)?.multiplicity(p);
     let more = repeated(rt.alloc(), p, MULTIPLICITY_LIMIT + 1)?;
     let fault = entries_of(rt.alloc(), &more).err();
-    assert!(rt; times == MULTIPLICITY_LIMIT);
+    assert!(rt; multiplicity == MULTIPLICITY_LIMIT);
     assert_eq!(rt; fault, Some(LoadFault::TooMany));
     Ok(())
 }

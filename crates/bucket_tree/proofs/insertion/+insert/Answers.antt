@@ -17,7 +17,7 @@ use Rattle.bucket_tree.proofs.insertion.+insert.Goals as goal
 pub balance-above-requires-clause-row : goal.balance-above-requires-clause-row
 balance-above-requires-clause-row t c =
     let o = c.take_apart-left.ensures in
-    let i = at true _ c.args.node _ _ _ o.row o.points o.times
+    let i = at true _ c.args.node _ _ _ o.row o.points o.multiplicities
     (ap (λ z. z.right_first) c.deref.ensures ∙ o.split) (passed _ c.before-2.ensures.0 c.if-before.true) in
     row_with true (Comes c.insert-change.result.refused) _ _ _ _ c.insert-change.result.node i
     c.insert-change.ensures.built c.insert-change.ensures.gained
@@ -25,7 +25,7 @@ balance-above-requires-clause-row t c =
 pub balance-above-requires-clause-few : goal.balance-above-requires-clause-few
 balance-above-requires-clause-few t c =
     let o = c.take_apart-left.ensures in
-    let i = at true _ c.args.node _ _ _ o.row o.points o.times
+    let i = at true _ c.args.node _ _ _ o.row o.points o.multiplicities
     (ap (λ z. z.right_first) c.deref.ensures ∙ o.split) (passed _ c.before-2.ensures.0 c.if-before.true) in
     few_with true (Comes c.insert-change.result.refused) _ _ _ _ c.insert-change.result.node i
     c.insert-change.ensures.gained (c.requires.absent, c.requires.few)
@@ -56,11 +56,11 @@ balance-above-requires-clause-behind t c =
 pub returns-then-before-clause-gained : goal.returns-then-before-clause-gained
 returns-then-before-clause-gained t c =
     let o = c.take_apart-left.ensures in
-    let i = at true _ c.args.node _ _ _ o.row o.points o.times
+    let i = at true _ c.args.node _ _ _ o.row o.points o.multiplicities
     (ap (λ z. z.right_first) c.deref.ensures ∙ o.split) (passed _ c.before-2.ensures.0 c.if-before.true) in
     alters_with true (Comes c.insert-change.result.refused) _ _ _ _ c.insert-change.result.node
     c.balance-above.result.node i c.insert-change.ensures.built c.balance-above.ensures.points
-    c.balance-above.ensures.times
+    c.balance-above.ensures.multiplicities
     c.insert-change.ensures.gained
 
 pub returns-then-before-clause-unaffected : goal.returns-then-before-clause-unaffected
@@ -115,7 +115,7 @@ insert-change-requires-else-before t c = (
 pub balance-above-requires-else-before-clause-row : goal.balance-above-requires-else-before-clause-row
 balance-above-requires-else-before-clause-row t c =
     let o = c.take_apart-left.ensures in
-    let i = at false _ c.args.node _ _ _ o.row o.points o.times
+    let i = at false _ c.args.node _ _ _ o.row o.points o.multiplicities
     (ap (λ z. z.right_first) c.deref.ensures ∙ o.split) (failed _ c.before-2.ensures.1 c.if-before.false) in
     row_with false (Comes c.insert-change-else-before.result.refused) _ _ _ _ c.insert-change-else-before.result.node i
     c.insert-change-else-before.ensures.built c.insert-change-else-before.ensures.gained
@@ -123,7 +123,7 @@ balance-above-requires-else-before-clause-row t c =
 pub balance-above-requires-else-before-clause-few : goal.balance-above-requires-else-before-clause-few
 balance-above-requires-else-before-clause-few t c =
     let o = c.take_apart-left.ensures in
-    let i = at false _ c.args.node _ _ _ o.row o.points o.times
+    let i = at false _ c.args.node _ _ _ o.row o.points o.multiplicities
     (ap (λ z. z.right_first) c.deref.ensures ∙ o.split) (failed _ c.before-2.ensures.1 c.if-before.false) in
     few_with false (Comes c.insert-change-else-before.result.refused) _ _ _ _ c.insert-change-else-before.result.node i
     c.insert-change-else-before.ensures.gained (c.requires.absent, c.requires.few)
@@ -155,11 +155,11 @@ balance-above-requires-else-before-clause-behind t c =
 pub returns-else-before-clause-gained : goal.returns-else-before-clause-gained
 returns-else-before-clause-gained t c =
     let o = c.take_apart-left.ensures in
-    let i = at false _ c.args.node _ _ _ o.row o.points o.times
+    let i = at false _ c.args.node _ _ _ o.row o.points o.multiplicities
     (ap (λ z. z.right_first) c.deref.ensures ∙ o.split) (failed _ c.before-2.ensures.1 c.if-before.false) in
     alters_with false (Comes c.insert-change-else-before.result.refused) _ _ _ _ c.insert-change-else-before.result.node
     c.balance-above-else-before.result.node i c.insert-change-else-before.ensures.built
-    c.balance-above-else-before.ensures.points c.balance-above-else-before.ensures.times
+    c.balance-above-else-before.ensures.points c.balance-above-else-before.ensures.multiplicities
     c.insert-change-else-before.ensures.gained
 
 pub returns-else-before-clause-unaffected : goal.returns-else-before-clause-unaffected

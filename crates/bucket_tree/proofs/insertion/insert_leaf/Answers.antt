@@ -3,8 +3,8 @@ use Rattle.std.proofs.Common.{◌++◌, ◌∙◌, ap, refl, subst, sym}
 use Rattle.lattice.specs.Covers.{IsPointSet}
 use Rattle.hull_geometry.proofs.SetLaws.{ordered_with}
 use Rattle.hull_buckets.specs.Buckets.{IsBucket}
-use Rattle.bucket_tree.specs.Counts.{counted, times_at}
-use Rattle.bucket_tree.specs.Nodes.{times_below}
+use Rattle.bucket_tree.specs.Counts.{counted, multiplicity_at}
+use Rattle.bucket_tree.specs.Nodes.{multiplicities_below}
 use Rattle.bucket_tree.proofs.BuiltLeaves.{leaf_built}
 use Rattle.bucket_tree.proofs.Gained.{parts_gain, parts_held}
 use Rattle.bucket_tree.proofs.NodeRows.{in_row}
@@ -30,9 +30,9 @@ returns-clause-gained c = (
       c.deref_mut.ensures.value c.split.ensures.points c.deref_mut-3.ensures.value c.deref_mut-4.ensures.value
       c.put_in_either.ensures.points,
   λ q. parts_held c.args.bucket.value c.deref_mut.result.now c.split.new.self c.split.result c.deref_mut-3.result.now
-      c.deref_mut-4.result.now (times_at c.join-node.result.0 q) c.args.p q c.deref_mut.ensures.value
-      c.split.ensures.points c.split.ensures.times c.deref_mut-3.ensures.value c.deref_mut-4.ensures.value
-      (ap (λ z. counted z (times_below c.join-node.result.0) q) c.join-node.ensures.points
+      c.deref_mut-4.result.now (multiplicity_at c.join-node.result.0 q) c.args.p q c.deref_mut.ensures.value
+      c.split.ensures.points c.split.ensures.multiplicities c.deref_mut-3.ensures.value c.deref_mut-4.ensures.value
+      (ap (λ z. counted z (multiplicities_below c.join-node.result.0) q) c.join-node.ensures.points
       ∙ ap (λ z. counted (c.put_in_either.new.first.points ++ c.put_in_either.new.second.points) z q)
-      c.join-node.ensures.times ∙ c.put_in_either.ensures.times q),
+      c.join-node.ensures.multiplicities ∙ c.put_in_either.ensures.multiplicities q),
 )

@@ -8,11 +8,11 @@ use Rattle.hull_buckets.proofs.Changed.{insert_is}
 use Rattle.leaf_trees.proofs.Rows.{with_length}
 use Rattle.bucket_tree.proofs.insertion.put_at.Goals as goal
 
-pub returns-clause-times : goal.returns-clause-times
-returns-clause-times c q =
-    counted_put c.args.bucket.now.points c.insert.new.self.points c.args.bucket.now.times c.insert.new.self.times
+pub returns-clause-multiplicities : goal.returns-clause-multiplicities
+returns-clause-multiplicities c q =
+    counted_put c.args.bucket.now.points c.insert.new.self.points c.args.bucket.now.multiplicities c.insert.new.self.multiplicities
     c.args.place c.args.p q c.buckets_are_sound.ensures.ordered c.buckets_are_sound.ensures.counted
-    c.requires.position c.insert.ensures.points c.insert.ensures.times
+    c.requires.position c.insert.ensures.points c.insert.ensures.multiplicities
 
 pub affected_at-requires-clause-within : goal.affected_at-requires-clause-within
 affected_at-requires-clause-within c = omega (

@@ -22,14 +22,14 @@ returns-then-before-clause-points c =
     c.buckets_are_sound-2.ensures.some c.index-points-0.is))
     (passed c.before-2.result c.before-2.ensures.0 c.if-before.true))
 
-pub returns-then-before-clause-times : goal.returns-then-before-clause-times
-returns-then-before-clause-times c q = omega (
+pub returns-then-before-clause-multiplicities : goal.returns-then-before-clause-multiplicities
+returns-then-before-clause-multiplicities c q = omega (
   arith,
-  counted_row c.put.new.bucket.points c.args.second.now.points c.put.new.bucket.times c.args.second.now.times q
+  counted_row c.put.new.bucket.points c.args.second.now.points c.put.new.bucket.multiplicities c.args.second.now.multiplicities q
       c.buckets_are_sound-then-before.ensures.counted,
-  counted_row c.args.first.now.points c.args.second.now.points c.args.first.now.times c.args.second.now.times q
+  counted_row c.args.first.now.points c.args.second.now.points c.args.first.now.multiplicities c.args.second.now.multiplicities q
       c.buckets_are_sound.ensures.counted,
-  c.put.ensures.times q,
+  c.put.ensures.multiplicities q,
 )
 
 pub returns-clause-points : goal.returns-clause-points
@@ -42,12 +42,12 @@ returns-clause-points c =
     c.buckets_are_sound-2.ensures.some c.index-points-0.is))
     (failed c.before-2.result c.before-2.ensures.1 c.if-before.false))
 
-pub returns-clause-times : goal.returns-clause-times
-returns-clause-times c q = omega (
+pub returns-clause-multiplicities : goal.returns-clause-multiplicities
+returns-clause-multiplicities c q = omega (
   arith,
-  counted_row c.args.first.now.points c.put-2.new.bucket.points c.args.first.now.times c.put-2.new.bucket.times q
+  counted_row c.args.first.now.points c.put-2.new.bucket.points c.args.first.now.multiplicities c.put-2.new.bucket.multiplicities q
       c.buckets_are_sound.ensures.counted,
-  counted_row c.args.first.now.points c.args.second.now.points c.args.first.now.times c.args.second.now.times q
+  counted_row c.args.first.now.points c.args.second.now.points c.args.first.now.multiplicities c.args.second.now.multiplicities q
       c.buckets_are_sound.ensures.counted,
-  c.put-2.ensures.times q,
+  c.put-2.ensures.multiplicities q,
 )

@@ -10,7 +10,7 @@ build-requires t c = (
   subst (λ z. IsLoad z c.split_at-2.result.0.now (c.args.forks - 1)) (sym c.split_at.ensures.front)
       (subst (λ z. IsLoad (take (length c.args.points.now / 2) c.args.points.now) z (c.args.forks - 1))
       (sym c.split_at-2.ensures.front)
-      (first_load c.args.points.now c.args.times.now c.args.forks (length c.args.points.now / 2) c.requires
+      (first_load c.args.points.now c.args.multiplicities.now c.args.forks (length c.args.points.now / 2) c.requires
       (omega (arith, c.if-forks-eq0.false)) refl)),
 )
 
@@ -20,6 +20,6 @@ build-requires-2 t c = (
   subst (λ z. IsLoad z c.split_at-2.result.1.now (c.args.forks - 1)) (sym c.split_at.ensures.back)
       (subst (λ z. IsLoad (drop (length c.args.points.now / 2) c.args.points.now) z (c.args.forks - 1))
       (sym c.split_at-2.ensures.back)
-      (second_load c.args.points.now c.args.times.now c.args.forks (length c.args.points.now / 2) c.requires
+      (second_load c.args.points.now c.args.multiplicities.now c.args.forks (length c.args.points.now / 2) c.requires
       (omega (arith, c.if-forks-eq0.false)) refl)),
 )

@@ -9,5 +9,5 @@ pub from_parts-requires : goal.from_parts-requires
 from_parts-requires c =
     subst (λ z. AreParts z c.deref-2.result.now) (sym (c.deref.ensures.value ∙ c.in_ok-points.ensures.points))
     (subst (λ z. AreParts (points_listed c.args.entries.now) z)
-    (sym (c.deref-2.ensures.value ∙ c.in_ok-points.ensures.times))
+    (sym (c.deref-2.ensures.value ∙ c.in_ok-points.ensures.multiplicities))
     (parts_of c.args.entries.now c.requires.entries c.requires.some c.requires.few))

@@ -7,9 +7,9 @@ use Rattle.bucket_tree.proofs.load.separated.Given as goal
 abbrev pub invariant-loop-i : goal.invariant-loop-i
 invariant-loop-i l = record {
   points : l.points.items ≡ points_listed (take l.i l.entries);
-  times : l.times.items ≡ numbers_listed (take l.i l.entries);
+  multiplicities : l.multiplicities.items ≡ numbers_listed (take l.i l.entries);
   points_short : vec_len l.points ≡ l.i;
-  times_short : vec_len l.times ≡ l.i;
+  multiplicity_short : vec_len l.multiplicities ≡ l.i;
   points_space : length l.entries ≤ vec_capacity l.points;
-  times_space : length l.entries ≤ vec_capacity l.times;
+  multiplicity_space : length l.entries ≤ vec_capacity l.multiplicities;
 }

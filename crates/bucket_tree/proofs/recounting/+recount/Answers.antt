@@ -2,7 +2,7 @@
 use Rattle.std.proofs.Common.{true, false, ◌≡◌, ◌+◌, max, ap, subst, sym, arith, refl}
 use Rattle.lattice.specs.Plane.{IsBefore}
 use Rattle.hull_buckets.specs.Buckets.{BucketValue}
-use Rattle.bucket_tree.specs.Counts.{counted, times_at, IsSameButTimes}
+use Rattle.bucket_tree.specs.Counts.{counted, multiplicity_at, IsSameButMultiplicities}
 use Rattle.leaf_trees.specs.Entries.{several}
 use Rattle.bucket_tree.specs.Nodes.{node_height, IsWellBuilt}
 use Rattle.bucket_tree.proofs.Gained.{passed, failed}
@@ -20,7 +20,7 @@ recount-requires t c =
     let m = count_in true c.args.node.now c.in-Fork.field-0 c.in-Fork.fork c.args.p c.in-Fork.is c.requires.built
     (subst (IsBefore c.args.p) (ap (λ z. z.right_first) c.deref.ensures)
     (passed c.before-in-Fork.result c.before-in-Fork.ensures.0 c.if-before.true)) in
-    let v = ap (λ z. times_at z.left c.args.p) c.deref_mut-then-before.ensures.value in (
+    let v = ap (λ z. multiplicity_at z.left c.args.p) c.deref_mut-then-before.ensures.value in (
       omega (arith, c.decreases, e, k),
       (
         subst (λ z. IsWellBuilt z.left) (sym c.deref_mut-then-before.ensures.value)
@@ -38,7 +38,7 @@ recount-requires-else-before t c =
     let m = count_in false c.args.node.now c.in-Fork.field-0 c.in-Fork.fork c.args.p c.in-Fork.is c.requires.built
     (subst (λ z. ¬ IsBefore c.args.p z) (ap (λ z. z.right_first) c.deref.ensures)
     (failed c.before-in-Fork.result c.before-in-Fork.ensures.1 c.if-before.false)) in
-    let v = ap (λ z. times_at z.right c.args.p) c.deref_mut-else-before.ensures.value in (
+    let v = ap (λ z. multiplicity_at z.right c.args.p) c.deref_mut-else-before.ensures.value in (
       omega (arith, c.decreases, e, k),
       (
         subst (λ z. IsWellBuilt z.right) (sym c.deref_mut-else-before.ensures.value)
@@ -49,17 +49,17 @@ recount-requires-else-before t c =
 
 pub returns-in-Leaf : goal.returns-in-Leaf
 returns-in-Leaf t c =
-    recounted_leaf c.args.times c.args.p c.args.node.now c.in-Leaf.bucket _ c.recount_leaf.new.bucket c.in-Leaf.is refl
-    (subst (λ (z : BucketValue). IsSameButTimes z c.recount_leaf.new.bucket) c.deref_mut.ensures.value
+    recounted_leaf c.args.multiplicity c.args.p c.args.node.now c.in-Leaf.bucket _ c.recount_leaf.new.bucket c.in-Leaf.is refl
+    (subst (λ (z : BucketValue). IsSameButMultiplicities z c.recount_leaf.new.bucket) c.deref_mut.ensures.value
     c.recount_leaf.ensures.same)
-    (λ q. subst (λ (z : BucketValue). counted c.recount_leaf.new.bucket.points c.recount_leaf.new.bucket.times q
-    + several (counted z.points z.times c.args.p) c.args.p q
-    ≡ counted z.points z.times q + several c.args.times c.args.p q) c.deref_mut.ensures.value
+    (λ q. subst (λ (z : BucketValue). counted c.recount_leaf.new.bucket.points c.recount_leaf.new.bucket.multiplicities q
+    + several (counted z.points z.multiplicities c.args.p) c.args.p q
+    ≡ counted z.points z.multiplicities q + several c.args.multiplicity c.args.p q) c.deref_mut.ensures.value
     (c.recount_leaf.ensures.held q))
 
 pub returns-then-before : goal.returns-then-before
 returns-then-before t c =
-    recounted_in true c.args.times c.args.p c.args.node.now c.in-Fork.field-0 c.in-Fork.fork
+    recounted_in true c.args.multiplicity c.args.p c.args.node.now c.in-Fork.field-0 c.in-Fork.fork
     c.deref_mut-then-before.result.now c.recount.new.node c.deref_mut-then-before.ensures.value c.in-Fork.is
     c.requires.built (subst (IsBefore c.args.p) (ap (λ z. z.right_first) c.deref.ensures)
     (passed c.before-in-Fork.result c.before-in-Fork.ensures.0 c.if-before.true))
@@ -67,7 +67,7 @@ returns-then-before t c =
 
 pub returns-else-before : goal.returns-else-before
 returns-else-before t c =
-    recounted_in false c.args.times c.args.p c.args.node.now c.in-Fork.field-0 c.in-Fork.fork
+    recounted_in false c.args.multiplicity c.args.p c.args.node.now c.in-Fork.field-0 c.in-Fork.fork
     c.deref_mut-else-before.result.now c.recount-else-before.new.node c.deref_mut-else-before.ensures.value c.in-Fork.is
     c.requires.built (subst (λ z. ¬ IsBefore c.args.p z) (ap (λ z. z.right_first) c.deref.ensures)
     (failed c.before-in-Fork.result c.before-in-Fork.ensures.1 c.if-before.false))

@@ -18,7 +18,7 @@ use Rattle.bucket_tree.proofs.removal.+remove.Goals as goal
 pub remove-rest-requires : goal.remove-rest-requires
 remove-rest-requires t c =
     let o = c.take_apart-left.ensures in
-    let i = at true _ c.args.node _ _ _ o.row o.points o.times
+    let i = at true _ c.args.node _ _ _ o.row o.points o.multiplicities
     (ap (λ z. z.right_first) c.deref.ensures ∙ o.split) (passed _ c.before-2.ensures.0 c.if-before.true) in (
       omega (arith, c.decreases, o.height),
       (
@@ -41,7 +41,7 @@ remove-rest-requires t c =
 pub returns-in_default-clause-lost : goal.returns-in_default-clause-lost
 returns-in_default-clause-lost t c =
     let o = c.take_apart-left.ensures in
-    let i = at true _ c.args.node _ _ _ o.row o.points o.times
+    let i = at true _ c.args.node _ _ _ o.row o.points o.multiplicities
     (ap (λ z. z.right_first) c.deref.ensures ∙ o.split) (passed _ c.before-2.ensures.0 c.if-before.true) in
     subst (HasLost c.args.p c.args.node) (sym c.other_part.ensures.rest)
     (lost_with_none true _ _ _ _ i
@@ -50,7 +50,7 @@ returns-in_default-clause-lost t c =
 pub prepare-above-requires-clause-row : goal.prepare-above-requires-clause-row
 prepare-above-requires-clause-row t c =
     let o = c.take_apart-left.ensures in
-    let i = at true _ c.args.node _ _ _ o.row o.points o.times
+    let i = at true _ c.args.node _ _ _ o.row o.points o.multiplicities
     (ap (λ z. z.right_first) c.deref.ensures ∙ o.split) (passed _ c.before-2.ensures.0 c.if-before.true) in
     let lost = subst (HasLost c.args.p c.take_apart-left.result.0) c.in-Some.is c.remove-rest.ensures.lost in
     row_with true Goes _ _ _ _ c.in-Some.rest i lost.0 (lost.1, lost.2)
@@ -58,7 +58,7 @@ prepare-above-requires-clause-row t c =
 pub prepare-above-requires-clause-few : goal.prepare-above-requires-clause-few
 prepare-above-requires-clause-few t c =
     let o = c.take_apart-left.ensures in
-    let i = at true _ c.args.node _ _ _ o.row o.points o.times
+    let i = at true _ c.args.node _ _ _ o.row o.points o.multiplicities
     (ap (λ z. z.right_first) c.deref.ensures ∙ o.split) (passed _ c.before-2.ensures.0 c.if-before.true) in
     let lost = subst (HasLost c.args.p c.take_apart-left.result.0) c.in-Some.is c.remove-rest.ensures.lost in
     few_with true Goes _ _ _ _ c.in-Some.rest i (lost.1, lost.2) c.requires.few
@@ -90,11 +90,11 @@ prepare-above-requires-clause-behind t c =
 pub returns-in-Some-clause-lost : goal.returns-in-Some-clause-lost
 returns-in-Some-clause-lost t c =
     let o = c.take_apart-left.ensures in
-    let i = at true _ c.args.node _ _ _ o.row o.points o.times
+    let i = at true _ c.args.node _ _ _ o.row o.points o.multiplicities
     (ap (λ z. z.right_first) c.deref.ensures ∙ o.split) (passed _ c.before-2.ensures.0 c.if-before.true) in
     let lost = subst (HasLost c.args.p c.take_apart-left.result.0) c.in-Some.is c.remove-rest.ensures.lost in
     let a = alters_with true Goes _ _ _ _ c.in-Some.rest c.prepare-above.result.node i lost.0
-    c.prepare-above.ensures.points c.prepare-above.ensures.times (lost.1, lost.2) in (
+    c.prepare-above.ensures.points c.prepare-above.ensures.multiplicities (lost.1, lost.2) in (
       c.prepare-above.ensures.built,
       a.0,
       a.1,
@@ -143,7 +143,7 @@ returns-in_default-clause-turns t c =
 pub remove-rest-requires-else-before : goal.remove-rest-requires-else-before
 remove-rest-requires-else-before t c =
     let o = c.take_apart-left.ensures in
-    let i = at false _ c.args.node _ _ _ o.row o.points o.times
+    let i = at false _ c.args.node _ _ _ o.row o.points o.multiplicities
     (ap (λ z. z.right_first) c.deref.ensures ∙ o.split) (failed _ c.before-2.ensures.1 c.if-before.false) in (
       omega (arith, c.decreases, o.height),
       (
@@ -166,7 +166,7 @@ remove-rest-requires-else-before t c =
 pub returns-in_default-rest-clause-lost : goal.returns-in_default-rest-clause-lost
 returns-in_default-rest-clause-lost t c =
     let o = c.take_apart-left.ensures in
-    let i = at false _ c.args.node _ _ _ o.row o.points o.times
+    let i = at false _ c.args.node _ _ _ o.row o.points o.multiplicities
     (ap (λ z. z.right_first) c.deref.ensures ∙ o.split) (failed _ c.before-2.ensures.1 c.if-before.false) in
     subst (HasLost c.args.p c.args.node) (sym c.other_part-in_default-rest.ensures.rest)
     (lost_with_none false _ _ _ _ i
@@ -176,7 +176,7 @@ returns-in_default-rest-clause-lost t c =
 pub prepare-above-requires-else-before-clause-row : goal.prepare-above-requires-else-before-clause-row
 prepare-above-requires-else-before-clause-row t c =
     let o = c.take_apart-left.ensures in
-    let i = at false _ c.args.node _ _ _ o.row o.points o.times
+    let i = at false _ c.args.node _ _ _ o.row o.points o.multiplicities
     (ap (λ z. z.right_first) c.deref.ensures ∙ o.split) (failed _ c.before-2.ensures.1 c.if-before.false) in
     let lost = subst (HasLost c.args.p c.take_apart-left.result.1) c.in-Some-rest.is
     c.remove-rest-else-before.ensures.lost in
@@ -185,7 +185,7 @@ prepare-above-requires-else-before-clause-row t c =
 pub prepare-above-requires-else-before-clause-few : goal.prepare-above-requires-else-before-clause-few
 prepare-above-requires-else-before-clause-few t c =
     let o = c.take_apart-left.ensures in
-    let i = at false _ c.args.node _ _ _ o.row o.points o.times
+    let i = at false _ c.args.node _ _ _ o.row o.points o.multiplicities
     (ap (λ z. z.right_first) c.deref.ensures ∙ o.split) (failed _ c.before-2.ensures.1 c.if-before.false) in
     let lost = subst (HasLost c.args.p c.take_apart-left.result.1) c.in-Some-rest.is
     c.remove-rest-else-before.ensures.lost in
@@ -223,12 +223,12 @@ prepare-above-requires-else-before-clause-behind t c =
 pub returns-in-Some-rest-clause-lost : goal.returns-in-Some-rest-clause-lost
 returns-in-Some-rest-clause-lost t c =
     let o = c.take_apart-left.ensures in
-    let i = at false _ c.args.node _ _ _ o.row o.points o.times
+    let i = at false _ c.args.node _ _ _ o.row o.points o.multiplicities
     (ap (λ z. z.right_first) c.deref.ensures ∙ o.split) (failed _ c.before-2.ensures.1 c.if-before.false) in
     let lost = subst (HasLost c.args.p c.take_apart-left.result.1) c.in-Some-rest.is
     c.remove-rest-else-before.ensures.lost in
     let a = alters_with false Goes _ _ _ _ c.in-Some-rest.rest c.prepare-above-else-before.result.node i lost.0
-    c.prepare-above-else-before.ensures.points c.prepare-above-else-before.ensures.times (lost.1, lost.2) in (
+    c.prepare-above-else-before.ensures.points c.prepare-above-else-before.ensures.multiplicities (lost.1, lost.2) in (
       c.prepare-above-else-before.ensures.built,
       a.0,
       a.1,

@@ -14,7 +14,7 @@ use Rattle.bucket_tree.proofs.removal.remove_leaf.Goals as goal
 
 pub unreachable-requires : goal.unreachable-requires
 unreachable-requires c =
-    not_held c.args.bucket.value.points c.args.bucket.value.times c.in_default.field-0 c.args.p
+    not_held c.args.bucket.value.points c.args.bucket.value.multiplicities c.in_default.field-0 c.args.p
     (subst (λ (z : BucketValue). IsPositionOf z.points c.args.p (Err c.in_default.field-0)) c.deref.ensures
     (subst (IsPositionOf c.deref.result.now.points c.args.p) c.in_default.is c.place_of.ensures)) c.requires.held
 
@@ -24,9 +24,9 @@ returns-then-points-eq1-clause-lost c =
     (subst (IsPositionOf c.deref.result.now.points c.args.p) c.in-Ok.is c.place_of.ensures) in
     let l = ap (λ z. length z) (sym (c.points.ensures.points ∙ ap (λ (z : BucketValue). z.points) c.deref-3.ensures))
     ∙ c.if-points-eq1.true in (
-      only_point c.args.bucket.value.points c.args.bucket.value.times c.in-Ok.place c.args.p
+      only_point c.args.bucket.value.points c.args.bucket.value.multiplicities c.in-Ok.place c.args.p
           c.requires.built.buckets.ordered c.requires.built.buckets.counted at c.requires.held l,
-      held_alone c.args.bucket.value.points c.args.bucket.value.times c.in-Ok.place c.args.p
+      held_alone c.args.bucket.value.points c.args.bucket.value.multiplicities c.in-Ok.place c.args.p
           c.requires.built.buckets.ordered c.requires.built.buckets.counted at c.requires.held l,
       refl,
     )
@@ -38,14 +38,14 @@ returns-clause-lost c =
     let points = c.remove.ensures.points
     ∙ ap (λ (z : BucketValue). without_point (point_at z.points c.in-Ok.place) z.points) c.deref_mut.ensures.value
     ∙ ap (λ z. without_point z c.args.bucket.value.points) (at.1 origin) in
-    let times = c.remove.ensures.times
-    ∙ ap (λ (z : BucketValue). remove z.times c.in-Ok.place) c.deref_mut.ensures.value in (
+    let multiplicity = c.remove.ensures.multiplicities
+    ∙ ap (λ (z : BucketValue). remove z.multiplicities c.in-Ok.place) c.deref_mut.ensures.value in (
       leaf_built _ c.remove.new.self refl (subst IsBucket c.deref-4.ensures c.buckets_are_sound.ensures),
       points,
-      λ q. held_without c.args.bucket.value.points c.args.bucket.value.times c.in-Ok.place c.args.p
+      λ q. held_without c.args.bucket.value.points c.args.bucket.value.multiplicities c.in-Ok.place c.args.p
           c.requires.built.buckets.ordered c.requires.built.buckets.counted at c.requires.held q
-          ∙ ap (λ z. counted z (remove c.args.bucket.value.times c.in-Ok.place) q + once c.args.p q) (sym points)
-          ∙ ap (λ z. counted c.remove.new.self.points z q + once c.args.p q) (sym times),
+          ∙ ap (λ z. counted z (remove c.args.bucket.value.multiplicities c.in-Ok.place) q + once c.args.p q) (sym points)
+          ∙ ap (λ z. counted c.remove.new.self.points z q + once c.args.p q) (sym multiplicity),
       (omega arith, omega arith),
     )
 

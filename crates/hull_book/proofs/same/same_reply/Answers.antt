@@ -5,7 +5,7 @@ use Rattle.std.specs.Cmp.Lexicographic.{pointwise_decides}
 use Rattle.std.proofs.lemmas.Bool.Decides.{Decides-and}
 use Rattle.std.proofs.lemmas.Grind.{common_steps}
 use Rattle.lattice.specs.Plane.{Pair}
-use Rattle.hull_set.proofs.Times.{same_true, returned_same}
+use Rattle.hull_set.proofs.HeldMultiplicities.{same_true, returned_same}
 use Rattle.hull_set.specs.PointLists.{is_same_pair}
 use Rattle.hull_set.specs.contracts.reply.ReplyPartialEq.TheImpl as derived
 use Rattle.hull_set.specs.declared.reply.Reply.{Reply}

@@ -56,7 +56,7 @@ over b mask low high left right x y s f e g n l r p q =
 
 -- a bucket of nothing
 nothing : BucketValue
-nothing = record { points = []; times = []; lower = 0; upper = 0 }
+nothing = record { points = []; multiplicities = []; lower = 0; upper = 0 }
 
 pub overflow_add-result : goal.overflow_add-result
 overflow_add-result t c =

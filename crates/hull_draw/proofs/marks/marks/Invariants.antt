@@ -7,4 +7,4 @@ use Rattle.hull_draw.proofs.marks.marks.Given as goal
 abbrev pub invariant-loop-point : goal.invariant-loop-point
 invariant-loop-point l =
     (map (λ m. m.point) l.marks.items ≡ take l.point-index l.point-items)
-    × All (λ m. m.times ≡ (held_by l.set.root).times m.point) l.marks.items
+    × All (λ m. m.multiplicity ≡ (held_by l.set.root).multiplicities m.point) l.marks.items

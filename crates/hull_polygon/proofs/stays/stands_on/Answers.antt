@@ -2,7 +2,7 @@
 use Rattle.std.proofs.Common.{◌≡◌, ◌∙◌, true, sym, subst, rules, of_calls}
 use Rattle.lattice.specs.Plane.{Pair}
 use Rattle.hull_set.specs.PointLists.{is_same_pair}
-use Rattle.hull_set.proofs.Times.{same_true, returned_same}
+use Rattle.hull_set.proofs.HeldMultiplicities.{same_true, returned_same}
 use Rattle.hull_polygon.proofs.Staying.{found_on}
 use Rattle.hull_polygon.proofs.stays.stands_on.Goals as goal
 

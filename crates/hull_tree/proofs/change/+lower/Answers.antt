@@ -13,7 +13,7 @@ returns-then-before-clause-was t c =
     let i : below_of c.args.node.now ≡ Some c.in-Some.halves.value = rw c.in-Some.is refl in
     let o : IsOver c.args.node.now c.in-Some.halves.value = over_halves _ _ c.requires i in
     let b = rw c.deref.ensures at (passed _ _ c.if-before.true c.before-in-Some.ensures) in
-    rw c.deref_mut.ensures.value at c.lower.ensures.was ∙ sym (o.times _ ∙ all_left _ _ _ _ _ o.separated b)
+    rw c.deref_mut.ensures.value at c.lower.ensures.was ∙ sym (o.multiplicities _ ∙ all_left _ _ _ _ _ o.separated b)
 
 pub returns-else-before-clause-was : goal.returns-else-before-clause-was
 returns-else-before-clause-was t c =
@@ -21,11 +21,11 @@ returns-else-before-clause-was t c =
     let o : IsOver c.args.node.now c.in-Some.halves.value = over_halves _ _ c.requires i in
     let b = rw c.deref.ensures at (failed _ _ c.if-before.false c.before-in-Some.ensures) in
     rw c.deref_mut-else-before.ensures.value at c.lower-else-before.ensures.was
-    ∙ sym (o.times _ ∙ all_right _ _ _ _ _ o.separated b)
+    ∙ sym (o.multiplicities _ ∙ all_right _ _ _ _ _ o.separated b)
 
-pub returns-then-times-gt1-clause-lowered : goal.returns-then-times-gt1-clause-lowered
+pub returns-then-multiplicity-gt1-clause-lowered : goal.returns-then-multiplicity-gt1-clause-lowered
 unfolding node.roll-Node node.out-Node denote.Hole.Carrier.out denote.Hole.Carrier.roll
-returns-then-times-gt1-clause-lowered t c =
+returns-then-multiplicity-gt1-clause-lowered t c =
     λ h q. leaf_lowered c.args.node.now c.args.p q c.in-None.is
     (same_point c.args.p (node.out-Node c.args.node.now).upper.0 c.ne.ensures c.if-ne.false) h
 
@@ -36,8 +36,8 @@ returns-then-ne-clause-lowered c = search rules
 pub overflow_sub-node : goal.overflow_sub-node
 overflow_sub-node c = search rules
 
-pub returns-then-times-gt1-clause-few : goal.returns-then-times-gt1-clause-few
-returns-then-times-gt1-clause-few c = search rules
+pub returns-then-multiplicity-gt1-clause-few : goal.returns-then-multiplicity-gt1-clause-few
+returns-then-multiplicity-gt1-clause-few c = search rules
 
-pub returns-else-times-gt1-clause-lowered : goal.returns-else-times-gt1-clause-lowered
-returns-else-times-gt1-clause-lowered c = search rules
+pub returns-else-multiplicity-gt1-clause-lowered : goal.returns-else-multiplicity-gt1-clause-lowered
+returns-else-multiplicity-gt1-clause-lowered c = search rules

@@ -13,7 +13,7 @@ returns-then-before-clause-was t c =
     let i : below_of c.args.node.now ≡ Some c.in-Some.halves.value = rw c.in-Some.is refl in
     let o : IsOver c.args.node.now c.in-Some.halves.value = over_halves _ _ c.requires i in
     let b = rw c.deref.ensures at (passed _ _ c.if-before.true c.before-in-Some.ensures) in
-    rw c.deref_mut.ensures.value at c.raise.ensures.was ∙ sym (o.times _ ∙ all_left _ _ _ _ _ o.separated b)
+    rw c.deref_mut.ensures.value at c.raise.ensures.was ∙ sym (o.multiplicities _ ∙ all_left _ _ _ _ _ o.separated b)
 
 pub returns-else-before-clause-was : goal.returns-else-before-clause-was
 returns-else-before-clause-was t c =
@@ -21,10 +21,10 @@ returns-else-before-clause-was t c =
     let o : IsOver c.args.node.now c.in-Some.halves.value = over_halves _ _ c.requires i in
     let b = rw c.deref.ensures at (failed _ _ c.if-before.false c.before-in-Some.ensures) in
     rw c.deref_mut-else-before.ensures.value at c.raise-else-before.ensures.was
-    ∙ sym (o.times _ ∙ all_right _ _ _ _ _ o.separated b)
+    ∙ sym (o.multiplicities _ ∙ all_right _ _ _ _ _ o.separated b)
 
-pub returns-then-times-lt-MULTIPLICITY_LIMIT-clause-raised : goal.returns-then-times-lt-MULTIPLICITY_LIMIT-clause-raised
+pub returns-then-multiplicity-lt-MULTIPLICITY_LIMIT-clause-raised : goal.returns-then-multiplicity-lt-MULTIPLICITY_LIMIT-clause-raised
 unfolding node.roll-Node node.out-Node denote.Hole.Carrier.out denote.Hole.Carrier.roll
-returns-then-times-lt-MULTIPLICITY_LIMIT-clause-raised t c =
+returns-then-multiplicity-lt-MULTIPLICITY_LIMIT-clause-raised t c =
     λ h g q. leaf_raised c.args.node.now c.args.p q c.in-None.is
     (same_point c.args.p (node.out-Node c.args.node.now).upper.0 c.ne.ensures c.if-ne.false)

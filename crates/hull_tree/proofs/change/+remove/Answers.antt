@@ -25,12 +25,12 @@ remove-returns-then-is_half-clause-points t c =
     (passed _ _ c.if-is_half.true c.is_half.ensures) c.other_half.ensures.right c.other_half.ensures.left
     c.requires.once).points
 
-pub remove-returns-then-is_half-clause-times : goal.remove-returns-then-is_half-clause-times
-remove-returns-then-is_half-clause-times t c =
+pub remove-returns-then-is_half-clause-multiplicities : goal.remove-returns-then-is_half-clause-multiplicities
+remove-returns-then-is_half-clause-multiplicities t c =
     (rest_below _ _ _ _ _ c.requires.built (rw (c.in-Some.is, c.deref_mut.ensures.value) refl)
     (c.deref.ensures ∙ sym c.deref_mut.ensures.value)
     (passed _ _ c.if-is_half.true c.is_half.ensures) c.other_half.ensures.right c.other_half.ensures.left
-    c.requires.once).times
+    c.requires.once).multiplicities
 
 pub remove-remove_below-below-requires : goal.remove-remove_below-below-requires
 remove-remove_below-below-requires t c =
@@ -44,7 +44,7 @@ remove-remove_below-below-requires t c =
       (
         o.separated,
         (
-          sym (o.times c.args.p) ∙ c.requires.once,
+          sym (o.multiplicities c.args.p) ∙ c.requires.once,
           ((λ h. n (inl h)), ((λ h. n (inr h)), omega (arith, o.height, c.requires.low))),
         ),
       ),

@@ -69,5 +69,5 @@ returns t c =
     let f = fit (length c.args.entries.now) _ _ _ _ c.split_at.ensures.front_len c.split_at.ensures.back_len
     (omega (arith, c.requires.some, c.if-entries-eq1.false)) c.in_ok-left.ensures.height
     c.in_ok-right.ensures.height in
-    over_both _ _ _ _ _ l r c.join.ensures.built c.join.ensures.points c.join.ensures.times
+    over_both _ _ _ _ _ l r c.join.ensures.built c.join.ensures.points c.join.ensures.multiplicities
     (rw c.join.ensures.height f.1)

@@ -7,7 +7,7 @@ pub remove_one-requires-clause-held : goal.remove_one-requires-clause-held
 remove_one-requires-clause-held g c =
     omega (
       arith,
-      c.loop-i.invariant.times c.index-points-i.result,
+      c.loop-i.invariant.multiplicities c.index-points-i.result,
       c.requires.held c.index-points-i.result,
       counted_past c.args.points.now c.loop-i.i c.index-points-i.result c.index-points-i.is
           (omega (arith, c.loop-i-test.true)),

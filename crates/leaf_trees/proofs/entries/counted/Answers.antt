@@ -2,9 +2,9 @@
 use Rattle.std.proofs.Common.{◌≡◌, ◌≤◌, ◌<◌, ◌+◌, ◌∙◌, inl, inr, refl, subst, sym, arith, take, get_or, length}
 use Rattle.lattice.specs.Plane.{IsBefore}
 use Rattle.hull_set.specs.declared.TheConstants.{MULTIPLICITY_LIMIT}
-use Rattle.leaf_trees.specs.Entries.{times_listed}
-use Rattle.hull_set.specs.Held.{times_among}
-use Rattle.hull_set.proofs.Times.{among_more}
+use Rattle.leaf_trees.specs.Entries.{multiplicity_listed}
+use Rattle.hull_set.specs.Held.{multiplicity_among}
+use Rattle.hull_set.proofs.HeldMultiplicities.{among_more}
 use Rattle.leaf_trees.proofs.Counting.{counted_past, at_place}
 use Rattle.leaf_trees.proofs.entries.counted.Goals as goal
 
@@ -18,11 +18,11 @@ count_in-requires-clause-last c = λ t m b.
 pub returns-then-not-count_in-clause-too_often : goal.returns-then-not-count_in-clause-too_often
 returns-then-not-count_in-clause-too_often c = λ _.
     let p = c.index-points-i.result in
-    let a : MULTIPLICITY_LIMIT < times_listed c.loop-i.entries.items p + 1 =
+    let a : MULTIPLICITY_LIMIT < multiplicity_listed c.loop-i.entries.items p + 1 =
     c.if-not-count_in.ensures.too_often refl in
-    let b : times_listed c.loop-i.entries.items p ≡ times_among (take c.loop-i.i c.args.points.now) p =
-    c.loop-i.invariant.times p in
-    let d : times_among (take c.loop-i.i c.args.points.now) p + 1 ≤ times_among c.args.points.now p =
+    let b : multiplicity_listed c.loop-i.entries.items p ≡ multiplicity_among (take c.loop-i.i c.args.points.now) p =
+    c.loop-i.invariant.multiplicities p in
+    let d : multiplicity_among (take c.loop-i.i c.args.points.now) p + 1 ≤ multiplicity_among c.args.points.now p =
     counted_past c.args.points.now c.loop-i.i p c.index-points-i.is (omega (arith, c.loop-i-test.true)) in
     (p, omega (arith, a, b, d))
 
@@ -31,8 +31,8 @@ loop-i-preserved c =
     let l : c.loop-i.i < length c.args.points.now = omega (arith, c.loop-i-test.true) in
     record {
       entries = c.count_in.ensures.entries;
-      times = λ q. c.if-not-count_in.ensures.times refl q
-          ∙ (rw (c.loop-i.invariant.times q)
+      multiplicities = λ q. c.if-not-count_in.ensures.multiplicities refl q
+          ∙ (rw (c.loop-i.invariant.multiplicities q)
           (sym (among_more c.args.points.now c.loop-i.i c.index-points-i.result q c.index-points-i.is l)));
       left = λ t m j n k b. elim (c.count_in.ensures.among t m) [
         | inl i ↦ c.loop-i.invariant.left t i j (omega (arith, n)) k b

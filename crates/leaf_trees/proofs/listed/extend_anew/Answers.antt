@@ -2,31 +2,31 @@
 use Rattle.std.proofs.Common.{◌+◌, ◌<◌, ap, ◌∙◌, subst, arith, inl, inr, length, rules}
 use Rattle.std.proofs.lemmas.Map.Entries.{length-keys_of}
 use Rattle.lattice.specs.Plane.{Pair}
-use Rattle.hull_set.specs.Held.{Held, times_among}
+use Rattle.hull_set.specs.Held.{Held, multiplicity_among}
 use Rattle.hull_set.specs.declared.TheConstants.{MULTIPLICITY_LIMIT}
-use Rattle.leaf_trees.specs.Entries.{IsTrueHeld, times_listed, held_listed}
-use Rattle.leaf_trees.proofs.AddedSets.{entries_held, merged_is_added, after_times}
+use Rattle.leaf_trees.specs.Entries.{IsTrueHeld, multiplicity_listed, held_listed}
+use Rattle.leaf_trees.proofs.AddedSets.{entries_held, merged_is_added, after_multiplicity}
 use Rattle.leaf_trees.proofs.listed.extend_anew.Goals as goal
 
 pub returns-in_err-added-clause-too_many : goal.returns-in_err-added-clause-too_many
 returns-in_err-added-clause-too_many g c = λ e.
-    let f : (q : Pair) × (MULTIPLICITY_LIMIT < times_among c.args.points.now q) = search rules in
-    inl (f.0, omega (arith, f.1, after_times c.args.points.now (g.S.HullSet.held c.args.set.now) f.0))
+    let f : (q : Pair) × (MULTIPLICITY_LIMIT < multiplicity_among c.args.points.now q) = search rules in
+    inl (f.0, omega (arith, f.1, after_multiplicity c.args.points.now (g.S.HullSet.held c.args.set.now) f.0))
 
 pub returns-in_err-entries-clause-too_many : goal.returns-in_err-entries-clause-too_many
 returns-in_err-entries-clause-too_many g c = λ e.
     let f : (q : Pair)
-    × (MULTIPLICITY_LIMIT < times_listed c.deref.result.now q + times_listed c.deref-2.result.now q) = search rules in
+    × (MULTIPLICITY_LIMIT < multiplicity_listed c.deref.result.now q + multiplicity_listed c.deref-2.result.now q) = search rules in
     inl (
       f.0,
       omega (
         arith,
         f.1,
-        ap (λ z. times_listed z f.0) c.deref.ensures.value,
-        ap (λ z. times_listed z f.0) c.deref-2.ensures.value,
-        ap (λ (z : Held). z.times f.0) c.in_ok-held.ensures.held,
-        c.in_ok-added.ensures.times f.0,
-        after_times c.args.points.now (g.S.HullSet.held c.args.set.now) f.0,
+        ap (λ z. multiplicity_listed z f.0) c.deref.ensures.value,
+        ap (λ z. multiplicity_listed z f.0) c.deref-2.ensures.value,
+        ap (λ (z : Held). z.multiplicities f.0) c.in_ok-held.ensures.held,
+        c.in_ok-added.ensures.multiplicities f.0,
+        after_multiplicity c.args.points.now (g.S.HullSet.held c.args.set.now) f.0,
       ),
     )
 
@@ -36,7 +36,7 @@ returns-then-len-limit-clause-too_many g c = λ _.
     merged_is_added (g.S.HullSet.held c.args.set.now) c.args.points.now c.in_ok-held.held.items c.in_ok-added.added.items c.in_ok-entries.entries.items
     (subst IsTrueHeld c.in_ok-held.ensures.held (entries_held _ c.in_ok-held.ensures.entries))
     c.in_ok-entries.ensures.entries c.in_ok-held.ensures.held
-    c.in_ok-added.ensures.times (rw (c.deref.ensures.value, c.deref-2.ensures.value) at c.in_ok-entries.ensures.times) in
+    c.in_ok-added.ensures.multiplicities (rw (c.deref.ensures.value, c.deref-2.ensures.value) at c.in_ok-entries.ensures.multiplicities) in
     inr (omega (
       arith,
       c.if-len-limit.true,
@@ -52,4 +52,4 @@ returns-clause-held g c =
     ∙ merged_is_added (g.S.HullSet.held c.args.set.now) c.args.points.now c.in_ok-held.held.items c.in_ok-added.added.items c.in_ok-entries.entries.items
     (subst IsTrueHeld c.in_ok-held.ensures.held (entries_held _ c.in_ok-held.ensures.entries))
     c.in_ok-entries.ensures.entries c.in_ok-held.ensures.held
-    c.in_ok-added.ensures.times (rw (c.deref.ensures.value, c.deref-2.ensures.value) at c.in_ok-entries.ensures.times)
+    c.in_ok-added.ensures.multiplicities (rw (c.deref.ensures.value, c.deref-2.ensures.value) at c.in_ok-entries.ensures.multiplicities)

@@ -6,21 +6,21 @@ use Rattle.bucket_tree.proofs.in_place.ComingInPlace.change.Goals as goal
 
 pub returns-in-Ok-clause-returned : goal.returns-in-Ok-clause-returned
 returns-in-Ok-clause-returned c =
-    ap (λ z. get_or z c.in-Ok.place 0) c.times.ensures.times
-    ∙ sym (count_at c.args.bucket.now.points c.args.bucket.now.times c.in-Ok.place c.args.p
+    ap (λ z. get_or z c.in-Ok.place 0) c.multiplicities.ensures.multiplicities
+    ∙ sym (count_at c.args.bucket.now.points c.args.bucket.now.multiplicities c.in-Ok.place c.args.p
     c.buckets_are_sound.ensures.ordered c.buckets_are_sound.ensures.counted
     (subst (IsPositionOf c.args.bucket.now.points c.args.p) c.in-Ok.is c.place_of.ensures))
 
 pub returns-then-is_full-clause-returned : goal.returns-then-is_full-clause-returned
 returns-then-is_full-clause-returned c =
-    sym (count_none c.args.bucket.now.points c.args.bucket.now.times c.in-Err.place c.args.p
+    sym (count_none c.args.bucket.now.points c.args.bucket.now.multiplicities c.in-Err.place c.args.p
     (subst (IsPositionOf c.args.bucket.now.points c.args.p) c.in-Err.is c.place_of.ensures))
 
 pub returns-else-is_full-clause-change : goal.returns-else-is_full-clause-change
 returns-else-is_full-clause-change c = record {
-  absent = count_none c.args.bucket.now.points c.args.bucket.now.times c.in-Err.place c.args.p
+  absent = count_none c.args.bucket.now.points c.args.bucket.now.multiplicities c.in-Err.place c.args.p
       (subst (IsPositionOf c.args.bucket.now.points c.args.p) c.in-Err.is c.place_of.ensures);
   points = search rules;
-  times = search rules;
+  multiplicities = search rules;
   unsearched = search rules;
 }

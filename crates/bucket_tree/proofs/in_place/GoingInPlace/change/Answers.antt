@@ -12,13 +12,13 @@ use Rattle.bucket_tree.proofs.in_place.GoingInPlace.change.Goals as goal
 
 pub returns-in_default-clause-returned : goal.returns-in_default-clause-returned
 returns-in_default-clause-returned c =
-    sym (count_none c.args.bucket.now.points c.args.bucket.now.times c.in_default.field-0 c.args.p
+    sym (count_none c.args.bucket.now.points c.args.bucket.now.multiplicities c.in_default.field-0 c.args.p
     (subst (IsPositionOf c.args.bucket.now.points c.args.p) c.in_default.is c.place_of.ensures))
 
-pub returns-then-times-ne1-clause-returned : goal.returns-then-times-ne1-clause-returned
-returns-then-times-ne1-clause-returned c =
-    ap (λ z. get_or z c.in-Ok.place 0) c.times.ensures.times
-    ∙ sym (count_at c.args.bucket.now.points c.args.bucket.now.times c.in-Ok.place c.args.p
+pub returns-then-multiplicity-ne1-clause-returned : goal.returns-then-multiplicity-ne1-clause-returned
+returns-then-multiplicity-ne1-clause-returned c =
+    ap (λ z. get_or z c.in-Ok.place 0) c.multiplicities.ensures.multiplicities
+    ∙ sym (count_at c.args.bucket.now.points c.args.bucket.now.multiplicities c.in-Ok.place c.args.p
     c.buckets_are_sound.ensures.ordered c.buckets_are_sound.ensures.counted
     (subst (IsPositionOf c.args.bucket.now.points c.args.p) c.in-Ok.is c.place_of.ensures))
 
@@ -26,18 +26,18 @@ pub returns-clause-change : goal.returns-clause-change
 returns-clause-change c =
     let at = subst (IsPositionOf c.args.bucket.now.points c.args.p) c.in-Ok.is c.place_of.ensures in
     let held =
-    count_at c.args.bucket.now.points c.args.bucket.now.times c.in-Ok.place c.args.p
+    count_at c.args.bucket.now.points c.args.bucket.now.multiplicities c.in-Ok.place c.args.p
     c.buckets_are_sound.ensures.ordered c.buckets_are_sound.ensures.counted at
-    ∙ sym (ap (λ z. get_or z c.in-Ok.place 0) c.times.ensures.times) ∙ c.if-times-ne1.false in
+    ∙ sym (ap (λ z. get_or z c.in-Ok.place 0) c.multiplicities.ensures.multiplicities) ∙ c.if-multiplicity-ne1.false in
     let points = c.remove.ensures.points ∙ ap (λ z. without_point z c.args.bucket.now.points) (at.1 origin) in
     record {
       held = held;
       points = points;
-      times = λ q.
-          held_without c.args.bucket.now.points c.args.bucket.now.times c.in-Ok.place c.args.p
+      multiplicities = λ q.
+          held_without c.args.bucket.now.points c.args.bucket.now.multiplicities c.in-Ok.place c.args.p
           c.buckets_are_sound.ensures.ordered c.buckets_are_sound.ensures.counted at held q
-          ∙ ap (λ z. counted z (remove c.args.bucket.now.times c.in-Ok.place) q + once c.args.p q) (sym points)
-          ∙ ap (λ z. counted c.remove.new.self.points z q + once c.args.p q) (sym c.remove.ensures.times);
+          ∙ ap (λ z. counted z (remove c.args.bucket.now.multiplicities c.in-Ok.place) q + once c.args.p q) (sym points)
+          ∙ ap (λ z. counted c.remove.new.self.points z q + once c.args.p q) (sym c.remove.ensures.multiplicities);
       unsearched = record {
         unaffected = subst (IsUnaffectedOver c.args.p c.affected_at-sides.result) (sym points)
             (unaffected_without c.args.p c.args.bucket.now.points c.affected_at-sides.result c.buckets_are_sound.ensures.ordered

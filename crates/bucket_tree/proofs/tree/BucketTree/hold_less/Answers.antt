@@ -10,20 +10,20 @@ returns-in-Ok-clause-reply c =
     answers_removed (held_by c.args.self.now.root) c.args.self.now.limit c.args.p 1
     (root_held c.args.self.now.root c.bucket_trees_are_sound.ensures.built) (sym c.in-Ok.ensures.once) refl
 
-pub returns-then-times-eq0-clause-reply : goal.returns-then-times-eq0-clause-reply
-returns-then-times-eq0-clause-reply c =
-    answers_absent (held_by c.args.self.now.root) c.args.self.now.limit c.args.p c.in-Err.times
+pub returns-then-multiplicity-eq0-clause-reply : goal.returns-then-multiplicity-eq0-clause-reply
+returns-then-multiplicity-eq0-clause-reply c =
+    answers_absent (held_by c.args.self.now.root) c.args.self.now.limit c.args.p c.in-Err.multiplicity
     (root_held c.args.self.now.root c.bucket_trees_are_sound.ensures.built) c.in-Err.ensures.returned
-    c.if-times-eq0.true
+    c.if-multiplicity-eq0.true
 
-pub returns-then-times-gt1-clause-reply : goal.returns-then-times-gt1-clause-reply
-returns-then-times-gt1-clause-reply c =
-    answers_left (held_by c.args.self.now.root) c.args.self.now.limit c.args.p c.in-Err.times
+pub returns-then-multiplicity-gt1-clause-reply : goal.returns-then-multiplicity-gt1-clause-reply
+returns-then-multiplicity-gt1-clause-reply c =
+    answers_left (held_by c.args.self.now.root) c.args.self.now.limit c.args.p c.in-Err.multiplicity
     (root_held c.args.self.now.root c.bucket_trees_are_sound.ensures.built) c.in-Err.ensures.returned
-    c.if-times-gt1.true
+    c.if-multiplicity-gt1.true
 
 pub returns-clause-reply : goal.returns-clause-reply
 returns-clause-reply c =
-    answers_removed (held_by c.args.self.now.root) c.args.self.now.limit c.args.p c.in-Err.times
+    answers_removed (held_by c.args.self.now.root) c.args.self.now.limit c.args.p c.in-Err.multiplicity
     (root_held c.args.self.now.root c.bucket_trees_are_sound.ensures.built) c.in-Err.ensures.returned
-    (omega (arith, c.if-times-eq0.false, c.if-times-gt1.false))
+    (omega (arith, c.if-multiplicity-eq0.false, c.if-multiplicity-gt1.false))

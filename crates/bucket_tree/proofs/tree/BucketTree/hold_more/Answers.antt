@@ -18,14 +18,14 @@ pub returns-in-Err-put_in-clause-reply : goal.returns-in-Err-put_in-clause-reply
 returns-in-Err-put_in-clause-reply c =
     let n : ¬ (c.args.self.now.limit ≤ length (points_of_root c.args.self.now.root)) =
     failed c.is_full.result c.is_full.ensures.full.1 c.if-is_full.false in
-    answers_refused (held_by c.args.self.now.root) c.args.self.now.limit c.args.p c.in-Err.times
+    answers_refused (held_by c.args.self.now.root) c.args.self.now.limit c.args.p c.in-Err.multiplicity
     (root_held c.args.self.now.root c.bucket_trees_are_sound.ensures.built) c.in-Err.ensures.returned
-    (omega (arith, c.if-times-gt0.false)) (omega (arith, n))
+    (omega (arith, c.if-multiplicity-gt0.false)) (omega (arith, n))
 
 pub returns-in-Ok-put_in-clause-reply : goal.returns-in-Ok-put_in-clause-reply
 returns-in-Ok-put_in-clause-reply c =
     let n : ¬ (c.args.self.now.limit ≤ length (points_of_root c.args.self.now.root)) =
     failed c.is_full.result c.is_full.ensures.full.1 c.if-is_full.false in
-    answers_new (held_by c.args.self.now.root) c.args.self.now.limit c.args.p c.in-Err.times
+    answers_new (held_by c.args.self.now.root) c.args.self.now.limit c.args.p c.in-Err.multiplicity
     (root_held c.args.self.now.root c.bucket_trees_are_sound.ensures.built) c.in-Err.ensures.returned
-    (omega (arith, c.if-times-gt0.false)) (omega (arith, n))
+    (omega (arith, c.if-multiplicity-gt0.false)) (omega (arith, n))

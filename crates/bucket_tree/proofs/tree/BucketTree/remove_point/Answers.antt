@@ -1,8 +1,8 @@
 -- the root is well built and low, and what is left is a tree of one point less
 use Rattle.std.proofs.Common.{◌≡◌, ◌∙◌, ap, arith, sym, Some}
-use Rattle.bucket_tree.specs.Counts.{times_at}
+use Rattle.bucket_tree.specs.Counts.{multiplicity_at}
 use Rattle.bucket_tree.specs.Nodes.{node_height}
-use Rattle.bucket_tree.specs.Roots.{times_of_root}
+use Rattle.bucket_tree.specs.Roots.{multiplicity_of_root}
 use Rattle.bucket_tree.specs.Sets.{LimitedTree}
 use Rattle.bucket_tree.proofs.MostTurns.{few_turns}
 use Rattle.bucket_tree.proofs.Rooted.{limited_root, lost_limited, low_root}
@@ -16,7 +16,7 @@ pub invariant_of-self : goal.invariant_of-self
 invariant_of-self c =
     let r : c.self.inside.root ≡ Some c.in-Some.root = cc in
     let v : c.args.self.now.root ≡ Some c.in-Some.root = sym (ap (λ (z : LimitedTree). z.root) c.self.view_is) ∙ r in
-    let t : times_at c.in-Some.root c.args.p ≡ 1 = ap (λ z. times_of_root z c.args.p) (sym v) ∙ c.requires in
+    let t : multiplicity_at c.in-Some.root c.args.p ≡ 1 = ap (λ z. multiplicity_of_root z c.args.p) (sym v) ∙ c.requires in
     lost_limited c.in-Some.root c.remove-removed.result.rest c.args.p c.self.inside.count c.self.inside.limit
     (limited_root _ _ _ _ c.self.invariant r) t
     c.remove-removed.ensures.lost

@@ -7,7 +7,7 @@ use Rattle.bucket_tree.proofs.tree.BucketTreeListed.from_entries.Goals as goal
 
 pub returns-clause-held : goal.returns-clause-held
 returns-clause-held c =
-    held_entries c.in_ok-root.root c.args.entries.now c.in_ok-root.ensures.points c.in_ok-root.ensures.times
+    held_entries c.in_ok-root.root c.args.entries.now c.in_ok-root.ensures.points c.in_ok-root.ensures.multiplicities
 
 pub returns-clause-sound : goal.returns-clause-sound
 returns-clause-sound c =

@@ -20,15 +20,15 @@ invariant_of-self c =
     subst (λ (b : BucketValue). IsAllBefore (Contains b.points) (Contains more)) (sym c.self.view_is)
     (subst (λ (z : List Pair). IsAllBefore (Contains c.args.self.now.points) (Contains z))
     (sym c.points-more.ensures.points) c.requires.order) in
-    let counted : length c.times-more_times.result.now ≡ length more =
-    c.times-more_times.ensures.counted ∙ ap (λ (z : List Pair). length z) (sym c.points-more.ensures.points) in
-    let n = length-take-le c.self.inside.len c.self.inside.times (omega (arith, c.self.told, c.self.invariant.0)) in
+    let counted : length c.multiplicities-more_multiplicities.result.now ≡ length more =
+    c.multiplicities-more_multiplicities.ensures.counted ∙ ap (λ (z : List Pair). length z) (sym c.points-more.ensures.points) in
+    let n = length-take-le c.self.inside.len c.self.inside.multiplicities (omega (arith, c.self.told, c.self.invariant.0)) in
     let m = c.self.invariant.1.counted in (
       omega (arith, space, n, m),
-      merged (seen c.self.inside.len c.self.inside.points c.self.inside.times c.self.inside.lower c.self.inside.upper)
+      merged (seen c.self.inside.len c.self.inside.points c.self.inside.multiplicities c.self.inside.lower c.self.inside.upper)
           more _
-          c.times-more_times.result.now _ _ _ c.self.invariant.1 c.points-more.ensures.ordered counted
-          c.times-more_times.ensures.held order space c.put_behind.ensures.items
+          c.multiplicities-more_multiplicities.result.now _ _ _ c.self.invariant.1 c.points-more.ensures.ordered counted
+          c.multiplicities-more_multiplicities.ensures.held order space c.put_behind.ensures.items
           (ap (λ (k : ℕ). take (c.self.inside.len + k) c.put_behind-2.new.items) (sym counted)
           ∙ c.put_behind-2.ensures.items)
           c.all_vertices-self-inside.ensures c.all_vertices-self-inside-2.ensures,

@@ -10,7 +10,7 @@ use Rattle.hull_buckets.proofs.bucket.Bucket.remove.Goals as goal
 pub without_vertex-self-inside-requires : goal.without_vertex-self-inside-requires
 without_vertex-self-inside-requires c =
     was_mask Lower
-    (seen c.self.inside.len c.self.inside.points c.self.inside.times c.self.inside.lower c.self.inside.upper) _
+    (seen c.self.inside.len c.self.inside.points c.self.inside.multiplicities c.self.inside.lower c.self.inside.upper) _
     c.args.place c.self.inside.lower c.self.invariant.1
     (subst (λ (b : BucketValue). c.args.place < length b.points) (sym c.self.view_is) c.requires.within)
     c.drain.ensures.items (c.self.invariant.1.vertices Lower)
@@ -18,7 +18,7 @@ without_vertex-self-inside-requires c =
 pub without_vertex-self-inside-requires-2 : goal.without_vertex-self-inside-requires-2
 without_vertex-self-inside-requires-2 c =
     was_mask Upper
-    (seen c.self.inside.len c.self.inside.points c.self.inside.times c.self.inside.lower c.self.inside.upper) _
+    (seen c.self.inside.len c.self.inside.points c.self.inside.multiplicities c.self.inside.lower c.self.inside.upper) _
     c.args.place c.self.inside.upper c.self.invariant.1
     (subst (λ (b : BucketValue). c.args.place < length b.points) (sym c.self.view_is) c.requires.within)
     c.drain.ensures.items (c.self.invariant.1.vertices Upper)
@@ -26,7 +26,7 @@ without_vertex-self-inside-requires-2 c =
 pub invariant_of-self : goal.invariant_of-self
 invariant_of-self c = (
   omega (arith, c.self.invariant.0),
-  shrunk (seen c.self.inside.len c.self.inside.points c.self.inside.times c.self.inside.lower c.self.inside.upper) _ _
+  shrunk (seen c.self.inside.len c.self.inside.points c.self.inside.multiplicities c.self.inside.lower c.self.inside.upper) _ _
       c.args.place _ _ c.self.invariant.1
       (subst (λ (b : BucketValue). c.args.place < length b.points) (sym c.self.view_is) c.requires.within)
       (subst (λ (b : BucketValue). 1 < length b.points) (sym c.self.view_is) c.requires.others)

@@ -12,17 +12,17 @@ invariant_of-self c =
     let b = c.self.invariant.1 in
     let within : c.args.len < length (take c.self.inside.len c.self.inside.points) =
     subst (λ (b : BucketValue). c.args.len < length b.points) (sym c.self.view_is) c.requires.within in
-    let n = length-take-le c.self.inside.len c.self.inside.times (omega (arith, c.self.told, c.self.invariant.0)) in
+    let n = length-take-le c.self.inside.len c.self.inside.multiplicities (omega (arith, c.self.told, c.self.invariant.0)) in
     let m = b.counted in
     let few = b.few in
     let short : c.args.len ≤ c.self.inside.len = omega (arith, within, n, m) in
     let same = first_of_first c.args.len c.self.inside.len c.self.inside.points short in (
       omega (arith, within, few),
-      cut_short (seen c.self.inside.len c.self.inside.points c.self.inside.times c.self.inside.lower
+      cut_short (seen c.self.inside.len c.self.inside.points c.self.inside.multiplicities c.self.inside.lower
           c.self.inside.upper)
           _ _ c.args.len _ _ b c.requires.some (omega (arith, within))
           (sym same)
-          (sym (first_of_first c.args.len c.self.inside.len c.self.inside.times short))
+          (sym (first_of_first c.args.len c.self.inside.len c.self.inside.multiplicities short))
           (subst (λ (z : List Pair). IsMaskOf Lower z c.vertices_before-self-inside.result) same
           c.vertices_before-self-inside.ensures)
           (subst (λ (z : List Pair). IsMaskOf Upper z c.vertices_before-self-inside-2.result) same

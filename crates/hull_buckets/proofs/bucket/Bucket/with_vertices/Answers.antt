@@ -15,22 +15,22 @@ pub invariant_of-result : goal.invariant_of-result
 invariant_of-result c =
     let P = first_written c.put_behind.new.items c.args.points.now (length c.args.points.now) (omega arith)
     c.put_behind.ensures.items in
-    let T = first_written c.put_behind-2.new.items c.args.times.now (length c.args.points.now)
+    let T = first_written c.put_behind-2.new.items c.args.multiplicities.now (length c.args.points.now)
     (omega (arith, c.requires.counted)) c.put_behind-2.ensures.items in (
       c.requires.few,
       subst (λ (z : List Pair). IsBucket (record {
         points = z;
-        times = take (length c.args.points.now) c.put_behind-2.new.items;
+        multiplicities = take (length c.args.points.now) c.put_behind-2.new.items;
         lower = c.args.lower;
         upper = c.args.upper;
       })) (sym P)
           (subst (λ (z : List ℕ). IsBucket (record {
             points = c.args.points.now;
-            times = z;
+            multiplicities = z;
             lower = c.args.lower;
             upper = c.args.upper;
           })) (sym T)
-          (made c.args.points.now c.args.times.now c.args.lower c.args.upper c.requires.some
+          (made c.args.points.now c.args.multiplicities.now c.args.lower c.args.upper c.requires.some
           c.requires.few c.requires.ordered c.requires.counted c.requires.held c.requires.below
           c.requires.above)),
     )

@@ -11,64 +11,64 @@ use Rattle.lattice.specs.Covers.{IsPointSet}
 use Rattle.lattice.specs.Plane.{Pair}
 use Rattle.hull_set.specs.Held.{with_new, with_again}
 use Rattle.hull_plain.specs.ChainPairs.{HasSpace, IsHullChainsOf, IsPlainSet}
-use Rattle.hull_plain.specs.Sets.{LimitedSet, held_in, times_in}
+use Rattle.hull_plain.specs.Sets.{LimitedSet, held_in, multiplicity_in}
 use Rattle.hull_set.specs.declared.TheConstants.{MULTIPLICITY_LIMIT}
 use Rattle.hull_set.specs.declared.rules.Rules.TheVariants.{Counted}
-use Rattle.hull_plain.proofs.Multiplicities.{times_found, times_none, live, not_live, held_found, PutsAt, raised_is}
-use Rattle.hull_set.proofs.Times.{same_held}
+use Rattle.hull_plain.proofs.Multiplicities.{multiplicity_found, multiplicity_none, live, not_live, held_found, PutsAt, raised_is}
+use Rattle.hull_set.proofs.HeldMultiplicities.{same_held}
 use Rattle.hull_set.proofs.OrderedMaps.{point_cmp, insert_is}
 use Rattle.hull_plain.proofs.PlainSets.{written, reserved, put_in, count_is, same_hull_chains}
 use Rattle.hull_geometry.proofs.SetLaws.{ordered_with}
 use Rattle.hull_plain.proofs.plain_set.PlainSetHullSet.add.Goals as goal
 
 pub invariant_of-self : goal.invariant_of-self
-invariant_of-self c = written c.self.invariant c.args.p c.in-Some.times.now _
-    (c.get_mut.follows.holds c.in-Some.times.now).0
+invariant_of-self c = written c.self.invariant c.args.p c.in-Some.multiplicity.now _
+    (c.get_mut.follows.holds c.in-Some.multiplicity.now).0
     (held_found _ c.args.p _ c.self.invariant.each_held c.in-Some.ensures.value)
 
 pub returns-then-from-eq-MULTIPLICITY_LIMIT-clause-reply : goal.returns-then-from-eq-MULTIPLICITY_LIMIT-clause-reply
 returns-then-from-eq-MULTIPLICITY_LIMIT-clause-reply c =
-    let most : c.in-Some.times.now ≡ MULTIPLICITY_LIMIT =
+    let most : c.in-Some.multiplicity.now ≡ MULTIPLICITY_LIMIT =
     omega (arith, c.from.ensures, c.if-from-eq-MULTIPLICITY_LIMIT.true) in
     subst (λ (z : LimitedSet). (¬ Contains (keys_of z.entries) c.args.p × (length (keys_of z.entries) ≡ z.limit)) ⊎
     ((Counted ≡ Counted) × Contains (keys_of z.entries) c.args.p ×
-    (times_in z.entries c.args.p ≡ MULTIPLICITY_LIMIT))) c.self.view_is
-    (inr (refl, live _ c.args.p _ c.in-Some.ensures.value, times_found _ c.args.p _ c.in-Some.ensures.value ∙ most))
+    (multiplicity_in z.entries c.args.p ≡ MULTIPLICITY_LIMIT))) c.self.view_is
+    (inr (refl, live _ c.args.p _ c.in-Some.ensures.value, multiplicity_found _ c.args.p _ c.in-Some.ensures.value ∙ most))
 
 pub returns-then-from-eq-MULTIPLICITY_LIMIT-clause-effect : goal.returns-then-from-eq-MULTIPLICITY_LIMIT-clause-effect
 returns-then-from-eq-MULTIPLICITY_LIMIT-clause-effect c =
-    ap held_in ((c.get_mut.follows.holds c.in-Some.times.now).0
-    ∙ set_value_same _ c.self.inside.points.entries c.in-Some.times.now (sym c.in-Some.ensures.value))
+    ap held_in ((c.get_mut.follows.holds c.in-Some.multiplicity.now).0
+    ∙ set_value_same _ c.self.inside.points.entries c.in-Some.multiplicity.now (sym c.in-Some.ensures.value))
     ∙ ap (λ (z : LimitedSet). held_in z.entries) c.self.view_is
 
 pub invariant_of-self-in-Some : goal.invariant_of-self-in-Some
-invariant_of-self-in-Some c = written c.self.invariant c.args.p (c.in-Some.times.now + 1) _
-    (c.get_mut.follows.holds (c.in-Some.times.now + 1)).0 (omega arith)
+invariant_of-self-in-Some c = written c.self.invariant c.args.p (c.in-Some.multiplicity.now + 1) _
+    (c.get_mut.follows.holds (c.in-Some.multiplicity.now + 1)).0 (omega arith)
 
 pub returns-in-Some-clause-reply : goal.returns-in-Some-clause-reply
 returns-in-Some-clause-reply c =
-    let n : c.from-in-Some.result ≡ c.in-Some.times.now + 1 = c.from-in-Some.ensures in
-    let above : 1 ≤ c.in-Some.times.now =
+    let n : c.from-in-Some.result ≡ c.in-Some.multiplicity.now + 1 = c.from-in-Some.ensures in
+    let above : 1 ≤ c.in-Some.multiplicity.now =
     held_found _ c.args.p _ c.self.invariant.each_held c.in-Some.ensures.value in
-    let times : times_in c.self.inside.points.entries c.args.p ≡ c.in-Some.times.now =
-    times_found _ c.args.p _ c.in-Some.ensures.value in (
+    let multiplicity : multiplicity_in c.self.inside.points.entries c.args.p ≡ c.in-Some.multiplicity.now =
+    multiplicity_found _ c.args.p _ c.in-Some.ensures.value in (
       refl,
       subst (λ (z : LimitedSet). Contains (keys_of z.entries) c.args.p) c.self.view_is
           (live _ c.args.p _ c.in-Some.ensures.value),
-      subst (λ (z : LimitedSet). c.from-in-Some.result ≡ times_in z.entries c.args.p + 1) c.self.view_is
-          (omega (arith, n, times)),
+      subst (λ (z : LimitedSet). c.from-in-Some.result ≡ multiplicity_in z.entries c.args.p + 1) c.self.view_is
+          (omega (arith, n, multiplicity)),
       omega (arith, n, above),
       omega (arith, n, c.from.ensures, c.if-from-eq-MULTIPLICITY_LIMIT.false),
     )
 
 pub returns-in-Some-clause-effect : goal.returns-in-Some-clause-effect
 returns-in-Some-clause-effect c =
-    let writes = c.get_mut.follows.holds (c.in-Some.times.now + 1) in
-    let times : times_in c.self.inside.points.entries c.args.p ≡ c.in-Some.times.now =
-    times_found _ c.args.p _ c.in-Some.ensures.value in
+    let writes = c.get_mut.follows.holds (c.in-Some.multiplicity.now + 1) in
+    let multiplicity : multiplicity_in c.self.inside.points.entries c.args.p ≡ c.in-Some.multiplicity.now =
+    multiplicity_found _ c.args.p _ c.in-Some.ensures.value in
     same_held _ _ _ _ writes.1
-    (raised_is c.args.p (Some (c.in-Some.times.now + 1)) _ _
-    (writes.3 (subst IsSome c.in-Some.ensures.value refl)).0 (omega (arith, times)))
+    (raised_is c.args.p (Some (c.in-Some.multiplicity.now + 1)) _ _
+    (writes.3 (subst IsSome c.in-Some.ensures.value refl)).0 (omega (arith, multiplicity)))
     ∙ ap (λ (z : LimitedSet). with_again c.args.p (held_in z.entries)) c.self.view_is
 
 pub returns-then-count-self-clause-reply : goal.returns-then-count-self-clause-reply
@@ -167,7 +167,7 @@ returns-clause-effect c =
     let puts_here : PutsAt c.args.p (Some 1) c.self.inside.points.entries c.insert.new.self.entries =
     subst (λ (z : BTreeMap Pair ℕ). PutsAt c.args.p (Some 1) z.entries c.insert.new.self.entries)
     c.get_mut.follows.holds-at-none puts in
-    let none : times_in c.self.inside.points.entries c.args.p ≡ 0 = times_none _ c.args.p c.in_default.ensures.value in
+    let none : multiplicity_in c.self.inside.points.entries c.args.p ≡ 0 = multiplicity_none _ c.args.p c.in_default.ensures.value in
     same_held _ _ _ _ (ap keys_of entries ∙ insert_is _ c.args.p 1)
     (raised_is c.args.p (Some 1) _ _ puts_here (omega (arith, none)))
     ∙ ap (λ (z : LimitedSet). with_new c.args.p (held_in z.entries)) c.self.view_is

@@ -5,7 +5,7 @@ use Rattle.std.specs.Bool.{Decides}
 use Rattle.std.proofs.lemmas.Bool.Decides.{Decides-and, Decides-int_eq}
 use Rattle.lattice.specs.Plane.{Pair, IsBefore}
 use Rattle.lattice.proofs.Order.{before_total, before_irrefl}
-use Rattle.hull_set.specs.Held.{Held, once, times_among}
+use Rattle.hull_set.specs.Held.{Held, once, multiplicity_among}
 use Rattle.hull_set.specs.PointLists.{is_same_pair}
 
 -- the test decides whether both coordinates are equal
@@ -58,11 +58,11 @@ returned_other p q f s =
 
 -- a point is once more among the first i + 1 points than among the first i, if it is the one at i
 pub among_more : (xs : List Pair) (i : ℕ) (p q : Pair) → p ≡ get_or xs i p → i < length xs
-    → times_among (take (i + 1) xs) q ≡ times_among (take i xs) q + once p q
+    → multiplicity_among (take (i + 1) xs) q ≡ multiplicity_among (take i xs) q + once p q
 among_more xs i p q e l =
-    sum_by_more (λ p. once p q) xs i p l ∙ ap (λ z. times_among (take i xs) q + once z q) (sym e)
+    sum_by_more (λ p. once p q) xs i p l ∙ ap (λ z. multiplicity_among (take i xs) q + once z q) (sym e)
 
 -- two contents are equal if the points are and each point has the same multiplicity in both
 pub same_held : (S T : List Pair) (f g : Pair → ℕ) → S ≡ T → ((q : Pair) → f q ≡ g q)
-    → ◌≡◌ {A = Held} (record { points = S; times = f }) (record { points = T; times = g })
-same_held S T f g e h = λ i. record { points = e i; times = λ q. h q i }
+    → ◌≡◌ {A = Held} (record { points = S; multiplicities = f }) (record { points = T; multiplicities = g })
+same_held S T f g e h = λ i. record { points = e i; multiplicities = λ q. h q i }
