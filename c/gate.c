@@ -1,7 +1,7 @@
 /* The admission gate of a shared hull (include/hull_shared.h, "waiting"): it bounds how many calls compete for the hull's ticket
  * lock, and callers sleep in front of it, or at the slot of their number, or until the journal has space. It is in the archive of
- * the proved calls, which neither sleep nor wake. What is proved of those calls holds however their callers wait. That no caller
- * sleeps for ever, and that none is overtaken for long, rests on the argument below, which tests/shared/gate_model.c and
+ * the proved calls, which neither sleep nor wake; their contracts hold however their callers wait. That no caller sleeps for ever,
+ * and that none is overtaken for long, rests on the argument below, which tests/shared/gate_model.c and
  * tests/shared/combining_model.c try step by step and tests/shared tests.
  *
  * The state of the gate is one word (`state`), so that its changes have one order: how many calls are inside, how many callers are

@@ -6,7 +6,7 @@ use std::process::Abort;
 use std::test::Fail;
 
 /// The reply has this code and these numbers.
-fn is_encoded(
+fn assert_encoded(
     rt: &impl Abort,
     reply: HullReply,
     code: u32,
@@ -81,19 +81,19 @@ fn numbers_of_the_codes(rt: HostRuntime) {
 #[test]
 fn replies(rt: HostRuntime) -> Result<(), Fail> {
     let (p, q) = (Point::new(1, -2)?, Point::new(3, 4)?);
-    is_encoded(&rt, encoded(Reply::Added), 3, (0, 0, 0, 0), 0);
-    is_encoded(&rt, encoded(Reply::Again(2)), 4, (0, 0, 0, 0), 2);
-    is_encoded(&rt, encoded(Reply::Left(1)), 8, (0, 0, 0, 0), 1);
-    is_encoded(&rt, encoded(Reply::Farthest(p)), 10, (1, -2, 0, 0), 0);
-    is_encoded(&rt, encoded(Reply::Lies(Place::On)), 13, (0, 0, 0, 0), 0);
-    is_encoded(
+    assert_encoded(&rt, encoded(Reply::Added), 3, (0, 0, 0, 0), 0);
+    assert_encoded(&rt, encoded(Reply::Again(2)), 4, (0, 0, 0, 0), 2);
+    assert_encoded(&rt, encoded(Reply::Left(1)), 8, (0, 0, 0, 0), 1);
+    assert_encoded(&rt, encoded(Reply::Farthest(p)), 10, (1, -2, 0, 0), 0);
+    assert_encoded(&rt, encoded(Reply::Lies(Place::On)), 13, (0, 0, 0, 0), 0);
+    assert_encoded(
         &rt,
         encoded(Reply::TangentPoints(p, q)),
         15,
         (1, -2, 3, 4),
         0,
     );
-    is_encoded(&rt, encoded(Reply::PointCount(9)), 17, (0, 0, 0, 0), 9);
+    assert_encoded(&rt, encoded(Reply::PointCount(9)), 17, (0, 0, 0, 0), 9);
     let area = encoded(Reply::DoubledArea(1 << 83));
     assert_eq!(rt; (area.code, area.number, area.high), (17, 0, 1 << 19));
     Ok(())

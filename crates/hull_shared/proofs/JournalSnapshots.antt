@@ -6,7 +6,7 @@ use Rattle.lattice.specs.Vertices.{IsVertexList}
 use Rattle.hull_book.specs.Marks.{plain}
 use Rattle.hull_book.specs.declared.line.Line.{Line}
 use Rattle.hull_set.specs.Held.{Held}
-use Rattle.hull_snapshots.specs.Changes.{change_of, held_behind}
+use Rattle.hull_snapshots.specs.Changes.{change_of, held_after_changes}
 use Rattle.hull_snapshots.specs.declared.change.Change.{Change}
 use Rattle.hull_shared.specs.JournalSnapshots.{SnapshotsAreOfTheJournal}
 use Rattle.hull_shared.specs.Publications.{changes_of}
@@ -22,4 +22,4 @@ prefix_changes lines seen p = sym (take_at seen p.0 (length seen) refl) ∙ ap (
 pub of_the_journal : SnapshotsAreOfTheJournal
 of_the_journal lines seen vertices p is =
     subst (λ (h : Held). IsVertexList h.points vertices)
-    (ap held_behind (prefix_changes (plain lines) seen p) ∙ sym (held_by_changes (take (length seen) (plain lines)))) is
+    (ap held_after_changes (prefix_changes (plain lines) seen p) ∙ sym (held_by_changes (take (length seen) (plain lines)))) is

@@ -18,9 +18,9 @@ IsGateFor readers first (Some t) (Some g) =
 IsGateFor readers first _ _ = ⊥
 
 -- the name of the registry's snapshot slots, if there is a registry
-abbrev pub snapshot_slots_behind : Option Gate → Option SnapshotSlotsName
-snapshot_slots_behind None = None
-snapshot_slots_behind (Some g) = Some (reader_registry_name g.reader_registry)
+abbrev pub snapshot_slots_after : Option Gate → Option SnapshotSlotsName
+snapshot_slots_after None = None
+snapshot_slots_after (Some g) = Some (reader_registry_name g.reader_registry)
 
 -- so many readers may be acquired, and none is
 abbrev pub LetsSoMany : ℕ → ℕ → Option Gate → Type 0

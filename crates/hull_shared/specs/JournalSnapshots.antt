@@ -6,7 +6,7 @@ use Rattle.lattice.specs.Vertices.{IsVertexList}
 use Rattle.hull_book.specs.History.{live}
 use Rattle.hull_book.specs.Marks.{plain}
 use Rattle.hull_book.specs.declared.marked_line.MarkedLine.{MarkedLine}
-use Rattle.hull_snapshots.specs.Changes.{held_behind}
+use Rattle.hull_snapshots.specs.Changes.{held_after_changes}
 use Rattle.hull_snapshots.specs.declared.change.Change.{Change}
 use Rattle.hull_shared.specs.Publications.{changes_of}
 
@@ -14,5 +14,5 @@ use Rattle.hull_shared.specs.Publications.{changes_of}
 -- points after as many lines of the journal: a replay up to there has them.
 abbrev pub SnapshotsAreOfTheJournal : Type 0
 SnapshotsAreOfTheJournal = (lines : List MarkedLine) (seen : List Change) (vertices : List Pair)
-    → IsPrefix seen (changes_of (plain lines)) → IsVertexList (held_behind seen).points vertices
+    → IsPrefix seen (changes_of (plain lines)) → IsVertexList (held_after_changes seen).points vertices
     → IsVertexList (live (take (length seen) (plain lines))) vertices

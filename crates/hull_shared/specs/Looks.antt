@@ -15,7 +15,7 @@ use Rattle.hull_reply.specs.declared.reply.HullReply.{HullReply}
 use Rattle.ticket_lock.specs.Tokens.{seat_seen, ticket_looks, ticket_number, ticket_seen}
 use Rattle.hull_shared.specs.Asked.{IsAsked}
 use Rattle.hull_shared.specs.SharedHullBooks.{HasServedAt}
-use Rattle.hull_shared.specs.declared.answer.Behind.{Behind}
+use Rattle.hull_shared.specs.declared.answer.StateAfter.{StateAfter}
 use Rattle.hull_shared.specs.declared.answer.SharedHullAnswer.{SharedHullAnswer}
 use Rattle.hull_shared.specs.declared.answer.SharedHullAnswer.TheVariants.{Written, Unwritten, Full}
 use Rattle.hull_shared.specs.Locks.{head_of, lock_of}
@@ -85,14 +85,14 @@ pub record HasFound (w : WaitingSeat) (i : IdleSeat) (so : List MarkedLine → T
 
 -- The call was served with this answer and this state after it, by the number that the seat had taken, and handed on
 -- the journal that the seat has seen now.
-abbrev pub WasServed : WaitingSeat → IdleSeat → SharedHullAnswer → Behind → Type 0
-WasServed w i answer behind = HasFound w i (λ found. HasServedAt (head_of (lock_of w.lock)) (ticket_number w.ticket) w.number
-    w.call found (seat_seen i.seat) answer behind)
+abbrev pub WasServed : WaitingSeat → IdleSeat → SharedHullAnswer → StateAfter → Type 0
+WasServed w i answer state_after = HasFound w i (λ found. HasServedAt (head_of (lock_of w.lock)) (ticket_number w.ticket) w.number
+    w.call found (seat_seen i.seat) answer state_after)
 
 -- the seat still waits, or its call was served
 abbrev pub HasLooked : WaitingSeat → Looked → Type 0
 HasLooked w (looked.NotYet v) = WaitsOn w v
-HasLooked w (looked.Served i answer behind) = WasServed w i answer behind
+HasLooked w (looked.Served i answer state_after) = WasServed w i answer state_after
 
 -- the reply has an answer: the numbers of the set's reply, or that the book is full
 abbrev pub EncodesAnswer : HullReply → SharedHullAnswer → Type 0
@@ -117,24 +117,24 @@ abbrev pub HasSeen : SharedSeat → SharedSeat → Seen → Type 0
 HasSeen Vacant new s = (new ≡ Vacant) × ((r : SeatReply) × (s ≡ Unserved r) × IsBareReply code.Vacant r)
 HasSeen (Idle i) new s = (new ≡ Idle i) × ((r : SeatReply) × (s ≡ Unserved r) × IsBareReply code.NoNumber r)
 HasSeen (Waiting w) (Waiting v) s = WaitsOn w v × ((r : SeatReply) × (s ≡ Unserved r) × IsReplyOf code.NotYet w r)
-HasSeen (Waiting w) (Idle i) s = (answer : SharedHullAnswer) × (behind : Behind) × WasServed w i answer behind
-    × (s ≡ Served answer (ticket_number w.ticket) behind)
+HasSeen (Waiting w) (Idle i) s = (answer : SharedHullAnswer) × (state_after : StateAfter) × WasServed w i answer state_after
+    × (s ≡ Served answer (ticket_number w.ticket) state_after)
 HasSeen (Waiting w) Vacant s = ⊥
 
 -- the reply has what follows a call
-abbrev pub EncodesBehind : Behind → SeatReply → Type 0
-EncodesBehind behind r = EncodesLine behind.line r × (r.held ≡ behind.held)
+abbrev pub EncodesStateAfter : StateAfter → SeatReply → Type 0
+EncodesStateAfter state_after r = EncodesLine state_after.line r × (r.held ≡ state_after.held)
 
 -- the reply has what the look saw
 abbrev pub EncodesSeen : Seen → SeatReply → Type 0
 EncodesSeen (Unserved reply) r = r ≡ reply
-EncodesSeen (Served answer turn behind) r = EncodesAnswer r.encoded answer × (r.turn ≡ turn) × EncodesBehind behind r
+EncodesSeen (Served answer turn state_after) r = EncodesAnswer r.encoded answer × (r.turn ≡ turn) × EncodesStateAfter state_after r
 
 -- the reply has what the look saw, and vertices are written to the array, the rest of which is unchanged
 abbrev pub PutsSeen : List Pair → List Pair → Seen → SeatReply → Type 0
 PutsSeen before after (Unserved reply) r = (after ≡ before) × (r ≡ reply)
-PutsSeen before after (Served answer turn behind) r =
-    PutsAnswer before after r.encoded answer × (r.turn ≡ turn) × EncodesBehind behind r
+PutsSeen before after (Served answer turn state_after) r =
+    PutsAnswer before after r.encoded answer × (r.turn ≡ turn) × EncodesStateAfter state_after r
 
 -- a look, whose answer is in the reply
 abbrev pub HasReplied : SharedSeat → SharedSeat → SeatReply → Type 0

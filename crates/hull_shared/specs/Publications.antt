@@ -26,6 +26,6 @@ ArePublished None lines = Unit {0}
 ArePublished (Some t) lines = is_silent t ≡ false → recorded t ≡ changes_of (plain lines)
 
 -- the last line is that of this call, and the publisher recorded those before it
-abbrev pub IsOneCallBehind : Option ChangePublisher → List MarkedLine → Call → Reply → Type 0
-IsOneCallBehind t lines call reply = (before : List MarkedLine) × ArePublished t before
+abbrev pub IsOneCallAfter : Option ChangePublisher → List MarkedLine → Call → Reply → Type 0
+IsOneCallAfter t lines call reply = (before : List MarkedLine) × ArePublished t before
     × (changes_of (plain lines) ≡ changes_of (plain before) ++ change_of call reply ∷ [])

@@ -7,7 +7,7 @@ use Rattle.hull_reply.specs.Encoded.{code_number, IsBare}
 use Rattle.hull_reply.specs.declared.reply.HullReply.{HullReply}
 use Rattle.hull_reply.specs.declared.code.Code.{Code}
 use Rattle.hull_reply.specs.declared.code.Code.TheVariants as code
-use Rattle.hull_snapshots.specs.Changes.{held_behind}
+use Rattle.hull_snapshots.specs.Changes.{held_after_changes}
 use Rattle.hull_snapshots.specs.Readers.{HasLooked, IsAt, vertices_at, lines_at, newest_watermark}
 use Rattle.hull_snapshots.specs.declared.TheConstants.{READER_LIMIT}
 use Rattle.hull_shared.specs.Gates.{LetsIn, TakesIn}
@@ -101,7 +101,7 @@ pub record HasSnapshotTaken (old new : OutReader) (v : SnapshotReply) : Type 0 w
   pub count : v.count ≡ length (vertices_at new.reader)
   pub lines : v.lines ≡ length (lines_at new.reader)
   pub last : EncodesLast new.first (length (lines_at new.reader)) v
-  pub behind : ∥ IsVertexList (held_behind (lines_at new.reader)).points (vertices_at new.reader) ∥₁
+  pub state_after : ∥ IsVertexList (held_after_changes (lines_at new.reader)).points (vertices_at new.reader) ∥₁
 
 -- a look of the reader in some storage, if there is one
 abbrev pub HasSnapshotTakenIn : SharedReader → SharedReader → SnapshotReply → Type 0

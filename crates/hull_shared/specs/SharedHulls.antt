@@ -19,7 +19,7 @@ use Rattle.bucket_tree.specs.Roots.{held_by}
 use Rattle.bucket_tree.specs.Sets.{LimitedTree}
 use Rattle.ticket_lock.specs.Tokens.{seat_seen}
 use Rattle.hull_shared.specs.SharedHullBooks.{SharedHullValue, HoldsNone}
-use Rattle.hull_shared.specs.Gates.{AreReadersOut, LetsSoMany, snapshot_slots_behind}
+use Rattle.hull_shared.specs.Gates.{AreReadersOut, LetsSoMany, snapshot_slots_after}
 use Rattle.hull_shared.specs.Limits.{AreLimits}
 use Rattle.hull_shared.specs.Locks.{book_of, head_of, lock_of}
 use Rattle.hull_shared.specs.Places.{HasAt, HasOwnLines}
@@ -76,7 +76,7 @@ IsOpening l r = MatchResult r
 -- It was opened for so many readers, none of whom is acquired, and their registry has the very snapshot slots in
 -- which the vertices of its book's set are published.
 abbrev pub IsOpenFor : ℕ → ℕ → OpenSharedHull → Type 0
-IsOpenFor readers first d = LetsSoMany readers first d.gate × (snapshot_slots_behind d.gate ≡ (book_of (lock_of d.lock)).snapshot_slots)
+IsOpenFor readers first d = LetsSoMany readers first d.gate × (snapshot_slots_after d.gate ≡ (book_of (lock_of d.lock)).snapshot_slots)
 
 -- an unopened shared hull is now open for the readers that were set, or unchanged
 abbrev pub Becomes : FreshSharedHull → ℕ → SharedHull → ℕ → Result OpenSharedHull Code → Type 0

@@ -18,7 +18,7 @@ pub(crate) enum SharedHullAnswer {
 
 /// The state after a call.
 #[derive(Clone, Copy)]
-pub(crate) struct Behind {
+pub(crate) struct StateAfter {
     /// The number of its line, if it has one.
     pub(crate) line: Option<u64>,
     /// How many lines the book contains.

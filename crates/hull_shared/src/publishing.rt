@@ -5,7 +5,7 @@ ghost use Rattle.hull_book.specs.History.{held_after};
 ghost use Rattle.hull_book.specs.LongBooks.{whole};
 ghost use Rattle.hull_book.specs.Marks.{as_segment};
 ghost use Rattle.bucket_tree.specs.Sets.{bucket_set};
-ghost use Rattle.hull_shared.specs.Publications.{ArePublished, IsOneCallBehind, published_slots};
+ghost use Rattle.hull_shared.specs.Publications.{ArePublished, IsOneCallAfter, published_slots};
 
 use bucket_tree::BucketTree;
 use hull_book::{Journal, LongBook};
@@ -21,7 +21,7 @@ pub(crate) fn announce(
     reply: &Reply,
 )
     requires lawful { IsLawful bucket_set (whole book.now) }
-    requires behind { IsOneCallBehind change_publisher.old book.now.lines call.now reply.now }
+    requires state_after { IsOneCallAfter change_publisher.old book.now.lines call.now reply.now }
     ensures encoded { ArePublished change_publisher.new book.now.lines }
     ensures snapshot_slots { published_slots change_publisher.new ≡ published_slots change_publisher.old }
 {

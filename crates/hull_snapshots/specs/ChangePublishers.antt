@@ -3,7 +3,7 @@ use Rattle.std.specs.Prelude.{◌≡◌, ◌+◌, ◌∷◌, ◌++◌, ℕ, Bool
 use Rattle.std.specs.Arc.{arc_value}
 use Rattle.published_snapshots.specs.Numbers.{watermark_number}
 use Rattle.published_snapshots.specs.Snapshots.{SnapshotSlotsName, snapshot_slots_of, name_of, published, seen_lines, slots_of}
-use Rattle.hull_snapshots.specs.Changes.{held_at, held_behind}
+use Rattle.hull_snapshots.specs.Changes.{held_at, held_after_changes}
 use Rattle.hull_snapshots.specs.Silences.{IsWhySilent}
 use Rattle.hull_snapshots.specs.declared.change.Change.{Change}
 use Rattle.hull_snapshots.specs.declared.reader_registry.ReaderRegistry.{ReaderRegistry}
@@ -62,7 +62,7 @@ pub record IsPublic (t : ChangePublisher) : Type 0 where
 -- What it published last, at the number of its watermark, is the set after all that it recorded: a reader whose
 -- watermark has that number takes no older snapshot.
 pub record IsShown (t : ChangePublisher) : Type 0 where
-  pub held : held_at (last_published t) (recorded t) ≡ held_behind (recorded t)
+  pub held : held_at (last_published t) (recorded t) ≡ held_after_changes (recorded t)
   pub watermark : watermark_last t ≡ last_published t
 
 -- it has recorded nothing, and there are slots for so many readers and two more

@@ -23,12 +23,12 @@ changed_by held [] = held
 changed_by held (change ∷ changes) = changed_by (changed held change) changes
 
 -- the set after these changes of the empty set
-abbrev pub held_behind : List Change → Held
-held_behind changes = changed_by nothing_held changes
+abbrev pub held_after_changes : List Change → Held
+held_after_changes changes = changed_by nothing_held changes
 
 -- the set after the first n of the changes
 abbrev pub held_at : ℕ → List Change → Held
-held_at n changes = held_behind (take n changes)
+held_at n changes = held_after_changes (take n changes)
 
 -- the change that a call to add a point makes
 abbrev pub change_of_add : Pair → Reply → Change

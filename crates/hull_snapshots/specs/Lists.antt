@@ -5,7 +5,7 @@ use Rattle.lattice.specs.Plane.{Pair}
 use Rattle.lattice.specs.Vertices.{IsVertexList}
 use Rattle.lattice.specs.Covers.{Covers, IsPointSet}
 use Rattle.hull_set.specs.Held.{Held}
-use Rattle.hull_snapshots.specs.Changes.{changed, held_behind}
+use Rattle.hull_snapshots.specs.Changes.{changed, held_after_changes}
 use Rattle.hull_snapshots.specs.declared.change.Change.{Change}
 use Rattle.hull_snapshots.specs.declared.change.Change.TheVariants.{Came, Went}
 use Rattle.hull_snapshots.specs.declared.vertex_list.VertexList.{VertexList}
@@ -15,8 +15,8 @@ abbrev pub vertices_in : VertexList → List Pair
 vertices_in list = list.points.items
 
 -- they are the vertices of the set's points after these changes
-abbrev pub AreVerticesBehind : List Change → VertexList → Type 0
-AreVerticesBehind changes list = ∥ IsVertexList (held_behind changes).points (vertices_in list) ∥₁
+abbrev pub AreVerticesAfter : List Change → VertexList → Type 0
+AreVerticesAfter changes list = ∥ IsVertexList (held_after_changes changes).points (vertices_in list) ∥₁
 
 -- each set that has these vertices has the same ones after the change
 abbrev pub StayThrough : List Pair → Change → Type 0

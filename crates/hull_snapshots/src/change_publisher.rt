@@ -8,8 +8,8 @@ ghost use Rattle.published_snapshots.specs.Numbers.{IsLaterWatermark, watermark_
 ghost use Rattle.published_snapshots.specs.declared.TheConstants.{NUMBER_LIMIT};
 ghost use Rattle.published_snapshots.specs.Snapshots.{IsPrefixOf, IsOfSnapshotSlots, IsWatermarkOf, snapshot_slots_of, number_of, published, seen_lines};
 ghost use Rattle.published_snapshots.specs.Snapshots.{slots_of};
-ghost use Rattle.hull_snapshots.specs.Changes.{changed, held_at, held_behind};
-ghost use Rattle.hull_snapshots.specs.Lists.{AreVerticesBehind, StayThrough, vertices_in};
+ghost use Rattle.hull_snapshots.specs.Changes.{changed, held_at, held_after_changes};
+ghost use Rattle.hull_snapshots.specs.Lists.{AreVerticesAfter, StayThrough, vertices_in};
 ghost use Rattle.hull_snapshots.specs.Silences.{IsWhySilent};
 ghost use Rattle.hull_snapshots.specs.declared.TheConstants.{READER_LIMIT};
 
@@ -48,9 +48,9 @@ pub struct ChangePublisher {
     ghost few: { is_silent ≡ false → length (seen_lines prefix) < NUMBER_LIMIT },
     ghost watermark_is: { is_silent ≡ false → watermark_number watermark ≡ published publisher },
     ghost known_is: { ∥ (is_silent ≡ false
-        → IfSome known (λ l. IsVertexList (held_behind (seen_lines prefix)).points (vertices_in (arc_value l)))) ∥₁ },
+        → IfSome known (λ l. IsVertexList (held_after_changes (seen_lines prefix)).points (vertices_in (arc_value l)))) ∥₁ },
     ghost shown: { ∥ (is_silent ≡ false → is_behind ≡ false
-        → held_at (published publisher) (seen_lines prefix) ≡ held_behind (seen_lines prefix)) ∥₁ },
+        → held_at (published publisher) (seen_lines prefix) ≡ held_after_changes (seen_lines prefix)) ∥₁ },
 }
 
 /// Gathers the vertices of a set.
@@ -205,7 +205,7 @@ impl ChangePublisher {
 
     /// Gathers the vertices after the recorded changes from the set, if they are not known.
     fn fill<S: HullSet>(&mut self, set: &S)
-        requires held { is_silent self.old ≡ false → S.held set.now ≡ held_behind (recorded self.old) }
+        requires held { is_silent self.old ≡ false → S.held set.now ≡ held_after_changes (recorded self.old) }
         ensures prefix { (self.new.prefix ≡ self.old.prefix) × (self.new.is_silent ≡ self.old.is_silent) }
         ensures publisher { self.new.publisher ≡ self.old.publisher }
     {
@@ -218,7 +218,7 @@ impl ChangePublisher {
     fn post(&mut self, list: Arc<VertexList>) -> bool
         requires speaks { is_silent self.old ≡ false }
         requires rising { last_published self.old < length (recorded self.old) }
-        requires vertices { AreVerticesBehind (recorded self.old) (arc_value list) }
+        requires vertices { AreVerticesAfter (recorded self.old) (arc_value list) }
         ensures same { HasKept self.old self.new }
         ensures published { IsTrue result → IsPublic self.new }
     {
@@ -244,7 +244,7 @@ impl ChangePublisher {
     /// It returns `false` if memory for new vertices was refused, if every slot is being read (impossible with no
     /// more readers than it was opened for), or if the publisher is silent. Then the next publication must show them.
     pub fn publish<S: HullSet>(&mut self, set: &S) -> bool
-        requires held { is_silent self.old ≡ false → S.held set.now ≡ held_behind (recorded self.old) }
+        requires held { is_silent self.old ≡ false → S.held set.now ≡ held_after_changes (recorded self.old) }
         ensures same { HasKept self.old self.new }
         ensures published { IsTrue result → IsPublic self.new }
     {
@@ -264,7 +264,7 @@ impl ChangePublisher {
     /// Records the change of a call, and publishes the vertices after it if it changed the set or if earlier vertices
     /// were not published. `set` is the set after the call. Returns whether all points of the set are shown then.
     pub fn announce<S: HullSet>(&mut self, change: Change, set: &S) -> bool
-        requires held { is_silent self.old ≡ false → S.held set.now ≡ changed (held_behind (recorded self.old)) change }
+        requires held { is_silent self.old ≡ false → S.held set.now ≡ changed (held_after_changes (recorded self.old)) change }
         ensures recorded { HasRecorded self.old self.new change }
         ensures shown { ∥ (IsTrue result → IsShown self.new) ∥₁ }
         ensures why { SaysWhySilent self.new }

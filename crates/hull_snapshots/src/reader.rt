@@ -4,7 +4,7 @@ ghost use Rattle.std.specs.Prelude.{◌≡◌, ◌≤◌, IfSome, IsTrue, MatchB
 ghost use Rattle.published_snapshots.specs.Numbers.{IsLaterWatermark, watermark_number};
 ghost use Rattle.published_snapshots.specs.Snapshots.{IsOfSnapshotSlots, IsWatermarkOf};
 ghost use Rattle.lattice.specs.Vertices.{IsVertexList};
-ghost use Rattle.hull_snapshots.specs.Changes.{held_behind};
+ghost use Rattle.hull_snapshots.specs.Changes.{held_after_changes};
 ghost use Rattle.hull_snapshots.specs.Shown.{lines_shown};
 
 use super::vertices::Vertices;
@@ -81,7 +81,7 @@ impl Reader {
     /// Returns the vertices as of those lines.
     pub fn vertices(&self) -> &[Point]
         ensures points { result.now ≡ vertices_at self.now }
-        ensures behind { ∥ IsVertexList (held_behind (lines_at self.now)).points result.now ∥₁ }
+        ensures behind { ∥ IsVertexList (held_after_changes (lines_at self.now)).points result.now ∥₁ }
     {
         match &self.snapshot {
             Some(snapshot) => snapshot.value().points(),

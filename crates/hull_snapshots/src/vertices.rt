@@ -11,7 +11,7 @@ impl Truth for Vertices {
 
     type Value = VertexList;
 
-    ghost use Rattle.hull_snapshots.specs.Lists.{AreVerticesBehind};
+    ghost use Rattle.hull_snapshots.specs.Lists.{AreVerticesAfter};
 
-    ghost holds = { λ changes list. AreVerticesBehind changes list };
+    ghost holds = { λ changes list. AreVerticesAfter changes list };
 }

@@ -38,8 +38,8 @@ IsRequestWithinLimits (request.CheckSegments paths) = Unit {0}
 IsRequestWithinLimits (request.Compact path) = Unit {0}
 
 -- the texts are `check` and these names, which may follow a mark that ends the options
-abbrev pub AreBehindCheck : List (List ℕ) → List (List ℕ) → Type 0
-AreBehindCheck texts names =
+abbrev pub AreAfterCheck : List (List ℕ) → List (List ℕ) → Type 0
+AreAfterCheck texts names =
     (texts ≡ codes "check" ∷ names) ⊎ (texts ≡ codes "check" ∷ codes "--" ∷ names)
 
 -- the path that a task names is one of these texts
@@ -57,5 +57,5 @@ RequestNamesWords texts (request.RunAfter script journal s) =
     IsOneOf texts (string_bytes script) × IsOneOf texts (string_bytes journal)
 RequestNamesWords texts (request.Explain path) = IsOneOf texts (string_bytes path)
 RequestNamesWords texts (request.CheckSegments paths) =
-    (2 ≤ length paths.items) × AreBehindCheck texts (words_as_texts paths.items)
+    (2 ≤ length paths.items) × AreAfterCheck texts (words_as_texts paths.items)
 RequestNamesWords texts (request.Compact path) = IsOneOf texts (string_bytes path)

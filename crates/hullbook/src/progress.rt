@@ -63,7 +63,7 @@ pub struct TerminalLine<'a, C, E> {
     bytes: Cell<u64>,
     calls: Cell<u64>,
     due: Cell<u64>,
-    stands: Cell<bool>,
+    is_shown: Cell<bool>,
 }
 
 impl<'a, C: Clock, E: Print + IsTerminal> TerminalLine<'a, C, E> {
@@ -81,7 +81,7 @@ impl<'a, C: Clock, E: Print + IsTerminal> TerminalLine<'a, C, E> {
             bytes: Cell::new(0),
             calls: Cell::new(0),
             due: Cell::new(PATIENCE),
-            stands: Cell::new(false),
+            is_shown: Cell::new(false),
         }
     }
 
@@ -99,7 +99,7 @@ impl<'a, C: Clock, E: Print + IsTerminal> TerminalLine<'a, C, E> {
             return;
         }
         self.due.set(passed.saturating_add(RENEWAL));
-        self.stands.set(true);
+        self.is_shown.set(true);
         let done = Done {
             bytes: self.bytes.get(),
             calls: self.calls.get(),
@@ -129,8 +129,8 @@ impl<C: Clock, E: Print + IsTerminal> Progress for TerminalLine<'_, C, E> {
     }
 
     fn wiped(&self) {
-        if self.stands.get() {
-            self.stands.set(false);
+        if self.is_shown.get() {
+            self.is_shown.set(false);
             let device = self.device;
             let _ = print!(device; "\r\x1b[K");
         }

@@ -1,6 +1,6 @@
 use crate::stage::Stage;
 
-/// What a trial has found: the first thing that was wrong, if there is one.
+/// The result of a trial: the first thing that was wrong, if there is one.
 #[derive(Drop)]
 pub struct Findings {
     wrong: Option<&'static str>,

@@ -133,7 +133,14 @@ fn row_journal(alloc: Global, points: u32, multiplicity: u32) -> Result<Journal,
             lines.push(Line::new(lines.len() as u64, 3, call, reply))?;
         }
     }
-    Ok(Journal::new(0, points, points.wrapping_mul(multiplicity), lines, Rules::Counted).ok_or("a limit")?)
+    Ok(Journal::new(
+        0,
+        points,
+        points.wrapping_mul(multiplicity),
+        lines,
+        Rules::Counted,
+    )
+    .ok_or("a limit")?)
 }
 
 // Whether the lines of a short journal add the points of a row, each of them twenty times.

@@ -40,7 +40,7 @@ fn joined(alloc: Global, pieces: &[&[u8]]) -> Option<Vec<u8>> {
 }
 
 // Returns a text before and after the end of its line with this number.
-fn split_behind(text: &[u8], number: u32) -> (&[u8], &[u8]) {
+fn split_after(text: &[u8], number: u32) -> (&[u8], &[u8]) {
     let mut line = 0u32;
     let mut length = 0usize;
     for b in text {
@@ -149,8 +149,8 @@ const FAULTY_LINES: [(u32, &str, u8); 37] = [
 
 // Whether this is the result of reading the example with line `number` replaced.
 fn is_changed_to(alloc: Global, number: u32, line: &str, want: Outcome) -> Option<bool> {
-    let (front, rest) = split_behind(EXAMPLE, number.saturating_sub(1));
-    let (_, back) = split_behind(rest, 1);
+    let (front, rest) = split_after(EXAMPLE, number.saturating_sub(1));
+    let (_, back) = split_after(rest, 1);
     let text = joined(alloc, &[front, line.as_bytes(), b"\n", back])?;
     Some(is_read_so(alloc, &text, want))
 }
@@ -262,7 +262,7 @@ fn are_read_so(alloc: Global, front: &[u8], back: &[u8], want: Outcome) -> Optio
 
 #[test]
 fn the_example_journal_ends_with_its_end_line(rt: HostRuntime) {
-    let (shorter, _) = split_behind(EXAMPLE, 8);
+    let (shorter, _) = split_after(EXAMPLE, 8);
     let is_shorter = is_read_so(rt.alloc(), shorter, fault(6, 9));
     assert!(rt; is_shorter);
     for more in ["x\n", "x", "\n", "end 7\n"] {
@@ -286,7 +286,7 @@ fn each_proper_beginning_of_the_example_journal_is_truncated(rt: HostRuntime) {
 }
 
 // How many lines of the text end in its first bytes, and one more.
-fn line_behind(text: &[u8], bytes: usize) -> u32 {
+fn line_following(text: &[u8], bytes: usize) -> u32 {
     let mut line = 1u32;
     for (i, b) in text.iter().enumerate() {
         if i < bytes && *b == b'\n' {
@@ -304,7 +304,7 @@ fn fails_at_each_read(alloc: Global, size: usize) -> bool {
     let mut last = 0u64;
     for call in 1u64..210 {
         if taken < EXAMPLE.len() {
-            let line = line_behind(EXAMPLE, taken);
+            let line = line_following(EXAMPLE, taken);
             all = read(alloc, EXAMPLE, size, call) == fault(8, line) && all;
             taken = taken.saturating_add(size);
             last = call;

@@ -12,7 +12,7 @@ use hull_set::Call;
 /// Reads the call with this word.
 #[inline(always)]
 #[tactic(auto, unfolding(crate::specs::Call::call_after))]
-fn call_behind(
+fn call_following(
     version: Version,
     word: CallWord,
     rest: Rest<'_>,
@@ -60,5 +60,5 @@ pub(crate) fn call_of(version: Version, rest: Rest<'_>) -> Result<(Call, Rest<'_
     let Some(word) = CallWord::of(field) else {
         return Err(FaultKind::Word);
     };
-    call_behind(version, word, rest)
+    call_following(version, word, rest)
 }

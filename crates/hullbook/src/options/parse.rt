@@ -1,6 +1,6 @@
 ghost use Rattle.std.specs.Prelude.{◌≡◌, ◌≤◌, ◌↔◌, ◌∷◌, IfOk, IfSome, IsTrue};
 ghost use Rattle.hull_program.specs.Words.{texts_of, words_as_texts};
-ghost use Rattle.hullbook.specs.Tasks.{AreBehindCheck, AreStatedWithinLimits, AreWithinLimits, IsRequestWithinLimits};
+ghost use Rattle.hullbook.specs.Tasks.{AreAfterCheck, AreStatedWithinLimits, AreWithinLimits, IsRequestWithinLimits};
 ghost use Rattle.hullbook.specs.Tasks.{IsWithinLimits, NamesWords, RequestNamesWords};
 
 use super::{Options, Request, Stated, Task};
@@ -173,7 +173,7 @@ fn is_word(word: &str, text: &str) -> bool
 }
 
 /// Returns the words after this one, if it is the first.
-fn words_behind<'a>(text: &str, words: &'a [&'a str]) -> Option<&'a [&'a str]>
+fn words_after<'a>(text: &str, words: &'a [&'a str]) -> Option<&'a [&'a str]>
     ensures { IfSome result (λ rest. texts_of words.now ≡ text.now ∷ texts_of rest.now) }
 {
     let (first, rest) = words.split_first()?;
@@ -184,11 +184,11 @@ fn words_behind<'a>(text: &str, words: &'a [&'a str]) -> Option<&'a [&'a str]>
 }
 
 /// Returns the words after `check`, and after a mark that ends the options.
-fn segments_behind<'a>(words: &'a [&'a str]) -> Option<&'a [&'a str]>
-    ensures { IfSome result (λ segments. AreBehindCheck (texts_of words.now) (texts_of segments.now)) }
+fn segments_after<'a>(words: &'a [&'a str]) -> Option<&'a [&'a str]>
+    ensures { IfSome result (λ segments. AreAfterCheck (texts_of words.now) (texts_of segments.now)) }
 {
-    let behind = words_behind("check", words)?;
-    match words_behind("--", behind) {
+    let behind = words_after("check", words)?;
+    match words_after("--", behind) {
         Some(segments) => Some(segments),
         None => Some(behind),
     }
@@ -199,7 +199,7 @@ fn segments_task(alloc: Global, number: usize, words: &[&str]) -> Result<Request
     ensures limits { IfOk result IsRequestWithinLimits }
     ensures paths { IfOk result (RequestNamesWords (texts_of words.now)) }
 {
-    let Some(segments) = segments_behind(words) else {
+    let Some(segments) = segments_after(words) else {
         return Err(OptionFault::Usage);
     };
     if segments.len() < 2 || segments.len() != number {

@@ -64,8 +64,8 @@ loop-place-preserved c =
                 subst (λ (k : ℕ). slice_get c.push_reserved.new.self.items k ≡ Some q.seat) (sym at_end)
                 (subst (λ (z : List _). slice_get z (length seats) ≡ Some q.seat) (sym more)
                 (get_last seats p.seat ∙ ap (λ (x : SeatPlace). Some x.seat) same))
-            | inr behind ↦ subst (λ (z : List _). slice_get z i ≡ Some q.seat) (sym more)
-                (get_front seats p.seat i q.seat (inv.gathered i j q at (omega (arith, long, behind)) sum))
+            | inr state_after ↦ subst (λ (z : List _). slice_get z i ≡ Some q.seat) (sym more)
+                (get_front seats p.seat i q.seat (inv.gathered i j q at (omega (arith, long, state_after)) sum))
           ];
     }
 

@@ -2,7 +2,7 @@
 use Rattle.std.proofs.Common.{◌∙◌, ap, sym}
 use mathlib.Core.Logic.{∥∥₁_map}
 use Rattle.hull_set.specs.Held.{nothing_held}
-use Rattle.hull_snapshots.specs.Changes.{held_behind}
+use Rattle.hull_snapshots.specs.Changes.{held_after_changes}
 use Rattle.hull_snapshots.proofs.Changed.{changed_by-one_more}
 use Rattle.hull_snapshots.proofs.Known.{speaking}
 use Rattle.hull_snapshots.proofs.change_publisher.ChangePublisher.announce.Goals as goal
@@ -13,7 +13,7 @@ publish-requires g c =
     record {
       held = λ yes. c.requires.held (r.speaks yes)
           ∙ sym (changed_by-one_more nothing_held _ c.args.change)
-          ∙ ap held_behind (sym (r.one_more yes));
+          ∙ ap held_after_changes (sym (r.one_more yes));
     }
 
 pub returns-else-self-clause-shown : goal.returns-else-self-clause-shown
