@@ -32,7 +32,10 @@ pub(crate) fn called_marks(alloc: Global, lines: &[Line]) -> Result<Vec<Mark>, A
     let mut rest = lines;
     while let Some((line, after)) = rest.split_first() {
         if let Some(point) = call_point(&line.call) {
-            marks.push(Mark { point, multiplicity: 1 })?;
+            marks.push(Mark {
+                point,
+                multiplicity: 1,
+            })?;
         }
         rest = after;
     }

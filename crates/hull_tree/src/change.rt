@@ -25,7 +25,13 @@ pub(crate) fn find_multiplicity(node: &Node, p: Point) -> u32
     ensures { result ≡ multiplicity_below node.now p }
 {
     match &node.below {
-        None => { if p == node.upper.0 { node.multiplicities } else { 0 } }
+        None => {
+            if p == node.upper.0 {
+                node.multiplicities
+            } else {
+                0
+            }
+        }
         Some(halves) => {
             if before(p, halves.right_first) {
                 find_multiplicity(&halves.left, p)

@@ -10,7 +10,7 @@ ghost use Rattle.hull_tree.specs.Levels.{bridges_at};
 ghost use Rattle.hull_tree.specs.Turns.{IsLeastCount, IsLeafDepth};
 
 use super::chain_range::push_from;
-use super::change::{insert, is_leaf, lower, raise, remove, find_multiplicity};
+use super::change::{find_multiplicity, insert, is_leaf, lower, raise, remove};
 use super::joining::blank;
 use super::levels::push_level;
 use super::load::{node_over, push_entries};
