@@ -159,17 +159,17 @@ with_multiplicity n k =
       lower = (node.out-Node n).lower;
       height = (node.out-Node n).height;
       near = (node.out-Node n).near;
-      multiplicities = k;
+      multiplicity = k;
       below = (node.out-Node n).below;
     }
 
 -- the node put together again of its fields
 abbrev again : node.Node → node.Node
-again n = with_multiplicity n (node.out-Node n).multiplicities
+again n = with_multiplicity n (node.out-Node n).multiplicity
 
 -- a leaf of p whose number rose by one holds p once more
 pub leaf_raised : (n : node.Node) (p q : Pair) → (node.out-Node n).below ≡ None → p ≡ (node.out-Node n).upper.0
-    → multiplicity_below (with_multiplicity (again n) ((node.out-Node (again n)).multiplicities + 1)) q ≡ multiplicity_below n q + once p q
+    → multiplicity_below (with_multiplicity (again n) ((node.out-Node (again n)).multiplicity + 1)) q ≡ multiplicity_below n q + once p q
 unfolding node.roll-Node node.out-Node denote.Hole.Carrier.out denote.Hole.Carrier.roll
 leaf_raised (node.Node' upper lower height near multiplicity node.None') p q e s =
     rw s (several_more (is_same_pair upper.0 q) multiplicity)
@@ -178,8 +178,8 @@ leaf_raised (node.Node' upper lower height near multiplicity
 
 -- and one whose number fell by one holds it once less
 pub leaf_lowered : (n : node.Node) (p q : Pair) → (node.out-Node n).below ≡ None → p ≡ (node.out-Node n).upper.0
-    → 1 < (node.out-Node (again n)).multiplicities
-    → multiplicity_below (with_multiplicity (again n) ((node.out-Node (again n)).multiplicities - 1)) q + once p q ≡ multiplicity_below n q
+    → 1 < (node.out-Node (again n)).multiplicity
+    → multiplicity_below (with_multiplicity (again n) ((node.out-Node (again n)).multiplicity - 1)) q + once p q ≡ multiplicity_below n q
 unfolding node.roll-Node node.out-Node denote.Hole.Carrier.out denote.Hole.Carrier.roll
 leaf_lowered (node.Node' upper lower height near multiplicity node.None') p q e s h =
     rw s (several_less (is_same_pair upper.0 q) multiplicity h)

@@ -18,7 +18,7 @@ use Rattle.hull_tree.proofs.PointRows.{all_before_of_set}
 
 -- what a node has in its box is below it
 pub rolled_below : (e f : Pair × Pair) (k : ℕ) (c : Bool) (n : ℕ) (b : _)
-    → below_of (node.roll-Node record { upper = e; lower = f; height = k; near = c; multiplicities = n; below = Some b })
+    → below_of (node.roll-Node record { upper = e; lower = f; height = k; near = c; multiplicity = n; below = Some b })
     ≡ Some b.value
 unfolding node.roll-Node node.out-Node denote.Hole.Carrier.out denote.Hole.Carrier.roll
 rolled_below e f k c n b = refl

@@ -28,7 +28,7 @@ pub(crate) fn push_from(
     match &node.below {
         None => {
             if !before(node.upper.0, start) {
-                entries.push_reserved((node.upper.0, node.multiplicities));
+                entries.push_reserved((node.upper.0, node.multiplicity));
             }
         }
         Some(halves) => {

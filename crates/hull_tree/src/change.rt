@@ -27,7 +27,7 @@ pub(crate) fn find_multiplicity(node: &Node, p: Point) -> u32
     match &node.below {
         None => {
             if p == node.upper.0 {
-                node.multiplicities
+                node.multiplicity
             } else {
                 0
             }
@@ -59,9 +59,9 @@ pub(crate) fn raise(node: &mut Node, p: Point) -> u32
             if p != node.upper.0 {
                 return 0;
             }
-            let multiplicity = node.multiplicities;
+            let multiplicity = node.multiplicity;
             if multiplicity < MULTIPLICITY_LIMIT {
-                node.multiplicities = multiplicity + 1;
+                node.multiplicity = multiplicity + 1;
             }
             multiplicity
         }
@@ -89,9 +89,9 @@ pub(crate) fn lower(node: &mut Node, p: Point) -> u32
             if p != node.upper.0 {
                 return 0;
             }
-            let multiplicity = node.multiplicities;
+            let multiplicity = node.multiplicity;
             if multiplicity > 1 {
-                node.multiplicities = multiplicity - 1;
+                node.multiplicity = multiplicity - 1;
             }
             multiplicity
         }
@@ -170,7 +170,7 @@ pub(crate) fn insert(node: &mut Node, p: Point, spare: Box<Halves, Heap>) -> u32
 {
     match &mut node.below {
         None => {
-            *node = beside(node.upper.0, node.multiplicities, p, spare);
+            *node = beside(node.upper.0, node.multiplicity, p, spare);
             0
         }
         Some(halves) => {

@@ -45,7 +45,7 @@ pub(crate) fn push_entries(node: &Node, entries: &mut Vec<(Point, u32), Heap>)
 {
     match &node.below {
         None => {
-            entries.push_reserved((node.upper.0, node.multiplicities));
+            entries.push_reserved((node.upper.0, node.multiplicity));
         }
         Some(halves) => {
             push_entries(&halves.left, entries);

@@ -101,7 +101,7 @@ impl Node {
         ensures { result ≡ multiplicity_of self.now }
     {
         match &self.below {
-            None => Some(self.multiplicities),
+            None => Some(self.multiplicity),
             Some(_) => None,
         }
     }

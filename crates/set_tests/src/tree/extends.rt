@@ -128,7 +128,7 @@ fn extended_past_the_limit(rt: HostRuntime) -> Result<(), Fail> {
 /// Returns a point this many times.
 fn repeated(alloc: Global, point: Point, multiplicity: u32) -> Result<Vec<Point>, AllocError> {
     let mut points = Vec::new(alloc);
-    for _ in 0..multiplicities {
+    for _ in 0..multiplicity {
         points.push(point)?;
     }
     Ok(points)
