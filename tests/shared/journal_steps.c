@@ -430,7 +430,8 @@ static void refuse_calls(size_t at) {
         is_past_length |= strncmp(steps[step], "length of ", 10) == 0;
         if (is_past_length && strncmp(steps[step], "read ", 5) == 0) { /* as if another process had cut the file */
             reads_nothing = 1;
-            run(at, step, -1);
+            const hull_reply reply = run(at, step, -1);
+            check("why", reply.code != HULL_NO_FILE || reply.number == ESTALE, 1);
             reads_nothing = 0;
         }
     }
