@@ -145,7 +145,7 @@ in_cplusplus() {
     attempt "the tests of hull.hpp" "$room/hull_tests_cpp" "$here/lattice.txt"
     # shellcheck disable=SC2046
     attempt "hull_answers.cpp compiles" c++ -std=c++17 -pedantic -Wall -Wextra -Werror -O1 -g "$here/hull_answers.cpp" \
-        $(flags) -lhull_shared -lpthread -o "$room/hull_answers"
+        $(flags) -Wl,--wrap=fsync -lhull_shared -lpthread -o "$room/hull_answers"
     attempt "each answer of hull.hpp beside that of hull.h" "$room/hull_answers"
     attempt "without exceptions a failure ends the program, and says why" aborts
     # shellcheck disable=SC2046

@@ -1078,8 +1078,8 @@ static void compacts_to_the_same_number(void) {
     check("its text", has_only(path, "hullbook journal 3 first 18446744073709551615 limit 1048576 capacity 3\n"
                                      "18446744073709551615 0 add -1099511627776 1099511627776 = added\n"
                                      "0 0 add 1099511627776 -1099511627776 = added\n1 0 add 1099511627776 -1099511627776 = again 2\nend 3\n"), 1);
-    put_text("hullbook journal 3 first 1 limit 9 capacity 9\n1 0 add 7 0 = added\n2 0 add 6 9 = added\n3 0 add 6 8 = added\n4 0 remove 7 0 = removed\n"
-             "5 0 add 6 9 = again 2\n6 0 remove 6 9 = left 1\nend 6\n");
+    put_text("hullbook journal 3 first 1 limit 9 capacity 9\n1 0 add 7 0 = added\n2 0 add 6 9 = added\n3 0 add 6 8 = added\n"
+             "4 0 remove 7 0 = removed\n5 0 add 6 9 = again 2\n6 0 remove 6 9 = left 1\nend 6\n");
     check("compact", compact(&number), HULL_DURABLE);
     check("its number", number, 7);
     check("its text", has_only(path, "hullbook journal 3 first 5 limit 9 capacity 2\n5 0 add 6 8 = added\n6 0 add 6 9 = added\nend 2\n"), 1);
