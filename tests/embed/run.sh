@@ -120,6 +120,15 @@ wants_17() {
     ! is_cplusplus hull.hpp -std=c++14 2>"$room/said" && [ "$(grep -c 'error' "$room/said")" -le 2 ] && grep -q 'needs C++17' "$room/said"
 }
 
+# whether a program without exceptions that adds a point out of range ends by abort, and says why
+aborts() {
+    printf '#include "hull.hpp"\nint main() { hull::Hull().add({HULL_COORDINATE_MAX + 1, 0}); }\n' >"$room/aborts.cpp"
+    # shellcheck disable=SC2046 # the flags are separated by spaces
+    c++ -std=c++17 -fno-exceptions "$room/aborts.cpp" $(flags) -lhull_shared -lpthread -o "$room/aborts" || return 1
+    (ulimit -c 0; "$room/aborts") >"$room/said" 2>&1
+    [ $? -eq 134 ] && grep -qx 'hull: a coordinate is out of range' "$room/said"
+}
+
 in_cplusplus() {
     for header in hull.h hull_shared.h hull_exchange.h hull.hpp; do
         attempt "$header is C++17" is_cplusplus $header -std=c++17
@@ -134,6 +143,11 @@ in_cplusplus() {
     attempt "the tests of hull.hpp compile" c++ -std=c++17 -pedantic -Wall -Wextra -Werror -O2 -g "$here/hull_tests.cpp" \
         $(flags) -lhull_shared -lpthread -o "$room/hull_tests_cpp"
     attempt "the tests of hull.hpp" "$room/hull_tests_cpp" "$here/lattice.txt"
+    # shellcheck disable=SC2046
+    attempt "hull_answers.cpp compiles" c++ -std=c++17 -pedantic -Wall -Wextra -Werror -O1 -g "$here/hull_answers.cpp" \
+        $(flags) -Wl,--wrap=fsync -lhull_shared -lpthread -o "$room/hull_answers"
+    attempt "each answer of hull.hpp beside that of hull.h" "$room/hull_answers"
+    attempt "without exceptions a failure ends the program, and says why" aborts
     # shellcheck disable=SC2046
     attempt "replay.cpp compiles" c++ -std=c++17 -pedantic -Wall -Wextra -Werror -O2 "$here/replay.cpp" $(flags) -lhull_shared -lpthread \
         -o "$room/replay_cpp"
@@ -155,6 +169,8 @@ in_cplusplus() {
     if is_there valgrind; then
         attempt "valgrind finds nothing in the tests of hull.hpp" valgrind -q --error-exitcode=9 --leak-check=full \
             --show-leak-kinds=all --errors-for-leak-kinds=all "$room/hull_tests_cpp" "$here/lattice.txt" "$room/threads_journal"
+        attempt "valgrind finds nothing in hull_answers.cpp" valgrind -q --error-exitcode=9 --leak-check=full --show-leak-kinds=all \
+            --errors-for-leak-kinds=all "$room/hull_answers"
     else
         skip "memory by valgrind in C++" valgrind
     fi

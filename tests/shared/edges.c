@@ -35,6 +35,8 @@ static void check(const char *what, uint64_t got, uint64_t wanted) {
 
 static char calls_made[4096];
 static size_t logged;
+static unsigned long syncs_made;
+static int is_extended_at_sync; /* the file gets another byte while it is synced */
 static int logs, syncs_do_nothing, folder_syncs_fail, writes_fail, syncs_take, threads_fail;
 static unsigned long reads_made;
 static uint64_t bytes_written;
@@ -81,6 +83,11 @@ int __wrap_fsync(int file) {
     struct timespec t = {0, syncs_take * 1000000L};
     const char *kind = kind_of(file);
     note("sync %s\n", kind);
+    __atomic_fetch_add(&syncs_made, 1, __ATOMIC_SEQ_CST);
+    if (is_extended_at_sync && strcmp(kind, "file") == 0) {
+        is_extended_at_sync = 0;
+        check("extended", (uint64_t)__real_pwrite(file, "x", 1, lseek(file, 0, SEEK_END)), 1);
+    }
     if (folder_syncs_fail && strcmp(kind, "folder") == 0 && --folder_syncs_fail == 0) {
         errno = EIO;
         return -1;
@@ -392,9 +399,10 @@ static void count_signal(int number) {
 }
 
 static void takes_no_signals(void) {
-    sigset_t one, pending;
+    sigset_t one, pending, now;
     signal(SIGUSR1, count_signal);
     hull_shared_journal *journal = start(0, 100);
+    check("this thread gets them as before", sigprocmask(SIG_SETMASK, NULL, &now) == 0 && !sigismember(&now, SIGUSR1), 1);
     sigemptyset(&one);
     sigaddset(&one, SIGUSR1);
     pthread_sigmask(SIG_BLOCK, &one, NULL);
@@ -580,6 +588,14 @@ static void reports_the_line_of_the_file(void) {
         {HEAD "5 0 add 0 0 = added\n6 0 count = count 1\n7 0 remove 1 1 = removed\nend 3\n" "hullbook journal 3 first 8 limit 3 capacity 9\n"
               "8 0 add 0 0 = added\nend 1\n", 4},
         {HEAD "5 0 add 0 0 = added\n6 0 add 0 0 = again 3\n7 0 add 1 1 = again 2\nend 3\n", 3},
+        {HEAD "5 0 add 0 0 = added\n6 0 remove 0 0 = left 0\nend 2\n", 3},
+        {HEAD "5 0 add 0 0 = added\n6 0 remove 0 0 = left 1\nend 2\n", 3},
+        {HEAD "5 0 add 0 0 = added\n6 0 add 0 0 = again 2\n7 0 remove 0 0 = removed\nend 3\n", 4},
+        {HEAD "5 0 add 0 0 = added\n6 0 remove 0 0 = absent\nend 2\n", 3},
+        {HEAD "5 0 add 0 0 = added\n6 0 add 1 0 = added\n7 0 add 0 0 = toomany\nend 3\n", 4},
+        {HEAD "5 0 remove 0 0 = removed\n6 0 add 0 0 = again 2\nend 2\n", 2},
+        {HEAD "5 0 add 0 0 = again 2\n6 0 remove 1 0 = removed\nend 2\n", 2},
+        {HEAD "5 0 add 1 0 = added\n6 0 add 0 1 = added\n7 0 add 1 1 = added\n8 0 remove 1 0 = removed\n9 0 add 0 1 = added\nend 5\n", 6},
     };
     for (size_t k = 0; k < sizeof wrong / sizeof *wrong; k++) {
         hull_shared_journal *journal;
@@ -767,10 +783,10 @@ static void compacts_all_or_nothing(void) {
     struct stat s;
     uint64_t number;
     put_some();
-    check("mode", (uint64_t)chmod(path, 0640), 0);
+    check("mode", (uint64_t)chmod(path, 01640), 0);
     check("owner", geteuid() != 0 || chown(path, 12345, 54321) == 0, 1);
     check("compact", compact(&number), HULL_DURABLE);
-    check("its mode", stat(path, &s) == 0 && (s.st_mode & 07777) == 0640, 1);
+    check("its mode", stat(path, &s) == 0 && (s.st_mode & 07777) == 01640, 1);
     check("its owner", geteuid() != 0 || (s.st_uid == 12345 && s.st_gid == 54321), 1);
     put_text(HEAD "end 0\n" "hullbook journal 3 first 5 limit 3 capacity 9\n5 0 add 0 0 = added\nend 1\n");
     hull_shared_journal_close(open_journal(6));
@@ -826,6 +842,7 @@ static void touch(int how, const char *left) {
         check("replaced", (uint64_t)rename(beside(".mine"), path), 0);
         break;
     case 4: check("renamed", (uint64_t)rename(path, beside(".mine")), 0); break;
+    case 5: is_extended_at_sync = 1; break;
     }
     hull_reply r = add_durably(journal, 0, 0);
     check("not durable", r.code, HULL_NO_FILE);
@@ -842,6 +859,7 @@ static void notices_others(void) {
     touch(2, NULL);
     touch(3, SEGMENT);
     touch(4, NULL);
+    touch(5, NULL);
 }
 
 static void *add_one(void *own) {
@@ -915,6 +933,164 @@ static void starts_after_a_refusal(void) {
     stop(journal, HULL_CLOSED);
 }
 
+/* ---- intervals */
+
+/* How often the file is synced in 300 milliseconds of calls, if that is wanted each so many nanoseconds; and the time of the processor
+ * in 50 milliseconds with no calls. */
+static unsigned long syncs_at(uint64_t every, uint64_t *used) {
+    hull_shared_journal *journal = open_journal(0);
+    check("start", hull_shared_journal_start(journal, shared, &gate, 100, 100000, 2, every).code, HULL_OPEN);
+    check("acquire", hull_shared_acquire_seat(shared, &gate, seat, 0), HULL_ACQUIRED);
+    syncs_do_nothing = 1;
+    add(1, 1);
+    sleep_for(every == 0 ? MILLISECOND : every > SECOND ? MILLISECOND : 2 * every);
+    uint64_t before = processor_time();
+    sleep_for(50 * MILLISECOND);
+    *used = processor_time() - before;
+    __atomic_store_n(&syncs_made, 0, __ATOMIC_SEQ_CST);
+    for (uint64_t begun = hull_shared_now(); hull_shared_now() - begun < 300 * MILLISECOND;) {
+        add(1, 2);
+        sleep_for(MILLISECOND);
+    }
+    unsigned long made = __atomic_load_n(&syncs_made, __ATOMIC_SEQ_CST);
+    stop(journal, HULL_CLOSED);
+    syncs_do_nothing = 0;
+    unlink(path);
+    return made;
+}
+
+static void syncs_at_each_interval(void) {
+    uint64_t used;
+    unsigned long made = syncs_at(50 * MILLISECOND, &used);
+    check("each 50 ms", made >= 2 && made <= 7, 1);
+    check("never by itself", syncs_at(0, &used), 0);
+    check("the processor's time", used < 25 * MILLISECOND, 1);
+    check("in some centuries", syncs_at(UINT64_MAX - 1, &used), 0);
+    check("the processor's time", used < 25 * MILLISECOND, 1);
+}
+
+/* A thread waits for a line, and memory for the drain is refused: it is tried again after a while, with no processor meanwhile, and the
+ * wait ends in time, with the first line that is not durable. */
+static void waits_for_a_drain_without_memory(void) {
+    put_text(SEGMENT);
+    hull_shared_journal *journal = start(6, 20000);
+    uint64_t line = add(2, 2).line;
+    refused_from = 4096;
+    refusals = 1000000000;
+    uint64_t begun = processor_time();
+    hull_reply r = hull_shared_journal_wait(journal, line, hull_shared_now() + 300 * MILLISECOND);
+    check("not yet", r.code, HULL_BUSY);
+    check("what is durable", r.number, line);
+    check("memory was refused", refusals < 1000000000, 1);
+    check("the processor's time", processor_time() - begun < 60 * MILLISECOND, 1);
+    refusals = 0;
+    check("durable", hull_shared_journal_wait(journal, line, hull_shared_now() + 5 * SECOND).code, HULL_DURABLE);
+    stop(journal, HULL_CLOSED);
+}
+
+/* ---- limits */
+
+/* Lines as long as a list of all points: read whole, and cut off in the middle. */
+static void reads_long_lines(void) {
+    enum { VERTICES = 200000 };
+    for (int is_torn = 0; is_torn < 2; is_torn++) {
+        FILE *file = fopen(path, "w");
+        fprintf(file, SEGMENT "hullbook journal 3 first 6 limit 3 capacity 9\n6 0 vertices = list %d", VERTICES + is_torn);
+        for (int k = 0; k < VERTICES; k++) {
+            fprintf(file, " %lld -%lld", (long long)HULL_COORDINATE_MAX - k, (long long)HULL_COORDINATE_MAX - k);
+        }
+        fputs(is_torn ? " 1" : "\nend 1\n", file);
+        fclose(file);
+        hull_shared_journal_close(open_journal(is_torn ? 6 : 7));
+        check("the list", has_only(path, SEGMENT), is_torn);
+        unlink(beside(".torn"));
+    }
+}
+
+/* The longest path that there may be, and one that is longer. */
+static void opens_long_paths(void) {
+    enum { LONGEST = 4095 };
+    char name[LONGEST + 2];
+    hull_shared_journal *journal;
+    const size_t begin = (size_t)(strrchr(path, '/') - path), dots = LONGEST - strlen(path);
+    memcpy(name, path, begin);
+    for (size_t at = begin; at < begin + dots; at++) {
+        name[at] = (at - begin) % 2 == 0 || at + 1 == begin + dots ? '/' : '.';
+    }
+    strcpy(name + begin + dots, path + begin);
+    check("its length", strlen(name), LONGEST);
+    hull_reply r = hull_shared_journal_open(name, &journal);
+    check("the longest", r.code, HULL_OPEN);
+    hull_shared_journal_close(journal);
+    check("the file", is_there(path), 1);
+    for (int is_made = 0; is_made < 2; is_made++) {
+        strcpy(name + LONGEST, "x");
+        r = hull_shared_journal_open(name, &journal);
+        check("one more", r.code, HULL_NO_FILE);
+        check("why", r.number, ENAMETOOLONG);
+        unlink(path);
+    }
+    check("no folder", hull_shared_journal_open("", &journal).code, HULL_NO_FILE);
+}
+
+/* What a start refuses, and with which code: the shared hull and the journal are as before. */
+static void starts_only_right(void) {
+    hull_shared_seat *last = hull_shared_seat_new();
+    hull_shared *another = hull_shared_new();
+    hull_shared_gate used;
+    hull_shared_gate_init(&used, 1);
+    check("another", hull_shared_open(another, 3, 0, 3, 1), HULL_OPEN);
+    check("acquire", hull_shared_acquire_seat(another, &used, last, 0), HULL_ACQUIRED);
+    hull_shared_journal *journal = open_journal(0);
+    check("a gate of others", hull_shared_journal_start(journal, shared, &used, 3, 3, 1, 0).code, HULL_OTHER_GATE);
+    for (uint32_t k = 0; k < 4; k++) {
+        const uint32_t limit = k == 0 ? 0 : 3, capacity = k == 1 ? 0 : 3, seats = k == 2 ? HULL_SHARED_SEATS_MAX : k == 3 ? UINT32_MAX : 1;
+        check("limits", hull_shared_journal_start(journal, shared, &gate, limit, capacity, seats, 0).code, HULL_OUT_OF_LIMITS);
+        check("the shared hull is fresh", hull_shared_close(shared), HULL_NOT_OPEN);
+    }
+    check("release", hull_shared_release_seat(another, last), HULL_RELEASED);
+    check("close", hull_shared_close(another), HULL_CLOSED);
+    check("end", hull_shared_end(another), HULL_ENDED);
+    hull_shared_free(another);
+    const uint32_t seats = HULL_SHARED_SEATS_MAX - 1;
+    check("as many seats as there may be", hull_shared_journal_start(journal, shared, &gate, 3, 3, seats, 0).code, HULL_OPEN);
+    check("again", hull_shared_journal_start(journal, shared, &gate, 3, 3, 1, 0).code, HULL_WAS_OPENED);
+    check("the journal's own", hull_shared_acquire_seat(shared, &gate, last, seats), HULL_NO_SEAT);
+    check("there are no more", hull_shared_acquire_seat(shared, &gate, last, seats + 1), HULL_NO_SEAT);
+    check("the last", hull_shared_acquire_seat(shared, &gate, last, seats - 1), HULL_ACQUIRED);
+    check("a point", hull_shared_call(&gate, last, HULL_KIND_ADD, 1, 1).line, 0);
+    check("release", hull_shared_release_seat(shared, last), HULL_RELEASED);
+    hull_shared_seat_free(last);
+    check("close", hull_shared_journal_close(journal).code, HULL_CLOSED);
+    check("end", hull_shared_end(shared), HULL_ENDED);
+    check("its line", has(path, "\n0 62 add 1 1 = added\n"), 1);
+}
+
+/* A file is compacted to additions that end with the same number, also past 2^64 - 1, and at each end of the coordinates. */
+static void compacts_to_the_same_number(void) {
+    uint64_t number;
+    put_text("hullbook journal 3 first 18446744073709551614 limit 1048576 capacity 9\n"
+             "18446744073709551614 0 add 1099511627776 -1099511627776 = added\n"
+             "18446744073709551615 0 add -1099511627776 1099511627776 = added\n0 0 add 1099511627776 -1099511627776 = again 2\n"
+             "1 0 area = area 0\nend 4\n");
+    check("compact", compact(&number), HULL_DURABLE);
+    check("its number", number, 2);
+    check("its text", has_only(path, "hullbook journal 3 first 18446744073709551615 limit 1048576 capacity 3\n"
+                                     "18446744073709551615 0 add -1099511627776 1099511627776 = added\n"
+                                     "0 0 add 1099511627776 -1099511627776 = added\n1 0 add 1099511627776 -1099511627776 = again 2\nend 3\n"), 1);
+    put_text("hullbook journal 3 first 1 limit 9 capacity 9\n1 0 add 7 0 = added\n2 0 add 6 9 = added\n3 0 add 6 8 = added\n"
+             "4 0 remove 7 0 = removed\n5 0 add 6 9 = again 2\n6 0 remove 6 9 = left 1\nend 6\n");
+    check("compact", compact(&number), HULL_DURABLE);
+    check("its number", number, 7);
+    check("its text", has_only(path, "hullbook journal 3 first 5 limit 9 capacity 2\n5 0 add 6 8 = added\n6 0 add 6 9 = added\nend 2\n"), 1);
+    put_text(HEAD "5 0 add 7 0 = added\n6 0 remove 7 0 = removed\nend 2\n");
+    check("compact", compact(&number), HULL_DURABLE);
+    check("its text", has_only(path, "hullbook journal 3 first 7 limit 3 capacity 1\nend 0\n"), 1);
+    put_text("");
+    hull_reply r = hull_shared_journal_compact(path);
+    check("nothing", r.code == HULL_DURABLE && r.number == 0 && r.high == 0, 1);
+}
+
 static const struct {
     const char *name;
     void (*run)(void);
@@ -942,6 +1118,12 @@ static const struct {
     {"waits_for_memory", waits_for_memory},
     {"continues_after_a_refusal", continues_after_a_refusal},
     {"starts_after_a_refusal", starts_after_a_refusal},
+    {"syncs_at_each_interval", syncs_at_each_interval},
+    {"waits_for_a_drain_without_memory", waits_for_a_drain_without_memory},
+    {"reads_long_lines", reads_long_lines},
+    {"opens_long_paths", opens_long_paths},
+    {"starts_only_right", starts_only_right},
+    {"compacts_to_the_same_number", compacts_to_the_same_number},
 };
 
 int main(int count, char **words) {

@@ -240,6 +240,7 @@ model() {
 journals() {
     build "$here/journals.c" -Wl,--wrap=pwrite,--wrap=fsync && "$room/journals" "$room/zone.journal" && in_segments "$room/zone.journal"
     count "every code of a journal file, and each length that its end may be cut to" $?
+    steps_of_journals
     edges
     build "$here/kills.c" -Wl,--wrap=pwrite,--wrap=fsync,--wrap=ftruncate && "$room/kills" "$kills" "$room/zone.journal" 1 >"$room/told" &&
         in_segments "$room/zone.journal"
@@ -253,6 +254,16 @@ journals() {
     killed_wrongly 'an opening does not write the last segment again' 's/uint64_t at = j->last;/uint64_t at = j->end;/'
     killed_wrongly 'what was requested is done before it is drained' \
         's/hull_shared_gate_drain\(j->gate, j->seat\)\) \{/(__atomic_store_n(\&j->done, requested, __ATOMIC_SEQ_CST), notify(j), hull_shared_gate_drain(j->gate, j->seat))) {/'
+}
+
+# each call of the system and each request for memory refused in turn; the calls are compared with what is stored
+steps_of_journals() {
+    wraps=
+    for call in $(sed -n 's/^[a-z].* \**__wrap_\([a-z_]*\)(.*/\1/p' "$here/journal_steps.c"); do wraps="$wraps -Wl,--wrap=$call"; done
+    # shellcheck disable=SC2086 # the flags are separated by spaces
+    mkdir "$room/steps" && build "$here/journal_steps.c" $wraps && "$room/journal_steps" "$room/steps" >"$room/said" &&
+        diff "$here/journal_steps.txt" "$room/said"
+    count "the order of a journal file's calls of the system, and each of them and each request for memory refused" $?
 }
 
 # what a journal file has to bear: each test of edges.c

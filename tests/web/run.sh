@@ -31,7 +31,7 @@ fi
 # before Node 24 a module with a 64-bit memory has to be asked for
 set --
 [ "$(node -p 'parseInt(process.versions.node)')" -ge 24 ] || set -- --experimental-wasm-memory64
-for tests in hull work; do
+for tests in hull work limits; do
     echo "${tests}_tests.mjs on hull.wasm"
     MODULE=hull.wasm counted "${tests}_tests.mjs" node "$@" "$here/${tests}_tests.mjs"
     [ -f "$top/web/out/hull32.wasm" ] || continue

@@ -1,0 +1,522 @@
+// Each answer of include/hull.hpp beside the reply of hull.h that it is made of, over polygons, points and numbers by chance that have no two
+// equal operands; and what shared hulls, seats, readers and journal files do at their limits. hull_answers prints what is wrong, and how
+// many checks passed and failed.
+#include "hull.hpp"
+
+#include <atomic>
+#include <cerrno>
+#include <chrono>
+#include <cstdio>
+#include <fstream>
+#include <iostream>
+#include <random>
+#include <sstream>
+#include <thread>
+#include <unistd.h>
+#include <unordered_set>
+
+using hull::Area;
+using hull::Hull;
+using hull::Point;
+using hull::Polygon;
+using hull::Refusal;
+using hull::Seat;
+using hull::SharedHull;
+using std::chrono::milliseconds;
+using Clock = std::chrono::steady_clock;
+
+static int passed, failed;
+constexpr std::int64_t far = HULL_COORDINATE_MAX;
+
+#define CHECK(...) check((__VA_ARGS__), #__VA_ARGS__, __LINE__)
+static void check(bool truth, const char *text, int line) {
+    truth ? passed++ : failed++;
+    if (!truth && failed < 20) {
+        std::cout << "hull_answers.cpp:" << line << ": " << text << '\n';
+    }
+}
+
+using Failure = std::pair<Refusal, std::uint64_t>;
+// the code and the number of what a call throws
+template <class Call> static Failure failure_of(Call call) {
+    try {
+        call();
+    } catch (const hull::Fault &fault) {
+        return {fault.code(), fault.number()};
+    }
+    return {};
+}
+
+static std::mt19937_64 chance(20240229);
+
+static std::int64_t whole(std::int64_t most) { return static_cast<std::int64_t>(chance() % static_cast<std::uint64_t>(2 * most + 1)) - most; }
+static Point point(std::int64_t most) { return {whole(most), whole(most)}; }
+static Area wide(std::uint64_t high, std::uint64_t low) { return static_cast<Area>(high) << 64 | low; }
+
+static Polygon polygon(std::size_t count, std::int64_t most) {
+    std::vector<Point> points;
+    while (points.size() < count) {
+        points.push_back(point(most));
+    }
+    return Polygon::of(points);
+}
+
+// ---- operators
+
+static void comparisons() {
+    std::unordered_set<std::size_t> hashes;
+    for (std::int64_t a = 0; a < 81; a++) {
+        const Point p(a % 3, a / 3 % 3), q(a / 9 % 3, a / 27);
+        const auto left = std::make_pair(p.x, p.y), right = std::make_pair(q.x, q.y);
+        CHECK((p == q) == (left == right) && (p != q) == (left != right) && (p < q) == (left < right));
+        CHECK((p > q) == (left > right) && (p <= q) == (left <= right) && (p >= q) == (left >= right));
+    }
+    for (std::int64_t x = 0; x < 40; x++) {
+        for (std::int64_t y = 0; y < 40; y++) {
+            hashes.insert(std::hash<Point>()({x, y * far / 64}));
+        }
+    }
+    CHECK(hashes.size() > 1590);
+    const Polygon origin({{0, 0}});
+    for (std::int64_t a = 0; a < 5; a++) {
+        for (std::int64_t b = 0; b < 5; b++) {
+            const auto one = *origin.distance_bounds_to_point({0, a}), other = *origin.distance_bounds_to_point({b, 0});
+            CHECK((one == other) == (a == b) && (one != other) == (a != b) && (one < other) == (a < b));
+            CHECK((one > other) == (a > b) && (one <= other) == (a <= b) && (one >= other) == (a >= b));
+        }
+    }
+    for (std::uint64_t number : {std::uint64_t(1), UINT64_MAX}) {
+        const hull::Fault fault(Refusal::illegal, number);
+        CHECK(fault.number() == number && std::string(fault.what()).find(": " + std::to_string(number)) != std::string::npos);
+    }
+    for (std::uint32_t code = 0; code < 200; code++) { // no two codes have one text
+        const std::string text = hull::Fault(static_cast<Refusal>(code)).what();
+        CHECK(text.size() > 10 && (code == HULL_BUSY || text.find("too long") == std::string::npos));
+        CHECK((code == HULL_NO_FILE) == (text.find("errno") != std::string::npos));
+        CHECK((code == HULL_DAMAGED) == (text.find("damaged") != std::string::npos));
+    }
+    std::vector<Point> points;
+    CHECK(failure_of([&] { hull::detail::resize(points, std::uint64_t(1) << 62); }).first == Refusal::no_memory);
+}
+
+// ---- questions
+
+static bool same(const std::optional<hull::Hit> &hit, const hull_hit &h) {
+    if (!hit) {
+        return h.code == HULL_DISJOINT || h.code == HULL_EMPTY;
+    }
+    const bool has_from = h.code != HULL_COVERED, has_to = h.code == HULL_EDGE;
+    return static_cast<std::uint32_t>(hit->where) == h.code && (!has_from || hit->from == Point(h.a)) && (!has_to || hit->to == Point(h.b)) &&
+           hit->part == wide(h.high, h.low) && hit->whole == wide(h.divisor_high, h.divisor_low);
+}
+
+static bool same(const std::optional<hull::DistanceBounds> &bounds, const hull_distance_bounds &b) {
+    return bounds ? b.code == HULL_NUMBER && hull_distance_bounds_compare(&bounds->words(), &b) == 0 &&
+                        bounds->down() == hull_distance_bounds_down(&b) && bounds->up() == hull_distance_bounds_up(&b)
+                  : b.code == HULL_EMPTY;
+}
+
+static void about_points(const Polygon &p, Point a, Point b) {
+    const hull_point *at = p.data();
+    const std::size_t n = p.size();
+    CHECK(static_cast<std::uint32_t>(p.place(a)) == hull_polygon_place(at, n, a.x, a.y).code);
+    const hull_reply tangents = hull_polygon_tangents(at, n, a.x, a.y), extreme = hull_polygon_extreme(at, n, a.x, a.y);
+    const auto seen = p.tangents(a);
+    CHECK(seen ? seen->left == Point(tangents.x, tangents.y) && seen->right == Point(tangents.other_x, tangents.other_y)
+               : tangents.code == HULL_NO_TANGENT);
+    CHECK(n == 0 ? !p.extreme(a) : p.extreme(a) == Point(extreme.x, extreme.y));
+    const hull_reply area = hull_polygon_area(at, n), width = hull_polygon_width(at, n, a.x, a.y), nearest = hull_polygon_nearest(at, n, a.x, a.y);
+    CHECK(p.doubled_area() == wide(area.high, area.number) && (n == 0 ? !p.width_along(a) : p.width_along(a) == wide(width.high, width.number)));
+    const auto found = p.nearest(a);
+    CHECK(found.has_value() == (nearest.code != HULL_EMPTY) && (!found || static_cast<std::uint32_t>(found->where) == nearest.code));
+    CHECK(nearest.code != HULL_COVERED || (found->from == a && found->to == a));
+    CHECK(nearest.code != HULL_VERTEX || (found->from == Point(nearest.x, nearest.y) && found->to == found->from));
+    CHECK(nearest.code != HULL_EDGE || (found->from == Point(nearest.x, nearest.y) && found->to == Point(nearest.other_x, nearest.other_y)));
+    const hull_reply box = hull_polygon_box(at, n), ends = hull_polygon_diameter(at, n);
+    CHECK(n == 0 || (p.bounding_box()->least == Point(box.x, box.y) && p.bounding_box()->greatest == Point(box.other_x, box.other_y)));
+    CHECK(n == 0 || *p.diameter() == std::make_pair(Point(ends.x, ends.y), Point(ends.other_x, ends.other_y)));
+    const hull_witness strip = hull_polygon_least_width(at, n);
+    const auto least = p.least_width();
+    CHECK(least ? least->from == Point(strip.a) && least->to == Point(strip.b) && least->farthest == Point(strip.c) : strip.code != HULL_EDGE);
+    CHECK(p.extreme_d(double(a.x) / 3, double(b.y) / 7).has_value() == (n > 0));
+    const hull_reply farthest = hull_polygon_extreme_d(at, n, double(a.x) / 3, double(b.y) / 7);
+    CHECK(n == 0 || p.extreme_d(double(a.x) / 3, double(b.y) / 7) == Point(farthest.x, farthest.y));
+}
+
+static void about_segments(const Polygon &p, Point a, Point b) {
+    const hull_point *at = p.data();
+    const std::size_t n = p.size();
+    const std::uint64_t numerator = chance() % 5000;
+    const std::uint32_t denominator = 1 + static_cast<std::uint32_t>(chance() % 50);
+    const hull_reply apart = hull_polygon_separation(at, n, a.x, a.y, b.x, b.y);
+    const auto separation = p.separation_from_segment(a, b);
+    CHECK(separation.has_value() == (apart.code == HULL_DISJOINT));
+    CHECK(!separation || (separation->farthest == Point(apart.x, apart.y) && separation->direction == Point(apart.other_x, apart.other_y)));
+    CHECK(p.intersects_segment(a, b) == (hull_polygon_intersects_segment(at, n, a.x, a.y, b.x, b.y).number == 1));
+    CHECK(p.within_distance_of_segment(a, b, numerator, denominator) ==
+          (hull_polygon_within_distance_of_segment(at, n, a.x, a.y, b.x, b.y, numerator, denominator).number == 1));
+    CHECK(p.within_distance_of_point(a, numerator, denominator) ==
+          (hull_polygon_within_distance_of_segment(at, n, a.x, a.y, a.x, a.y, numerator, denominator).number == 1));
+    CHECK(static_cast<std::uint64_t>(p.relation_to_segment(a, b)) == hull_polygon_relation_to_segment(at, n, a.x, a.y, b.x, b.y).number);
+    CHECK(same(p.distance_bounds_to_segment(a, b), hull_polygon_distance_bounds_to_segment(at, n, a.x, a.y, b.x, b.y)));
+    CHECK(same(p.distance_bounds_to_point(a), hull_polygon_distance_bounds_to_segment(at, n, a.x, a.y, a.x, a.y)));
+    CHECK(same(p.raycast(a, b), hull_polygon_raycast(at, n, a.x, a.y, b.x, b.y)));
+    CHECK(same(p.raycast_exit(a, b), hull_polygon_raycast_exit(at, n, a.x, a.y, b.x, b.y)));
+    CHECK(same(p.raycast_segment(a, b), hull_polygon_raycast_segment(at, n, a.x, a.y, b.x, b.y)));
+    const std::vector<hull::Segment> many = {{a, b}, {b, a}, {a, a}, {{b.x, a.y}, {a.x, b.y}}};
+    const std::vector<bool> met = p.intersects_segments(many);
+    for (std::size_t k = 0; k < many.size(); k++) {
+        CHECK(met.size() == many.size() && met[k] == p.intersects_segment(many[k].from, many[k].to));
+    }
+}
+
+static void about_two(const Polygon &p, const Polygon &q, Point way) {
+    const hull_point *at = p.data(), *other = q.data();
+    const std::size_t n = p.size(), m = q.size();
+    const std::uint64_t numerator = chance() % 5000;
+    const std::uint32_t denominator = 1 + static_cast<std::uint32_t>(chance() % 50);
+    CHECK(p.intersects(q) == (hull_polygon_intersects(at, n, other, m).number == 1));
+    CHECK(p.contains(q) == (hull_polygon_contains(at, n, other, m).number == 1));
+    CHECK(p.contains_inside(q) == (hull_polygon_contains_inside(at, n, other, m).number == 1));
+    CHECK(static_cast<std::uint64_t>(p.relation(q)) == hull_polygon_relation(at, n, other, m).number && p.relations({q, p})[0] == p.relation(q));
+    CHECK(p.within_distance(q, numerator, denominator) == (hull_polygon_within_distance(at, n, other, m, numerator, denominator).number == 1));
+    CHECK(same(p.distance_bounds(q), hull_polygon_distance_bounds(at, n, other, m)));
+    const hull_witness shown = hull_polygon_witness(at, n, other, m), gap = hull_polygon_distance(at, n, other, m);
+    const auto witness = p.witness(q);
+    CHECK(witness ? static_cast<std::uint32_t>(witness->shows) == shown.code && witness->a == Point(shown.a) && witness->b == Point(shown.b) &&
+                        witness->c == Point(shown.c) && witness->d == Point(shown.d)
+                  : shown.code == HULL_EMPTY);
+    const auto distance = p.distance(q);
+    CHECK(distance ? static_cast<std::uint32_t>(distance->where) == gap.code && distance->a == Point(gap.a) && distance->b == Point(gap.b) &&
+                         distance->c == Point(gap.c)
+                   : gap.code == HULL_EMPTY);
+    const auto [hit, vertex, moves] = hull_polygon_first_meeting(at, n, other, m, way.x, way.y);
+    const hull::Motion motion = p.first_meeting(q, way);
+    CHECK(same(motion.hit, hit) && (!motion.hit || hit.code == HULL_COVERED || (motion.vertex == Point(vertex) && motion.moves == (moves == 1))));
+    std::vector<Point> moved(n);
+    const hull_reply r = hull_polygon_translate(at, n, way.x, way.y, moved.data());
+    CHECK(r.code == HULL_VERTICES ? p.translate(way).vertices() == moved : failure_of([&] { p.translate(way); }).first == Refusal::out_of_range);
+    Polygon here = p;
+    if (r.code == HULL_VERTICES) {
+        here.translate_in_place(way);
+        CHECK(here.vertices() == moved && here.translate({-way.x, -way.y}) == p);
+    }
+    const Point by(way.x % 1000 + 1, way.y % 1000);
+    const hull_reply turned = hull_polygon_rotate(at, n, by.x, by.y, moved.data());
+    CHECK(turned.code == HULL_VERTICES ? p.rotate(by).vertices() == moved : failure_of([&] { p.rotate(by); }).first == Refusal::out_of_range);
+}
+
+static void answers() {
+    for (std::int64_t most : {std::int64_t(6), std::int64_t(1000), far}) {
+        for (std::size_t round = 0; round < 150; round++) {
+            const Polygon p = polygon(round % 7, most), q = polygon(round % 5 + 1, most);
+            Point a = point(most), b = point(most);
+            a.x += a.x == 0, b.x += b.x == 0; // (a direction is not (0, 0))
+            about_points(p, a, b);
+            about_segments(p, a, b);
+            about_two(p, q, b);
+        }
+    }
+}
+
+static void beyond(const Polygon &p, Point wrong) {
+    const Point right(1, 2);
+    const auto refuses = [](auto call) { CHECK(failure_of(call).first == Refusal::out_of_range); };
+    refuses([&] { p.place(wrong); });
+    refuses([&] { p.tangents(wrong); });
+    refuses([&] { p.extreme(wrong); });
+    refuses([&] { p.nearest(wrong); });
+    refuses([&] { p.width_along(wrong); });
+    for (int swapped = 0; swapped < 2; swapped++) {
+        const Point a = swapped ? wrong : right, b = swapped ? right : wrong;
+        refuses([&] { p.intersects_segment(a, b); });
+        refuses([&] { p.separation_from_segment(a, b); });
+        refuses([&] { p.within_distance_of_segment(a, b, 1); });
+        refuses([&] { p.relation_to_segment(a, b); });
+        refuses([&] { p.distance_bounds_to_segment(a, b); });
+        refuses([&] { p.raycast(a, b); });
+        refuses([&] { p.raycast_exit(a, b); });
+        refuses([&] { p.raycast_segment(a, b); });
+        refuses([&] { p.place_all({a, b}); });
+        refuses([&] { p.tangents_all({a, b}); });
+        refuses([&] { p.extreme_all({a, b}); });
+        refuses([&] { p.intersects_segments({{right, right}, {a, b}}); });
+    }
+    Hull h;
+    h.add({1, 2});
+    refuses([&] { h.add_all({right, wrong}); });
+    refuses([&] { h.remove_all({right, wrong}); });
+    refuses([&] { h.place_all({right, wrong}); });
+    refuses([&] { h.load({right, wrong}); });
+    refuses([&] { h.load_held({hull::Held{wrong.x, wrong.y, 1}}); });
+    refuses([&] { h.add(wrong); });
+    refuses([&] { h.remove(wrong); });
+    refuses([&] { h.nearest_held(wrong); });
+    refuses([&] { h.multiplicity(wrong); });
+    CHECK(h.multiplicity({1, 2}) == 1 && h.size() == 1);
+}
+
+// ---- sets
+
+// what a set answers, beside a polygon of the same points, wide numbers too; many at once beside one by one
+static void sets() {
+    for (Point wrong : {Point(far + 1, 0), Point(-far - 1, 0), Point(0, far + 1), Point(0, -far - 1)}) {
+        beyond(Polygon({{0, 0}, {5, 0}, {0, 5}}), wrong);
+    }
+    Hull h;
+    std::vector<Point> all, asked;
+    for (int k = 0; k < 700; k++) {
+        all.push_back(point(k % 2 == 0 ? far : 1000));
+        asked.push_back(point(far));
+    }
+    const std::vector<std::uint32_t> times = h.add_all(all);
+    CHECK(times == std::vector<std::uint32_t>(700, 1) && h.add_all(all) == std::vector<std::uint32_t>(700, 2));
+    CHECK(h.vertices() == Polygon::of(all).vertices() && h.doubled_area() == Polygon::of(all).doubled_area() && h.doubled_area() >> 64 > 0);
+    const auto places = h.place_all(asked);
+    const auto tangents = h.tangents_all(asked);
+    const auto farthest = h.extreme_all(asked);
+    CHECK(places.size() == 700 && tangents.size() == 700 && farthest.size() == 700);
+    for (std::size_t k = 0; k < 700; k++) {
+        const auto seen = h.tangents(asked[k]);
+        CHECK(places[k] == h.place(asked[k]) && farthest[k] == h.extreme(asked[k]) && seen.has_value() == tangents[k].has_value());
+        CHECK(!seen || (seen->left == tangents[k]->left && seen->right == tangents[k]->right));
+        Area least = ~static_cast<Area>(0);
+        for (const Point &p : all) {
+            const Area dx = static_cast<Area>(std::abs(p.x - asked[k].x)), dy = static_cast<Area>(std::abs(p.y - asked[k].y));
+            least = std::min(least, dx * dx + dy * dy);
+        }
+        CHECK(k > 50 || h.nearest_held(asked[k])->second == least);
+    }
+    const std::vector<hull::Held> held = h.held();
+    Hull twin(701), copy = h.copy();
+    twin.load_held(held);
+    CHECK(held.size() == 700 && twin.held().size() == 700 && twin.limit() == 701 && copy.limit() == h.limit() && copy.vertices() == h.vertices());
+    for (std::size_t k = 0; k < 700; k++) {
+        CHECK(held[k].multiplicity == 2 && copy.multiplicity({held[k].x, held[k].y}) == 2 && twin.multiplicity({held[k].x, held[k].y}) == 2);
+    }
+    CHECK(twin.extreme_d(0.25, -0.5) == h.extreme({1, -2}) && h.remove_all(all) == 700 && h.remove_all(all) == 700 && h.empty());
+    CHECK(h.nearest_held({0, 0}) == std::nullopt && copy.size() == 700);
+}
+
+// ---- texts and numbers
+
+static void texts() {
+    SharedHull h({HULL_LIMIT_MAX, 0, 20000, 1});
+    Seat seat = h.acquire_seat(0);
+    for (std::int64_t k = 0; k < 6000; k++) {
+        seat.add({k, k * k});
+    }
+    CHECK(seat.vertices().size() == 6000 && seat.turn() > 6000u); // a line longer than a piece
+    const std::uint64_t before = *seat.turn();
+    CHECK(seat.vertices().size() == 6000 && seat.turn() == before + 1); // with space for as many as before
+    const hull::JournalSegment segment = seat.drain();
+    std::ostringstream pieces, rest;
+    segment.write_to(pieces);
+    CHECK(pieces.str() == segment.text() && pieces.str().size() > 300000 && pieces.str().substr(pieces.str().size() - 9) == "end 6004\n");
+    for (std::int64_t k = 0; k < 6000; k++) {
+        seat.place({k, k});
+    }
+    seat.release();
+    h.close_to(rest);
+    CHECK(rest.str() == h.close() && rest.str().size() > 100000);
+    SharedHull wide_one({10, 0, 20, 1});
+    Seat one = wide_one.acquire_seat(0);
+    for (Point p : {Point(-far, -far), Point(far, -far), Point(far, far), Point(-far, far)}) {
+        one.add(p);
+    }
+    CHECK(one.doubled_area() == static_cast<Area>(1) << 83 && one.extreme({1, 2}) == Point(far, far) && one.tangents({0, 0}) == std::nullopt);
+    for (int axis = 0; axis < 2; axis++) {
+        bool rounded = false;
+        hull::Lattice{1}.point(axis == 0 ? 0.3 : 1, axis == 0 ? 1 : 0.3, &rounded);
+        const auto doubles = hull::Lattice{3}.doubles({axis == 0 ? 12 : 8, axis == 0 ? 8 : 12});
+        CHECK(rounded && doubles.first == (axis == 0 ? 1.5 : 1) && doubles.second == (axis == 0 ? 1 : 1.5));
+    }
+    CHECK(hull::Lattice{1}.point(0.3, 1) == Point(1, 2) && hull::Lattice{1}.point(0.3, 0.3, nullptr) == Point(1, 1));
+}
+
+// ---- threads
+
+static milliseconds time_of(void (*call)(Seat &), Seat &seat, Refusal code) {
+    const auto begun = Clock::now();
+    CHECK(failure_of([&] { call(seat); }).first == code);
+    return std::chrono::duration_cast<milliseconds>(Clock::now() - begun);
+}
+
+// how long calls wait for space: not at all, for a time, which goes with the seat, and for ever
+static void patience() {
+    SharedHull h({4, 0, 3, 2});
+    h.wait_for_space(true);
+    Seat seat = h.acquire_seat(0), other = h.acquire_seat(1);
+    seat.wait_at_most(std::chrono::nanoseconds::max()); // longer than the clock runs
+    for (int k = 0; k < 3; k++) {
+        CHECK(seat.count() == 0);
+    }
+    const auto count = [](Seat &s) { s.count(); };
+    for (const std::chrono::nanoseconds none : {std::chrono::nanoseconds(0), std::chrono::nanoseconds(-5)}) {
+        seat.wait_at_most(none);
+        CHECK(time_of(count, seat, Refusal::full) < milliseconds(40));
+    }
+    seat.wait_at_most(milliseconds(80));
+    const milliseconds waited = time_of(count, seat, Refusal::full);
+    CHECK(waited >= milliseconds(79) && waited < milliseconds(2000));
+    other = std::move(seat);
+    CHECK(other.turn() == 2u && other.number() == 0 && time_of(count, other, Refusal::full) >= milliseconds(79));
+    other.wait_at_most(std::nullopt);
+    Seat drainer = h.acquire_seat(1);
+    std::thread drains([&] {
+        std::this_thread::sleep_for(milliseconds(50));
+        CHECK(drainer.drain().text().size() > 60);
+    });
+    CHECK(other.count() == 0 && other.turn() >= 3u);
+    drains.join();
+    SharedHull quick({4, 0, 1, 1});
+    quick.wait_for_space(true), quick.wait_for_space(false);
+    Seat only = quick.acquire_seat(0);
+    only.count();
+    CHECK(time_of(count, only, Refusal::full) < milliseconds(1000) && only.turn() == 0u);
+}
+
+static void hook_of(void *context, const hull_shared_segment *segment) {
+    std::uint8_t text[512];
+    *static_cast<std::uint64_t *>(context) += hull_shared_segment_text(segment, text, sizeof text).number;
+}
+
+// hulls that answer when they are full, that drain themselves, and their state
+static void kinds() {
+    CHECK(failure_of([] { SharedHull::open_answering({0, 0, 1, 1}); }).first == Refusal::out_of_limits);
+    SharedHull answering = SharedHull::open_answering({4, 7, 1, 2, 1});
+    Seat seat = answering.acquire_seat(1);
+    CHECK(answering.acquire_reader().snapshot().size() == 0 && seat.add({1, 1}) == 1 && seat.turn() == 7u);
+    CHECK(seat.count() == 1 && seat.place({1, 1}) == hull::Place::on && seat.turn() == 7u && seat.vertices() == std::vector<Point>{{1, 1}});
+    CHECK(failure_of([&] { seat.add({2, 2}); }).first == Refusal::full && seat.turn() == 7u);
+    CHECK(answering.stats().out == 1 && answering.stats().held == 1 && answering.stats().turn > 8);
+    std::uint64_t bytes = 0;
+    SharedHull draining({4, 0, 8, 1});
+    draining.on_half_full(hook_of, &bytes);
+    Seat many = draining.acquire_seat(0);
+    for (int k = 0; k < 100; k++) {
+        CHECK(many.count() == 0);
+    }
+    CHECK(bytes > 1000 && many.turn() >= 99u);
+    SharedHull strict({4, 9, 50, 2, 1});
+    CHECK(strict.stats().out == 0 && strict.acquire_seat(1).add({3, 4}) == 1 && strict.acquire_seat(0).turn() == std::nullopt);
+    CHECK(strict.close().find("\n9 1 add 3 4 = added\n") != std::string::npos);
+}
+
+// a reader that is moved continues with its snapshot
+static void readers() {
+    SharedHull h({10, 7, 50, 1, 2});
+    Seat seat = h.acquire_seat(0);
+    hull::Reader one = h.acquire_reader(), two = h.acquire_reader();
+    seat.add({1, 1}), seat.add({5, 1});
+    CHECK(two.read() && two.line() == 8 && !one.is_newest());
+    one = std::move(two);
+    CHECK(one.is_newest() && one.line() == 8 && one.snapshot().size() == 2 && one.snapshot().end() - one.snapshot().begin() == 2);
+    two = h.acquire_reader();
+    seat.count();
+    CHECK(two.snapshot().size() == 2 && two.newest().size() == 2 && two.read());
+    seat.remove({5, 1}), seat.add({1, 9});
+    CHECK(!two.is_newest() && two.snapshot().data()[1] == Point(5, 1) && two.newest().data()[1] == Point(1, 9));
+    CHECK(one.snapshot().data()[1] == Point(5, 1));
+    CHECK(one.read() && one.line() == two.line() && one.line() > 9u);
+    seat.remove({1, 9}), seat.remove({1, 1});
+    CHECK(one.newest().size() == 0 && failure_of([&] { h.close(); }).first == Refusal::seats_out);
+    hull::Reader late = SharedHull({4, 0, 4, 1, 1}).acquire_reader();
+    CHECK(late.read() && late.snapshot().size() == 0);
+}
+
+// ---- journal files
+
+// syncs take so long; the linker sends them here (--wrap)
+static std::atomic<int> sync_time{0};
+extern "C" int __real_fsync(int file);
+extern "C" int __wrap_fsync(int file) {
+    std::this_thread::sleep_for(milliseconds(sync_time));
+    return sync_time > 0 ? 0 : __real_fsync(file);
+}
+
+static unsigned open_files() {
+    unsigned count = 0;
+    for (int file = 0; file < 256; file++) {
+        count += lseek(file, 0, SEEK_CUR) >= 0 || errno != EBADF;
+    }
+    return count;
+}
+
+static void put(const std::string &path, const std::string &text) { std::ofstream(path, std::ios::binary) << text; }
+
+// what opening and compacting refuse, with the number that says where or why; the file is closed then
+static void refused_files(const std::string &path) {
+    const std::string head = "hullbook journal 3 first 5 limit 3 capacity 9\n", right = head + "5 0 add 1 1 = added\nend 1\n";
+    const auto opened = [&](hull::Limits limits) { return failure_of([&] { SharedHull::open_journal(path, limits); }); };
+    const auto compacted = [&] { return failure_of([&] { SharedHull::compact(path); }); };
+    const unsigned before = open_files();
+    put(path, "another's\n");
+    CHECK(opened({9, 0, 9, 1}) == Failure(Refusal::damaged, 1) && compacted() == Failure(Refusal::damaged, 1));
+    put(path, head + "5 0 add 1 1 = again 2\nend 1\n");
+    CHECK(opened({9, 0, 9, 1}) == Failure(Refusal::illegal, 2) && compacted() == Failure(Refusal::illegal, 2));
+    put(path, right);
+    CHECK(opened({9, 0, 0, 1}).first == Refusal::out_of_limits && opened({9, 0, 9, HULL_SHARED_SEATS_MAX}).first == Refusal::out_of_limits);
+    CHECK(opened({9, 0, 9, 1, HULL_SHARED_READERS_MAX + 1}).first == Refusal::out_of_limits && open_files() == before);
+    {
+        SharedHull h = SharedHull::open_journal(path, {9, 0, 9, 2, 1});
+        CHECK(h.durable() == 6 && h.sync() >= 6 && opened({9, 0, 9, 1}) == Failure(Refusal::no_file, EWOULDBLOCK));
+        CHECK(compacted() == Failure(Refusal::no_file, EWOULDBLOCK) && h.acquire_seat(1).add({1, 1}) == 2);
+        CHECK(failure_of([&] { h.on_half_full(hook_of, nullptr); }).first == Refusal::seats_out && h.sync() >= 7);
+    }
+    CHECK(open_files() == before && SharedHull::compact(path) >= 7 && SharedHull::open_journal(path, {9, 0, 9, 1}).acquire_seat(0).count() == 1);
+    CHECK(failure_of([] { SharedHull({4, 0, 4, 1}).durable(); }).first == Refusal::not_open);
+    CHECK(failure_of([] { SharedHull({4, 0, 4, 1}).acquire_seat(0).wait_durable(); }).first == Refusal::not_open && open_files() == before);
+}
+
+// lines are durable by themselves if an interval is set, and else when a thread waits; a failed write is reported once, with errno
+static void journals() {
+    char folder[] = "/tmp/hull_answersXXXXXX";
+    CHECK(mkdtemp(folder) != nullptr);
+    const std::string path = std::string(folder) + "/zone";
+    refused_files(path);
+    std::remove(path.c_str());
+    for (const milliseconds every : {milliseconds(0), milliseconds(20)}) {
+        SharedHull h = SharedHull::open_journal(path, {9, 0, 1000, 1}, every);
+        Seat seat = h.acquire_seat(0);
+        CHECK(failure_of([&] { seat.wait_durable(); }) == Failure() && !seat.turn()); // there is nothing to wait for
+        seat.add({1, 1});
+        const std::uint64_t line = *seat.turn();
+        std::this_thread::sleep_for(milliseconds(100));
+        for (int k = 0; k < 100 && every.count() > 0 && h.durable() <= line; k++) {
+            std::this_thread::sleep_for(milliseconds(20));
+        }
+        CHECK((h.durable() > line) == (every.count() > 0));
+        seat.wait_durable();
+        CHECK(h.durable() > line);
+    }
+    SharedHull h = SharedHull::open_journal(path, {9, 0, 1000, 1});
+    Seat seat = h.acquire_seat(0);
+    seat.add({3, 3});
+    sync_time = 300;
+    seat.wait_at_most(milliseconds(30));
+    CHECK(time_of([](Seat &s) { s.wait_durable(); }, seat, Refusal::busy) < milliseconds(270));
+    seat.wait_at_most(std::nullopt);
+    seat.wait_durable();
+    CHECK(h.durable() > *seat.turn());
+    sync_time = 0;
+    CHECK(std::remove(path.c_str()) == 0 && seat.add({2, 2}) == 1);
+    CHECK(failure_of([&] { h.sync(); }) == Failure(Refusal::no_file, ESTALE));
+    CHECK(failure_of([&] { h.durable(); }) == Failure(Refusal::no_file, ESTALE));
+    seat.release();
+    CHECK(failure_of([&] { h.close(); }) == Failure(Refusal::no_file, ESTALE) && h.close().size() > 30);
+    rmdir(folder);
+}
+
+int main() {
+    comparisons();
+    answers();
+    sets();
+    texts();
+    patience();
+    kinds();
+    readers();
+    journals();
+    std::cout << "hull_answers.cpp: " << passed << " passed, " << failed << " failed\n";
+    return failed != 0;
+}
