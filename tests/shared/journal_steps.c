@@ -4,6 +4,7 @@
  * again. */
 #define _GNU_SOURCE
 #include "hull_shared.h"
+#include "journal_text.h"
 
 #include <dirent.h>
 #include <errno.h>
@@ -234,7 +235,7 @@ void __wrap_free(void *block) {
 #define COMPACTED "hullbook journal 3 first 7 limit 30 capacity 2\n7 0 add 1 1 = added\n8 0 add 1 1 = again 2\nend 2\n"
 
 static char folder[4000], path[4096];
-static int is_durable; /* whether the line of a scenario was reported as durable */
+static int is_durable; /* whether the line of an added point was reported as durable */
 
 static hull_reply do_open(void) {
     hull_shared_journal *journal;
@@ -254,16 +255,18 @@ static hull_reply do_compact(void) {
 static hull_reply add_and_close(hull_shared_journal *journal, hull_shared *shared, hull_shared_gate *gate) {
     hull_shared_seat *seat = hull_shared_seat_new();
     hull_reply reply = {.code = HULL_NO_MEMORY};
+    int is_added = 0;
     errno = 77; /* (making a seat may change it) */
     if (seat != NULL) {
         check("acquire", hull_shared_acquire_seat(shared, gate, seat, 0), HULL_ACQUIRED);
         const hull_shared_reply added = hull_shared_call(gate, seat, HULL_KIND_ADD, 4, 5);
         check("the call is answered", added.answer.code == HULL_ADDED || added.answer.code == HULL_NO_MEMORY, 1);
+        is_added = added.answer.code == HULL_ADDED;
         reply = hull_shared_journal_wait(journal, added.line, HULL_SHARED_NEVER);
         check("release", hull_shared_release_seat(shared, seat), HULL_RELEASED);
         hull_shared_seat_free(seat);
     }
-    is_durable = reply.code == HULL_DURABLE;
+    is_durable = is_added && reply.code == HULL_DURABLE;
     const hull_reply closed = hull_shared_journal_close(journal);
     if (reply.code == HULL_NO_FILE) {
         check("close, too", closed.code == HULL_NO_FILE && closed.high == reply.high && closed.number == reply.number, 1);
@@ -310,6 +313,7 @@ static const struct {
     {"compact", FIRST SECOND, do_compact, 9, COMPACTED},
     {"compact an empty file", "", do_compact, 0, ""},
     {"append", FIRST SECOND, do_append, 9, NULL},
+    {"append to no file", NULL, do_append, 0, NULL},
 };
 
 /* ---- before and after */
@@ -324,9 +328,11 @@ static size_t read_file(const char *name, char *bytes, size_t capacity) {
     return count;
 }
 
+/* Whether a file has this text, and nothing else but checksums. */
 static int has_only(const char *name, const char *text) {
     char bytes[4096];
-    return read_file(name, bytes, sizeof bytes) == strlen(text) && strcmp(bytes, text) == 0;
+    const size_t count = read_file(name, bytes, sizeof bytes);
+    return strlen(bytes) == count && strcmp(without_sums(bytes), text) == 0;
 }
 
 static unsigned entries_of(const char *name) {
@@ -375,7 +381,7 @@ static void check_files(size_t at, int is_done) {
     } else {
         char bytes[4096];
         read_file(path, bytes, sizeof bytes);
-        check("what was there", strncmp(bytes, scenarios[at].before, strlen(scenarios[at].before)), 0);
+        check("what was there", scenarios[at].before == NULL || strncmp(bytes, scenarios[at].before, strlen(scenarios[at].before)) == 0, 1);
         check("the line that is durable", !is_durable || strstr(bytes, " add 4 5 = added\n") != NULL, 1);
     }
 }

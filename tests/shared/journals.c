@@ -1,6 +1,7 @@
 /* journals FILE: each code of the calls on a journal file, and each length that its last segment may be cut to; the file is left with
  * some segments. The status is 0 only if each is as it should be. */
 #include "hull_shared.h"
+#include "journal_text.h"
 
 #include <errno.h>
 #include <fcntl.h>
@@ -177,6 +178,8 @@ static void check_compacting(void) {
         check("the line to come", r.number, next);
     }
     length = contents(now, sizeof now);
+    now[length] = 0;
+    without_sums((char *)now);
     check("its one segment", memcmp(now, "hullbook", 8) == 0 && strstr((char *)now + 8, "hullbook") == NULL && length < 4096, 1);
     journal = open_journal(next, 0);
     start_journal(journal, 100, 0);
@@ -202,7 +205,7 @@ static void check_torn(void) {
     size_t length = contents(bytes, sizeof bytes), last = length, cuts = 0;
     uint64_t before = 0;
     for (size_t at = 0; at < length; at++) { /* where the last segment begins, and its number */
-        if (memcmp(bytes + at, "hullbook", 8) == 0) {
+        if (memcmp(bytes + at, "hullbook journal", 16) == 0) {
             last = at;
             before = strtoull((char *)bytes + at + 25, NULL, 10);
         }

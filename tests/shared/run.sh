@@ -7,7 +7,7 @@
 # wait (waits.c); calls that the threads of others serve (combining.c); every order of the steps of the admission gate (gate_model.c), of
 # calls that others serve (combining_model.c) and of snapshots (snapshot_model.c); every order of the steps of two seats and a reader over the
 # library itself (orders.c); snapshots of 60 readers beside calls (readers.c); journal files whose process is killed (kills.c) or that are
-# damaged (edges.c); a service of 64 threads that is killed and continued (service.c); and wake-ups out of order (lost_wakeups.sh). What is
+# damaged (edges.c, sums.c); a service of 64 threads that is killed and continued (service.c); and wake-ups out of order (lost_wakeups.sh). What is
 # missing here (a compiler, python3, valgrind) is named and counts nothing.
 #
 #     tests/shared/run.sh [CALLS [KILLS]]    20000 and 40 if not given; `.ci/run --all-mutants` takes 100000 and 150
@@ -241,6 +241,7 @@ journals() {
     build "$here/journals.c" -Wl,--wrap=pwrite,--wrap=fsync && "$room/journals" "$room/zone.journal" && in_segments "$room/zone.journal"
     count "every code of a journal file, and each length that its end may be cut to" $?
     steps_of_journals
+    changed_files
     edges
     build "$here/kills.c" -Wl,--wrap=pwrite,--wrap=fsync,--wrap=ftruncate && "$room/kills" "$kills" "$room/zone.journal" 1 >"$room/told" &&
         in_segments "$room/zone.journal"
@@ -266,6 +267,12 @@ steps_of_journals() {
     count "the order of a journal file's calls of the system, and each of them and each request for memory refused" $?
 }
 
+# each byte of a journal file with checksums changed to each other value, and segments of other files
+changed_files() {
+    mkdir "$room/changed" && build "$here/sums.c" -Wl,--wrap=fsync && "$room/sums" "$room/changed"
+    count "each changed byte of a journal file with checksums is noticed" $?
+}
+
 # what a journal file has to bear: each test of edges.c
 edges() {
     build "$here/edges.c" "-Wl,--wrap=pwrite,--wrap=pread,--wrap=fsync,--wrap=ftruncate,--wrap=renameat,--wrap=flock" \
@@ -287,7 +294,8 @@ edges() {
 
 # whether the segments of a file are one legal journal
 in_segments() {
-    rm -rf "$room/split" && mkdir "$room/split" && csplit -s -z -n 6 -f "$room/split/" "$1" '/^hullbook/' '{*}' &&
+    rm -rf "$room/split" && mkdir "$room/split" && grep -v '^hullbook file\|^sum' "$1" |
+        csplit -s -z -n 6 -f "$room/split/" - '/^hullbook/' '{*}' &&
         "$hullbook" check "$room/split"/* >"$room/verdict" 2>&1
 }
 

@@ -10,6 +10,7 @@
  * segments are judged by `HULLBOOK check` after each life, and whenever it is compacted. The status is 0 only if it is so. */
 #define _GNU_SOURCE
 #include "hull_shared.h"
+#include "journal_text.h"
 
 #include <errno.h>
 #include <fcntl.h>
@@ -327,12 +328,14 @@ struct left {
 static char *whole_segments(const char *name) {
     size_t size = (size_t)size_of(name);
     char *text = malloc(size + 1), *end = text, *at;
+    const char *mark;
     int file = open(name, O_RDONLY | O_CLOEXEC);
     if (text == NULL || (file < 0 && errno != ENOENT) || (file >= 0 && read(file, text, size) != (ssize_t)size)) {
         fail("the file can't be read", size);
     }
     text[size] = 0;
-    for (at = text; (at = strstr(at, "\nend ")) != NULL; at++) {
+    mark = strncmp(text, "hullbook file ", 14) == 0 ? "\nsum " : "\nend ";
+    for (at = text; (at = strstr(at, mark)) != NULL; at++) {
         char *newline = strchr(at + 1, '\n');
         end = newline != NULL ? newline + 1 : end;
     }
@@ -342,7 +345,7 @@ static char *whole_segments(const char *name) {
     if (file >= 0) {
         close(file);
     }
-    return text;
+    return without_sums(text);
 }
 
 /* Writes a segment to a file of its own. */

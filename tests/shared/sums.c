@@ -50,11 +50,11 @@ static uint64_t add_to_sum(uint64_t sum, const char *text, size_t count) {
 
 /* Writes a file of these segments, each with its checksum; returns its length. Where each begins is put into `begins`. */
 static size_t with_sums(char *out, uint64_t sum, const char *const *texts, int count, size_t *begins) {
-    char *at = out + sprintf(out, "hullbook file 1 sum %llu\n", (unsigned long long)sum);
+    char *at = out + sprintf(out, "hullbook file 1 sum %016llx\n", (unsigned long long)sum);
     for (int k = 0; k < count; k++) {
         begins[k] = (size_t)(at - out);
         sum = add_to_sum(sum, texts[k], strlen(texts[k]));
-        at += sprintf(at, "%ssum %llu\n", texts[k], (unsigned long long)sum);
+        at += sprintf(at, "%ssum %016llx\n", texts[k], (unsigned long long)sum);
     }
     return (size_t)(at - out);
 }
@@ -169,8 +169,8 @@ static void notices_other_segments(void) {
     check("half a checksum is cut off with its segment", open_and_close().high, begins[1] - 5 - begins[0]);
     remove_torn();
     memcpy(both, bytes, count);
-    memcpy(both + count, "sum 1\n", 6);
-    put(both, count + 6);
+    memcpy(both + count, bytes + count - 21, 21);
+    put(both, count + 21);
     check("a checksum with no segment", open_and_close().code, HULL_DAMAGED);
 }
 
@@ -227,17 +227,17 @@ static int has_right_sums(const char *text, int *count) {
     char line[64];
     uint64_t sum;
     *count = 0;
-    if (sscanf(at, "hullbook file 1 sum %63[0-9]", line) != 1) {
+    if (sscanf(at, "hullbook file 1 sum %63[0-9a-f]", line) != 1) {
         return 0;
     }
-    sum = strtoull(line, NULL, 10);
+    sum = strtoull(line, NULL, 16);
     for (at = strchr(at, '\n') + 1; *at != 0; at = next) {
         const char *end = strstr(at, "\nsum ");
         if (end == NULL) {
             return 0;
         }
         sum = add_to_sum(sum, at, (size_t)(end + 1 - at));
-        snprintf(line, sizeof line, "sum %llu\n", (unsigned long long)sum);
+        snprintf(line, sizeof line, "sum %016llx\n", (unsigned long long)sum);
         if (strncmp(end + 1, line, strlen(line)) != 0) {
             return 0;
         }
@@ -281,7 +281,7 @@ static void continues_files_without(void) {
     contents(text);
     check("with checksums", has_right_sums(text, &count) && count == 1, 1);
     check("no checksum after a text without", open_and_close().code, HULL_OPEN);
-    sprintf(text, "%ssum 1\n", segment[0]);
+    sprintf(text, "%ssum 0000000000000001\n", segment[0]);
     put(text, strlen(text));
     check("a checksum in a file without", open_and_close().code, HULL_DAMAGED);
 }
