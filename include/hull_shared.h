@@ -458,11 +458,11 @@ hull_shared_state hull_shared_stats(const hull_shared_gate *gate);
  *     hull_shared_release_seat(shared, seat);
  *     hull_shared_journal_close(journal);
  *
- * The file is a row of segments, each a text as hull_shared_segment_text writes it, which continues the one before it. A
- * segment is appended, followed by one fsync, and only then its lines are reported durable. So however the process ends, or the
+ * The file is a row of segments, each a text as hull_shared_segment_text writes it, which continues the one before it, and a
+ * line with its checksum, counted on from that of the segment before. A segment is appended, followed by one fsync, and only then its lines are reported durable. So however the process ends, or the
  * machine, the file has all that was reported durable, and after it at most one segment more, which may be torn. Calls not yet
- * reported durable may be lost, but only as a suffix, never from the middle. (`csplit FILE '/^hullbook/' '{*}'` separates the
- * segments for `hullbook check`.)
+ * reported durable may be lost, but only as a suffix, never from the middle. (docs/SHARED.md says how to separate the segments
+ * for `hullbook check`.) Files of versions before 3.1 have no checksums until they are compacted.
  *
  * The calls of this section need a POSIX file system and a library of threads. One process has a file at a time (flock), and
  * no other program may write, replace or remove it. The signals of a process do not come to the journal's thread. The path is
@@ -477,8 +477,8 @@ typedef struct hull_shared_journal hull_shared_journal;
  * proportional to the file.
  *
  * NO_FILE, with errno as `number`, if the system refuses a call on it (EWOULDBLOCK: another process has it; EINVAL: it is not
- * a regular file); DAMAGED, with the line `number` of the file, from 1, if a line has not the form of a journal's, and no
- * crash can have left it so: the file is unchanged; NO_MEMORY. The journal is null except with OPEN. */
+ * a regular file); DAMAGED, with the line `number` of the file, from 1, if a line has not the form of a journal's or a
+ * checksum is wrong, and no crash can have left it so: the file is unchanged; NO_MEMORY. The journal is null except with OPEN. */
 hull_reply hull_shared_journal_open(const char *path, hull_shared_journal **journal);
 
 /* Compacts the file of a journal that no process has open: one segment, of additions that leave the same points with the same

@@ -28,6 +28,7 @@ ghost use Rattle.hull_shared.specs.contracts.reader.SharedReader.{the_row as rea
 ghost use Rattle.hull_shared.specs.contracts.seat.SharedSeat.{the_row as seat_row};
 ghost use Rattle.hull_shared.specs.SharedHulls.{HasClosed, HasEnded, HasAcquired, HasOpened, HasReturned, HasWritten};
 ghost use Rattle.hull_shared.specs.SharedHulls.{IsFreshForNone, IsSeatOfSharedHull};
+ghost use Rattle.journal_file.specs.Fnv1a.{sum_from};
 ghost use Rattle.hull_reply.specs.Left.{leaves};
 ghost use Rattle.hull_reply.specs.Storages.{storage_alignment, storage_size};
 ghost use Rattle.hull_shared.specs.Left.{leaves_both};
@@ -368,6 +369,14 @@ pub unsafe extern "C" fn hull_shared_reopen_answering(
 {
     let shared_hull = at as *mut SharedHull;
     reopening::reopen_answering(unsafe { &mut *shared_hull }, alloc, text, capacity, seats)
+}
+
+/// Counts the checksum of a journal file on over the bytes of an array (FNV-1a of 64 bits; Fowler, Noll and Vo, 1991).
+#[unsafe(no_mangle)]
+pub extern "C" fn hull_shared_add_to_sum(sum: u64, bytes: &[u8]) -> u64
+    ensures { result ≡ sum_from sum bytes.now }
+{
+    add_to_sum(sum, bytes)
 }
 
 /// Moves the seat of a number out of its shared hull, into storage.
