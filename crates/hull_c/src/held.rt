@@ -25,7 +25,7 @@ pub struct HullHeld {
     /// The second coordinate.
     pub y: i64,
     /// Its multiplicity.
-    pub multiplicities: u32,
+    pub multiplicity: u32,
 }
 
 impl Model for HullHeld {

@@ -22,7 +22,7 @@ pub struct Mark {
     /// The point.
     pub point: Point,
     /// Its multiplicity.
-    pub multiplicities: u32,
+    pub multiplicity: u32,
 }
 
 /// Puts the points below a node, in order, after those that are there.
