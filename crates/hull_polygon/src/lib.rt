@@ -41,6 +41,7 @@ mod ranges;
 mod ratios;
 mod raycasts;
 mod relations;
+mod roots;
 mod roundings;
 mod rounds;
 mod segments;
