@@ -25,6 +25,7 @@
 
 mod area;
 mod bisection;
+mod closest_walks;
 mod diameter;
 mod distance;
 mod encounters;
@@ -35,6 +36,7 @@ mod laws;
 mod locations;
 mod meetings;
 mod nearest;
+mod offsets;
 mod place;
 mod polygon;
 mod ranges;
@@ -52,6 +54,7 @@ mod stays;
 mod strips;
 mod tangents;
 mod vector;
+mod walks;
 mod widths;
 mod witnesses;
 

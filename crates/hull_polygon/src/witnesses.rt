@@ -1,18 +1,21 @@
 //! Witnesses: what shows that two hulls intersect, or that they are disjoint.
-ghost use Rattle.std.specs.Prelude.{◌≡◌, ◌⊎◌, ◌<◌, ◌≤◌, length, [], MatchOption};
+ghost use Rattle.std.specs.Prelude.{◌≡◌, ◌⊎◌, ◌<◌, ◌≤◌, length, [], MatchOption, IfSome};
 ghost use Rattle.hull_polygon.specs.Meetings.{AreDisjoint};
 ghost use Rattle.hull_polygon.specs.Polygons.{HoldsOfBoth};
-ghost use Rattle.hull_polygon.specs.Separations.{HasOnLeft, IsSeparation};
+ghost use Rattle.hull_polygon.specs.Separations.{HasOnLeft, HasOnLeftOfEdge, IsSeparation};
 ghost use Rattle.hull_polygon.specs.Witnesses.{IsWitness};
 ghost use Rattle.hull_polygon.specs.Lent.{vertices_of};
 
 use super::extreme::farthest;
 use super::meetings::Meeting;
 use super::nearest::is_right;
+use super::offsets::{Corner, index_round, vertex_round};
 use super::polygon::Polygon;
 use super::rounds::vertex_at;
 use super::separations::Separation;
 use super::vector::Vector;
+use super::walks::{Guess, guess_relation};
+use lattice::Point;
 
 /// A witness of the relation of two hulls.
 #[derive(Clone, Copy, PartialEq, Eq, Debug)]
@@ -39,6 +42,26 @@ impl<'a> Polygon<'a> {
         }
     }
 
+    /// Returns the separation by the edge of this hull from the vertex at `i`, if it has all of `other`, which has at least
+    /// one vertex, on its right.
+    fn separation_at(&self, other: &Polygon, i: usize) -> Option<Separation>
+        requires within { i < length (vertices_of self.now) }
+        requires that { 0 < length (vertices_of other.now) }
+        ensures { HoldsOfBoth (vertices_of self.now) (vertices_of other.now)
+            (λ S T. MatchOption result (HasOnLeftOfEdge (vertices_of self.now) i T) (λ w. IsSeparation S T w)) }
+    {
+        let (a, b) = (vertex_at(self.vertices, i), vertex_at(self.vertices, i + 1));
+        let nearest = farthest(other.vertices, other.last, Vector::left_of(a, b));
+        if is_right(a, b, nearest) {
+            Some(Separation {
+                direction: Vector::left_of(b, a),
+                farthest: b,
+            })
+        } else {
+            None
+        }
+    }
+
     /// Returns the separation by the first edge of this hull that has all of `other`, which has at least one vertex, on
     /// its right.
     fn separation_by_edge(&self, other: &Polygon) -> Option<Separation>
@@ -47,13 +70,8 @@ impl<'a> Polygon<'a> {
             (λ S T. MatchOption result (HasOnLeft (vertices_of self.now) T) (λ w. IsSeparation S T w)) }
     {
         for i in 0..self.vertices.len() {
-            let (a, b) = (vertex_at(self.vertices, i), vertex_at(self.vertices, i + 1));
-            let nearest = farthest(other.vertices, other.last, Vector::left_of(a, b));
-            if is_right(a, b, nearest) {
-                return Some(Separation {
-                    direction: Vector::left_of(b, a),
-                    farthest: b,
-                });
+            if let Some(found) = self.separation_at(other, i) {
+                return Some(found);
             }
         }
         None
@@ -70,6 +88,77 @@ impl<'a> Polygon<'a> {
         Separation {
             direction,
             farthest: farthest(self.vertices, self.last, direction),
+        }
+    }
+
+    /// Returns the separation by the edge of this hull from or to the vertex at `i` that has a point near there on its
+    /// right, if it has all of `other` there.
+    fn separation_beside(&self, other: &Polygon, i: usize, near: Point) -> Option<Separation>
+        requires this { 0 < length (vertices_of self.now) }
+        requires that { 0 < length (vertices_of other.now) }
+        ensures { HoldsOfBoth (vertices_of self.now) (vertices_of other.now)
+            (λ S T. IfSome result (λ w. IsSeparation S T w)) }
+    {
+        let at = index_round(self.vertices, i);
+        let before = if at == 0 {
+            self.vertices.len() - 1
+        } else {
+            at - 1
+        };
+        let vertex = vertex_at(self.vertices, at);
+        if is_right(vertex, vertex_at(self.vertices, at + 1), near) {
+            if let Some(found) = self.separation_at(other, at) {
+                return Some(found);
+            }
+        }
+        if is_right(vertex_at(self.vertices, before), vertex, near) {
+            self.separation_at(other, before)
+        } else {
+            None
+        }
+    }
+
+    /// Returns the separation by an edge of this hull or of `other` next to the vertices of a vertex of their difference,
+    /// if one of those separates them.
+    fn separation_near(&self, other: &Polygon, at: Corner) -> Option<Separation>
+        requires this { 0 < length (vertices_of self.now) }
+        requires that { 0 < length (vertices_of other.now) }
+        ensures { HoldsOfBoth (vertices_of self.now) (vertices_of other.now)
+            (λ S T. IfSome result (λ w. IsSeparation S T w)) }
+    {
+        let near = vertex_round(other.vertices, at.other);
+        if let Some(found) = self.separation_beside(other, at.this, near) {
+            return Some(found);
+        }
+        let near = vertex_round(self.vertices, at.this);
+        match other.separation_beside(self, at.other, near) {
+            Some(found) => Some(self.turned_separation(other, found)),
+            None => None,
+        }
+    }
+
+    /// Returns the witness that a walk over the difference of this hull and `other` guesses, if a few bisections confirm
+    /// it.
+    pub(crate) fn witness_by_walk(&self, other: &Polygon) -> Option<Witness>
+        requires this { 0 < length (vertices_of self.now) }
+        requires that { 0 < length (vertices_of other.now) }
+        ensures { HoldsOfBoth (vertices_of self.now) (vertices_of other.now)
+            (λ S T. IfSome result (λ found. IsWitness S T found)) }
+    {
+        let first = self.vertex_of(0);
+        if other.covers(first) {
+            return Some(Witness::Intersects(Meeting::OfThis(first)));
+        }
+        match guess_relation(self, other) {
+            Guess::Meeting(few) => match self.meeting_of_few(other, few) {
+                Some(meeting) => Some(Witness::Intersects(meeting)),
+                None => None,
+            },
+            Guess::Apart(at, _) => match self.separation_near(other, at) {
+                Some(found) => Some(Witness::Disjoint(found)),
+                None => None,
+            },
+            Guess::Unknown => None,
         }
     }
 
@@ -120,7 +209,10 @@ impl<'a> Polygon<'a> {
         if other.vertices.is_empty() {
             return None;
         }
-        match self.meeting(other) {
+        if let Some(found) = self.witness_by_walk(other) {
+            return Some(found);
+        }
+        match self.meeting_by_edges(other) {
             Some(meeting) => Some(Witness::Intersects(meeting)),
             None => Some(Witness::Disjoint(self.separation(other))),
         }
