@@ -3,21 +3,12 @@ ghost use Rattle.std.specs.Prelude.{◌<◌, length};
 ghost use Rattle.hull_polygon.specs.Lent.{vertices_of};
 
 use super::offsets::{
-    Bracket, Corner, Offset, corner_at, edge_from, farthest_across, first_turned, index_round,
-    offset_of, vertex_round,
+    Bracket, Corner, Feature, Offset, corner_at, edge_from, farthest_across, first_turned,
+    index_round, offset_of, vertex_round,
 };
 use super::polygon::Polygon;
 use super::walks::STEPS;
 use lattice::Point;
-
-/// A guess at the vertex that is closest to the other polygon, by its index, which may be counted on into a second round.
-#[derive(Clone, Copy)]
-pub(crate) enum Candidate {
-    /// A vertex of this polygon.
-    OfThis(usize),
-    /// A vertex of the other one.
-    OfOther(usize),
-}
 
 /// Returns the index of a vertex that lies farthest in a direction: of two the first counterclockwise, or the last.
 fn farthest_round(vertices: &[Point], last: usize, d: Offset, is_late: bool) -> usize
@@ -140,7 +131,7 @@ fn in_order(vertices: &[Point], i: usize, k: usize) -> (usize, usize)
 
 /// Returns the closest vertex of two parallel edges that face each other: the first of the other polygon, if its foot is
 /// on the edge of this one, or the second, or else the first of this one, or the second.
-fn closest_of_edges(this: &Polygon, other: &Polygon, edges: Bracket) -> Candidate
+fn closest_of_edges(this: &Polygon, other: &Polygon, edges: Bracket) -> Feature
     requires this { 0 < length (vertices_of this.now) }
     requires that { 0 < length (vertices_of other.now) }
 {
@@ -148,23 +139,23 @@ fn closest_of_edges(this: &Polygon, other: &Polygon, edges: Bracket) -> Candidat
     let a = vertex_round(this.vertices, edges.start.this);
     let b = vertex_round(this.vertices, edges.end.this);
     if has_foot(a, b, vertex_round(other.vertices, first), true) {
-        return Candidate::OfOther(first);
+        return Feature::OfOther(first);
     }
     if has_foot(a, b, vertex_round(other.vertices, second), true) {
-        return Candidate::OfOther(second);
+        return Feature::OfOther(second);
     }
     let (one, two) = in_order(this.vertices, edges.start.this, edges.end.this);
     let c = vertex_round(other.vertices, edges.start.other);
     let d = vertex_round(other.vertices, edges.end.other);
     if has_foot(c, d, vertex_round(this.vertices, one), false) {
-        Candidate::OfThis(one)
+        Feature::OfThis(one)
     } else {
-        Candidate::OfThis(two)
+        Feature::OfThis(two)
     }
 }
 
 /// Returns the closest vertex, if the point of the difference nearest to the origin is on this edge of it.
-fn closest_of_edge(this: &Polygon, other: &Polygon, edge: Bracket) -> Candidate
+fn closest_of_edge(this: &Polygon, other: &Polygon, edge: Bracket) -> Feature
     requires this { 0 < length (vertices_of this.now) }
     requires that { 0 < length (vertices_of other.now) }
 {
@@ -172,19 +163,19 @@ fn closest_of_edge(this: &Polygon, other: &Polygon, edge: Bracket) -> Candidate
     let way = corner_at(this, other, edge.end).minus(start);
     let along = start.back().dot(way);
     if along <= 0 {
-        return Candidate::OfOther(edge.start.other);
+        return Feature::OfOther(edge.start.other);
     }
     if along >= way.dot(way) {
-        return Candidate::OfOther(edge.end.other);
+        return Feature::OfOther(edge.end.other);
     }
     let ours = edge.start.this < edge.end.this;
     let theirs = edge.start.other < edge.end.other;
     if ours && theirs {
         closest_of_edges(this, other, edge)
     } else if ours {
-        Candidate::OfOther(edge.start.other)
+        Feature::OfOther(edge.start.other)
     } else {
-        Candidate::OfThis(edge.start.this)
+        Feature::OfThis(edge.start.this)
     }
 }
 
@@ -193,7 +184,7 @@ fn closest_of_edge(this: &Polygon, other: &Polygon, edge: Bracket) -> Candidate
 ///
 /// The bracket begins with all vertices of the difference on the line's side. At the one farthest across its chord the
 /// two adjacent edges tell on which side of it the distance from the origin falls.
-pub(crate) fn guess_closest(this: &Polygon, other: &Polygon, way: Offset) -> Option<Candidate>
+pub(crate) fn guess_closest(this: &Polygon, other: &Polygon, way: Offset) -> Option<Feature>
     requires this { 0 < length (vertices_of this.now) }
     requires that { 0 < length (vertices_of other.now) }
 {
@@ -205,7 +196,7 @@ pub(crate) fn guess_closest(this: &Polygon, other: &Polygon, way: Offset) -> Opt
         } else if rises_before(this, other, bracket, corner) {
             bracket.end = corner;
         } else {
-            return Some(Candidate::OfOther(corner.other));
+            return Some(Feature::OfOther(corner.other));
         }
         let start = corner_at(this, other, bracket.start);
         let chord = corner_at(this, other, bracket.end).minus(start);

@@ -9,10 +9,10 @@ ghost use Rattle.hull_polygon.specs.Meetings.{AreDisjoint};
 ghost use Rattle.hull_polygon.specs.Polygons.{HoldsOfBoth, HoldsOfSetsOf};
 ghost use Rattle.hull_polygon.specs.Lent.{vertices_of};
 
-use super::closest_walks::{Candidate, guess_closest};
+use super::closest_walks::guess_closest;
 use super::extreme::{farthest, is_nearer};
 use super::nearest::{Nearest, nearest_outside};
-use super::offsets::index_round;
+use super::offsets::{Feature, index_round};
 use super::polygon::Polygon;
 use super::rounds::vertex_at;
 use super::vector::Vector;
@@ -123,20 +123,20 @@ impl<'a> Polygon<'a> {
     }
 
     /// Returns the nearest points of this hull and `other` by the vertex that a walk guesses, if it is the closest.
-    fn distance_at(&self, other: &Polygon, candidate: Candidate) -> Option<Distance>
+    fn distance_at(&self, other: &Polygon, closest: Feature) -> Option<Distance>
         requires this { 0 < length (vertices_of self.now) }
         requires that { 0 < length (vertices_of other.now) }
         ensures { HoldsOfBoth (vertices_of self.now) (vertices_of other.now)
             (λ S T. IfSome result (λ found. IsDistance S T found)) }
     {
-        match candidate {
-            Candidate::OfOther(i) => {
+        match closest {
+            Feature::OfOther(i) => {
                 match other.closest_at(self, index_round(other.vertices, i)) {
                     Some(found) => Some(by_other(found.0, found.1)),
                     None => None,
                 }
             }
-            Candidate::OfThis(i) => match self.closest_at(other, index_round(self.vertices, i)) {
+            Feature::OfThis(i) => match self.closest_at(other, index_round(self.vertices, i)) {
                 Some(found) => Some(by_this(found.0, found.1)),
                 None => None,
             },
@@ -156,11 +156,11 @@ impl<'a> Polygon<'a> {
         }
         match guess_relation(self, other) {
             Guess::Meeting(few) => match self.meeting_of_few(other, few) {
-                Some(_) => Some(Distance::Zero),
+                Some(_common) => Some(Distance::Zero),
                 None => None,
             },
             Guess::Apart(_, way) => match guess_closest(self, other, way) {
-                Some(candidate) => self.distance_at(other, candidate),
+                Some(closest) => self.distance_at(other, closest),
                 None => None,
             },
             Guess::Unknown => None,
@@ -183,9 +183,8 @@ impl<'a> Polygon<'a> {
         }
     }
 
-    /// Returns the nearest points of this hull and `other`, or `None` if either is empty. A question of a segment for
-    /// each edge of `other`. If they are disjoint, [`Polygon::nearest`] for each vertex of `other`, and if none of
-    /// those is the closest of its hull, for each of this one.
+    /// Returns the nearest points of this hull and `other`, or `None` if either is empty. The cost is that of
+    /// [`Polygon::intersects`], and if they are disjoint of a second such walk and of [`Polygon::nearest`] for one vertex.
     ///
     /// For `Vertices(c, d)` the squared distance is [`distance_squared`](lattice::distance_squared) of the two; for a
     /// vertex `c` and an edge from `a` to `b` it is the square of [`orient`](lattice::orient) of `a`, `b` and `c`,

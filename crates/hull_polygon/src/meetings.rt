@@ -5,7 +5,7 @@ ghost use Rattle.lattice.specs.Plane.{Pair};
 ghost use Rattle.lattice.specs.Covers.{Covers};
 ghost use Rattle.hull_polygon.specs.Meetings.{AreDisjoint, IsCrossing, ReturnsMeeting};
 ghost use Rattle.hull_polygon.specs.Polygons.{HoldsOfBoth, HoldsOfSetsOf};
-ghost use Rattle.hull_polygon.specs.Witnesses.{IsMeeting};
+ghost use Rattle.hull_polygon.specs.Witnesses.{IsMeeting, IsWitness};
 ghost use Rattle.hull_polygon.specs.Lent.{vertices_of};
 
 use super::nearest::is_right;
@@ -46,6 +46,17 @@ fn crossing_of(a: Point, b: Point, c: Point, d: Point) -> Option<Meeting>
         Some(Meeting::Crossing(a, b, d, c))
     } else {
         None
+    }
+}
+
+/// Returns the common point that a witness shows, if it shows one.
+fn meeting_of(witness: Witness) -> Option<Meeting>
+    ensures { (S T : List Pair) → IsWitness S T witness
+        → MatchOption result (AreDisjoint S T) (λ m. IsMeeting S T m) }
+{
+    match witness {
+        Witness::Intersects(meeting) => Some(meeting),
+        Witness::Disjoint(_) => None,
     }
 }
 
@@ -145,15 +156,15 @@ impl<'a> Polygon<'a> {
             (λ S T. MatchOption result (AreDisjoint S T) (λ m. IsMeeting S T m)) }
     {
         match self.witness_by_walk(other) {
-            Some(Witness::Intersects(meeting)) => Some(meeting),
-            Some(Witness::Disjoint(_)) => None,
+            Some((found, _)) => meeting_of(found),
             None => self.meeting_by_edges(other),
         }
     }
 
-    /// Whether this hull and `other` share a point, boundaries included. A walk of at most 64 steps, each a bisection of
-    /// both, whose result a few bisections confirm. If they did not, which no test has seen, a question of a segment for
-    /// each edge of `other` would decide.
+    /// Whether this hull and `other` share a point, boundaries included. A walk over their Minkowski difference guesses: of
+    /// at most 64 steps, each of which asks for a support point of both, as that of Gilbert, Johnson and Keerthi (1988),
+    /// here between two indices. A few bisections confirm the guess. If they did not, a question of a segment for each edge
+    /// of `other` would decide, which tests have seen only for points and segments.
     pub fn intersects(&self, other: &Polygon) -> bool
         ensures { HoldsOfBoth (vertices_of self.now) (vertices_of other.now) (λ S T. ReturnsMeeting result S T) }
     {

@@ -103,6 +103,15 @@ pub(crate) struct Corner {
     pub(crate) other: usize,
 }
 
+/// A vertex or an edge of one of the polygons, by the index of the vertex or of the one at which the edge begins.
+#[derive(Clone, Copy)]
+pub(crate) enum Feature {
+    /// One of this polygon.
+    OfThis(usize),
+    /// One of the other.
+    OfOther(usize),
+}
+
 /// The vertices of the difference counterclockwise from one to another.
 #[derive(Clone, Copy)]
 pub(crate) struct Bracket {

@@ -9,7 +9,7 @@ ghost use Rattle.hull_polygon.specs.Lent.{vertices_of};
 use super::extreme::farthest;
 use super::meetings::Meeting;
 use super::nearest::is_right;
-use super::offsets::{Corner, index_round, vertex_round};
+use super::offsets::{Corner, Feature, index_round, vertex_round};
 use super::polygon::Polygon;
 use super::rounds::vertex_at;
 use super::separations::Separation;
@@ -91,13 +91,18 @@ impl<'a> Polygon<'a> {
         }
     }
 
-    /// Returns the separation by the edge of this hull from or to the vertex at `i` that has a point near there on its
-    /// right, if it has all of `other` there.
-    fn separation_beside(&self, other: &Polygon, i: usize, near: Point) -> Option<Separation>
+    /// Returns the separation by an edge of this hull from or to the vertex at `i`, and the edge's index, if the edge has all
+    /// of `other` on its right; `near` is a point of `other`, which is tested first.
+    fn separation_beside(
+        &self,
+        other: &Polygon,
+        i: usize,
+        near: Point,
+    ) -> Option<(Separation, usize)>
         requires this { 0 < length (vertices_of self.now) }
         requires that { 0 < length (vertices_of other.now) }
         ensures { HoldsOfBoth (vertices_of self.now) (vertices_of other.now)
-            (λ S T. IfSome result (λ w. IsSeparation S T w)) }
+            (λ S T. IfSome result (λ found. IsSeparation S T found.0)) }
     {
         let at = index_round(self.vertices, i);
         let before = if at == 0 {
@@ -108,54 +113,59 @@ impl<'a> Polygon<'a> {
         let vertex = vertex_at(self.vertices, at);
         if is_right(vertex, vertex_at(self.vertices, at + 1), near) {
             if let Some(found) = self.separation_at(other, at) {
-                return Some(found);
+                return Some((found, at));
             }
         }
         if is_right(vertex_at(self.vertices, before), vertex, near) {
-            self.separation_at(other, before)
-        } else {
-            None
+            if let Some(found) = self.separation_at(other, before) {
+                return Some((found, before));
+            }
         }
+        None
     }
 
     /// Returns the separation by an edge of this hull or of `other` next to the vertices of a vertex of their difference,
-    /// if one of those separates them.
-    fn separation_near(&self, other: &Polygon, at: Corner) -> Option<Separation>
+    /// and that edge, if one of those separates them.
+    fn separation_near(&self, other: &Polygon, at: Corner) -> Option<(Separation, Feature)>
         requires this { 0 < length (vertices_of self.now) }
         requires that { 0 < length (vertices_of other.now) }
         ensures { HoldsOfBoth (vertices_of self.now) (vertices_of other.now)
-            (λ S T. IfSome result (λ w. IsSeparation S T w)) }
+            (λ S T. IfSome result (λ found. IsSeparation S T found.0)) }
     {
         let near = vertex_round(other.vertices, at.other);
-        if let Some(found) = self.separation_beside(other, at.this, near) {
-            return Some(found);
+        if let Some((found, i)) = self.separation_beside(other, at.this, near) {
+            return Some((found, Feature::OfThis(i)));
         }
         let near = vertex_round(self.vertices, at.this);
         match other.separation_beside(self, at.other, near) {
-            Some(found) => Some(self.turned_separation(other, found)),
+            Some((found, i)) => Some((self.turned_separation(other, found), Feature::OfOther(i))),
             None => None,
         }
     }
 
     /// Returns the witness that a walk over the difference of this hull and `other` guesses, if a few bisections confirm
-    /// it.
-    pub(crate) fn witness_by_walk(&self, other: &Polygon) -> Option<Witness>
+    /// it, and the edge that separates them, if they are disjoint; `None` also if `other` has fewer than three vertices,
+    /// since then no walk is needed.
+    pub(crate) fn witness_by_walk(&self, other: &Polygon) -> Option<(Witness, Feature)>
         requires this { 0 < length (vertices_of self.now) }
         requires that { 0 < length (vertices_of other.now) }
         ensures { HoldsOfBoth (vertices_of self.now) (vertices_of other.now)
-            (λ S T. IfSome result (λ found. IsWitness S T found)) }
+            (λ S T. IfSome result (λ found. IsWitness S T found.0)) }
     {
         let first = self.vertex_of(0);
         if other.covers(first) {
-            return Some(Witness::Intersects(Meeting::OfThis(first)));
+            return Some((
+                Witness::Intersects(Meeting::OfThis(first)),
+                Feature::OfThis(0),
+            ));
         }
         match guess_relation(self, other) {
             Guess::Meeting(few) => match self.meeting_of_few(other, few) {
-                Some(meeting) => Some(Witness::Intersects(meeting)),
+                Some(meeting) => Some((Witness::Intersects(meeting), Feature::OfThis(0))),
                 None => None,
             },
             Guess::Apart(at, _) => match self.separation_near(other, at) {
-                Some(found) => Some(Witness::Disjoint(found)),
+                Some((found, edge)) => Some((Witness::Disjoint(found), edge)),
                 None => None,
             },
             Guess::Unknown => None,
@@ -194,9 +204,76 @@ impl<'a> Polygon<'a> {
         }
     }
 
+    /// Returns the index of the first edge of this hull that separates it from `other`, if the edge from the vertex at `i`
+    /// does. The edges that do are consecutive, so that a bisection finds the first; that is not proved.
+    fn first_separating(&self, other: &Polygon, i: usize) -> usize
+        requires that { 0 < length (vertices_of other.now) }
+        requires within { i < length (vertices_of self.now) }
+        ensures { result < length (vertices_of self.now) }
+    {
+        if self.separation_at(other, 0).is_some() {
+            return 0;
+        }
+        let mut low = 0;
+        let mut high = i;
+        while low < high {
+            let middle = low + (high - low) / 2;
+            if self.separation_at(other, middle).is_some() {
+                high = middle;
+            } else {
+                low = middle + 1;
+            }
+        }
+        high
+    }
+
+    /// Returns the separation of this hull from `other` by the first edge of this hull that separates them, or else the
+    /// first one of the other, if an edge does. It is the one of [`Polygon::separation`].
+    fn first_separation(&self, other: &Polygon, found: Separation, edge: Feature) -> Separation
+        requires this { 0 < length (vertices_of self.now) }
+        requires that { 0 < length (vertices_of other.now) }
+        requires parts { HoldsOfBoth (vertices_of self.now) (vertices_of other.now) (λ S T. IsSeparation S T found) }
+        ensures { HoldsOfBoth (vertices_of self.now) (vertices_of other.now) (λ S T. IsSeparation S T result) }
+    {
+        if self.vertices.len() < 3 || other.vertices.len() < 3 {
+            return self.separation(other);
+        }
+        match edge {
+            Feature::OfThis(i) => {
+                let first = self.first_separating(other, index_round(self.vertices, i));
+                match self.separation_at(other, first) {
+                    Some(earlier) => earlier,
+                    None => found,
+                }
+            }
+            Feature::OfOther(i) => {
+                let first = other.first_separating(self, index_round(other.vertices, i));
+                match other.separation_at(self, first) {
+                    Some(earlier) => self.turned_separation(other, earlier),
+                    None => found,
+                }
+            }
+        }
+    }
+
+    /// Returns the same witness, or, if the two are disjoint, the separation by the first edge that separates them.
+    fn by_first_edge(&self, other: &Polygon, found: Witness, edge: Feature) -> Witness
+        requires this { 0 < length (vertices_of self.now) }
+        requires that { 0 < length (vertices_of other.now) }
+        requires shown { HoldsOfBoth (vertices_of self.now) (vertices_of other.now) (λ S T. IsWitness S T found) }
+        ensures { HoldsOfBoth (vertices_of self.now) (vertices_of other.now) (λ S T. IsWitness S T result) }
+    {
+        match found {
+            Witness::Disjoint(separation) => {
+                Witness::Disjoint(self.first_separation(other, separation, edge))
+            }
+            Witness::Intersects(_) => found,
+        }
+    }
+
     /// Returns a common point of this hull and `other`, or a direction that separates them, with a farthest point of
-    /// this hull in it, or `None` if either is empty. A question of a segment for each edge of `other`, and if they are
-    /// disjoint a bisection for each edge of both.
+    /// this hull in it, or `None` if either is empty. The cost is that of [`Polygon::intersects`]; if they are disjoint, a
+    /// bisection finds the first edge that separates them, by a bisection for each edge that it looks at.
     ///
     /// If two sets with at least three vertices each are disjoint, one has an edge whose line separates them.
     pub fn witness(&self, other: &Polygon) -> Option<Witness>
@@ -209,8 +286,8 @@ impl<'a> Polygon<'a> {
         if other.vertices.is_empty() {
             return None;
         }
-        if let Some(found) = self.witness_by_walk(other) {
-            return Some(found);
+        if let Some((found, edge)) = self.witness_by_walk(other) {
+            return Some(self.by_first_edge(other, found, edge));
         }
         match self.meeting_by_edges(other) {
             Some(meeting) => Some(Witness::Intersects(meeting)),

@@ -9,4 +9,4 @@ returns-then-covers c = λ S o T t.
     IsReached c.vertex_of.result (c.vertex_of.ensures S o) (passed _ _ c.if-covers.true (c.covers.ensures T t))
 
 pub returns-in-Some : goal.returns-in-Some
-returns-in-Some c = λ S o T t. meeting_intersects S T c.in-Some.field-0 (c.in-Some.ensures S o T t)
+returns-in-Some c = λ S o T t. meeting_intersects S T c.in-Some._common (c.in-Some.ensures S o T t)
