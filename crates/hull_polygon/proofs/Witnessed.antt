@@ -24,7 +24,7 @@ use Rattle.hull_polygon.proofs.SeparatedLists.{farther_back, never_both}
 use Rattle.hull_polygon.proofs.Separated.{apart_by}
 use Rattle.hull_polygon.proofs.Shields.{product_left, one_of_two, start_there, end_there}
 use Rattle.hull_polygon.proofs.Together.{few_beyond}
-use Rattle.lattice.proofs.Numbers.{le_by_opposite, less_by_opposite, nn_not_below}
+use Rattle.lattice.proofs.Numbers.{le_by_opposite, le_less_trans, less_by_opposite, nn_not_below}
 use Rattle.hull_geometry.proofs.Slopes.{product-opp}
 use Rattle.lattice.proofs.LineCrossings.{orient_other}
 use Rattle.hull_geometry.proofs.CandidateListHulls.{covers_more}
@@ -45,6 +45,15 @@ meeting_more S T U (Crossing a b c d) f h = (h.0, h.1, f c h.2, f d h.3, h.4)
 -- a set that is disjoint from the whole is disjoint from a part
 pub apart_less : (S T U : List Pair) → ((t : Pair) → Contains U t → Contains T t) → AreDisjoint S T → AreDisjoint S U
 apart_less S T U f (d, h) = (d, λ s t ms mt. h s t ms (f t mt))
+
+-- a set that a separation separates from another is disjoint from it
+pub separation_apart : (S T : List Pair) (w : Separation) → IsSeparation S T w → AreDisjoint S T
+separation_apart S T w h = (
+  w.direction,
+  λ s t ms mt. le_less_trans _ _ _
+      (All-contains (λ u. product w.direction u ≤ℤ product w.direction w.farthest) S s h.farthest ms)
+      (All-contains (λ u. product w.direction w.farthest <ℤ product w.direction u) T t h.beyond mt),
+)
 
 -- with the direction reversed, S and T are exchanged
 pub apart_turned : (S T : List Pair) → AreDisjoint S T → AreDisjoint T S

@@ -1,5 +1,5 @@
 //! The nearest points of two hulls.
-ghost use Rattle.std.specs.Prelude.{◌≡◌, ◌⊎◌, ◌↔◌, IsTrue, ◌<◌, length, List, [], MatchOption};
+ghost use Rattle.std.specs.Prelude.{◌≡◌, ◌⊎◌, ◌↔◌, IsTrue, ◌<◌, length, List, [], MatchOption, IfSome};
 ghost use Rattle.lattice.specs.Plane.{Pair};
 ghost use Rattle.lattice.specs.Covers.{IsExtreme};
 ghost use Rattle.lattice.specs.Places.{IsFarthest};
@@ -9,11 +9,14 @@ ghost use Rattle.hull_polygon.specs.Meetings.{AreDisjoint};
 ghost use Rattle.hull_polygon.specs.Polygons.{HoldsOfBoth, HoldsOfSetsOf};
 ghost use Rattle.hull_polygon.specs.Lent.{vertices_of};
 
+use super::closest_walks::guess_closest;
 use super::extreme::{farthest, is_nearer};
 use super::nearest::{Nearest, nearest_outside};
+use super::offsets::{Feature, index_round};
 use super::polygon::Polygon;
 use super::rounds::vertex_at;
 use super::vector::Vector;
+use super::walks::{Guess, guess_relation};
 use lattice::Point;
 
 /// The nearest points of two hulls.
@@ -105,6 +108,65 @@ impl<'a> Polygon<'a> {
         None
     }
 
+    /// Returns the vertex of this hull at `i` and the nearest feature of `other`, if no point of this hull is closer to it.
+    fn closest_at(&self, other: &Polygon, i: usize) -> Option<(Point, Nearest)>
+        requires within { i < length (vertices_of self.now) }
+        requires that { 0 < length (vertices_of other.now) }
+        ensures { HoldsOfBoth (vertices_of self.now) (vertices_of other.now)
+            (λ S T. IfSome result (λ found. IsClosest S T found.0 found.1)) }
+    {
+        let c = vertex_at(self.vertices, i);
+        match other.nearest(c) {
+            Some(place) => self.if_closest(c, place),
+            None => None,
+        }
+    }
+
+    /// Returns the nearest points of this hull and `other` by the vertex that a walk guesses, if it is the closest.
+    fn distance_at(&self, other: &Polygon, closest: Feature) -> Option<Distance>
+        requires this { 0 < length (vertices_of self.now) }
+        requires that { 0 < length (vertices_of other.now) }
+        ensures { HoldsOfBoth (vertices_of self.now) (vertices_of other.now)
+            (λ S T. IfSome result (λ found. IsDistance S T found)) }
+    {
+        match closest {
+            Feature::OfOther(i) => {
+                match other.closest_at(self, index_round(other.vertices, i)) {
+                    Some(found) => Some(by_other(found.0, found.1)),
+                    None => None,
+                }
+            }
+            Feature::OfThis(i) => match self.closest_at(other, index_round(self.vertices, i)) {
+                Some(found) => Some(by_this(found.0, found.1)),
+                None => None,
+            },
+        }
+    }
+
+    /// Returns the nearest points of this hull and `other` by walks over their difference, if a few bisections confirm
+    /// them.
+    fn distance_by_walk(&self, other: &Polygon) -> Option<Distance>
+        requires this { 0 < length (vertices_of self.now) }
+        requires that { 0 < length (vertices_of other.now) }
+        ensures { HoldsOfBoth (vertices_of self.now) (vertices_of other.now)
+            (λ S T. IfSome result (λ found. IsDistance S T found)) }
+    {
+        if other.covers(self.vertex_of(0)) {
+            return Some(Distance::Zero);
+        }
+        match guess_relation(self, other) {
+            Guess::Meeting(few) => match self.meeting_of_few(other, few) {
+                Some(_common) => Some(Distance::Zero),
+                None => None,
+            },
+            Guess::Apart(_, way) => match guess_closest(self, other, way) {
+                Some(closest) => self.distance_at(other, closest),
+                None => None,
+            },
+            Guess::Unknown => None,
+        }
+    }
+
     /// Returns the nearest points of this hull and `other`, which are disjoint and have at least one vertex each.
     fn distance_apart(&self, other: &Polygon) -> Distance
         requires this { 0 < length (vertices_of self.now) }
@@ -121,9 +183,8 @@ impl<'a> Polygon<'a> {
         }
     }
 
-    /// Returns the nearest points of this hull and `other`, or `None` if either is empty. A question of a segment for
-    /// each edge of `other`. If they are disjoint, [`Polygon::nearest`] for each vertex of `other`, and if none of
-    /// those is the closest of its hull, for each of this one.
+    /// Returns the nearest points of this hull and `other`, or `None` if either is empty. The cost is that of
+    /// [`Polygon::intersects`], and if they are disjoint of a second such walk and of [`Polygon::nearest`] for one vertex.
     ///
     /// For `Vertices(c, d)` the squared distance is [`distance_squared`](lattice::distance_squared) of the two; for a
     /// vertex `c` and an edge from `a` to `b` it is the square of [`orient`](lattice::orient) of `a`, `b` and `c`,
@@ -138,7 +199,10 @@ impl<'a> Polygon<'a> {
         if other.vertices.is_empty() {
             return None;
         }
-        match self.meeting(other) {
+        if let Some(found) = self.distance_by_walk(other) {
+            return Some(found);
+        }
+        match self.meeting_by_edges(other) {
             Some(_) => Some(Distance::Zero),
             None => Some(self.distance_apart(other)),
         }

@@ -1,5 +1,5 @@
 //! Comparison of fractions whose numbers do not fit in 128 bits.
-ghost use Rattle.std.specs.Prelude.{◌≡◌, ◌↔◌, IsTrue, ◌<◌, ◌≤◌, ◌+◌, ◌*◌, ◌^◌};
+ghost use Rattle.std.specs.Prelude.{◌≡◌, ◌↔◌, IsTrue, IfSome, ◌<◌, ◌≤◌, ◌+◌, ◌*◌, ◌^◌};
 ghost use Rattle.hull_polygon.specs.Wide.{HasDigits, base, number_of};
 
 /// 2^42: two digits to this base are one to the base 2^84.
@@ -73,6 +73,34 @@ pub(crate) fn four_times(w: Wide) -> Wide
         middle: middle % BASE,
         low: low % BASE,
     }
+}
+
+/// Returns a number times a half digit, or `None` if the product has more than three digits.
+pub(crate) fn times(w: Wide, factor: u128) -> Option<Wide>
+    requires digits { HasDigits w }
+    requires half { factor < 2 ^ 42 }
+    ensures { IfSome result (λ product. (number_of product ≡ number_of w * factor) × HasDigits product) }
+{
+    let low = half_product(factor, w.low);
+    let middle = half_product(factor, w.middle) + low / BASE;
+    let high = half_product(factor, w.high) + middle / BASE;
+    if high < BASE {
+        Some(Wide {
+            high,
+            middle: middle % BASE,
+            low: low % BASE,
+        })
+    } else {
+        None
+    }
+}
+
+/// Returns a number divided by 2 to this exponent, the lowest 128 bits of the quotient.
+pub(crate) fn quotient_by_power(w: Wide, exponent: u32) -> u128
+    requires { exponent ≤ 84 }
+{
+    let upper = w.high.wrapping_shl(84) | w.middle;
+    upper.wrapping_shl(84 - exponent) | w.low >> exponent
 }
 
 /// Whether one number is less than another.

@@ -12,5 +12,5 @@ pub returns-then-is_empty-2 : goal.returns-then-is_empty-2
 returns-then-is_empty-2 c = λ S o T t.
     inr (no_vertices T c.args.other.now.vertices.now t (grind (arith, c.is_empty-2.ensures, c.if-is_empty-2.true)))
 
-pub returns-in-Some : goal.returns-in-Some
-returns-in-Some c = λ S o T t. meeting_intersects S T _ (c.in-Some.ensures S o T t)
+pub returns-in-Some-meeting_by_edges : goal.returns-in-Some-meeting_by_edges
+returns-in-Some-meeting_by_edges c = λ S o T t. meeting_intersects S T _ (c.in-Some-meeting_by_edges.ensures S o T t)

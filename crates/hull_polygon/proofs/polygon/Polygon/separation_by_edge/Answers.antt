@@ -1,46 +1,16 @@
--- an edge with the leftmost point of the other set on its right separates them
-use Rattle.std.proofs.Common.{◌≡◌, ℕ, ◌+◌, pos, ◌≤ℤ◌, inl, inr, refl, sym, subst, arith}
+-- an edge that does not separate the sets has a point of the other on its left
+use Rattle.std.proofs.Common.{◌≡◌, ℕ, inl, inr, subst, arith}
 use Rattle.std.proofs.lemmas.Bool.{cases_lt}
-use Rattle.std.specs.List.{Contains}
-use Rattle.lattice.specs.Plane.{Pair, orient}
-use Rattle.lattice.specs.Vertices.{IsLeftOf}
-use Rattle.hull_polygon.specs.Rounds.{vertex}
-use Rattle.hull_polygon.proofs.Vertices.{vertex_extreme, next_left}
-use Rattle.hull_polygon.proofs.Witnessed.{separation_beside, right_of_line}
-use Rattle.lattice.proofs.Tests.{passed, failed}
-use Rattle.lattice.proofs.Numbers.{not_less}
+use Rattle.hull_polygon.specs.Separations.{HasOnLeftOfEdge}
 use Rattle.hull_polygon.proofs.polygon.Polygon.separation_by_edge.Goals as goal
 
-pub returns-then-is_right : goal.returns-then-is_right
-returns-then-is_right c = λ S o T t.
-    let V = c.args.self.now.vertices.now in
-    let i = c.loop-i.i in
-    let a : Pair = c.vertex_at-a.result in
-    let b : Pair = c.vertex_at-b.result in
-    let left : IsLeftOf S a b =
-    subst (IsLeftOf S a) (sym c.vertex_at-b.ensures) (subst (λ (z : Pair). IsLeftOf S z (vertex V (i + 1)))
-    (sym c.vertex_at-a.ensures) (next_left S V i (i + 1) o.1 refl c.loop-i-test.true)) in
-    separation_beside S T a b _
-    (subst (Contains S) (sym c.vertex_at-b.ensures)
-    (vertex_extreme S V (i + 1) o.1 (omega (arith, c.loop-i-test.true))).0)
-    left
-    (right_of_line T a b _ c.farthest-nearest.result (c.farthest-nearest.ensures T t) c.left_of.ensures
-    (passed _ _ c.if-is_right.true c.is_right.ensures))
-    c.left_of-then-is_right.ensures
-
 pub loop-i-preserved : goal.loop-i-preserved
-loop-i-preserved c = λ T t k l. elim (cases_lt k c.loop-i.i) [
-  | inl h ↦ c.loop-i.invariant T t k h
+loop-i-preserved c = λ S o T t k l. elim (cases_lt k c.loop-i.i) [
+  | inl h ↦ c.loop-i.invariant S o T t k h
   | inr h ↦
-      let V = c.args.self.now.vertices.now in
       let e : c.loop-i.i ≡ k = omega (arith, h, l) in
-      let z : Pair = c.farthest-nearest.result in
-      let side : pos 0 ≤ℤ orient c.vertex_at-a.result c.vertex_at-b.result z =
-      not_less _ (pos 0) (failed _ _ c.if-is_right.false c.is_right.ensures) in (
-        z,
-        (c.farthest-nearest.ensures T t).0,
-        subst (λ (n : ℕ). pos 0 ≤ℤ orient (vertex V n) (vertex V (n + 1)) z) e
-            (subst (λ (y : Pair). pos 0 ≤ℤ orient (vertex V c.loop-i.i) y z) c.vertex_at-b.ensures
-            (subst (λ (x : Pair). pos 0 ≤ℤ orient x c.vertex_at-b.result z) c.vertex_at-a.ensures side)),
-      )
+      subst (λ (n : ℕ). HasOnLeftOfEdge c.args.self.now.vertices.now n T) e (c.in_default.ensures S o T t)
 ]
+
+pub returns : goal.returns
+returns c = λ S o T t i l. c.loop-i.invariant S o T t i (omega (arith, l, c.loop-i-test.false))

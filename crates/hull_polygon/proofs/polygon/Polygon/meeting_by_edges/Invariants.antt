@@ -4,7 +4,7 @@ use Rattle.lattice.specs.Plane.{Pair}
 use Rattle.hull_polygon.specs.Meetings.{AreDisjoint, segment}
 use Rattle.hull_polygon.specs.Polygons.{IsPolygonOf}
 use Rattle.hull_polygon.specs.Rounds.{vertex}
-use Rattle.hull_polygon.proofs.polygon.Polygon.meeting.Given as goal
+use Rattle.hull_polygon.proofs.polygon.Polygon.meeting_by_edges.Given as goal
 
 abbrev pub invariant-loop-i : goal.invariant-loop-i
 invariant-loop-i l =

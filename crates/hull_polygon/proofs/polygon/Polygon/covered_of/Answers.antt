@@ -1,0 +1,6 @@
+-- a vertex that the other hull covers
+use Rattle.lattice.proofs.Tests.{passed}
+use Rattle.hull_polygon.proofs.polygon.Polygon.covered_of.Goals as goal
+
+pub returns-then-covers : goal.returns-then-covers
+returns-then-covers c = λ S o T t. (c.vertex_of-vertex.ensures S o, passed _ _ c.if-covers.true (c.covers.ensures T t))
