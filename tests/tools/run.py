@@ -15,6 +15,7 @@ import tempfile
 sys.path.insert(0, os.path.dirname(os.path.abspath(__file__)))
 from small import TOP, Tests, lay_tools, run, write  # noqa: E402 (the path comes first)
 import installs  # noqa: E402
+import judges  # noqa: E402
 import mutants  # noqa: E402
 
 SOURCE = """//! Three functions on which the gate's own tools are tried.
@@ -238,8 +239,8 @@ def test_tables(tests):
 
 def main():
     tests = Tests()
-    for test in (test_judgement, test_layout, test_products, test_suites, test_gate, test_language, test_tables, installs.test_install,
-                 installs.test_packages):
+    for test in (test_judgement, test_layout, test_products, test_suites, test_gate, test_language, test_tables, *judges.TESTS,
+                 installs.test_install, installs.test_packages):
         test(tests)
     if shutil.which("rt"):
         test_mutants(tests)
