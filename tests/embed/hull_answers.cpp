@@ -245,7 +245,9 @@ static void beyond(const Polygon &p, Point wrong) {
     Hull h;
     h.add({1, 2});
     refuses([&] { h.add_all({right, wrong}); });
+    CHECK(h.multiplicity(right) == 1);
     refuses([&] { h.remove_all({right, wrong}); });
+    CHECK(h.multiplicity(right) == 1);
     refuses([&] { h.place_all({right, wrong}); });
     refuses([&] { h.load({right, wrong}); });
     refuses([&] { h.load_held({hull::Held{wrong.x, wrong.y, 1}}); });

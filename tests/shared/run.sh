@@ -226,6 +226,8 @@ waits() {
     count "calls that the threads of others serve: limits, deadlines, drains, hooks, threads that are cancelled or die" $?
     build "$here/waits.c" -Wl,--wrap=malloc && "$room/waits"
     count "errno, deadlines, other gates, threads that are cancelled or die" $?
+    build "$here/deadlines.c" -Wl,--wrap=malloc,--wrap=realloc && "$room/deadlines"
+    count "16 threads whose calls give up after 0 to 300 microseconds: each line is that of a call, and all is idle in the end" $?
     build_by_pthreads "$here/waits.c" -Wl,--wrap=malloc,--wrap=clock_gettime && "$room/waits"
     count "the same without futex" $?
 }

@@ -12,9 +12,11 @@ import subprocess
 import sys
 import tempfile
 
-TOP = os.path.dirname(os.path.dirname(os.path.dirname(os.path.abspath(__file__))))
-sys.path.insert(0, f"{TOP}/tools")
-import mutants  # noqa: E402 (the path comes first)
+sys.path.insert(0, os.path.dirname(os.path.abspath(__file__)))
+from small import TOP, Tests, lay_tools, run, write  # noqa: E402 (the path comes first)
+import installs  # noqa: E402
+import judges  # noqa: E402
+import mutants  # noqa: E402
 
 SOURCE = """//! Three functions on which the gate's own tools are tried.
 #![tactic(auto)]
@@ -77,14 +79,6 @@ logic=not-proved
 """
 
 
-def write(path, text, mode=0o644):
-    """Writes a file and the folders above it."""
-    os.makedirs(os.path.dirname(path), exist_ok=True)
-    with open(path, "w", encoding="utf-8") as file:
-        file.write(text)
-    os.chmod(path, mode)
-
-
 class FakeRun:
     """What a check printed, as the tools see it."""
 
@@ -93,42 +87,6 @@ class FakeRun:
 
     def last(self):
         return self.said.rstrip("\n").rpartition("\n")[2]
-
-
-class Tests:
-    """The tests, each counted."""
-
-    def __init__(self):
-        self.passed = self.failed = 0
-
-    def see(self, what, is_so, said=""):
-        """Counts one."""
-        self.passed, self.failed = self.passed + bool(is_so), self.failed + (not is_so)
-        print(f"{what}: {'ok' if is_so else f'FAILED {said[-600:]}'}", flush=True)
-
-    def refuses(self, what, message, top, *words, status=1, **how):
-        """Counts whether a tool prints that message, ends with that status, and does not end in '0 failed'."""
-        came, said = run(top, *words, **how)
-        self.see(what, came == status and message in said and not said.rstrip().endswith(" 0 failed"), f"status {came}: {said}")
-
-    def accepts(self, what, top, *words, **how):
-        """Counts whether a tool ends with status 0 and '0 failed'."""
-        came, said = run(top, *words, **how)
-        self.see(what, came == 0 and said.rstrip().endswith(" 0 failed"), f"status {came}: {said}")
-
-
-def run(top, *words, env=None):
-    """Runs a tool of a small repository. Returns its status and what it printed."""
-    ran = subprocess.run(words, cwd=top, stdin=subprocess.DEVNULL, stdout=subprocess.PIPE, stderr=subprocess.STDOUT, text=True, check=False,
-                         env={**os.environ, **(env or {})})
-    return ran.returncode, ran.stdout
-
-
-def lay_tools(top):
-    """Copies the tools into a small repository."""
-    for it in ("tools", ".ci", "bin"):
-        shutil.copytree(f"{TOP}/{it}", f"{top}/{it}", ignore=shutil.ignore_patterns("__pycache__"))
-    os.remove(f"{top}/.ci/mutants.txt") if os.path.exists(f"{top}/.ci/mutants.txt") else None
 
 
 def lay_crate(top, edits):
@@ -281,7 +239,8 @@ def test_tables(tests):
 
 def main():
     tests = Tests()
-    for test in (test_judgement, test_layout, test_products, test_suites, test_gate, test_language, test_tables):
+    for test in (test_judgement, test_layout, test_products, test_suites, test_gate, test_language, test_tables, *judges.TESTS,
+                 installs.test_install, installs.test_packages):
         test(tests)
     if shutil.which("rt"):
         test_mutants(tests)

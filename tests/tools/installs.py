@@ -1,0 +1,317 @@
+"""Tests bin/install and bin/package in a small repository, whose products a stand-in for tools/product.sh makes: each installed file with
+its mode and its bytes, what is left out and removed again, and each package with its members, sums and descriptions."""
+import base64
+import gzip
+import hashlib
+import json
+import os
+import shutil
+import stat
+import subprocess
+import tarfile
+import tempfile
+import zipfile
+
+from small import TOP, lay_tools, run, write
+
+# the products are texts with their names; PRODUCT_STATUS is the status of a product that cannot be had, STALE names those of other sources
+PRODUCT = """#!/bin/sh
+case $1 in
+put) [ -z "${PRODUCT_STATUS:-}" ] || exit "$PRODUCT_STATUS"; echo "product $2" >"$3"; chmod 600 "$3" ;;
+find) case " ${STALE:-} " in *" $2 "*) exit 1 ;; esac; echo "$0" ;;
+*) exit 99 ;;
+esac
+"""
+PROGRAMS = ("hullbook", "hulldraw")
+# each installed file that is copied: where it is installed, and what it is a copy of
+COPIES = {
+    **{f"include/{it}": f"include/{it}" for it in ("hull.h", "hull_shared.h", "hull_common.h", "hull_exchange.h", "hull.hpp")},
+    **{f"share/man/man3/{it}.3": f"man/{it}.3" for it in ("hull", "hull_shared")},
+    "lib/cmake/hull/hull-config.cmake": "c/hull-config.cmake", "lib/hull/hull/__init__.py": "python/hull.py",
+    "share/doc/hullbook/LICENSE": "LICENSE", "share/doc/hullbook/CHANGELOG.md": "CHANGELOG.md", "share/doc/hullbook/README.md": "docs/INSTALLED.md",
+    **{f"lib/rust/hull/{it}": f"rust/hull/{it}" for it in ("Cargo.toml", "build.rs")},
+    **{f"lib/rust/hull/src/{it}": f"rust/hull/src/{it}" for it in os.listdir(f"{TOP}/rust/hull/src")},
+}
+COPIES_OF_PROGRAMS = {
+    **{f"share/man/man1/{it}.1": f"man/{it}.1" for it in PROGRAMS},
+    **{f"share/hullbook/completions/{it}": f"tools/completions/{it}" for it in os.listdir(f"{TOP}/tools/completions")},
+}
+PRODUCTS = {"lib/libhull.a": "libhull.a", "lib/libhull_shared.a": "libhull_shared.a", "lib/hull/hull/libhull.so": "libhull.so",
+            "lib/hull/hull/libhull_shared.so": "libhull_shared.so"}
+PC = """prefix=${{pcfiledir}}/../..
+includedir=${{prefix}}/include
+libdir=${{prefix}}/lib
+
+Name: {name}
+Description: {about}
+Version: 7.8.9
+Cflags: -I${{includedir}}
+Libs: -L${{libdir}} -l{name}{more}
+"""
+PCS = {
+    "hull": PC.format(name="hull", about="An exact dynamic planar convex hull, formally verified", more=""),
+    "hull_shared": PC.format(name="hull_shared", about="An exact dynamic planar convex hull that threads share, formally verified", more=" -lpthread"),
+}
+USAGE = "usage: bin/install [--library] PREFIX | bin/install --uninstall PREFIX\n"
+
+
+def lay(top):
+    """Lays the repository: of release 7.8.9, with the files that are installed and packed."""
+    lay_tools(top)
+    for it in ("include", "man", "python", "c", "rust", "examples", "docs", "web", "LICENSE", "CHANGELOG.md", "README.md", "HANDLES", "pyproject.toml"):
+        (shutil.copytree if os.path.isdir(f"{TOP}/{it}") else shutil.copy)(f"{TOP}/{it}", f"{top}/{it}")
+    write(f"{top}/VERSION", "7.8.9\n")
+    write(f"{top}/tools/product.sh", PRODUCT, 0o755)
+    write(f"{top}/crates.txt", "low:\nhull_c staticlib: low\nother:\nhull_shared staticlib: low\n")
+    for crate in ("low", "hull_c", "other", "hull_shared"):
+        write(f"{top}/crates/{crate}/src/lib.rt", f"// {crate}\n")
+        write(f"{top}/crates/{crate}/out/left", "not packed\n")
+    for processor in ("x86_64", "aarch64", "web"):
+        for it in ("libhull.a", "hull.wasm", "hull32.wasm"):
+            write(f"{top}/dist/{processor}/{it}", f"released {processor} {it}\n")
+    write(f"{top}/dist/SUMS", "sums\n")
+    subprocess.run(["find", top, "-type", "f", "!", "-perm", "/100", "-exec", "chmod", "640", "{}", "+"], check=True)  # (not those that are installed)
+
+
+def contents(path):
+    with open(path, "rb") as file:
+        return file.read()
+
+
+def found(prefix):
+    """Returns the paths of all files below a folder, each with its mode."""
+    paths = (os.path.join(at, it) for at, _, names in os.walk(prefix) for it in names)
+    return {os.path.relpath(it, prefix): stat.S_IMODE(os.stat(it).st_mode) for it in paths}
+
+
+def wanted(processor, has_programs):
+    """Returns the paths that an installation has, each with its mode."""
+    made = ["share/hullbook/installed", "lib/hull/hull/py.typed", "lib/cmake/hull/hull-config-version.cmake", *(f"lib/pkgconfig/{it}.pc" for it in PCS)]
+    files = [*COPIES, *PRODUCTS, *made, *(COPIES_OF_PROGRAMS if has_programs else []), *(f"bin/{it}" for it in PROGRAMS if has_programs)]
+    return {it: 0o755 if it.startswith("bin/") or it.endswith(".so") else 0o644 for it in files}
+
+
+def has_its_bytes(top, prefix, processor, has_programs):
+    """Returns the installed files that do not have the bytes that they should have."""
+    copies = {**COPIES, **(COPIES_OF_PROGRAMS if has_programs else {})}
+    made = {**PRODUCTS, **({f"bin/{it}": it for it in PROGRAMS} if has_programs else {})}
+    wrong = [it for it, source in copies.items() if contents(f"{prefix}/{it}") != contents(f"{top}/{source}")]
+    wrong += [it for it, name in made.items() if contents(f"{prefix}/{it}").decode() != f"product {processor}/{name}\n"]
+    wrong += [it for it, text in PCS.items() if contents(f"{prefix}/lib/pkgconfig/{it}.pc").decode() != text]
+    listed = contents(f"{prefix}/share/hullbook/installed").decode().splitlines()
+    wrong += [] if sorted(listed) == sorted(found(prefix)) and len(listed) == len(set(listed)) else ["share/hullbook/installed"]
+    return wrong + (["lib/hull/hull/py.typed"] if contents(f"{prefix}/lib/hull/hull/py.typed") else [])
+
+
+def folders_of(prefix):
+    return {stat.S_IMODE(os.stat(os.path.join(at, it)).st_mode) for at, names, _ in os.walk(prefix) for it in names}
+
+
+def test_install(tests):
+    """What bin/install puts below a prefix, in each of its forms, is each file with its mode and bytes."""
+    with tempfile.TemporaryDirectory() as room:
+        top, work = f"{room}/repository", f"{room}/temporary"
+        lay(top), os.makedirs(work)
+        mine = os.uname().machine
+        forms = (  # a name, the words, the environment, the prefix, the processor, and whether the programs are installed
+            ("an installation", [f"{room}/all"], {}, f"{room}/all", mine, mine == "x86_64"),
+            ("the libraries only", ["--library", f"{room}/only"], {}, f"{room}/only", mine, False),
+            ("for x86-64", [f"{room}/here"], {"HULL_PROCESSOR": "x86_64"}, f"{room}/here", "x86_64", True),
+            ("for another processor", [f"{room}/other"], {"HULL_PROCESSOR": "aarch64"}, f"{room}/other", "aarch64", False),
+            ("a prefix with spaces", [f"{room}/a b/c"], {}, f"{room}/a b/c", mine, mine == "x86_64"),
+            ("below DESTDIR", ["/usr"], {"DESTDIR": f"{room}/staged"}, f"{room}/staged/usr", mine, mine == "x86_64"),
+            ("a relative prefix", ["relative"], {"DESTDIR": ""}, f"{top}/relative", mine, mine == "x86_64"),
+            ("a relative prefix below DESTDIR", ["relative"], {"DESTDIR": f"{room}/staged"}, f"{room}/staged/relative", mine, mine == "x86_64"),
+            ("where nothing is readable for others", [f"{room}/masked"], {"UMASK": "077"}, f"{room}/masked", mine, mine == "x86_64"),
+        )
+        for what, words, env, prefix, processor, has_programs in forms:
+            status, said = run(top, "sh", "-c", 'umask "${UMASK:-022}"; exec bin/install "$@"', "", *words, env={"TMPDIR": work, **env})
+            tests.see(f"{what}: status 0, and nothing is printed", (status, said) == (0, ""), f"{status}: {said}")
+            tests.same(f"{what}: each file with its mode", found(prefix), wanted(processor, has_programs))
+            tests.same(f"{what}: each file has its bytes", has_its_bytes(top, prefix, processor, has_programs), [])
+            tests.same(f"{what}: folders are open to all", folders_of(prefix) | {stat.S_IMODE(os.stat(prefix).st_mode)}, {0o755})
+            tests.same(f"{what}: nothing temporary is left", os.listdir(work), [])
+        test_again(tests, top, f"{room}/all", work)
+        test_version_file(tests, f"{room}/all")
+
+
+def test_again(tests, top, prefix, work):
+    """A second installation replaces each file as a whole; one that fails changes nothing; --uninstall leaves the files of others."""
+    write(f"{prefix}/lib/others.txt", "of others\n")
+    write(f"{prefix}/include/hull.h", "an older one\n", 0o600)
+    before, opened = os.stat(f"{prefix}/lib/libhull.a").st_ino, open(f"{prefix}/include/hull.h", encoding="utf-8")
+    with opened:
+        tests.same("a second installation", run(top, "bin/install", prefix), (0, ""))
+        tests.same("who has a file open keeps it", opened.read(), "an older one\n")
+    tests.see("each file is another one", os.stat(f"{prefix}/lib/libhull.a").st_ino != before)
+    mine = os.uname().machine
+    tests.same("with the files of others, and no more", found(prefix), {**wanted(mine, mine == "x86_64"), "lib/others.txt": 0o644})
+    kept = {it: contents(f"{prefix}/{it}") for it in found(prefix)}
+    for status in (69, 70, 71):
+        came, said = run(top, "bin/install", prefix, env={"PRODUCT_STATUS": str(status), "TMPDIR": work})
+        tests.see(f"a product that fails with {status}", came == status and {it: contents(f"{prefix}/{it}") for it in found(prefix)} == kept, f"{came}: {said}")
+        came, said = run(top, "bin/install", f"{prefix}.none", env={"PRODUCT_STATUS": str(status), "TMPDIR": work})
+        tests.see("it leaves nothing", came == status and not os.path.exists(f"{prefix}.none") and not os.listdir(work), f"{came}: {said}")
+    tests.same("--uninstall", run(top, "bin/install", "--uninstall", prefix), (0, ""))
+    tests.same("it leaves the files of others", found(prefix), {"lib/others.txt": 0o644})
+    tests.same("and their folders", os.listdir(prefix), ["lib"])
+    status, said = run(top, "bin/install", "--uninstall", prefix)
+    tests.see("--uninstall again", status == 1 and f"{prefix}/share/hullbook/installed is not there" in said, f"{status}: {said}")
+    for words in ([], [""], ["-x"], ["--library"], [prefix, prefix], ["--library", "--uninstall"], ["--uninstall"]):
+        tests.same(f"usage: {words}", run(top, "bin/install", *words), (2, USAGE))
+    tests.same("usage: --help", run(top, "bin/install", "--help"), (0, USAGE))
+    run(top, "bin/install", prefix)
+
+
+def test_version_file(tests, prefix):
+    """CMake takes this version, older ones of its major version, and no other."""
+    if not shutil.which("cmake"):
+        print("skipped: the version that CMake finds: there is no cmake")
+        return
+    script = 'set(PACKAGE_FIND_VERSION "{0}")\nset(PACKAGE_FIND_VERSION_MAJOR "{1}")\ninclude("{2}/lib/cmake/hull/hull-config-version.cmake")\n' \
+             'message("${{PACKAGE_VERSION}} ${{PACKAGE_VERSION_COMPATIBLE}} ${{PACKAGE_VERSION_EXACT}}")\n'
+    for asked, answer in (("7.8.9", "TRUE TRUE"), ("7.8", "TRUE "), ("7.9", "FALSE "), ("8.0", "FALSE "), ("6.0", "FALSE "), ("7", "TRUE ")):
+        write(f"{prefix}.cmake", script.format(asked, asked.partition(".")[0], prefix))
+        tests.same(f"CMake asks for {asked}", run("/", "cmake", "-P", f"{prefix}.cmake")[1].rstrip("\n"), f"7.8.9 {answer}")
+
+
+# ---- packages
+
+MADE = ("hull-7.8.9-x86_64-linux.tar.xz", "hull-7.8.9-aarch64-linux.tar.xz", "hullbook-7.8.9-py3-none-manylinux2014_x86_64.musllinux_1_1_x86_64.whl",
+        "hullbook-7.8.9-py3-none-manylinux2014_aarch64.musllinux_1_1_aarch64.whl", "hullbook-7.8.9.tar.gz", "hullbook-7.8.9.tgz", "hull-7.8.9-rust.tar.gz")
+DEB = "hullbook_7.8.9_amd64.deb"
+
+
+def members(path):
+    """Returns the members of an archive, each with its bytes; their owners, times and modes are to be the same."""
+    with tarfile.open(path) as archive:
+        all_of_it = archive.getmembers()
+        kinds = {(it.mtime, it.uid, it.gid, it.uname, it.gname) for it in all_of_it}
+        modes = {it.name: it.mode for it in all_of_it}
+        return {it.name: archive.extractfile(it).read() for it in all_of_it if it.isfile()}, kinds, modes
+
+
+def test_archive(tests, out, name, prefix, processor):
+    """The archive that runs from any folder has what is installed, with documents and examples."""
+    texts, kinds, modes = members(f"{out}/{name}")
+    top = f"hull-7.8.9-{processor}-linux/"
+    tests.same(f"{name}: owner and time", kinds, {(315532800, 0, 0, "root", "root")})
+    installed = wanted(processor, processor == "x86_64")
+    tests.same(f"{name}: modes", {it: modes.get(top + it) for it in installed}, installed)
+    more = {f"share/doc/hullbook/{it}.md" for it in ("EMBEDDING", "PLANNERS", "SHARED", "PROGRAM", "FORMATS")} | {"LICENSE", "CHANGELOG.md", "README.md"}
+    rest = {it.removeprefix(top) for it in texts} - set(installed)
+    tests.see(f"{name}: documents and examples", more <= rest and all(it in more or it.startswith("share/doc/hullbook/examples/") for it in rest), rest ^ more)
+    tests.same(f"{name}: what it is of", texts[f"{top}lib/libhull.a"].decode(), f"product {processor}/libhull.a\n")
+    tests.same(f"{name}: its page", texts[f"{top}README.md"], contents(f"{prefix}/share/doc/hullbook/README.md"))
+
+
+def test_wheel(tests, out, name, processor):
+    """A wheel has the module with its libraries, and a record of all sums and sizes."""
+    with zipfile.ZipFile(f"{out}/{name}") as wheel:
+        texts, infos = {it: wheel.read(it) for it in wheel.namelist()}, wheel.infolist()
+    about = "hullbook-7.8.9.dist-info"
+    record = [it.rsplit(",", 2) for it in texts[f"{about}/RECORD"].decode().splitlines()]
+    sums = [[it, f"sha256={base64.urlsafe_b64encode(hashlib.sha256(data).digest()).rstrip(b'=').decode()}", str(len(data))] for it, data in texts.items()]
+    tests.same(f"{name}: the record", sorted(record), sorted([*(it for it in sums if it[0] != f"{about}/RECORD"), [f"{about}/RECORD", "", ""]]))
+    files = {"hull/__init__.py", "hull/libhull.so", "hull/libhull_shared.so", "hull/py.typed", *(f"{about}/{it}" for it in ("METADATA", "WHEEL", "LICENSE", "RECORD"))}
+    tests.same(f"{name}: its files", set(texts), files)
+    tests.same(f"{name}: modes and times", {(it.external_attr >> 16, it.date_time) for it in infos}, {(0o644, (1980, 1, 1, 0, 0, 0))})
+    tags = [it for it in texts[f"{about}/WHEEL"].decode().splitlines() if it.startswith("Tag: ")]
+    tests.same(f"{name}: its tags", tags, [f"Tag: py3-none-manylinux2014_{processor}", f"Tag: py3-none-musllinux_1_1_{processor}"])
+    said = texts[f"{about}/METADATA"].decode()
+    heads = ("Name: hullbook\n", "Version: 7.8.9\n", "Requires-Python: >=3.8\n", "Description-Content-Type: text/markdown\n")
+    tests.see(f"{name}: what it is", all(it in said.partition("\n\n")[0] + "\n" for it in heads) and said.endswith(contents(f"{TOP}/python/README.md").decode()), said[:300])
+    tests.same(f"{name}: the library", texts["hull/libhull.so"].decode(), f"product {processor}/libhull.so\n")
+    tests.see(f"{name}: it is no pure module", "Root-Is-Purelib: false\n" in texts[f"{about}/WHEEL"].decode())
+
+
+def test_sources(tests, top, out):
+    """The archive for pip, that for npm, and the crate have what their builds need."""
+    texts, kinds, modes = members(f"{out}/hullbook-7.8.9.tar.gz")
+    at = "hullbook-7.8.9/"
+    needed = ["VERSION", "pyproject.toml", "python/backend.py", "tools/packages.py", "bin/install", "include/hull.h", "c/gate.c", "dist/SUMS", "man/hull.3", "rust/hull/Cargo.toml",
+              "docs/INSTALLED.md", "crates.txt", "crates/low/src/lib.rt", "crates/hull_c/src/lib.rt", "crates/hull_shared/src/lib.rt", "dist/x86_64/libhull.a", "dist/aarch64/libhull.a"]
+    tests.same("the archive for pip", {it: texts.get(at + it) for it in needed}, {it: contents(f"{top}/{it}") for it in needed})
+    tests.same("it has nothing else of crates", {it for it in texts if "/crates/" in it}, {f"{at}crates/{it}/src/lib.rt" for it in ("low", "hull_c", "hull_shared")})
+    tests.see("its description", texts[f"{at}PKG-INFO"].startswith(b"Metadata-Version: 2.1\nName: hullbook\nVersion: 7.8.9\n") and modes[f"{at}bin/install"] == 0o755)
+    tests.same("its owner and time", kinds, {(315532800, 0, 0, "root", "root")})
+    texts, kinds, modes = members(f"{out}/hullbook-7.8.9.tgz")
+    named = ["package.json", *json.loads(contents(f"{top}/web/package.json"))["files"]]
+    places = {it: f"{top}/{'LICENSE' if it == 'LICENSE' else it.replace('out/', 'dist/web/') if it.startswith('out/') else 'web/' + it}" for it in named}
+    tests.same("the package for npm", texts, {f"package/{it}": contents(place) for it, place in places.items()})
+    tests.same("its modes, owner and time", (set(modes.values()), kinds), ({0o644}, {(315532800, 0, 0, "root", "root")}))
+    texts, kinds, modes = members(f"{out}/hull-7.8.9-rust.tar.gz")
+    files = {**{it.removeprefix("lib/rust/hull/"): contents(f"{top}/{source}") for it, source in COPIES.items() if it.startswith("lib/rust/")},
+             "LICENSE": contents(f"{top}/LICENSE"),
+             **{f"archives/{it}/{name}.a": f"product {it}/{name}.a\n".encode() for it in ("x86_64", "aarch64") for name in ("libhull", "libhull_shared")}}
+    tests.same("the crate", texts, {f"hull-7.8.9/{it}": data for it, data in files.items()})
+    tests.same("its modes, owner and time", (set(modes.values()), kinds), ({0o644}, {(315532800, 0, 0, "root", "root")}))
+
+
+def test_deb(tests, room, out):
+    """The package for dpkg has what is installed where Debian has it, compressed pages, and a description."""
+    if not shutil.which("dpkg-deb"):
+        print("skipped: the package for dpkg: there is no dpkg-deb")
+        return
+    fields = dict(it.split(": ", 1) for it in run(room, "dpkg-deb", "-f", f"{out}/{DEB}")[1].splitlines() if not it.startswith(" "))
+    tests.same("its fields", {it: fields.get(it) for it in ("Package", "Version", "Architecture", "Depends", "Section")},
+               {"Package": "hullbook", "Version": "7.8.9", "Architecture": "amd64", "Depends": None, "Section": "math"})
+    run(room, "dpkg-deb", "-x", f"{out}/{DEB}", f"{room}/deb")
+    modes, about = found(f"{room}/deb"), "usr/share/doc/hullbook"
+    moved = {"lib/hull/": "lib/python3/dist-packages/", "lib/rust/": "share/hullbook/rust/", "share/hullbook/completions/hullbook.bash": "share/bash-completion/completions/hullbook",
+             "share/hullbook/completions/_hullbook": "share/zsh/vendor-completions/_hullbook",
+             "share/hullbook/completions/hullbook.fish": "share/fish/vendor_completions.d/hullbook.fish", "share/doc/hullbook/LICENSE": "share/doc/hullbook/copyright"}
+    files = {}
+    for it in wanted("x86_64", True):
+        place = next((new + it[len(old):] for old, new in moved.items() if it.startswith(old)), it)
+        files[f"usr/{place}{'.gz' if place.startswith('share/man/') else ''}"] = 0o755 if it.startswith("bin/") else 0o644
+    for gone in (f"{about}/CHANGELOG.md", "usr/share/hullbook/installed"):
+        del files[gone]
+    files.update({f"{about}/changelog.gz": 0o644, f"{about}/changelog.Debian.gz": 0o644, "usr/share/lintian/overrides/hullbook": 0o644})
+    tests.same("its files and modes", modes, files)
+    tests.same("its folders", folders_of(f"{room}/deb"), {0o755})
+    tests.same("a manual page", gzip.decompress(contents(f"{room}/deb/usr/share/man/man3/hull.3.gz")), contents(f"{TOP}/man/hull.3"))
+    tests.same("its changes", gzip.decompress(contents(f"{room}/deb/{about}/changelog.gz")), contents(f"{TOP}/CHANGELOG.md"))
+    tests.see("its entry", gzip.decompress(contents(f"{room}/deb/{about}/changelog.Debian.gz")).startswith(b"hullbook (7.8.9) unstable; urgency=low\n"))
+    tests.see("its size, in units of 1024 bytes", abs(int(fields["Installed-Size"]) - sum(os.path.getsize(f"{room}/deb/{it}") for it in modes) // 1024) <= 1, fields)
+    owners = {it.split()[1] for it in run(room, "dpkg-deb", "-c", f"{out}/{DEB}")[1].splitlines()}
+    tests.same("its owner", owners, {"root/root"})
+
+
+def test_packages(tests):
+    """bin/package makes each package whole, the same each time, and none if a file is of other sources."""
+    with tempfile.TemporaryDirectory() as room:
+        top, out, work = f"{room}/repository", f"{room}/out", f"{room}/temporary"
+        lay(top), os.makedirs(work)
+        # (of a program the head of its ELF file is read)
+        write(f"{top}/tools/product.sh", PRODUCT.replace("chmod 600", "case $2 in */hull[bd]*) head -c 100 /dev/zero >>\"$3\" ;; esac; chmod 600"), 0o755)
+        status, said = run(top, "bin/package", out, env={"TMPDIR": work})
+        names = sorted([*MADE, *([DEB] if shutil.which("dpkg-deb") else [])])
+        tests.see("bin/package", status == 0 and sorted(it.split()[1] for it in said.splitlines() if it[:9].strip().isdigit()) == names, f"{status}: {said}")
+        tests.same("its packages", sorted(os.listdir(out)), names)
+        tests.same("nothing temporary is left", os.listdir(work), [])
+        run(top, "bin/install", f"{room}/prefix")
+        for processor in ("x86_64", "aarch64"):
+            test_archive(tests, out, f"hull-7.8.9-{processor}-linux.tar.xz", f"{room}/prefix", processor)
+            test_wheel(tests, out, f"hullbook-7.8.9-py3-none-manylinux2014_{processor}.musllinux_1_1_{processor}.whl", processor)
+        test_sources(tests, top, out)
+        test_deb(tests, room, out)
+        run(top, "bin/package", f"{room}/again", env={"DESTDIR": f"{room}/elsewhere"})
+        tests.same("the same bytes again", [it for it in names if contents(f"{out}/{it}") != contents(f"{room}/again/{it}")], [])
+        test_stale(tests, top, room, names)
+
+
+def test_stale(tests, top, room, names):
+    """With files of other sources nothing is made; with --test, what can be for this processor."""
+    mine = os.uname().machine
+    for stale in ("x86_64/libhull.a", "web/hull.wasm", "aarch64/libhull_shared.so"):
+        status, said = run(top, "bin/package", f"{room}/none", env={"STALE": stale})
+        tests.see(f"{stale} of other sources", status == 69 and f"made of other sources: {stale};" in said and not os.path.exists(f"{room}/none"), f"{status}: {said}")
+    status, said = run(top, "bin/package", "--test", f"{room}/tested", env={"STALE": "web/hull.wasm"})
+    others = {"x86_64", "aarch64"} - {mine}
+    tests.see("--test", status == 0 and sorted(os.listdir(f"{room}/tested")) == [it for it in names if not any(other in it for other in others)], f"{status}: {said}")
+    status, said = run(top, "bin/package", f"{room}/failed", env={"PRODUCT_STATUS": "70"})
+    tests.see("a package that fails leaves nothing", status != 0 and not os.path.exists(f"{room}/failed"), f"{status}: {said}")
+    for words, wanted_status in (([], 2), (["a", "b"], 2), (["-x"], 2), (["--test"], 2), (["--help"], 0)):
+        status, said = run(top, "bin/package", *words)
+        tests.see(f"usage of bin/package: {words}", status == wanted_status and "bin/package [--test] OUT" in said, f"{status}: {said}")
