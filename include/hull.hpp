@@ -666,7 +666,7 @@ public:
         return detail::witness(hull_polygon_witness(data(), size(), other.data(), other.size()));
     }
 
-    // Returns where the two are nearest to one another; none if one of them has no vertices.
+    // Returns the points at which the two are nearest to one another; none if one of them has no vertices.
     template <class Other> std::optional<Distance> distance(const PolygonQuestions<Other> &other) const {
         return detail::distance(hull_polygon_distance(data(), size(), other.data(), other.size()));
     }
