@@ -3,8 +3,8 @@ ghost use Rattle.std.specs.Prelude.{◌<◌, length};
 ghost use Rattle.hull_polygon.specs.Lent.{vertices_of};
 
 use super::offsets::{
-    Bracket, Corner, Feature, Offset, corner_at, edge_from, farthest_across, first_turned,
-    index_round, offset_of, vertex_round,
+    Bracket, DifferenceVertex, Feature, Offset, edge_from, farthest_across, first_turned,
+    index_round, offset_at, offset_of, vertex_round,
 };
 use super::polygon::Polygon;
 use super::walks::STEPS;
@@ -43,17 +43,17 @@ fn bracket_beside(this: &Polygon, other: &Polygon, way: Offset) -> Bracket
     requires this { 0 < length (vertices_of this.now) }
     requires that { 0 < length (vertices_of other.now) }
 {
-    let start = Corner {
+    let start = DifferenceVertex {
         this: farthest_round(this.vertices, this.last, way.back(), true),
         other: farthest_round(other.vertices, other.last, way, true),
     };
-    let end = Corner {
+    let end = DifferenceVertex {
         this: farthest_round(this.vertices, this.last, way, false),
         other: farthest_round(other.vertices, other.last, way.back(), false),
     };
     Bracket {
         start,
-        end: Corner {
+        end: DifferenceVertex {
             this: index_from(this.vertices, end.this, start.this),
             other: index_from(other.vertices, end.other, start.other),
         },
@@ -61,21 +61,21 @@ fn bracket_beside(this: &Polygon, other: &Polygon, way: Offset) -> Bracket
 }
 
 /// Returns the vertex of the difference in a bracket that lies farthest to the right of `way`.
-fn corner_beside(this: &Polygon, other: &Polygon, bracket: Bracket, way: Offset) -> Corner
+fn vertex_beside(this: &Polygon, other: &Polygon, bracket: Bracket, way: Offset) -> DifferenceVertex
     requires this { 0 < length (vertices_of this.now) }
     requires that { 0 < length (vertices_of other.now) }
 {
     let left = way.turned_left();
     let ours = farthest_round(this.vertices, this.last, left.back(), false);
     let theirs = farthest_round(other.vertices, other.last, left, false);
-    Corner {
+    DifferenceVertex {
         this: index_from(this.vertices, ours, bracket.start.this).min(bracket.end.this),
         other: index_from(other.vertices, theirs, bracket.start.other).min(bracket.end.other),
     }
 }
 
 /// Whether the distance from the origin falls along the edge of the difference from a vertex of a bracket to the next.
-fn falls_after(this: &Polygon, other: &Polygon, bracket: Bracket, at: Corner) -> bool
+fn falls_after(this: &Polygon, other: &Polygon, bracket: Bracket, at: DifferenceVertex) -> bool
     requires this { 0 < length (vertices_of this.now) }
     requires that { 0 < length (vertices_of other.now) }
 {
@@ -87,11 +87,11 @@ fn falls_after(this: &Polygon, other: &Polygon, bracket: Bracket, at: Corner) ->
     let back = edge_from(other.vertices, at.other).back();
     let is_ours = ours && (!theirs || edge.cross(back) >= 0);
     let way = if is_ours { edge } else { back };
-    way.dot(corner_at(this, other, at)) < 0
+    way.dot(offset_at(this, other, at)) < 0
 }
 
 /// Whether it rises along the edge of the difference to that vertex.
-fn rises_before(this: &Polygon, other: &Polygon, bracket: Bracket, at: Corner) -> bool
+fn rises_before(this: &Polygon, other: &Polygon, bracket: Bracket, at: DifferenceVertex) -> bool
     requires this { 0 < length (vertices_of this.now) }
     requires that { 0 < length (vertices_of other.now) }
 {
@@ -103,7 +103,7 @@ fn rises_before(this: &Polygon, other: &Polygon, bracket: Bracket, at: Corner) -
     let back = edge_from(other.vertices, at.other.wrapping_sub(1)).back();
     let is_ours = ours && (!theirs || back.cross(edge) >= 0);
     let way = if is_ours { edge } else { back };
-    way.dot(corner_at(this, other, at)) > 0
+    way.dot(offset_at(this, other, at)) > 0
 }
 
 /// Whether the foot of `q` on the line from `a` to `b` is between the two, or, if `is_end` is true, is one of them.
@@ -159,8 +159,8 @@ fn closest_of_edge(this: &Polygon, other: &Polygon, edge: Bracket) -> Feature
     requires this { 0 < length (vertices_of this.now) }
     requires that { 0 < length (vertices_of other.now) }
 {
-    let start = corner_at(this, other, edge.start);
-    let way = corner_at(this, other, edge.end).minus(start);
+    let start = offset_at(this, other, edge.start);
+    let way = offset_at(this, other, edge.end).minus(start);
     let along = start.back().dot(way);
     if along <= 0 {
         return Feature::OfOther(edge.start.other);
@@ -189,19 +189,19 @@ pub(crate) fn guess_closest(this: &Polygon, other: &Polygon, way: Offset) -> Opt
     requires that { 0 < length (vertices_of other.now) }
 {
     let mut bracket = bracket_beside(this, other, way);
-    let mut corner = corner_beside(this, other, bracket, way);
+    let mut vertex = vertex_beside(this, other, bracket, way);
     for _step in 0..STEPS {
-        if falls_after(this, other, bracket, corner) {
-            bracket.start = corner;
-        } else if rises_before(this, other, bracket, corner) {
-            bracket.end = corner;
+        if falls_after(this, other, bracket, vertex) {
+            bracket.start = vertex;
+        } else if rises_before(this, other, bracket, vertex) {
+            bracket.end = vertex;
         } else {
-            return Some(Feature::OfOther(corner.other));
+            return Some(Feature::OfOther(vertex.other));
         }
-        let start = corner_at(this, other, bracket.start);
-        let chord = corner_at(this, other, bracket.end).minus(start);
-        corner = farthest_across(this, other, bracket, chord);
-        if chord.cross(corner_at(this, other, corner).minus(start)) == 0 {
+        let start = offset_at(this, other, bracket.start);
+        let chord = offset_at(this, other, bracket.end).minus(start);
+        vertex = farthest_across(this, other, bracket, chord);
+        if chord.cross(offset_at(this, other, vertex).minus(start)) == 0 {
             return Some(closest_of_edge(this, other, bracket));
         }
     }

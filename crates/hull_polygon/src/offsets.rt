@@ -98,7 +98,7 @@ pub(crate) fn edge_from(vertices: &[Point], i: usize) -> Offset
 
 /// A vertex of the difference: the index of a vertex of this polygon minus that of one of the other.
 #[derive(Clone, Copy)]
-pub(crate) struct Corner {
+pub(crate) struct DifferenceVertex {
     pub(crate) this: usize,
     pub(crate) other: usize,
 }
@@ -115,12 +115,12 @@ pub(crate) enum Feature {
 /// The vertices of the difference counterclockwise from one to another.
 #[derive(Clone, Copy)]
 pub(crate) struct Bracket {
-    pub(crate) start: Corner,
-    pub(crate) end: Corner,
+    pub(crate) start: DifferenceVertex,
+    pub(crate) end: DifferenceVertex,
 }
 
 /// Returns a vertex of the difference.
-pub(crate) fn corner_at(this: &Polygon, other: &Polygon, at: Corner) -> Offset
+pub(crate) fn offset_at(this: &Polygon, other: &Polygon, at: DifferenceVertex) -> Offset
     requires this { 0 < length (vertices_of this.now) }
     requires that { 0 < length (vertices_of other.now) }
 {
@@ -160,12 +160,12 @@ pub(crate) fn farthest_across(
     other: &Polygon,
     bracket: Bracket,
     way: Offset,
-) -> Corner
+) -> DifferenceVertex
     requires this { 0 < length (vertices_of this.now) }
     requires that { 0 < length (vertices_of other.now) }
 {
     let (start, end) = (bracket.start, bracket.end);
-    Corner {
+    DifferenceVertex {
         this: first_turned(this.vertices, start.this, end.this, way, 0),
         other: first_turned(other.vertices, start.other, end.other, way.back(), 0),
     }

@@ -2,7 +2,7 @@
 ghost use Rattle.std.specs.Prelude.{◌<◌, length};
 ghost use Rattle.hull_polygon.specs.Lent.{vertices_of};
 
-use super::offsets::{Bracket, Corner, Offset, corner_at, farthest_across};
+use super::offsets::{Bracket, DifferenceVertex, Offset, farthest_across, offset_at};
 use super::polygon::Polygon;
 
 /// How many steps a walk may take. Each step leaves at most a quarter of the area in which the origin may lie, of at most
@@ -20,7 +20,7 @@ pub(crate) struct Few {
 }
 
 /// Returns the vertices of the polygons that make three vertices of the difference.
-fn few_of(first: Corner, middle: Corner, last: Corner) -> Few {
+fn few_of(first: DifferenceVertex, middle: DifferenceVertex, last: DifferenceVertex) -> Few {
     Few {
         this: [first.this, middle.this, last.this],
         other: [first.other, middle.other, last.other],
@@ -34,7 +34,7 @@ pub(crate) enum Guess {
     Meeting(Few),
     /// They are disjoint: the difference is on the left of the line through this vertex of it in this direction, and the
     /// origin on the right.
-    Apart(Corner, Offset),
+    Apart(DifferenceVertex, Offset),
     /// The walk took too many steps.
     Unknown,
 }
@@ -56,7 +56,7 @@ fn line_beside(vertex: Offset) -> Offset {
 
 /// Returns the part of a bracket on one side of a vertex that lies farthest across its chord: the one in whose range of
 /// the order of points the origin lies.
-fn narrowed(bracket: Bracket, middle: Corner, vertex: Offset, is_lower: bool) -> Bracket {
+fn narrowed(bracket: Bracket, middle: DifferenceVertex, vertex: Offset, is_lower: bool) -> Bracket {
     if vertex.is_forward() == is_lower && (vertex.x != 0 || vertex.y != 0) {
         Bracket {
             start: bracket.start,
@@ -78,17 +78,17 @@ fn guess_by_chain(this: &Polygon, other: &Polygon, chain: Bracket, is_lower: boo
 {
     let mut bracket = chain;
     for _step in 0..STEPS {
-        let start = corner_at(this, other, bracket.start);
-        let chord = corner_at(this, other, bracket.end).minus(start);
+        let start = offset_at(this, other, bracket.start);
+        let chord = offset_at(this, other, bracket.end).minus(start);
         let middle = farthest_across(this, other, bracket, chord);
-        let vertex = corner_at(this, other, middle);
+        let vertex = offset_at(this, other, middle);
         if chord.cross(vertex) > 0 {
             return Guess::Apart(middle, chord);
         }
         let (first, last) = (bracket.start, bracket.end);
         bracket = narrowed(bracket, middle, vertex, is_lower);
-        let from = corner_at(this, other, bracket.start);
-        let to = corner_at(this, other, bracket.end);
+        let from = offset_at(this, other, bracket.start);
+        let to = offset_at(this, other, bracket.end);
         if to.minus(from).cross(from) <= 0 {
             return Guess::Meeting(few_of(first, middle, last));
         }
@@ -106,15 +106,15 @@ pub(crate) fn guess_relation(this: &Polygon, other: &Polygon) -> Guess
     requires this { 0 < length (vertices_of this.now) }
     requires that { 0 < length (vertices_of other.now) }
 {
-    let least = Corner {
+    let least = DifferenceVertex {
         this: 0,
         other: other.last,
     };
-    let most = Corner {
+    let most = DifferenceVertex {
         this: this.last,
         other: 0,
     };
-    let (first, last) = (corner_at(this, other, least), corner_at(this, other, most));
+    let (first, last) = (offset_at(this, other, least), offset_at(this, other, most));
     if first.is_forward() {
         return Guess::Apart(least, line_beside(first));
     }
@@ -126,11 +126,11 @@ pub(crate) fn guess_relation(this: &Polygon, other: &Polygon) -> Guess
         return Guess::Meeting(few_of(least, most, least));
     }
     let (first_end, last_end) = (
-        Corner {
+        DifferenceVertex {
             this: this.vertices.len(),
             other: other.last,
         },
-        Corner {
+        DifferenceVertex {
             this: this.last,
             other: other.vertices.len(),
         },

@@ -9,7 +9,7 @@ ghost use Rattle.hull_polygon.specs.Lent.{vertices_of};
 use super::extreme::farthest;
 use super::meetings::Meeting;
 use super::nearest::is_right;
-use super::offsets::{Corner, Feature, index_round, vertex_round};
+use super::offsets::{DifferenceVertex, Feature, index_round, vertex_round};
 use super::polygon::Polygon;
 use super::rounds::vertex_at;
 use super::separations::Separation;
@@ -126,7 +126,11 @@ impl<'a> Polygon<'a> {
 
     /// Returns the separation by an edge of this hull or of `other` next to the vertices of a vertex of their difference,
     /// and that edge, if one of those separates them.
-    fn separation_near(&self, other: &Polygon, at: Corner) -> Option<(Separation, Feature)>
+    fn separation_near(
+        &self,
+        other: &Polygon,
+        at: DifferenceVertex,
+    ) -> Option<(Separation, Feature)>
         requires this { 0 < length (vertices_of self.now) }
         requires that { 0 < length (vertices_of other.now) }
         ensures { HoldsOfBoth (vertices_of self.now) (vertices_of other.now)
