@@ -40,7 +40,12 @@ fn leaf(alloc: Heap, points: &[Point], multiplicities: &[u16]) -> Result<Node, A
 }
 
 /// Makes the tree of points in order, each with its multiplicity, with this many forks above each bucket. Fails only if `alloc` refuses memory.
-fn build(alloc: Heap, points: &[Point], multiplicities: &[u16], forks: u16) -> Result<Node, AllocError>
+fn build(
+    alloc: Heap,
+    points: &[Point],
+    multiplicities: &[u16],
+    forks: u16,
+) -> Result<Node, AllocError>
     requires { IsLoad points.now multiplicities.now forks }
     ensures built { IfOk result IsWellBuilt }
     ensures points { IfOk result (λ n. points_below n ≡ points.now) }

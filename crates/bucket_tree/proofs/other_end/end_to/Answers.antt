@@ -1,0 +1,38 @@
+-- the lower bridge is the upper one after a rotation by 180 degrees
+use Rattle.std.proofs.Common.{ap, arith}
+use Rattle.bridge_search.specs.Trees.{height_of}
+use Rattle.bridge_search.specs.TurnedTrees.{height_turned}
+use Rattle.bucket_tree.specs.Nodes.{tree_of}
+use Rattle.bucket_tree.specs.Parts.{part_tree}
+use Rattle.bucket_tree.proofs.NodeRows.{vertices_low}
+use Rattle.bucket_tree.proofs.OtherEnds.{after_by_turn, lower_to}
+use Rattle.bucket_tree.proofs.other_end.end_to.Goals as goal
+
+pub upper_end_from-end-requires : goal.upper_end_from-end-requires
+upper_end_from-end-requires c =
+    rw (c.new.ensures, c.new-part.ensures, c.turned.ensures)
+    (after_by_turn (tree_of c.args.node.now) c.args.p c.requires.before)
+
+pub returns-in-Upper-clause-turns : goal.returns-in-Upper-clause-turns
+returns-in-Upper-clause-turns c = omega (
+  arith,
+  c.upper_end_to.ensures.turns,
+  ap height_of c.new-part.ensures,
+  vertices_low c.args.node.now c.requires.built.buckets,
+)
+
+pub returns-in-Lower-clause-end : goal.returns-in-Lower-clause-end
+returns-in-Lower-clause-end c =
+    rw (c.in-Lower.is, c.turned-in-Lower.ensures)
+    (lower_to (tree_of c.args.node.now) c.args.p c.upper_end_from-end.result.0
+    (rw (c.new.ensures, c.new-part.ensures, c.turned.ensures) at c.upper_end_from-end.ensures.end))
+
+pub returns-in-Lower-clause-turns : goal.returns-in-Lower-clause-turns
+returns-in-Lower-clause-turns c = omega (
+  arith,
+  c.upper_end_from-end.ensures.turns,
+  ap height_of c.new.ensures,
+  height_turned (part_tree c.new-part.result),
+  ap height_of c.new-part.ensures,
+  vertices_low c.args.node.now c.requires.built.buckets,
+)
