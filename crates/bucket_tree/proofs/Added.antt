@@ -1,5 +1,5 @@
 -- A point that was added to one of two halves: a bridge of which it is not clear ends at it, and the other end is searched alone.
-use Rattle.std.proofs.Common.{◌≡◌, Bool, true, false, cond, refl, sym, subst, inl, inr}
+use Rattle.std.proofs.Common.{◌≡◌, ◌∙◌, Bool, true, false, cond, refl, sym, subst, inl, inr}
 use Rattle.std.specs.Prelude.{not, pos, ◌≤ℤ◌, ◌<ℤ◌}
 use Rattle.std.specs.List.{Contains}
 use Rattle.lattice.specs.Bridges.{IsAllBefore, IsBridge, IsInner, IsNotBeyond}
@@ -10,32 +10,29 @@ use Rattle.lattice.specs.Signs.{le_or_lt}
 use Rattle.lattice.specs.Standing.{WithPoint, IsInnerToEdge}
 use Rattle.lattice.specs.declared.side.Side.{Side}
 use Rattle.lattice.specs.declared.side.Side.TheVariants.{Lower, Upper}
-use Rattle.lattice.proofs.LineCrossings.{orient_other}
-use Rattle.lattice.proofs.Numbers.{nn_opposite, zero_between}
-use Rattle.lattice.proofs.Order.{before_total, before_apart, after_apart}
+use Rattle.lattice.proofs.Numbers.{zero_between}
+use Rattle.lattice.proofs.Order.{before_total, before_apart, after_apart, before_irrefl, before_not}
 use Rattle.lattice.proofs.UniqueBridge.{one_bridge, one_lower_bridge}
 use Rattle.bridge_search.specs.Trees.{Leaf, On}
+use Rattle.hull_geometry.specs.Positions.{first_of, last_of}
 use Rattle.hull_geometry.proofs.Fringed.{ends_there, of_candidate_lists}
 use Rattle.hull_geometry.proofs.PointSets.{set_apart}
 use Rattle.hull_geometry.proofs.SetLaws.{with_point_law}
 use Rattle.hull_geometry.proofs.Touching.{straight}
 use Rattle.bucket_tree.specs.Changes.{IsBridgeBetween, IsClearOf, IsEndOf, IsEndUnlessClear, IsSameBut, change_of, edge_on}
 use Rattle.bucket_tree.specs.Counts.{Alters, Comes}
-use Rattle.bucket_tree.specs.Nodes.{tree_of, points_below, AreInRow}
-use Rattle.bucket_tree.specs.OtherEnds.{IsAfterPoint, IsBeforePoint, IsEndFrom, IsEndTo}
+use Rattle.bucket_tree.specs.Nodes.{tree_of, points_below, AreInRow, IsWellBuilt}
+use Rattle.bucket_tree.specs.OtherEnds.{IsAfterPoint, IsBeforePoint, IsEndFrom, IsEndTo, IsEndFromWithin, IsEndToWithin}
 use Rattle.bucket_tree.specs.declared.node.Fork.{Fork}
 use Rattle.bucket_tree.specs.declared.node.Node.{Node}
 use Rattle.bucket_tree.specs.declared.renewal.Change.{Change}
+use Rattle.bucket_tree.proofs.EdgeEnds.{end_not_inwards, start_not_inwards, to_orient_on}
 use Rattle.bucket_tree.proofs.NodeCandidateLists.{node_candidates}
 use Rattle.bucket_tree.proofs.NodeRows.{vertices_in_row}
+use Rattle.bucket_tree.proofs.SetEnds.{by_first, by_last}
 use Rattle.bucket_tree.proofs.SomeBridge.{some_bridge}
 
 -- ---- not clear of an edge
-
--- a point inner to a line is not outwards of it
-to_orient_on : (side : Side) (u v t : Pair) → IsInner side (orient u v t) → pos 0 ≤ℤ orient_on side u v t
-to_orient_on Lower u v t h = h
-to_orient_on Upper u v t h = nn_opposite _ _ (orient_other u v t) h
 
 -- a point outwards of the line of an edge is not clear of it
 pub outwards_not_clear : (side : Side) (e : Pair × Pair) (p : Pair) → ¬ (pos 0 ≤ℤ orient_on side e.0 e.1 p)
@@ -137,6 +134,42 @@ with_end_to side l r p q w f h =
     (to_end side (On (tree_of l)) (On (tree_of r)) b.0 p k) h in
     subst (λ z. IsBridge side (On (tree_of l)) (On (tree_of r)) z p) same.0 k
 
+-- if the other end of each bridge is not before a point, nor is that of the bridge from p
+pub end_not_before : (side : Side) (l r : Node) (p q d : Pair) → AreInRow l r
+    → ((e : Pair × Pair) → IsBridgeBetween side l r e → (e.0 ≡ p) × ¬ IsBefore e.1 d) → IsEndFrom side p (tree_of r) q
+    → ¬ IsBefore q d
+end_not_before side l r p q d w f h =
+    (f (p, q) (of_points side l r (p, q) w (with_end_from side l r p q w (λ e k. (f e k).0) h))).1
+
+-- if it is not after a point, nor is that of the bridge to p
+pub start_not_after : (side : Side) (l r : Node) (p q d : Pair) → AreInRow l r
+    → ((e : Pair × Pair) → IsBridgeBetween side l r e → (e.1 ≡ p) × ¬ IsBefore d e.0) → IsEndTo side (tree_of l) p q
+    → ¬ IsBefore d q
+start_not_after side l r p q d w f h =
+    (f (q, p) (of_points side l r (q, p) w (with_end_to side l r p q w (λ e k. (f e k).0) h))).1
+
+-- the end among the vertices of a node is not after its last point
+pub within_from : (side : Side) (p : Pair) (n : Node) (first last : Pair) → IsWellBuilt n → last ≡ last_of (points_below n)
+    → ((q : Pair) → IsEndFrom side p (tree_of n) q → ¬ IsBefore q first) → IsEndFromWithin side p (tree_of n) first last
+within_from side p n first last w e f q k = (
+  f q k,
+  λ b. elim (by_last (points_below n) q w.ordered ((node_candidates Lower n w.buckets).among q k.to_right)) [
+    | inl s ↦ before_irrefl q (subst (λ z. IsBefore z q) (e ∙ sym s) b)
+    | inr s ↦ before_not last q b (subst (IsBefore q) (sym e) s)
+  ],
+)
+
+-- and the start not before its first one
+pub within_to : (side : Side) (n : Node) (p first last : Pair) → IsWellBuilt n → first ≡ first_of (points_below n)
+    → ((q : Pair) → IsEndTo side (tree_of n) p q → ¬ IsBefore last q) → IsEndToWithin side (tree_of n) p first last
+within_to side n p first last w e f q k = (
+  λ b. elim (by_first (points_below n) q w.ordered ((node_candidates Lower n w.buckets).among q k.from_left)) [
+    | inl s ↦ before_irrefl q (subst (IsBefore q) (e ∙ sym s) b)
+    | inr s ↦ before_not q first b (subst (λ z. IsBefore z q) (sym e) s)
+  ],
+  f q k,
+)
+
 -- ---- the point that was added
 
 -- a bridge of two sets is one of the same points under other names
@@ -156,12 +189,7 @@ pub ends_at : (left : Bool) (side : Side) (p : Pair) (l r m : Node) (e : Pair ×
     → AreInRow (cond left m l) (cond left r m) → IsBridgeBetween side l r e → ¬ Contains (points_below (cond left l r)) p
     → points_below m ≡ with_point p (points_below (cond left l r))
     → IsEndUnlessClear (change_of left true) side p (cond left m l) (cond left r m) e
-ends_at true side p l r m e row new b absent g n = (
-  here,
-  λ d k. (ends_there side (Contains (points_below l))
-      (Contains (points_below r)) e.0 e.1 p d.0 d.1
-      (λ x y i j. set_apart (points_below l) (points_below r) x y row.in_order i j) b out).0 (widened d k),
-)
+ends_at true side p l r m e row new b absent g n = (here, λ d k. (there d k, away d k))
   where
     law : (t : Pair) → Contains (points_below m) t → WithPoint p (Contains (points_below l)) t
     law t i = ((with_point_law (points_below l) p row.left_built.ordered).1 t).0 (subst (λ z. Contains z t) g i)
@@ -183,12 +211,21 @@ ends_at true side p l r m e row new b absent g n = (
         → IsBridge side (WithPoint p (Contains (points_below l))) (Contains (points_below r)) d.0 d.1
     widened d k = same_sets side (Contains (points_below m)) (WithPoint p (Contains (points_below l)))
         (Contains (points_below r)) (Contains (points_below r)) d.0 d.1 law back (λ t i. i) (λ t i. i) k
-ends_at false side p l r m e row new b absent g n = (
-  here,
-  λ d k. (ends_there side (Contains (points_below l))
-      (Contains (points_below r)) e.0 e.1 p d.0 d.1
-      (λ x y i j. set_apart (points_below l) (points_below r) x y row.in_order i j) b out).1 (widened d k),
-)
+
+    there : (d : Pair × Pair) → IsBridgeBetween side m r d → d.0 ≡ p
+    there d k = (ends_there side (Contains (points_below l)) (Contains (points_below r)) e.0 e.1 p d.0 d.1
+        (λ x y i j. set_apart (points_below l) (points_below r) x y row.in_order i j) b out).0 (widened d k)
+
+    away : (d : Pair × Pair) → IsBridgeBetween side m r d → ¬ IsBefore d.1 e.1
+    away d k i = end_not_inwards side d.0 d.1 e.0 e.1
+        (set_apart (points_below m) (points_below r) d.0 d.1 new.in_order k.from_left k.to_right) (
+          set_apart (points_below l) (points_below r) e.0 d.1 row.in_order b.from_left k.to_right,
+          i,
+          to_orient_on side e.0 e.1 d.1 (b.inner_right d.1 k.to_right),
+        )
+        (k.inner_left e.0 (back e.0 (inr b.from_left)), k.tie_left e.0 (back e.0 (inr b.from_left)))
+        (k.inner_right e.1 b.to_right, k.tie_right e.1 b.to_right)
+ends_at false side p l r m e row new b absent g n = (here, λ d k. (there d k, away d k))
   where
     law : (t : Pair) → Contains (points_below m) t → WithPoint p (Contains (points_below r)) t
     law t i = ((with_point_law (points_below r) p row.right_built.ordered).1 t).0 (subst (λ z. Contains z t) g i)
@@ -211,6 +248,20 @@ ends_at false side p l r m e row new b absent g n = (
     widened d k = same_sets side (Contains (points_below l)) (Contains (points_below l)) (Contains (points_below m))
         (WithPoint p (Contains (points_below r))) d.0 d.1 (λ t i. i) (λ t i. i) law back k
 
+    there : (d : Pair × Pair) → IsBridgeBetween side l m d → d.1 ≡ p
+    there d k = (ends_there side (Contains (points_below l)) (Contains (points_below r)) e.0 e.1 p d.0 d.1
+        (λ x y i j. set_apart (points_below l) (points_below r) x y row.in_order i j) b out).1 (widened d k)
+
+    away : (d : Pair × Pair) → IsBridgeBetween side l m d → ¬ IsBefore e.0 d.0
+    away d k i = start_not_inwards side d.0 d.1 e.0 e.1
+        (set_apart (points_below l) (points_below m) d.0 d.1 new.in_order k.from_left k.to_right) (
+          i,
+          set_apart (points_below l) (points_below r) d.0 e.1 row.in_order k.from_left b.to_right,
+          to_orient_on side e.0 e.1 d.0 (b.inner_left d.0 k.from_left),
+        )
+        (k.inner_left e.0 b.from_left, k.tie_left e.0 b.from_left)
+        (k.inner_right e.1 (back e.1 (inr b.to_right)), k.tie_right e.1 (back e.1 (inr b.to_right)))
+
 -- the same by the change, which may have been refused; the edge goes by another name
 pub ends_after : (left refused : Bool) (side : Side) (p : Pair) (l r m : Node) (e d : Pair × Pair) (change : Change)
     → AreInRow l r → AreInRow (cond left m l) (cond left r m) → IsBridgeBetween side l r e
@@ -229,8 +280,9 @@ ends_after left false side p l r m e d change row new b absent g c s =
 -- a fork of which only the upper edge differs has the end below
 pub end_moved : (change : Change) (p : Pair) (f g : Fork) → IsSameBut Upper f g
     → IsEndUnlessClear change Lower p f.left f.right f.lower → IsEndUnlessClear change Lower p g.left g.right g.lower
-end_moved change p f g s h n = subst (λ z. IsEndOf change Lower p z g.right) (sym s.left)
-    (subst (IsEndOf change Lower p f.left) (sym s.right) (h (subst (λ z. ¬ IsClearOf Lower z p) s.other n)))
+end_moved change p f g s h n = subst (λ z. IsEndOf change Lower p z g.right g.lower) (sym s.left)
+    (subst (λ z. IsEndOf change Lower p f.left z g.lower) (sym s.right)
+    (subst (IsEndOf change Lower p f.left f.right) (sym s.other) (h (subst (λ z. ¬ IsClearOf Lower z p) s.other n))))
 
 -- a point that is an end unless it is clear of a fork's edge is so for a fork with the same edges
 pub end_as : (change : Change) (p : Pair) (l r : Node) (f g : Fork) → ((side : Side) → edge_on side g ≡ edge_on side f)

@@ -20,4 +20,5 @@ pub mod Parts
 pub mod InPlace
 pub mod OtherEnds
 pub mod SomeBridge
+pub mod EdgeEnds
 pub mod Added

@@ -54,15 +54,18 @@ change_of left false = Other
 change_of true true = AddedLeft
 change_of false true = AddedRight
 
--- a point that was added is one of its half, and each bridge of the two halves, as they are now, ends at it
-abbrev pub IsEndOf : Change → Side → Pair → Node → Node → Type 0
-IsEndOf AddedLeft side p l r = Contains (points_below l) p × ((e : Pair × Pair) → IsBridgeBetween side l r e → e.0 ≡ p)
-IsEndOf AddedRight side p l r = Contains (points_below r) p × ((e : Pair × Pair) → IsBridgeBetween side l r e → e.1 ≡ p)
-IsEndOf Other side p l r = Unit {0}
+-- a point that was added is one of its half; each bridge of the two halves, as they are now, ends at it, and its other end is not nearer to the split than
+-- that of the edge that was the bridge before the change
+abbrev pub IsEndOf : Change → Side → Pair → Node → Node → Pair × Pair → Type 0
+IsEndOf AddedLeft side p l r old = Contains (points_below l) p
+    × ((e : Pair × Pair) → IsBridgeBetween side l r e → (e.0 ≡ p) × ¬ IsBefore e.1 old.1)
+IsEndOf AddedRight side p l r old = Contains (points_below r) p
+    × ((e : Pair × Pair) → IsBridgeBetween side l r e → (e.1 ≡ p) × ¬ IsBefore old.0 e.0)
+IsEndOf Other side p l r old = Unit {0}
 
--- that is so if the point is not clear of the edge that was the bridge before the change
+-- that is so if the point is not clear of this edge
 abbrev pub IsEndUnlessClear : Change → Side → Pair → Node → Node → Pair × Pair → Type 0
-IsEndUnlessClear change side p l r e = ¬ IsClearOf side e p → IsEndOf change side p l r
+IsEndUnlessClear change side p l r old = ¬ IsClearOf side old p → IsEndOf change side p l r old
 
 -- a stale fork: a fork over two subtrees, of which one changed at p since its edges were stored. It stores the points at the split; an edge is still
 -- the bridge if its chain is unaffected or if p is clear of it

@@ -118,17 +118,17 @@ pub struct Changed {
 fn search_after(side: Side, fork: &Fork, p: Point, change: Change) -> ((Point, Point), u32)
     requires row { AreInRow fork.now.left fork.now.right }
     requires few { length (points_below fork.now.left ++ points_below fork.now.right) ≤ POINT_LIMIT }
-    requires end { IsEndOf change side p fork.now.left fork.now.right }
+    requires end { IsEndOf change side p fork.now.left fork.now.right (edge_on side fork.now) }
     ensures bridge { IsBridge side (On (tree_of fork.now.left)) (On (tree_of fork.now.right)) result.0.0 result.0.1 }
     ensures turns { result.1 ≤ 2 * max (node_height fork.now.left) (node_height fork.now.right) + 12 }
 {
     match change {
         Change::AddedLeft => {
-            let (end, turns) = end_from(side, p, &fork.right);
+            let (end, turns) = end_from(side, p, &fork.right, fork.edge(side).1);
             ((p, end), turns)
         }
         Change::AddedRight => {
-            let (end, turns) = end_to(side, &fork.left, p);
+            let (end, turns) = end_to(side, &fork.left, p, fork.edge(side).0);
             ((end, p), turns)
         }
         Change::Other => search_one(side, &fork.left, &fork.right),
