@@ -15,15 +15,17 @@ use Rattle.hull_geometry.specs.Positions.{first_of, last_of}
 use Rattle.hull_buckets.specs.Buckets.{BucketValue, IsBucket}
 use Rattle.hull_set.specs.Held.{once}
 use Rattle.bucket_tree.specs.Changes.{HasEdgesBehind, IsBridgeBetween, IsUnaffectedOver, IsBehind}
-use Rattle.bucket_tree.specs.Changes.{IsRenewed, IsSameBut, edge_on}
+use Rattle.bucket_tree.specs.Changes.{IsEndUnlessClear, IsRenewed, IsSameBut, change_of, edge_on}
 use Rattle.bucket_tree.specs.Counts.{counted, multiplicity_at, Alters, Kind, Comes, Goes}
 use Rattle.bucket_tree.specs.InPlace.{AreFewFor, HasChanged, HasChangedIn, IsBehindPart, IsInPlace, IsRenewedAfter}
 use Rattle.bucket_tree.specs.InPlace.{IsToRenew, IsUnsearched}
 use Rattle.bucket_tree.specs.Nodes.{points_below, multiplicities_below, node_height, AreNear, AreInRow, IsWellBuilt}
+use Rattle.bucket_tree.specs.declared.renewal.Change.{Change}
 use Rattle.bucket_tree.specs.declared.renewal.Changed.{Changed}
 use Rattle.bucket_tree.specs.declared.node.Fork.{Fork as Below}
 use Rattle.bucket_tree.specs.declared.node.Node.{Node, Leaf, Fork}
 use Rattle.bucket_tree.specs.declared.renewal.Affected.{Affected}
+use Rattle.bucket_tree.proofs.Added.{ends_at}
 use Rattle.bucket_tree.proofs.BuiltLeaves.{leaf_built}
 use Rattle.bucket_tree.proofs.Kept.{DiffersAt, behind_as, unaffected_within, edges_as, first_kept, last_kept, same_edges}
 use Rattle.bucket_tree.proofs.Kept.{stored}
@@ -182,6 +184,31 @@ over_parts p sides l r f h =
     let g = with_part false (with_part true f l) r in
     behind_as p sides l r f g h.unaffected h.clear (same_edges f g refl refl) h.last h.first
 
+-- a point that is an end of the bridge over two subtrees, unless it is clear of a fork's edge, is so with these in the fork
+pub end_over_parts : (change : Change) (p : Pair) (l r : Node) (f : Below)
+    → ((side : Side) → IsEndUnlessClear change side p l r (edge_on side f))
+    → (side : Side) → IsEndUnlessClear change side p l r (edge_on side (with_part false (with_part true f l) r))
+end_over_parts change p l r f h Lower = h Lower
+end_over_parts change p l r f h Upper = h Upper
+
+-- a point that was added to a subtree is an end of the new bridge, unless it is clear of the fork's edge
+end_with : (left put : Bool) (change : Change) (side : Side) (p : Pair) (n : Node) (h : ℕ) (f : Below) (k : Node)
+    (below : Changed)
+    → IsForkAt left p n h f → HasChanged put p (cond left f.left f.right) k below → IsWellBuilt (cond left f.left f.right)
+    → AreInRow (cond left k f.left) (cond left f.right k) → change ≡ change_of left put
+    → IsEndUnlessClear change side p (cond left k f.left) (cond left f.right k) (edge_on side (with_part left f k))
+end_with left false change side p n h f k below i d w row c =
+    subst (λ z. IsEndUnlessClear z side p (cond left k f.left) (cond left f.right k) (edge_on side (with_part left f k)))
+    (sym c) (λ m. tt)
+end_with left true change side p n h f k below i d w row c =
+    let part = cond left f.left f.right in
+    subst (λ z. IsEndUnlessClear z side p (cond left k f.left) (cond left f.right k) (edge_on side (with_part left f k)))
+    (sym c)
+    (subst (IsEndUnlessClear (change_of left true) side p (cond left k f.left) (cond left f.right k))
+    (sym (same_edges f (with_part left f k) refl refl side))
+    (ends_at left side p f.left f.right k (edge_on side f) i.apart.row row (i.apart.edges side)
+    (absent_below (Some part) part p refl w d.absent) d.gained.0))
+
 -- the edges of a fork whose subtree changed at p are stale
 edges_with : (left put : Bool) (p : Pair) (f : Below) (k : Node) (sides : Affected) → AreInRow f.left f.right
     → ((side : Side) → IsBridgeBetween side f.left f.right (edge_on side f))
@@ -215,21 +242,23 @@ behind_with false put p n h f k sides a w row h' d c = record {
 }
 
 -- a fork whose part changed is to be renewed
-pub to_renew : (left put : Bool) (p : Pair) (n : Node) (h : ℕ) (f g : Below) (k : Node) (below : Changed)
+pub to_renew : (left put : Bool) (change : Change) (p : Pair) (n : Node) (h : ℕ) (f g : Below) (k : Node) (below : Changed)
     → IsForkAt left p n h f → HasChanged put p (cond left f.left f.right) k below
-    → AreFewFor put (length (points_below n)) → node_height n ≤ 28 → g ≡ with_part left f k
-    → IsToRenew left p below g
-to_renew left put p n h f g k below i d few low e =
+    → AreFewFor put (length (points_below n)) → node_height n ≤ 28 → g ≡ with_part left f k → change ≡ change_of left put
+    → IsToRenew left change p below g
+to_renew left put change p n h f g k below i d few low e m =
     let kind = kind_of put in
     let part = cond left f.left f.right in
     let o = part_at left put n h f i.apart few low in
     let s = changed_in_place put p part k below d in
     let b = altered_by put p part k below d in
     let high = heights_with left f k s.height in
-    subst (IsToRenew left p below) (sym e)
+    let row = row_with left kind p n f.left f.right k i.at s.built b in
+    subst (IsToRenew left change p below) (sym e)
     record {
-      behind = behind_with left put p n h f k below.sides i.apart s.built
-          (row_with left kind p n f.left f.right k i.at s.built b) b (differs kind p part k o.0.ordered b) s.unaffected;
+      behind = behind_with left put p n h f k below.sides i.apart s.built row b (differs kind p part k o.0.ordered b)
+          s.unaffected;
+      end = λ side. end_with left put change side p n h f k below i d o.0 row m;
       few = few_with left kind p n f.left f.right k i.at b (space_by left put p n h f k below i d few);
       low = omega (arith, low, i.apart.height, high.0, high.1);
       turns = omega (arith, few_turns (node_height part) o.2, s.turns);

@@ -18,3 +18,7 @@ pub mod ListedParts
 pub mod Kept
 pub mod Parts
 pub mod InPlace
+pub mod OtherEnds
+pub mod SomeBridge
+pub mod EdgeEnds
+pub mod Added

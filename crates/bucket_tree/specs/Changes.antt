@@ -1,5 +1,5 @@
 -- The effect of a change at one point on the bridges above it.
-use Rattle.std.specs.Prelude.{◌≡◌, ◌⊎◌, Bool, false, List}
+use Rattle.std.specs.Prelude.{◌≡◌, ◌⊎◌, Bool, true, false, List}
 use Rattle.std.specs.List.{Contains}
 use Rattle.lattice.specs.Bridges.{IsBridge}
 use Rattle.lattice.specs.Plane.{Pair, IsBefore}
@@ -13,6 +13,8 @@ use Rattle.hull_geometry.specs.Positions.{first_of, last_of}
 use Rattle.bucket_tree.specs.declared.node.Fork.{Fork}
 use Rattle.bucket_tree.specs.declared.node.Node.{Node}
 use Rattle.bucket_tree.specs.declared.renewal.Affected.{Affected}
+use Rattle.bucket_tree.specs.declared.renewal.Change.{Change}
+use Rattle.bucket_tree.specs.declared.renewal.Change.TheVariants.{AddedLeft, AddedRight, Other}
 use Rattle.bucket_tree.specs.declared.renewal.Standing.{Standing}
 use Rattle.bucket_tree.specs.declared.renewal.Standing.TheVariants.{Covered, Clear, Touching}
 use Rattle.bucket_tree.specs.Nodes.{tree_of, points_below, AreInRow}
@@ -43,7 +45,27 @@ IsClearOf side e p = ¬ (e.0 ≡ p) × ¬ (e.1 ≡ p) × IsInnerToEdge side e.0 
 abbrev pub ReturnsOf : Side → Pair × Pair → Pair → Standing → Type 0
 ReturnsOf side e p Covered = IsInwards side e.0 e.1 p
 ReturnsOf side e p Clear = IsClearOf side e p
-ReturnsOf side e p Touching = Unit {0}
+ReturnsOf side e p Touching = ¬ IsClearOf side e p
+
+-- the change of a fork of which one half changed at a point: the left one if the first word is true, otherwise the right one; the point was added to it
+-- if the second word is true
+abbrev pub change_of : Bool → Bool → Change
+change_of left false = Other
+change_of true true = AddedLeft
+change_of false true = AddedRight
+
+-- a point that was added is one of its half; each bridge of the two halves, as they are now, ends at it, and its other end is not nearer to the split than
+-- that of the edge that was the bridge before the change
+abbrev pub IsEndOf : Change → Side → Pair → Node → Node → Pair × Pair → Type 0
+IsEndOf AddedLeft side p l r old = Contains (points_below l) p
+    × ((e : Pair × Pair) → IsBridgeBetween side l r e → (e.0 ≡ p) × ¬ IsBefore e.1 old.1)
+IsEndOf AddedRight side p l r old = Contains (points_below r) p
+    × ((e : Pair × Pair) → IsBridgeBetween side l r e → (e.1 ≡ p) × ¬ IsBefore old.0 e.0)
+IsEndOf Other side p l r old = Unit {0}
+
+-- that is so if the point is not clear of this edge
+abbrev pub IsEndUnlessClear : Change → Side → Pair → Node → Node → Pair × Pair → Type 0
+IsEndUnlessClear change side p l r old = ¬ IsClearOf side old p → IsEndOf change side p l r old
 
 -- a stale fork: a fork over two subtrees, of which one changed at p since its edges were stored. It stores the points at the split; an edge is still
 -- the bridge if its chain is unaffected or if p is clear of it

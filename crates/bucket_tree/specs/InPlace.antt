@@ -5,11 +5,13 @@ use Rattle.lattice.specs.Plane.{Pair}
 use Rattle.hull_buckets.specs.Buckets.{BucketValue}
 use Rattle.hull_set.specs.Held.{once}
 use Rattle.hull_set.specs.declared.TheConstants.{POINT_LIMIT}
+use Rattle.lattice.specs.declared.side.Side.{Side}
+use Rattle.bucket_tree.specs.declared.renewal.Change.{Change}
 use Rattle.bucket_tree.specs.declared.renewal.Changed.{Changed}
 use Rattle.bucket_tree.specs.declared.node.Node.{Node}
 use Rattle.bucket_tree.specs.declared.node.Fork.{Fork}
 use Rattle.bucket_tree.specs.declared.renewal.Affected.{Affected}
-use Rattle.bucket_tree.specs.Changes.{ClosesBy, IsBehindLeft, IsBehindRight, IsUnaffectedOver, IsRenewed}
+use Rattle.bucket_tree.specs.Changes.{ClosesBy, IsBehindLeft, IsBehindRight, IsEndUnlessClear, IsUnaffectedOver, IsRenewed, edge_on}
 use Rattle.bucket_tree.specs.Counts.{counted, multiplicity_at, HasGained, HasLost}
 use Rattle.bucket_tree.specs.Nodes.{points_below, node_height, IsWellBuilt}
 use Rattle.bucket_tree.specs.Turns.{most_turns}
@@ -74,8 +76,9 @@ IsBehindPart true = IsBehindLeft
 IsBehindPart false = IsBehindRight
 
 -- the fork has to be renewed, and can be
-pub record IsToRenew (left : Bool) (p : Pair) (below : Changed) (f : Fork) : Type 0 where
+pub record IsToRenew (left : Bool) (change : Change) (p : Pair) (below : Changed) (f : Fork) : Type 0 where
   pub behind : IsBehindPart left p below.sides f
+  pub end : (side : Side) → IsEndUnlessClear change side p f.left f.right (edge_on side f)
   pub few : length (points_below f.left ++ points_below f.right) ≤ POINT_LIMIT
   pub low : max (node_height f.left) (node_height f.right) ≤ 28
   pub turns : below.turns ≤ 6912

@@ -10,3 +10,4 @@ pub mod Levels
 pub mod Sets
 pub mod Changes
 pub mod InPlace
+pub mod OtherEnds

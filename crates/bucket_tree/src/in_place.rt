@@ -12,7 +12,7 @@ use crate::find::find_multiplicity;
 use crate::insertion::{affected_at, put_at};
 use crate::node::{Fork, Node};
 use crate::removal::are_few;
-use crate::renewal::{Changed, first_after, last_after, renew_edges};
+use crate::renewal::{Change, Changed, change_at, first_after, last_after, renew_edges};
 use hull_buckets::{Bucket, buckets_are_sound};
 use lattice::{Point, before};
 
@@ -20,6 +20,10 @@ use lattice::{Point, before};
 trait InPlace {
     // whether one is added
     ghost puts: { Bool };
+
+    /// Whether one is added.
+    fn is_adding() -> bool
+        ensures { result ≡ puts };
 
     /// Changes a bucket if it can take the change. Otherwise leaves it unchanged, and returns the multiplicity of the point there.
     fn change(bucket: &mut Bucket, p: Point) -> Result<Changed, u16>
@@ -37,6 +41,10 @@ struct Coming;
 
 impl InPlace for Coming {
     ghost puts = { true };
+
+    fn is_adding() -> bool {
+        true
+    }
 
     fn change(bucket: &mut Bucket, p: Point) -> Result<Changed, u16> {
         buckets_are_sound(bucket);
@@ -64,6 +72,10 @@ struct Going;
 impl InPlace for Going {
     ghost puts = { false };
 
+    fn is_adding() -> bool {
+        false
+    }
+
     fn change(bucket: &mut Bucket, p: Point) -> Result<Changed, u16> {
         buckets_are_sound(bucket);
         let Ok(place) = bucket.place_of(p) else {
@@ -89,12 +101,12 @@ impl InPlace for Going {
 }
 
 /// Renews a fork whose left subtree changed at a point.
-fn after_left(fork: &mut Fork, p: Point, below: Changed) -> Changed
-    requires { IsToRenew true p below fork.old }
+fn after_left(fork: &mut Fork, p: Point, change: Change, below: Changed) -> Changed
+    requires { IsToRenew true change p below fork.old }
     ensures { IsRenewedAfter p below fork.old fork.new result }
 {
     fork.last_left = last_after(&fork.left, fork.last_left, p);
-    let above = renew_edges(fork, p, below.sides);
+    let above = renew_edges(fork, p, change, below.sides);
     Changed {
         turns: below.turns + above.turns,
         sides: above.sides,
@@ -102,12 +114,12 @@ fn after_left(fork: &mut Fork, p: Point, below: Changed) -> Changed
 }
 
 /// Renews a fork whose right subtree changed at a point.
-fn after_right(fork: &mut Fork, p: Point, below: Changed) -> Changed
-    requires { IsToRenew false p below fork.old }
+fn after_right(fork: &mut Fork, p: Point, change: Change, below: Changed) -> Changed
+    requires { IsToRenew false change p below fork.old }
     ensures { IsRenewedAfter p below fork.old fork.new result }
 {
     fork.right_first = first_after(&fork.right, fork.right_first, p);
-    let above = renew_edges(fork, p, below.sides);
+    let above = renew_edges(fork, p, change, below.sides);
     Changed {
         turns: below.turns + above.turns,
         sides: above.sides,
@@ -132,12 +144,12 @@ fn change_in_place<C: InPlace>(node: &mut Node, p: Point) -> Result<Changed, u16
         Node::Fork(_, fork) => {
             if before(p, fork.right_first) {
                 match change_in_place::<C>(&mut fork.left, p) {
-                    Ok(below) => Ok(after_left(fork, p, below)),
+                    Ok(below) => Ok(after_left(fork, p, change_at(true, C::is_adding()), below)),
                     Err(multiplicity) => Err(multiplicity),
                 }
             } else {
                 match change_in_place::<C>(&mut fork.right, p) {
-                    Ok(below) => Ok(after_right(fork, p, below)),
+                    Ok(below) => Ok(after_right(fork, p, change_at(false, C::is_adding()), below)),
                     Err(multiplicity) => Err(multiplicity),
                 }
             }

@@ -15,7 +15,7 @@ ghost use Rattle.bucket_tree.specs.declared.node.Node.{Leaf};
 use crate::join::{join, take_apart};
 use crate::load::blank;
 use crate::node::{Node, height_of};
-use crate::renewal::{Affected, balance, first_after, last_after};
+use crate::renewal::{Affected, balance, change_at, first_after, last_after};
 use heap::Heap;
 use hull_buckets::{Bucket, buckets_are_sound};
 use lattice::{Point, Side, before};
@@ -197,7 +197,14 @@ pub fn insert(alloc: Heap, node: Node, p: Point) -> Inserted
     if before(p, place.right_first) {
         let change = insert(alloc, left, p);
         place.last_left = last_after(&change.node, place.last_left, p);
-        let above = balance(change.node, right, place, p, change.sides);
+        let above = balance(
+            change.node,
+            right,
+            place,
+            p,
+            change_at(true, !change.refused),
+            change.sides,
+        );
         Inserted {
             node: above.node,
             refused: change.refused,
@@ -207,7 +214,14 @@ pub fn insert(alloc: Heap, node: Node, p: Point) -> Inserted
     } else {
         let change = insert(alloc, right, p);
         place.right_first = first_after(&change.node, place.right_first, p);
-        let above = balance(left, change.node, place, p, change.sides);
+        let above = balance(
+            left,
+            change.node,
+            place,
+            p,
+            change_at(false, !change.refused),
+            change.sides,
+        );
         Inserted {
             node: above.node,
             refused: change.refused,

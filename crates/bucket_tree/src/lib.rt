@@ -14,6 +14,7 @@ mod join;
 mod listing;
 mod load;
 mod node;
+mod other_end;
 mod part;
 mod questions;
 mod recounting;

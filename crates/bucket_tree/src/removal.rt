@@ -12,7 +12,9 @@ ghost use Rattle.bucket_tree.specs.declared.node.Node.{Leaf};
 use crate::insertion::{affected_at, bucket_of};
 use crate::join::take_apart;
 use crate::node::{Fork, Node, height_of};
-use crate::renewal::{Affected, Renewed, Standing, balance, first_after, how_stands, last_after};
+use crate::renewal::{
+    Affected, Change, Renewed, Standing, balance, first_after, how_stands, last_after,
+};
 use heap::Heap;
 use hull_buckets::{Bucket, buckets_are_sound};
 use lattice::{Point, Side, before};
@@ -142,7 +144,7 @@ fn prepare(
     if height == 1 && are_few(&left, &right) {
         return merge(left, right, place, p, sides);
     }
-    balance(left, right, place, p, sides)
+    balance(left, right, place, p, Change::Other, sides)
 }
 
 /// Returns what is left if one subtree of a fork lost its only point: the other subtree.

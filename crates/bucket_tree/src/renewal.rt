@@ -1,5 +1,6 @@
 //! The forks above a point that was added or removed: a bridge that the change cannot have altered is kept.
 ghost use Rattle.std.specs.Prelude.{◌≡◌, ◌≤◌, ◌+◌, ◌*◌, ◌++◌, ◌⊎◌, ◌↔◌, IsTrue, true, false, max, length};
+ghost use Rattle.lattice.specs.declared.side.Side.{Side};
 ghost use Rattle.std.specs.Prelude.{pos, ◌≤ℤ◌, ◌<ℤ◌};
 ghost use Rattle.lattice.specs.Orientations as orientations;
 ghost use Rattle.lattice.specs.Bridges.{IsAllBefore, IsBridge};
@@ -9,12 +10,14 @@ ghost use Rattle.hull_geometry.specs.Positions.{first_of as first_in, last_of as
 ghost use Rattle.hull_set.specs.declared.TheConstants.{POINT_LIMIT};
 ghost use Rattle.lattice.specs.Plane.{IsBefore};
 ghost use Rattle.bucket_tree.specs.Changes.{IsBehind, IsBridgeBetween, IsClearOf, IsRenewed, IsSameBut, ReturnsOf, ClosesBy, edge_on};
+ghost use Rattle.bucket_tree.specs.Changes.{IsEndOf, IsEndUnlessClear, change_of};
 ghost use Rattle.bucket_tree.specs.Nodes.{tree_of, points_below, multiplicities_below, node_height, AreInRow, IsWellBuilt};
 ghost use Rattle.bucket_tree.specs.Nodes.{AreNear, HasBuckets};
 ghost use Rattle.bucket_tree.specs.Nodes.{IsHeightOver};
 
 use crate::join::{rotate_left, rotate_right, search_one};
 use crate::node::{Fork, Node, first_of, height_of, last_of};
+use crate::other_end::{end_from, end_to};
 use heap::Heap;
 use lattice::{Point, Side, before, orient_on};
 
@@ -77,6 +80,30 @@ pub(crate) fn how_stands(side: Side, edge: &(Point, Point), p: Point) -> Standin
     Standing::Touching
 }
 
+/// How one half of a fork changed at a point.
+#[derive(Clone, Copy)]
+pub(crate) enum Change {
+    /// The point was added to the left half.
+    AddedLeft,
+    /// The point was added to the right half.
+    AddedRight,
+    /// Any other change.
+    Other,
+}
+
+/// Returns the change of a fork of which the left half changed at a point, or else the right one, and whether the point was added to it.
+pub(crate) fn change_at(is_left: bool, is_added: bool) -> Change
+    ensures { result ≡ change_of is_left is_added }
+{
+    if !is_added {
+        return Change::Other;
+    }
+    if is_left {
+        return Change::AddedLeft;
+    }
+    Change::AddedRight
+}
+
 /// The result of a change below a node.
 #[derive(Clone, Copy)]
 pub struct Changed {
@@ -86,14 +113,37 @@ pub struct Changed {
     pub sides: Affected,
 }
 
+/// Searches the bridge on a side between the halves of a fork after a change at a point: only its other end, if the point was added, since the bridge
+/// ends at the point then. Returns the bridge and the turns of the search.
+fn search_after(side: Side, fork: &Fork, p: Point, change: Change) -> ((Point, Point), u32)
+    requires row { AreInRow fork.now.left fork.now.right }
+    requires few { length (points_below fork.now.left ++ points_below fork.now.right) ≤ POINT_LIMIT }
+    requires end { IsEndOf change side p fork.now.left fork.now.right (edge_on side fork.now) }
+    ensures bridge { IsBridge side (On (tree_of fork.now.left)) (On (tree_of fork.now.right)) result.0.0 result.0.1 }
+    ensures turns { result.1 ≤ 2 * max (node_height fork.now.left) (node_height fork.now.right) + 12 }
+{
+    match change {
+        Change::AddedLeft => {
+            let (end, turns) = end_from(side, p, &fork.right, fork.edge(side).1);
+            ((p, end), turns)
+        }
+        Change::AddedRight => {
+            let (end, turns) = end_to(side, &fork.left, p, fork.edge(side).0);
+            ((end, p), turns)
+        }
+        Change::Other => search_one(side, &fork.left, &fork.right),
+    }
+}
+
 /// Renews the edge of a fork on an affected chain after one subtree changed at a point: searches it if it may not be a bridge any more. Returns how
 /// many turns the search took, and whether the chain is still affected.
 #[inline(never)]
-fn renew_affected_edge(side: Side, fork: &mut Fork, p: Point) -> (u32, bool)
+fn renew_affected_edge(side: Side, fork: &mut Fork, p: Point, change: Change) -> (u32, bool)
     requires row { AreInRow fork.old.left fork.old.right }
     requires few { length (points_below fork.old.left ++ points_below fork.old.right) ≤ POINT_LIMIT }
     requires clear { IsClearOf side (edge_on side fork.old) p
         → IsBridgeBetween side fork.old.left fork.old.right (edge_on side fork.old) }
+    requires end { IsEndUnlessClear change side p fork.old.left fork.old.right (edge_on side fork.old) }
     ensures same { IsSameBut side fork.old fork.new }
     ensures bridge { IsBridge side (On (tree_of fork.old.left)) (On (tree_of fork.old.right))
         (edge_on side fork.new).0 (edge_on side fork.new).1 }
@@ -105,7 +155,7 @@ fn renew_affected_edge(side: Side, fork: &mut Fork, p: Point) -> (u32, bool)
         Standing::Covered => (0, false),
         Standing::Clear => (0, true),
         Standing::Touching => {
-            let (edge, turns) = search_one(side, &fork.left, &fork.right);
+            let (edge, turns) = search_after(side, fork, p, change);
             fork.set_edge(side, edge);
             (turns, true)
         }
@@ -114,12 +164,13 @@ fn renew_affected_edge(side: Side, fork: &mut Fork, p: Point) -> (u32, bool)
 
 /// Renews the edge of a fork on a side, as [`renew_affected_edge`]; an unaffected chain is skipped.
 #[inline(always)]
-fn renew_edge(side: Side, fork: &mut Fork, p: Point, at_issue: bool) -> (u32, bool)
+fn renew_edge(side: Side, fork: &mut Fork, p: Point, change: Change, at_issue: bool) -> (u32, bool)
     requires row { AreInRow fork.old.left fork.old.right }
     requires few { length (points_below fork.old.left ++ points_below fork.old.right) ≤ POINT_LIMIT }
     requires unaffected { at_issue ≡ false → IsBridgeBetween side fork.old.left fork.old.right (edge_on side fork.old) }
     requires clear { IsClearOf side (edge_on side fork.old) p
         → IsBridgeBetween side fork.old.left fork.old.right (edge_on side fork.old) }
+    requires end { IsEndUnlessClear change side p fork.old.left fork.old.right (edge_on side fork.old) }
     ensures same { IsSameBut side fork.old fork.new }
     ensures bridge { IsBridge side (On (tree_of fork.old.left)) (On (tree_of fork.old.right))
         (edge_on side fork.new).0 (edge_on side fork.new).1 }
@@ -130,15 +181,16 @@ fn renew_edge(side: Side, fork: &mut Fork, p: Point, at_issue: bool) -> (u32, bo
     if !at_issue {
         return (0, false);
     }
-    renew_affected_edge(side, fork, p)
+    renew_affected_edge(side, fork, p, change)
 }
 
 /// Renews the edges of a fork on the affected chains, after one subtree changed at a point.
 #[inline(always)]
-pub(crate) fn renew_edges(fork: &mut Fork, p: Point, sides: Affected) -> Changed
+pub(crate) fn renew_edges(fork: &mut Fork, p: Point, change: Change, sides: Affected) -> Changed
     requires row { AreInRow fork.old.left fork.old.right }
     requires few { length (points_below fork.old.left ++ points_below fork.old.right) ≤ POINT_LIMIT }
     requires behind { IsBehind p sides fork.old.left fork.old.right fork.old }
+    requires end { (side : Side) → IsEndUnlessClear change side p fork.old.left fork.old.right (edge_on side fork.old) }
     requires low { max (node_height fork.old.left) (node_height fork.old.right) ≤ 28 }
     ensures renewed { IsRenewed fork.new }
     ensures left { fork.new.left ≡ fork.old.left }
@@ -146,8 +198,8 @@ pub(crate) fn renew_edges(fork: &mut Fork, p: Point, sides: Affected) -> Changed
     ensures turns { result.turns ≤ 4 * max (node_height fork.old.left) (node_height fork.old.right) + 24 }
     ensures closes { ClosesBy p sides result.sides (points_below fork.old.left ++ points_below fork.old.right) }
 {
-    let (upper_turns, upper) = renew_edge(Side::Upper, fork, p, sides.upper);
-    let (lower_turns, lower) = renew_edge(Side::Lower, fork, p, sides.lower);
+    let (upper_turns, upper) = renew_edge(Side::Upper, fork, p, change, sides.upper);
+    let (lower_turns, lower) = renew_edge(Side::Lower, fork, p, change, sides.lower);
     Changed {
         turns: upper_turns + lower_turns,
         sides: Affected { lower, upper },
@@ -155,10 +207,18 @@ pub(crate) fn renew_edges(fork: &mut Fork, p: Point, sides: Affected) -> Changed
 }
 
 /// Makes a fork over two subtrees whose heights differ by at most one, of which one changed at a point after its edges were stored.
-fn renew(left: Node, right: Node, mut place: Box<Fork, Heap>, p: Point, sides: Affected) -> Renewed
+fn renew(
+    left: Node,
+    right: Node,
+    mut place: Box<Fork, Heap>,
+    p: Point,
+    change: Change,
+    sides: Affected,
+) -> Renewed
     requires row { AreInRow left right }
     requires few { length (points_below left ++ points_below right) ≤ POINT_LIMIT }
     requires behind { IsBehind p sides left right place.value }
+    requires end { (side : Side) → IsEndUnlessClear change side p left right (edge_on side place.value) }
     requires near { AreNear (node_height left) (node_height right) }
     requires low { max (node_height left) (node_height right) ≤ 28 }
     ensures built { IsWellBuilt result.node }
@@ -171,11 +231,11 @@ fn renew(left: Node, right: Node, mut place: Box<Fork, Heap>, p: Point, sides: A
     let height = height_of(&left).max(height_of(&right)) + 1;
     place.left = left;
     place.right = right;
-    let change = renew_edges(&mut place, p, sides);
+    let above = renew_edges(&mut place, p, change, sides);
     Renewed {
         node: Node::Fork(height, place),
-        turns: change.turns,
-        sides: change.sides,
+        turns: above.turns,
+        sides: above.sides,
     }
 }
 
@@ -186,11 +246,13 @@ pub(crate) fn balance(
     right: Node,
     place: Box<Fork, Heap>,
     p: Point,
+    change: Change,
     sides: Affected,
 ) -> Renewed
     requires row { AreInRow left right }
     requires few { length (points_below left ++ points_below right) ≤ POINT_LIMIT }
     requires behind { IsBehind p sides left right place.value }
+    requires end { (side : Side) → IsEndUnlessClear change side p left right (edge_on side place.value) }
     requires near_left { node_height left ≤ node_height right + 2 }
     requires near_right { node_height right ≤ node_height left + 2 }
     requires low { max (node_height left) (node_height right) ≤ 28 }
@@ -209,7 +271,7 @@ pub(crate) fn balance(
         let (node, turns) = rotate_left(left, right, place);
         Renewed { node, turns, sides }
     } else {
-        renew(left, right, place, p, sides)
+        renew(left, right, place, p, change, sides)
     }
 }
 

@@ -237,7 +237,7 @@ impl BucketTree {
     {
         bucket_trees_are_sound(self);
         if self.is_full() {
-            let multiplicity = self.multiplicities(p);
+            let multiplicity = self.multiplicity(p);
             return (self.count_up(p, multiplicity), 0);
         }
         let multiplicity = match self.put_where_space(p) {
@@ -334,7 +334,7 @@ impl HullSet for BucketTree {
 
     fn multiplicity(&self, p: Point) -> u32 {
         bucket_trees_are_sound(self);
-        self.multiplicities(p)
+        self.multiplicity(p)
     }
 
     fn add(&mut self, p: Point) -> AddReply {

@@ -1,5 +1,6 @@
 -- the point is added to one of two subtrees in a row, or removed from it
-use Rattle.std.proofs.Common.{◌∙◌, true, false, refl, sym, arith}
+use Rattle.std.proofs.Common.{◌∙◌, true, false, ap, refl, sym, arith}
+use Rattle.bucket_tree.specs.Changes.{change_of}
 use Rattle.bucket_tree.proofs.Gained.{passed, failed}
 use Rattle.bucket_tree.proofs.InPlace.{changed_with, fork_at, leaf_changed, leaf_same, part_at, same_below, to_renew}
 use Rattle.bucket_tree.proofs.in_place.+change_in_place.Goals as goal
@@ -27,10 +28,10 @@ pub after_left-requires : goal.after_left-requires
 after_left-requires g t c =
     let i = fork_at true _ _ _ _ _ _ c.in-Fork.is c.deref_mut-then-before.ensures.value c.deref.ensures c.requires.built
     (passed _ c.before-in-Fork.ensures.0 c.if-before.true) in
-    to_renew true g.C.InPlace.puts _ _ _ _
+    to_renew true g.C.InPlace.puts _ _ _ _ _
     c.deref_mut-in-Ok.result.now c.change_in_place.new.node c.in-Ok.below i c.in-Ok.ensures.change c.requires.few
     c.requires.low
-    c.deref_mut-in-Ok.ensures.value
+    c.deref_mut-in-Ok.ensures.value (c.change_at.ensures ∙ ap (change_of true) c.is_adding.ensures)
 
 pub returns-in-Ok-clause-change : goal.returns-in-Ok-clause-change
 returns-in-Ok-clause-change g t c =
@@ -60,10 +61,11 @@ after_right-requires g t c =
     let i = fork_at false _ _ _ _ _ _ c.in-Fork.is c.deref_mut-else-before.ensures.value c.deref.ensures
     c.requires.built
     (failed _ c.before-in-Fork.ensures.1 c.if-before.false) in
-    to_renew false g.C.InPlace.puts _ _ _ _
+    to_renew false g.C.InPlace.puts _ _ _ _ _
     c.deref_mut-in-Ok-change_in_place.result.now c.change_in_place-else-before.new.node c.in-Ok-change_in_place.below i
     c.in-Ok-change_in_place.ensures.change c.requires.few c.requires.low
-    c.deref_mut-in-Ok-change_in_place.ensures.value
+    c.deref_mut-in-Ok-change_in_place.ensures.value (c.change_at-in-Ok-change_in_place.ensures
+    ∙ ap (change_of false) c.is_adding-in-Ok-change_in_place.ensures)
 
 pub returns-in-Ok-change_in_place-clause-change : goal.returns-in-Ok-change_in_place-clause-change
 returns-in-Ok-change_in_place-clause-change g t c =

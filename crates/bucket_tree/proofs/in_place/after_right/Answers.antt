@@ -1,5 +1,6 @@
 -- the fork's edges are as they were, and it keeps the points at its split
 use Rattle.std.proofs.Common.{refl}
+use Rattle.bucket_tree.proofs.Added.{end_as}
 use Rattle.bucket_tree.proofs.Kept.{behind_as, same_edges}
 use Rattle.bucket_tree.proofs.in_place.after_right.Goals as goal
 
@@ -9,3 +10,8 @@ renew_edges-above-requires-clause-behind c =
     let f = c.args.fork.now in
     behind_as c.args.p c.args.below.sides f.left f.right f _ edges.unaffected edges.clear (same_edges f _ refl refl)
     c.requires.behind.last c.first_after-fork.ensures
+
+pub renew_edges-above-requires-clause-end : goal.renew_edges-above-requires-clause-end
+renew_edges-above-requires-clause-end c =
+    let f = c.args.fork.now in
+    end_as c.args.change c.args.p f.left f.right f _ (same_edges f _ refl refl) c.requires.end

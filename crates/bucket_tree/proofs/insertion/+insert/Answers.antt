@@ -1,15 +1,16 @@
 -- the point is added to one of two subtrees in a row
 use Rattle.std.proofs.Common.{◌∙◌, true, false, ap, subst, sym, arith, List, length, length-append}
 use Rattle.std.specs.List.{Contains}
-use Rattle.std.proofs.lemmas.List.Elements.{Contains-append_right}
+use Rattle.std.proofs.lemmas.List.Elements.{Contains-append_left, Contains-append_right}
 use Rattle.lattice.specs.Plane.{Pair}
-use Rattle.bucket_tree.specs.Changes.{IsUnaffectedOver}
+use Rattle.bucket_tree.specs.Changes.{IsUnaffectedOver, edge_on}
 use Rattle.bucket_tree.specs.Counts.{Comes}
 use Rattle.bucket_tree.specs.Nodes.{points_below, node_height}
 use Rattle.bucket_tree.specs.declared.node.Fork.{Fork}
 use Rattle.bucket_tree.proofs.MostTurns.{one_fork, few_sum}
 use Rattle.bucket_tree.proofs.Gained.{passed, failed}
 use Rattle.bucket_tree.proofs.Kept.{behind_as, unaffected_within, first_kept, last_kept, same_edges}
+use Rattle.bucket_tree.proofs.Added.{ends_after}
 use Rattle.bucket_tree.proofs.InPlace.{among_with}
 use Rattle.bucket_tree.proofs.Parts.{alters_with, at, unaffected_with, differs, few_with, row_with, stands_with}
 use Rattle.bucket_tree.proofs.insertion.+insert.Goals as goal
@@ -190,3 +191,37 @@ returns-else-before-clause-turns t c =
     (omega (arith, e)) c.insert-change-else-before.ensures.turns
     (omega (arith, c.balance-above-else-before.ensures.turns, c.insert-change-else-before.ensures.height.1, e)) in
     omega (arith, s)
+
+pub balance-above-requires-clause-end : goal.balance-above-requires-clause-end
+balance-above-requires-clause-end t c = λ side.
+    let o = c.take_apart-left.ensures in
+    let i = at true _ c.args.node _ _ _ o.row o.points o.multiplicities
+    (ap (λ z. z.right_first) c.deref.ensures ∙ o.split) (passed _ c.before-2.ensures.0 c.if-before.true) in
+    let f = c.take_apart-left.result.2.value in
+    ends_after true c.insert-change.result.refused side c.args.p c.take_apart-left.result.0 c.take_apart-left.result.1
+    c.insert-change.result.node (edge_on side f) _ _ o.row
+    (row_with true (Comes c.insert-change.result.refused) _ _ _ _ c.insert-change.result.node i
+    c.insert-change.ensures.built c.insert-change.ensures.gained)
+    (o.stored side)
+    (λ i. c.requires.absent (subst (λ z. Contains z c.args.p) (sym o.points)
+    (Contains-append_left (points_below c.take_apart-left.result.0) (points_below c.take_apart-left.result.1) c.args.p i)))
+    c.insert-change.ensures.gained c.change_at.ensures
+    (same_edges f _ (ap (λ (g : Fork). g.lower) c.deref_mut.ensures.value)
+    (ap (λ (g : Fork). g.upper) c.deref_mut.ensures.value) side)
+
+pub balance-above-requires-else-before-clause-end : goal.balance-above-requires-else-before-clause-end
+balance-above-requires-else-before-clause-end t c = λ side.
+    let o = c.take_apart-left.ensures in
+    let i = at false _ c.args.node _ _ _ o.row o.points o.multiplicities
+    (ap (λ z. z.right_first) c.deref.ensures ∙ o.split) (failed _ c.before-2.ensures.1 c.if-before.false) in
+    let f = c.take_apart-left.result.2.value in
+    ends_after false c.insert-change-else-before.result.refused side c.args.p c.take_apart-left.result.0
+    c.take_apart-left.result.1 c.insert-change-else-before.result.node (edge_on side f) _ _ o.row
+    (row_with false (Comes c.insert-change-else-before.result.refused) _ _ _ _ c.insert-change-else-before.result.node i
+    c.insert-change-else-before.ensures.built c.insert-change-else-before.ensures.gained)
+    (o.stored side)
+    (λ i. c.requires.absent (subst (λ z. Contains z c.args.p) (sym o.points)
+    (Contains-append_right (points_below c.take_apart-left.result.0) (points_below c.take_apart-left.result.1) c.args.p i)))
+    c.insert-change-else-before.ensures.gained c.change_at-else-before.ensures
+    (same_edges f _ (ap (λ (g : Fork). g.lower) c.deref_mut-else-before.ensures.value)
+    (ap (λ (g : Fork). g.upper) c.deref_mut-else-before.ensures.value) side)

@@ -1,13 +1,14 @@
 -- with its subtrees in it the fork is stale as it was, and then renewed
 use Rattle.std.proofs.Common.{true, false, ◌≡◌, ◌∙◌, ap, subst, sym, arith}
-use Rattle.bucket_tree.specs.Changes.{IsBehind}
+use Rattle.lattice.specs.declared.side.Side.{Side}
+use Rattle.bucket_tree.specs.Changes.{IsBehind, IsEndUnlessClear, edge_on}
 use Rattle.bucket_tree.specs.Nodes.{node_height}
 use Rattle.bucket_tree.specs.declared.node.Fork.{Fork}
-use Rattle.bucket_tree.proofs.InPlace.{fork_built, over_parts, with_part}
+use Rattle.bucket_tree.proofs.InPlace.{end_over_parts, fork_built, over_parts, with_part}
 use Rattle.bucket_tree.proofs.renewal.renew.Goals as goal
 
-pub renew_edges-change-requires-clause-behind : goal.renew_edges-change-requires-clause-behind
-renew_edges-change-requires-clause-behind c =
+pub renew_edges-above-requires-clause-behind : goal.renew_edges-above-requires-clause-behind
+renew_edges-above-requires-clause-behind c =
     let e : c.deref_mut-3.result.now ≡ with_part false (with_part true c.args.place.value c.args.left) c.args.right =
     c.deref_mut-3.ensures.value ∙ ap (λ (z : Fork). with_part false z c.args.right) c.deref_mut-2.ensures.value
     ∙ ap (λ (z : Fork). with_part false (with_part true z c.args.left) c.args.right) c.deref_mut.ensures.value in
@@ -19,8 +20,16 @@ returns-clause-built c =
     let e : c.deref_mut-3.result.now ≡ with_part false (with_part true c.args.place.value c.args.left) c.args.right =
     c.deref_mut-3.ensures.value ∙ ap (λ (z : Fork). with_part false z c.args.right) c.deref_mut-2.ensures.value
     ∙ ap (λ (z : Fork). with_part false (with_part true z c.args.left) c.args.right) c.deref_mut.ensures.value in
-    let l = ap node_height (c.renew_edges-change.ensures.left ∙ ap (λ (z : Fork). z.left) e) in
-    let r = ap node_height (c.renew_edges-change.ensures.right ∙ ap (λ (z : Fork). z.right) e) in
-    fork_built _ _ c.renew_edges-change.ensures.renewed
+    let l = ap node_height (c.renew_edges-above.ensures.left ∙ ap (λ (z : Fork). z.left) e) in
+    let r = ap node_height (c.renew_edges-above.ensures.right ∙ ap (λ (z : Fork). z.right) e) in
+    fork_built _ _ c.renew_edges-above.ensures.renewed
     (omega (arith, c.requires.near, l, r), omega (arith, c.requires.near, l, r))
     (omega (arith, c.max-height.ensures, c.height_of.ensures, c.height_of-2.ensures, l, r))
+
+pub renew_edges-above-requires-clause-end : goal.renew_edges-above-requires-clause-end
+renew_edges-above-requires-clause-end c =
+    let e : c.deref_mut-3.result.now ≡ with_part false (with_part true c.args.place.value c.args.left) c.args.right =
+    c.deref_mut-3.ensures.value ∙ ap (λ (z : Fork). with_part false z c.args.right) c.deref_mut-2.ensures.value
+    ∙ ap (λ (z : Fork). with_part false (with_part true z c.args.left) c.args.right) c.deref_mut.ensures.value in
+    subst (λ (z : Fork). (side : Side) → IsEndUnlessClear c.args.change side c.args.p z.left z.right (edge_on side z)) (sym e)
+    (end_over_parts c.args.change c.args.p c.args.left c.args.right c.args.place.value c.requires.end)

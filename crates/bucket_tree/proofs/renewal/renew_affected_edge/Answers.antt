@@ -24,3 +24,7 @@ returns-in-Clear-clause-bridge c =
     of_vertices c.args.side c.args.fork.now.left c.args.fork.now.right (edge_on c.args.side c.args.fork.now) c.requires.row
     (c.requires.clear
     (subst (λ (z : Pair × Pair). IsClearOf c.args.side z c.args.p) c.edge.ensures c.in-Clear.ensures))
+
+pub search_after-edge-requires-clause-end : goal.search_after-edge-requires-clause-end
+search_after-edge-requires-clause-end c =
+    c.requires.end (subst (λ (z : Pair × Pair). ¬ IsClearOf c.args.side z c.args.p) c.edge.ensures c.in-Touching.ensures)

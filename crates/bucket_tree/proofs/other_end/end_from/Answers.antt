@@ -1,0 +1,53 @@
+-- the lower bridge is the upper one after a rotation by 180 degrees
+use Rattle.std.proofs.Common.{ap, arith}
+use Rattle.bridge_search.specs.Trees.{height_of}
+use Rattle.bridge_search.specs.TurnedTrees.{height_turned}
+use Rattle.bucket_tree.specs.Nodes.{tree_of}
+use Rattle.bucket_tree.specs.Parts.{part_tree}
+use Rattle.bucket_tree.proofs.NodeRows.{vertices_low}
+use Rattle.lattice.specs.declared.side.Side.TheVariants.{Lower, Upper}
+use Rattle.bucket_tree.proofs.Added.{within_from}
+use Rattle.bucket_tree.proofs.OtherEnds.{before_by_turn, lower_from, within_by_turn_from}
+use Rattle.bucket_tree.proofs.other_end.end_from.Goals as goal
+
+pub upper_end_to-end-requires-clause-before : goal.upper_end_to-end-requires-clause-before
+upper_end_to-end-requires-clause-before c =
+    rw (c.new.ensures, c.new-part.ensures, c.turned.ensures)
+    (before_by_turn c.args.p (tree_of c.args.node.now) c.requires.after)
+
+pub returns-in-Upper-clause-turns : goal.returns-in-Upper-clause-turns
+returns-in-Upper-clause-turns c = omega (
+  arith,
+  c.upper_end_from.ensures.turns,
+  ap height_of c.new-part.ensures,
+  vertices_low c.args.node.now c.requires.built.buckets,
+)
+
+pub returns-in-Lower-clause-end : goal.returns-in-Lower-clause-end
+returns-in-Lower-clause-end c =
+    rw (c.in-Lower.is, c.turned-in-Lower-3.ensures)
+    (lower_from c.args.p (tree_of c.args.node.now) c.upper_end_to-end.result.0
+    (rw (c.new.ensures, c.new-part.ensures, c.turned.ensures) at c.upper_end_to-end.ensures.end))
+
+pub returns-in-Lower-clause-turns : goal.returns-in-Lower-clause-turns
+returns-in-Lower-clause-turns c = omega (
+  arith,
+  c.upper_end_to-end.ensures.turns,
+  ap height_of c.new.ensures,
+  height_turned (part_tree c.new-part.result),
+  ap height_of c.new-part.ensures,
+  vertices_low c.args.node.now c.requires.built.buckets,
+)
+
+pub upper_end_from-requires-clause-within : goal.upper_end_from-requires-clause-within
+upper_end_from-requires-clause-within c =
+    rw c.new-part.ensures
+    (within_from Upper c.args.p c.args.node.now c.args.first c.last_of-last.result c.requires.built c.last_of-last.ensures
+    (rw c.in-Upper.is at c.requires.first))
+
+pub upper_end_to-end-requires-clause-within : goal.upper_end_to-end-requires-clause-within
+upper_end_to-end-requires-clause-within c =
+    rw (c.new.ensures, c.new-part.ensures, c.turned.ensures, c.turned-in-Lower.ensures, c.turned-in-Lower-2.ensures)
+    (within_by_turn_from c.args.p (tree_of c.args.node.now) c.args.first c.last_of-last.result
+    (within_from Lower c.args.p c.args.node.now c.args.first c.last_of-last.result c.requires.built c.last_of-last.ensures
+    (rw c.in-Lower.is at c.requires.first)))

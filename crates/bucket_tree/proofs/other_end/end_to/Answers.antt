@@ -1,0 +1,53 @@
+-- the lower bridge is the upper one after a rotation by 180 degrees
+use Rattle.std.proofs.Common.{ap, arith}
+use Rattle.bridge_search.specs.Trees.{height_of}
+use Rattle.bridge_search.specs.TurnedTrees.{height_turned}
+use Rattle.bucket_tree.specs.Nodes.{tree_of}
+use Rattle.bucket_tree.specs.Parts.{part_tree}
+use Rattle.bucket_tree.proofs.NodeRows.{vertices_low}
+use Rattle.lattice.specs.declared.side.Side.TheVariants.{Lower, Upper}
+use Rattle.bucket_tree.proofs.Added.{within_to}
+use Rattle.bucket_tree.proofs.OtherEnds.{after_by_turn, lower_to, within_by_turn_to}
+use Rattle.bucket_tree.proofs.other_end.end_to.Goals as goal
+
+pub upper_end_from-end-requires-clause-after : goal.upper_end_from-end-requires-clause-after
+upper_end_from-end-requires-clause-after c =
+    rw (c.new.ensures, c.new-part.ensures, c.turned.ensures)
+    (after_by_turn (tree_of c.args.node.now) c.args.p c.requires.before)
+
+pub returns-in-Upper-clause-turns : goal.returns-in-Upper-clause-turns
+returns-in-Upper-clause-turns c = omega (
+  arith,
+  c.upper_end_to.ensures.turns,
+  ap height_of c.new-part.ensures,
+  vertices_low c.args.node.now c.requires.built.buckets,
+)
+
+pub returns-in-Lower-clause-end : goal.returns-in-Lower-clause-end
+returns-in-Lower-clause-end c =
+    rw (c.in-Lower.is, c.turned-in-Lower-3.ensures)
+    (lower_to (tree_of c.args.node.now) c.args.p c.upper_end_from-end.result.0
+    (rw (c.new.ensures, c.new-part.ensures, c.turned.ensures) at c.upper_end_from-end.ensures.end))
+
+pub returns-in-Lower-clause-turns : goal.returns-in-Lower-clause-turns
+returns-in-Lower-clause-turns c = omega (
+  arith,
+  c.upper_end_from-end.ensures.turns,
+  ap height_of c.new.ensures,
+  height_turned (part_tree c.new-part.result),
+  ap height_of c.new-part.ensures,
+  vertices_low c.args.node.now c.requires.built.buckets,
+)
+
+pub upper_end_to-requires-clause-within : goal.upper_end_to-requires-clause-within
+upper_end_to-requires-clause-within c =
+    rw c.new-part.ensures
+    (within_to Upper c.args.node.now c.args.p c.first_of-first.result c.args.last c.requires.built c.first_of-first.ensures
+    (rw c.in-Upper.is at c.requires.last))
+
+pub upper_end_from-end-requires-clause-within : goal.upper_end_from-end-requires-clause-within
+upper_end_from-end-requires-clause-within c =
+    rw (c.new.ensures, c.new-part.ensures, c.turned.ensures, c.turned-in-Lower.ensures, c.turned-in-Lower-2.ensures)
+    (within_by_turn_to (tree_of c.args.node.now) c.args.p c.first_of-first.result c.args.last
+    (within_to Lower c.args.node.now c.args.p c.first_of-first.result c.args.last c.requires.built c.first_of-first.ensures
+    (rw c.in-Lower.is at c.requires.last)))

@@ -1,0 +1,44 @@
+-- a point that was added is one end, and the other one is that of the bridge from it or to it
+use Rattle.std.proofs.Common.{subst}
+use Rattle.bucket_tree.specs.Changes.{IsEndOf, edge_on}
+use Rattle.bucket_tree.proofs.Added.{after_first, before_second, end_not_before, start_not_after, with_end_from, with_end_to}
+use Rattle.bucket_tree.proofs.renewal.search_after.Goals as goal
+
+pub end_from-end-requires-clause-after : goal.end_from-end-requires-clause-after
+end_from-end-requires-clause-after c =
+    let f = c.args.fork.now in
+    let k = subst (λ z. IsEndOf z c.args.side c.args.p f.left f.right (edge_on c.args.side f)) c.in-AddedLeft.is c.requires.end in
+    after_first f.left f.right c.args.p c.requires.row k.0
+
+pub end_to-end-requires-clause-before : goal.end_to-end-requires-clause-before
+end_to-end-requires-clause-before c =
+    let f = c.args.fork.now in
+    let k = subst (λ z. IsEndOf z c.args.side c.args.p f.left f.right (edge_on c.args.side f)) c.in-AddedRight.is c.requires.end in
+    before_second f.left f.right c.args.p c.requires.row k.0
+
+pub returns-in-AddedLeft-clause-bridge : goal.returns-in-AddedLeft-clause-bridge
+returns-in-AddedLeft-clause-bridge c =
+    let f = c.args.fork.now in
+    let k = subst (λ z. IsEndOf z c.args.side c.args.p f.left f.right (edge_on c.args.side f)) c.in-AddedLeft.is c.requires.end in
+    with_end_from c.args.side f.left f.right c.args.p c.end_from-end.result.0 c.requires.row (λ e b. (k.1 e b).0)
+    c.end_from-end.ensures.end
+
+pub returns-in-AddedRight-clause-bridge : goal.returns-in-AddedRight-clause-bridge
+returns-in-AddedRight-clause-bridge c =
+    let f = c.args.fork.now in
+    let k = subst (λ z. IsEndOf z c.args.side c.args.p f.left f.right (edge_on c.args.side f)) c.in-AddedRight.is c.requires.end in
+    with_end_to c.args.side f.left f.right c.args.p c.end_to-end.result.0 c.requires.row (λ e b. (k.1 e b).0)
+    c.end_to-end.ensures.end
+
+pub end_from-end-requires-clause-first : goal.end_from-end-requires-clause-first
+end_from-end-requires-clause-first c =
+    let f = c.args.fork.now in
+    let k = subst (λ z. IsEndOf z c.args.side c.args.p f.left f.right (edge_on c.args.side f)) c.in-AddedLeft.is c.requires.end in
+    rw c.edge.ensures (λ q h. end_not_before c.args.side f.left f.right c.args.p q (edge_on c.args.side f).1 c.requires.row k.1 h)
+
+pub end_to-end-requires-clause-last : goal.end_to-end-requires-clause-last
+end_to-end-requires-clause-last c =
+    let f = c.args.fork.now in
+    let k = subst (λ z. IsEndOf z c.args.side c.args.p f.left f.right (edge_on c.args.side f)) c.in-AddedRight.is c.requires.end in
+    rw c.edge-in-AddedRight.ensures
+    (λ q h. start_not_after c.args.side f.left f.right c.args.p q (edge_on c.args.side f).0 c.requires.row k.1 h)
