@@ -151,7 +151,7 @@ impl<'a> Polygon<'a> {
         ensures { HoldsOfBoth (vertices_of self.now) (vertices_of other.now)
             (λ S T. IfSome result (λ found. IsDistance S T found)) }
     {
-        if other.covers(self.vertex_of(0)) {
+        if let Some(_first) = self.meeting_at_first(other) {
             return Some(Distance::Zero);
         }
         match guess_relation(self, other) {

@@ -69,6 +69,25 @@ impl<'a> Polygon<'a> {
         vertex_at(self.vertices, index_round(self.vertices, i))
     }
 
+    /// Returns the first vertex of this hull if `other` covers it, or that of `other` if this hull does: of hulls that
+    /// overlap much mostly one does.
+    pub(crate) fn meeting_at_first(&self, other: &Polygon) -> Option<Meeting>
+        requires this { 0 < length (vertices_of self.now) }
+        requires that { 0 < length (vertices_of other.now) }
+        ensures { HoldsOfBoth (vertices_of self.now) (vertices_of other.now)
+            (λ S T. IfSome result (λ m. IsMeeting S T m)) }
+    {
+        let first = self.vertex_of(0);
+        if other.covers(first) {
+            return Some(Meeting::OfThis(first));
+        }
+        let opposite = other.vertex_of(0);
+        if self.covers(opposite) {
+            return Some(Meeting::OfOther(opposite));
+        }
+        None
+    }
+
     /// Returns the first of three vertices of this hull, by their indices, that `other` covers.
     fn covered_of(&self, other: &Polygon, few: [usize; 3]) -> Option<Point>
         requires { 0 < length (vertices_of self.now) }

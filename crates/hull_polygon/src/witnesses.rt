@@ -156,12 +156,8 @@ impl<'a> Polygon<'a> {
         ensures { HoldsOfBoth (vertices_of self.now) (vertices_of other.now)
             (λ S T. IfSome result (λ found. IsWitness S T found.0)) }
     {
-        let first = self.vertex_of(0);
-        if other.covers(first) {
-            return Some((
-                Witness::Intersects(Meeting::OfThis(first)),
-                Feature::OfThis(0),
-            ));
+        if let Some(meeting) = self.meeting_at_first(other) {
+            return Some((Witness::Intersects(meeting), Feature::OfThis(0)));
         }
         match guess_relation(self, other) {
             Guess::Meeting(few) => match self.meeting_of_few(other, few) {
