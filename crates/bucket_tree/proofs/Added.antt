@@ -3,7 +3,7 @@ use Rattle.std.proofs.Common.{◌≡◌, ◌∙◌, Bool, true, false, cond, ref
 use Rattle.std.specs.Prelude.{not, pos, ◌≤ℤ◌, ◌<ℤ◌}
 use Rattle.std.specs.List.{Contains}
 use Rattle.lattice.specs.Bridges.{IsAllBefore, IsBridge, IsInner, IsNotBeyond}
-use Rattle.lattice.specs.Covers.{with_point}
+use Rattle.lattice.specs.Covers.{with_point, without_point}
 use Rattle.lattice.specs.Orientations.{orient_on}
 use Rattle.lattice.specs.Plane.{Pair, IsBefore, orient}
 use Rattle.lattice.specs.Signs.{le_or_lt}
@@ -15,11 +15,11 @@ use Rattle.lattice.proofs.Order.{before_total, before_apart, after_apart, before
 use Rattle.lattice.proofs.UniqueBridge.{one_bridge, one_lower_bridge}
 use Rattle.bridge_search.specs.Trees.{Leaf, On}
 use Rattle.hull_geometry.specs.Positions.{first_of, last_of}
-use Rattle.hull_geometry.proofs.Fringed.{ends_there, of_candidate_lists}
+use Rattle.hull_geometry.proofs.Fringed.{all_inner, ends_there, of_candidate_lists}
 use Rattle.hull_geometry.proofs.PointSets.{set_apart}
-use Rattle.hull_geometry.proofs.SetLaws.{with_point_law}
+use Rattle.hull_geometry.proofs.SetLaws.{with_point_law, without_point_law}
 use Rattle.hull_geometry.proofs.Touching.{straight}
-use Rattle.bucket_tree.specs.Changes.{IsBridgeBetween, IsClearOf, IsEndOf, IsEndUnlessClear, IsSameBut, change_of, edge_on}
+use Rattle.bucket_tree.specs.Changes.{AreInnerTo, IsBridgeBetween, IsClearOf, IsEndOf, IsEndUnlessClear, IsSameBut, change_of, edge_on}
 use Rattle.bucket_tree.specs.Counts.{Alters, Comes}
 use Rattle.bucket_tree.specs.Nodes.{tree_of, points_below, AreInRow, IsWellBuilt}
 use Rattle.bucket_tree.specs.OtherEnds.{IsAfterPoint, IsBeforePoint, IsEndFrom, IsEndTo, IsEndFromWithin, IsEndToWithin}
@@ -148,27 +148,76 @@ pub start_not_after : (side : Side) (l r : Node) (p q d : Pair) → AreInRow l r
 start_not_after side l r p q d w f h =
     (f (q, p) (of_points side l r (q, p) w (with_end_to side l r p q w (λ e k. (f e k).0) h))).1
 
+-- no vertex below a node is before its first point
+pub not_before_first : (n : Node) (q first : Pair) → IsWellBuilt n → first ≡ first_of (points_below n) → On (tree_of n) q
+    → ¬ IsBefore q first
+not_before_first n q first w d i b =
+    elim (by_first (points_below n) q w.ordered ((node_candidates Lower n w.buckets).among q i)) [
+      | inl s ↦ before_irrefl q (subst (IsBefore q) (d ∙ sym s) b)
+      | inr s ↦ before_not q first b (subst (λ z. IsBefore z q) (sym d) s)
+    ]
+
+-- nor after its last
+pub not_after_last : (n : Node) (q last : Pair) → IsWellBuilt n → last ≡ last_of (points_below n) → On (tree_of n) q
+    → ¬ IsBefore last q
+not_after_last n q last w e i b =
+    elim (by_last (points_below n) q w.ordered ((node_candidates Lower n w.buckets).among q i)) [
+      | inl s ↦ before_irrefl q (subst (λ z. IsBefore z q) (e ∙ sym s) b)
+      | inr s ↦ before_not last q b (subst (IsBefore q) (sym e) s)
+    ]
+
+-- so each is within both
+pub in_bounds : (n : Node) (q first last : Pair) → IsWellBuilt n → first ≡ first_of (points_below n)
+    → last ≡ last_of (points_below n) → On (tree_of n) q → IsNotBeyond first last q
+in_bounds n q first last w d e i = (not_before_first n q first w d i, not_after_last n q last w e i)
+
 -- the end among the vertices of a node is not after its last point
 pub within_from : (side : Side) (p : Pair) (n : Node) (first last : Pair) → IsWellBuilt n → last ≡ last_of (points_below n)
     → ((q : Pair) → IsEndFrom side p (tree_of n) q → ¬ IsBefore q first) → IsEndFromWithin side p (tree_of n) first last
-within_from side p n first last w e f q k = (
-  f q k,
-  λ b. elim (by_last (points_below n) q w.ordered ((node_candidates Lower n w.buckets).among q k.to_right)) [
-    | inl s ↦ before_irrefl q (subst (λ z. IsBefore z q) (e ∙ sym s) b)
-    | inr s ↦ before_not last q b (subst (IsBefore q) (sym e) s)
-  ],
-)
+within_from side p n first last w e f q k = (f q k, not_after_last n q last w e k.to_right)
 
 -- and the start not before its first one
 pub within_to : (side : Side) (n : Node) (p first last : Pair) → IsWellBuilt n → first ≡ first_of (points_below n)
     → ((q : Pair) → IsEndTo side (tree_of n) p q → ¬ IsBefore last q) → IsEndToWithin side (tree_of n) p first last
-within_to side n p first last w e f q k = (
-  λ b. elim (by_first (points_below n) q w.ordered ((node_candidates Lower n w.buckets).among q k.from_left)) [
-    | inl s ↦ before_irrefl q (subst (IsBefore q) (e ∙ sym s) b)
-    | inr s ↦ before_not q first b (subst (λ z. IsBefore z q) (sym e) s)
-  ],
-  f q k,
-)
+within_to side n p first last w e f q k = (not_before_first n q first w e k.from_left, f q k)
+
+-- the end of the bridge from a point of the first half is not after the old end, if all points are inner to the old edge
+pub back_not_after : (side : Side) (l r : Node) (e : Pair × Pair) (s q : Pair) → AreInRow l r → AreInnerTo side l r e
+    → Contains (points_below r) e.1 → On (tree_of l) s → IsEndFrom side s (tree_of r) q → ¬ IsBefore e.1 q
+back_not_after side l r e s q w a i j h b =
+    let here = (node_candidates side l w.left_built.buckets).among s j in
+    let there = (node_candidates side r w.right_built.buckets).among q h.to_right in
+    let inner = all_inner side (On (tree_of r)) (Contains (points_below r)) s q (node_candidates side r w.right_built.buckets)
+    (set_apart (points_below l) (points_below r) s q w.in_order here there)
+    (λ t k. (h.inner_right t k, h.tie_right t k)) e.1 i in
+    end_not_inwards side e.0 e.1 s q a.ordered
+    (set_apart (points_below l) (points_below r) s e.1 w.in_order here i, b, to_orient_on side s q e.1 inner.0)
+    (a.left s here) (a.right q there)
+
+-- the start of the bridge to a point of the second half is not before the old start
+pub back_not_before : (side : Side) (l r : Node) (e : Pair × Pair) (s q : Pair) → AreInRow l r → AreInnerTo side l r e
+    → Contains (points_below l) e.0 → On (tree_of r) s → IsEndTo side (tree_of l) s q → ¬ IsBefore q e.0
+back_not_before side l r e s q w a i j h b =
+    let here = (node_candidates side r w.right_built.buckets).among s j in
+    let there = (node_candidates side l w.left_built.buckets).among q h.from_left in
+    let inner = all_inner side (On (tree_of l)) (Contains (points_below l)) q s (node_candidates side l w.left_built.buckets)
+    (set_apart (points_below l) (points_below r) q s w.in_order there here)
+    (λ t k. (h.inner_left t k, h.tie_left t k)) e.0 i in
+    start_not_inwards side e.0 e.1 q s a.ordered
+    (b, set_apart (points_below l) (points_below r) e.0 s w.in_order i here, to_orient_on side q s e.0 inner.0)
+    (a.left q there) (a.right s here)
+
+-- if the bridge from a point to the second half and the bridge to its end from the first are one, it is the bridge of both
+pub one_by_both : (side : Side) (l r : Pair → Type 0) (p q : Pair) → IsBridge side l (On (Leaf q)) p q
+    → IsBridge side (On (Leaf p)) r p q → IsBridge side l r p q
+one_by_both side l r p q h k = record {
+  from_left = h.from_left;
+  to_right = k.to_right;
+  inner_left = h.inner_left;
+  inner_right = k.inner_right;
+  tie_left = h.tie_left;
+  tie_right = k.tie_right;
+}
 
 -- ---- the point that was added
 
@@ -262,6 +311,36 @@ ends_at false side p l r m e row new b absent g n = (here, λ d k. (there d k, a
         (k.inner_left e.0 b.from_left, k.tie_left e.0 b.from_left)
         (k.inner_right e.1 (back e.1 (inr b.to_right)), k.tie_right e.1 (back e.1 (inr b.to_right)))
 
+-- if no point was added to a half, all are inner to the old bridge, of which the end in the other half is there
+pub stays_at : (left : Bool) (side : Side) (p : Pair) (l r m : Node) (e : Pair × Pair) → AreInRow l r → IsBridgeBetween side l r e
+    → ((t : Pair) → Contains (points_below m) t → Contains (points_below (cond left l r)) t)
+    → IsEndUnlessClear (change_of left false) side p (cond left m l) (cond left r m) e
+stays_at true side p l r m e row b had n = (
+  b.to_right,
+  record {
+    ordered = set_apart (points_below l) (points_below r) e.0 e.1 row.in_order b.from_left b.to_right;
+    left = λ t i. (b.inner_left t (had t i), b.tie_left t (had t i));
+    right = λ t i. (b.inner_right t i, b.tie_right t i);
+  },
+)
+stays_at false side p l r m e row b had n = (
+  b.from_left,
+  record {
+    ordered = set_apart (points_below l) (points_below r) e.0 e.1 row.in_order b.from_left b.to_right;
+    left = λ t i. (b.inner_left t i, b.tie_left t i);
+    right = λ t i. (b.inner_right t (had t i), b.tie_right t (had t i));
+  },
+)
+
+-- so it is if p was removed
+pub lost_at : (left : Bool) (side : Side) (p : Pair) (l r m : Node) (e : Pair × Pair) → AreInRow l r → IsBridgeBetween side l r e
+    → points_below m ≡ without_point p (points_below (cond left l r))
+    → IsEndUnlessClear (change_of left false) side p (cond left m l) (cond left r m) e
+lost_at true side p l r m e row b g = stays_at true side p l r m e row b
+    (λ t i. (((without_point_law (points_below l) p row.left_built.ordered).1 t).0 (subst (λ z. Contains z t) g i)).0)
+lost_at false side p l r m e row b g = stays_at false side p l r m e row b
+    (λ t i. (((without_point_law (points_below r) p row.right_built.ordered).1 t).0 (subst (λ z. Contains z t) g i)).0)
+
 -- the same by the change, which may have been refused; the edge goes by another name
 pub ends_after : (left refused : Bool) (side : Side) (p : Pair) (l r m : Node) (e d : Pair × Pair) (change : Change)
     → AreInRow l r → AreInRow (cond left m l) (cond left r m) → IsBridgeBetween side l r e
@@ -269,7 +348,9 @@ pub ends_after : (left refused : Bool) (side : Side) (p : Pair) (l r m : Node) (
     → change ≡ change_of left (not refused) → d ≡ e
     → IsEndUnlessClear change side p (cond left m l) (cond left r m) d
 ends_after left true side p l r m e d change row new b absent g c s =
-    subst (λ z. IsEndUnlessClear z side p (cond left m l) (cond left r m) d) (sym c) (λ n. tt)
+    subst (λ z. IsEndUnlessClear z side p (cond left m l) (cond left r m) d) (sym c)
+    (subst (IsEndUnlessClear (change_of left false) side p (cond left m l) (cond left r m)) (sym s)
+    (stays_at left side p l r m e row b (λ t i. subst (λ z. Contains z t) g.0 i)))
 ends_after left false side p l r m e d change row new b absent g c s =
     subst (λ z. IsEndUnlessClear z side p (cond left m l) (cond left r m) d) (sym c)
     (subst (IsEndUnlessClear (change_of left true) side p (cond left m l) (cond left r m)) (sym s)

@@ -25,7 +25,7 @@ use Rattle.bucket_tree.specs.declared.renewal.Changed.{Changed}
 use Rattle.bucket_tree.specs.declared.node.Fork.{Fork as Below}
 use Rattle.bucket_tree.specs.declared.node.Node.{Node, Leaf, Fork}
 use Rattle.bucket_tree.specs.declared.renewal.Affected.{Affected}
-use Rattle.bucket_tree.proofs.Added.{ends_at}
+use Rattle.bucket_tree.proofs.Added.{ends_at, lost_at}
 use Rattle.bucket_tree.proofs.BuiltLeaves.{leaf_built}
 use Rattle.bucket_tree.proofs.Kept.{DiffersAt, behind_as, unaffected_within, edges_as, first_kept, last_kept, same_edges}
 use Rattle.bucket_tree.proofs.Kept.{stored}
@@ -199,7 +199,10 @@ end_with : (left put : Bool) (change : Change) (side : Side) (p : Pair) (n : Nod
     → IsEndUnlessClear change side p (cond left k f.left) (cond left f.right k) (edge_on side (with_part left f k))
 end_with left false change side p n h f k below i d w row c =
     subst (λ z. IsEndUnlessClear z side p (cond left k f.left) (cond left f.right k) (edge_on side (with_part left f k)))
-    (sym c) (λ m. tt)
+    (sym c)
+    (subst (IsEndUnlessClear (change_of left false) side p (cond left k f.left) (cond left f.right k))
+    (sym (same_edges f (with_part left f k) refl refl side))
+    (lost_at left side p f.left f.right k (edge_on side f) i.apart.row (i.apart.edges side) d.lost.1))
 end_with left true change side p n h f k below i d w row c =
     let part = cond left f.left f.right in
     subst (λ z. IsEndUnlessClear z side p (cond left k f.left) (cond left f.right k) (edge_on side (with_part left f k)))
@@ -293,7 +296,7 @@ module _ (left : Bool) (p : Pair) (n : Node) (h : ℕ) (f : Below) (k : Node) (b
           arith,
           r.turns,
           one_fork (node_height n) (node_height (cond left f.left f.right)) below.turns
-              (4 * max (node_height (cond left k f.left)) (node_height (cond left f.right k)) + 24) lower part.turns
+              (8 * max (node_height (cond left k f.left)) (node_height (cond left f.right k)) + 48) lower part.turns
               (omega (arith, i.apart.height, e.0, e.1)),
         );
         unaffected = subst (IsUnaffectedOver p above.sides) (sym both_points)

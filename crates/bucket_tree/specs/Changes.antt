@@ -14,7 +14,7 @@ use Rattle.bucket_tree.specs.declared.node.Fork.{Fork}
 use Rattle.bucket_tree.specs.declared.node.Node.{Node}
 use Rattle.bucket_tree.specs.declared.renewal.Affected.{Affected}
 use Rattle.bucket_tree.specs.declared.renewal.Change.{Change}
-use Rattle.bucket_tree.specs.declared.renewal.Change.TheVariants.{AddedLeft, AddedRight, Other}
+use Rattle.bucket_tree.specs.declared.renewal.Change.TheVariants.{AddedLeft, AddedRight, OtherLeft, OtherRight}
 use Rattle.bucket_tree.specs.declared.renewal.Standing.{Standing}
 use Rattle.bucket_tree.specs.declared.renewal.Standing.TheVariants.{Covered, Clear, Touching}
 use Rattle.bucket_tree.specs.Nodes.{tree_of, points_below, AreInRow}
@@ -50,18 +50,26 @@ ReturnsOf side e p Touching = ¬ IsClearOf side e p
 -- the change of a fork of which one half changed at a point: the left one if the first word is true, otherwise the right one; the point was added to it
 -- if the second word is true
 abbrev pub change_of : Bool → Bool → Change
-change_of left false = Other
 change_of true true = AddedLeft
 change_of false true = AddedRight
+change_of true false = OtherLeft
+change_of false false = OtherRight
+
+-- each point below two nodes is inner to an edge
+pub record AreInnerTo (side : Side) (l r : Node) (e : Pair × Pair) : Type 0 where
+  pub ordered : IsBefore e.0 e.1
+  pub left : (t : Pair) → Contains (points_below l) t → IsInnerToEdge side e.0 e.1 t
+  pub right : (t : Pair) → Contains (points_below r) t → IsInnerToEdge side e.0 e.1 t
 
 -- a point that was added is one of its half; each bridge of the two halves, as they are now, ends at it, and its other end is not nearer to the split than
--- that of the edge that was the bridge before the change
+-- that of the edge that was the bridge before the change; if none was added, all points are inner to this edge, and one of its ends is still there
 abbrev pub IsEndOf : Change → Side → Pair → Node → Node → Pair × Pair → Type 0
 IsEndOf AddedLeft side p l r old = Contains (points_below l) p
     × ((e : Pair × Pair) → IsBridgeBetween side l r e → (e.0 ≡ p) × ¬ IsBefore e.1 old.1)
 IsEndOf AddedRight side p l r old = Contains (points_below r) p
     × ((e : Pair × Pair) → IsBridgeBetween side l r e → (e.1 ≡ p) × ¬ IsBefore old.0 e.0)
-IsEndOf Other side p l r old = Unit {0}
+IsEndOf OtherLeft side p l r old = Contains (points_below r) old.1 × AreInnerTo side l r old
+IsEndOf OtherRight side p l r old = Contains (points_below l) old.0 × AreInnerTo side l r old
 
 -- that is so if the point is not clear of this edge
 abbrev pub IsEndUnlessClear : Change → Side → Pair → Node → Node → Pair × Pair → Type 0

@@ -88,5 +88,5 @@ pub record IsRenewedAfter (p : Pair) (below : Changed) (f g : Fork) (above : Cha
   pub renewed : IsRenewed g
   pub left : g.left ≡ f.left
   pub right : g.right ≡ f.right
-  pub turns : above.turns ≤ below.turns + 4 * max (node_height f.left) (node_height f.right) + 24
+  pub turns : above.turns ≤ below.turns + 8 * max (node_height f.left) (node_height f.right) + 48
   pub closes : ClosesBy p below.sides above.sides (points_below f.left ++ points_below f.right)

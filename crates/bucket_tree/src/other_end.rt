@@ -4,13 +4,12 @@
 ghost use Rattle.std.specs.Prelude.{◌≡◌, ◌≤◌, ◌+◌, MatchOption, length};
 ghost use Rattle.bridge_search.specs.Trees.{height_of as height_in};
 ghost use Rattle.hull_set.specs.declared.TheConstants.{POINT_LIMIT};
-ghost use Rattle.lattice.specs.Plane.{Pair, IsBefore};
 ghost use Rattle.lattice.specs.declared.side.Side.TheVariants.{Upper};
 ghost use Rattle.bucket_tree.specs.Nodes.{tree_of, points_below, node_height, IsWellBuilt};
 ghost use Rattle.bucket_tree.specs.OtherEnds.{IsAfterPoint, IsBeforePoint, IsEndFrom, IsEndTo, IsEndFromWithin, IsEndToWithin};
 ghost use Rattle.bucket_tree.specs.OtherEnds.{IsFound, IsRangeFrom, IsRangeTo};
 
-use crate::node::{Node, first_of, last_of};
+use crate::node::Node;
 use crate::part::Part;
 use crate::questions::vertices_are_few;
 use bridge_search::{Half, Turned};
@@ -154,19 +153,18 @@ fn upper_end_to<H: Half>(u: H, p: Point, first: Point, last: Point) -> (Point, u
     (range.half.first(), turns)
 }
 
-/// Returns the end, among the vertices below a node, of the bridge on a side from a point before them, and the turns of the search. The end is not
-/// before the point `first`.
-pub(crate) fn end_from(side: Side, p: Point, node: &Node, first: Point) -> (Point, u32)
+/// Returns the end, among the vertices below a node, of the bridge on a side from a point before them, and the turns of the search. The end is
+/// neither before `first` nor after `last`.
+pub(crate) fn end_from(side: Side, p: Point, node: &Node, first: Point, last: Point) -> (Point, u32)
     requires built { IsWellBuilt node.now }
     requires few { length (points_below node.now) ≤ POINT_LIMIT }
     requires after { IsAfterPoint p (tree_of node.now) }
-    requires first { (q : Pair) → IsEndFrom side p (tree_of node.now) q → ¬ IsBefore q first }
+    requires within { IsEndFromWithin side p (tree_of node.now) first last }
     ensures end { IsEndFrom side p (tree_of node.now) result.0 }
     ensures turns { result.1 ≤ node_height node.now + 6 }
 {
     vertices_are_few(node);
     let part = Part::new(node);
-    let last = last_of(node);
     match side {
         Side::Upper => upper_end_from(p, part, first, last),
         Side::Lower => {
@@ -181,19 +179,18 @@ pub(crate) fn end_from(side: Side, p: Point, node: &Node, first: Point) -> (Poin
     }
 }
 
-/// Returns the end, among the vertices below a node, of the bridge on a side to a point after them, and the turns of the search. The end is not after
-/// the point `last`.
-pub(crate) fn end_to(side: Side, node: &Node, p: Point, last: Point) -> (Point, u32)
+/// Returns the end, among the vertices below a node, of the bridge on a side to a point after them, and the turns of the search. The end is
+/// neither before `first` nor after `last`.
+pub(crate) fn end_to(side: Side, node: &Node, p: Point, first: Point, last: Point) -> (Point, u32)
     requires built { IsWellBuilt node.now }
     requires few { length (points_below node.now) ≤ POINT_LIMIT }
     requires before { IsBeforePoint (tree_of node.now) p }
-    requires last { (q : Pair) → IsEndTo side (tree_of node.now) p q → ¬ IsBefore last q }
+    requires within { IsEndToWithin side (tree_of node.now) p first last }
     ensures end { IsEndTo side (tree_of node.now) p result.0 }
     ensures turns { result.1 ≤ node_height node.now + 6 }
 {
     vertices_are_few(node);
     let part = Part::new(node);
-    let first = first_of(node);
     match side {
         Side::Upper => upper_end_to(part, p, first, last),
         Side::Lower => {

@@ -3,7 +3,7 @@ ghost use Rattle.std.specs.Prelude.{◌≡◌, ◌≤◌, ◌+◌, ◌*◌, ◌+
 ghost use Rattle.hull_geometry.specs.Monotone.{IsInwards};
 ghost use Rattle.hull_set.specs.declared.TheConstants.{POINT_LIMIT};
 ghost use Rattle.lattice.specs.declared.side.Side.{Side};
-ghost use Rattle.bucket_tree.specs.Changes.{IsBehind, IsUnaffectedOver, ClosesBy, is_affected};
+ghost use Rattle.bucket_tree.specs.Changes.{IsBehind, IsEndUnlessClear, IsUnaffectedOver, ClosesBy, edge_on, is_affected};
 ghost use Rattle.bucket_tree.specs.Counts.{multiplicity_at, HasLost};
 ghost use Rattle.bucket_tree.specs.Nodes.{points_below, multiplicities_below, node_height, AreInRow, IsHeightOver, IsWellBuilt};
 ghost use Rattle.bucket_tree.specs.Turns.{most_turns};
@@ -124,12 +124,14 @@ fn prepare(
     right: Node,
     place: Box<Fork, Heap>,
     p: Point,
+    change: Change,
     sides: Affected,
     height: u16,
 ) -> Renewed
     requires row { AreInRow left right }
     requires few { length (points_below left ++ points_below right) ≤ POINT_LIMIT }
     requires behind { IsBehind p sides left right place.value }
+    requires end { (side : Side) → IsEndUnlessClear change side p left right (edge_on side place.value) }
     requires near_left { node_height left ≤ node_height right + 2 }
     requires near_right { node_height right ≤ node_height left + 2 }
     requires low { max (node_height left) (node_height right) ≤ 28 }
@@ -144,7 +146,7 @@ fn prepare(
     if height == 1 && are_few(&left, &right) {
         return merge(left, right, place, p, sides);
     }
-    balance(left, right, place, p, Change::Other, sides)
+    balance(left, right, place, p, change, sides)
 }
 
 /// Returns what is left if one subtree of a fork lost its only point: the other subtree.
@@ -184,7 +186,7 @@ pub fn remove(node: Node, p: Point) -> Removed
             return other_part(right, turns);
         };
         place.last_left = last_after(&rest, place.last_left, p);
-        let above = prepare(rest, right, place, p, sides, height);
+        let above = prepare(rest, right, place, p, Change::OtherLeft, sides, height);
         Removed {
             rest: Some(above.node),
             turns: above.turns + turns,
@@ -196,7 +198,7 @@ pub fn remove(node: Node, p: Point) -> Removed
             return other_part(left, turns);
         };
         place.right_first = first_after(&rest, place.right_first, p);
-        let above = prepare(left, rest, place, p, sides, height);
+        let above = prepare(left, rest, place, p, Change::OtherRight, sides, height);
         Removed {
             rest: Some(above.node),
             turns: above.turns + turns,

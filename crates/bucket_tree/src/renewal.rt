@@ -10,7 +10,8 @@ ghost use Rattle.hull_geometry.specs.Positions.{first_of as first_in, last_of as
 ghost use Rattle.hull_set.specs.declared.TheConstants.{POINT_LIMIT};
 ghost use Rattle.lattice.specs.Plane.{IsBefore};
 ghost use Rattle.bucket_tree.specs.Changes.{IsBehind, IsBridgeBetween, IsClearOf, IsRenewed, IsSameBut, ReturnsOf, ClosesBy, edge_on};
-ghost use Rattle.bucket_tree.specs.Changes.{IsEndOf, IsEndUnlessClear, change_of};
+ghost use Rattle.std.specs.List.{Contains};
+ghost use Rattle.bucket_tree.specs.Changes.{AreInnerTo, IsEndOf, IsEndUnlessClear, change_of};
 ghost use Rattle.bucket_tree.specs.Nodes.{tree_of, points_below, multiplicities_below, node_height, AreInRow, IsWellBuilt};
 ghost use Rattle.bucket_tree.specs.Nodes.{AreNear, HasBuckets};
 ghost use Rattle.bucket_tree.specs.Nodes.{IsHeightOver};
@@ -87,21 +88,22 @@ pub(crate) enum Change {
     AddedLeft,
     /// The point was added to the right half.
     AddedRight,
-    /// Any other change.
-    Other,
+    /// The left half changed, but the point was not added to it.
+    OtherLeft,
+    /// The right half changed, but the point was not added to it.
+    OtherRight,
 }
 
 /// Returns the change of a fork of which the left half changed at a point, or else the right one, and whether the point was added to it.
 pub(crate) fn change_at(is_left: bool, is_added: bool) -> Change
     ensures { result ≡ change_of is_left is_added }
 {
-    if !is_added {
-        return Change::Other;
+    match (is_left, is_added) {
+        (true, true) => Change::AddedLeft,
+        (false, true) => Change::AddedRight,
+        (true, false) => Change::OtherLeft,
+        (false, false) => Change::OtherRight,
     }
-    if is_left {
-        return Change::AddedLeft;
-    }
-    Change::AddedRight
 }
 
 /// The result of a change below a node.
@@ -113,25 +115,86 @@ pub struct Changed {
     pub sides: Affected,
 }
 
-/// Searches the bridge on a side between the halves of a fork after a change at a point: only its other end, if the point was added, since the bridge
-/// ends at the point then. Returns the bridge and the turns of the search.
+/// Searches the bridge on a side between the halves of a fork after the left one changed: from the end that is still there to the left half, and back. If
+/// that leads to the same end, it is the bridge; else both ends are searched. Returns the bridge and the turns of the searches.
+fn search_by_end(side: Side, fork: &Fork) -> ((Point, Point), u32)
+    requires row { AreInRow fork.now.left fork.now.right }
+    requires few { length (points_below fork.now.left ++ points_below fork.now.right) ≤ POINT_LIMIT }
+    requires low { max (node_height fork.now.left) (node_height fork.now.right) ≤ 28 }
+    requires there { Contains (points_below fork.now.right) (edge_on side fork.now).1 }
+    requires inner { AreInnerTo side fork.now.left fork.now.right (edge_on side fork.now) }
+    ensures bridge { IsBridge side (On (tree_of fork.now.left)) (On (tree_of fork.now.right)) result.0.0 result.0.1 }
+    ensures turns { result.1 ≤ 4 * max (node_height fork.now.left) (node_height fork.now.right) + 24 }
+{
+    let kept = fork.edge(side).1;
+    let (start, there) = end_to(
+        side,
+        &fork.left,
+        kept,
+        first_of(&fork.left),
+        last_of(&fork.left),
+    );
+    let (end, back) = end_from(side, start, &fork.right, first_of(&fork.right), kept);
+    if end == kept {
+        return ((start, end), there + back);
+    }
+    let (edge, turns) = search_one(side, &fork.left, &fork.right);
+    (edge, there + back + turns)
+}
+
+/// Searches the bridge as [`search_by_end`], after the right half changed.
+fn search_by_start(side: Side, fork: &Fork) -> ((Point, Point), u32)
+    requires row { AreInRow fork.now.left fork.now.right }
+    requires few { length (points_below fork.now.left ++ points_below fork.now.right) ≤ POINT_LIMIT }
+    requires low { max (node_height fork.now.left) (node_height fork.now.right) ≤ 28 }
+    requires there { Contains (points_below fork.now.left) (edge_on side fork.now).0 }
+    requires inner { AreInnerTo side fork.now.left fork.now.right (edge_on side fork.now) }
+    ensures bridge { IsBridge side (On (tree_of fork.now.left)) (On (tree_of fork.now.right)) result.0.0 result.0.1 }
+    ensures turns { result.1 ≤ 4 * max (node_height fork.now.left) (node_height fork.now.right) + 24 }
+{
+    let kept = fork.edge(side).0;
+    let (end, there) = end_from(
+        side,
+        kept,
+        &fork.right,
+        first_of(&fork.right),
+        last_of(&fork.right),
+    );
+    let (start, back) = end_to(side, &fork.left, end, kept, last_of(&fork.left));
+    if start == kept {
+        return ((start, end), there + back);
+    }
+    let (edge, turns) = search_one(side, &fork.left, &fork.right);
+    (edge, there + back + turns)
+}
+
+/// Searches the bridge on a side between the halves of a fork after a change at a point. If the point was added, the bridge ends at it, and only its
+/// other end is searched. Returns the bridge and the turns of the searches.
 fn search_after(side: Side, fork: &Fork, p: Point, change: Change) -> ((Point, Point), u32)
     requires row { AreInRow fork.now.left fork.now.right }
     requires few { length (points_below fork.now.left ++ points_below fork.now.right) ≤ POINT_LIMIT }
+    requires low { max (node_height fork.now.left) (node_height fork.now.right) ≤ 28 }
     requires end { IsEndOf change side p fork.now.left fork.now.right (edge_on side fork.now) }
     ensures bridge { IsBridge side (On (tree_of fork.now.left)) (On (tree_of fork.now.right)) result.0.0 result.0.1 }
-    ensures turns { result.1 ≤ 2 * max (node_height fork.now.left) (node_height fork.now.right) + 12 }
+    ensures turns { result.1 ≤ 4 * max (node_height fork.now.left) (node_height fork.now.right) + 24 }
 {
     match change {
         Change::AddedLeft => {
-            let (end, turns) = end_from(side, p, &fork.right, fork.edge(side).1);
+            let (end, turns) = end_from(
+                side,
+                p,
+                &fork.right,
+                fork.edge(side).1,
+                last_of(&fork.right),
+            );
             ((p, end), turns)
         }
         Change::AddedRight => {
-            let (end, turns) = end_to(side, &fork.left, p, fork.edge(side).0);
+            let (end, turns) = end_to(side, &fork.left, p, first_of(&fork.left), fork.edge(side).0);
             ((end, p), turns)
         }
-        Change::Other => search_one(side, &fork.left, &fork.right),
+        Change::OtherLeft => search_by_end(side, fork),
+        Change::OtherRight => search_by_start(side, fork),
     }
 }
 
@@ -143,11 +206,12 @@ fn renew_affected_edge(side: Side, fork: &mut Fork, p: Point, change: Change) ->
     requires few { length (points_below fork.old.left ++ points_below fork.old.right) ≤ POINT_LIMIT }
     requires clear { IsClearOf side (edge_on side fork.old) p
         → IsBridgeBetween side fork.old.left fork.old.right (edge_on side fork.old) }
+    requires low { max (node_height fork.old.left) (node_height fork.old.right) ≤ 28 }
     requires end { IsEndUnlessClear change side p fork.old.left fork.old.right (edge_on side fork.old) }
     ensures same { IsSameBut side fork.old fork.new }
     ensures bridge { IsBridge side (On (tree_of fork.old.left)) (On (tree_of fork.old.right))
         (edge_on side fork.new).0 (edge_on side fork.new).1 }
-    ensures turns { result.0 ≤ 2 * max (node_height fork.old.left) (node_height fork.old.right) + 12 }
+    ensures turns { result.0 ≤ 4 * max (node_height fork.old.left) (node_height fork.old.right) + 24 }
     ensures closes { result.1 ≡ false
         → IsCovered side p (points_below fork.old.left ++ points_below fork.old.right) }
 {
@@ -170,11 +234,12 @@ fn renew_edge(side: Side, fork: &mut Fork, p: Point, change: Change, at_issue: b
     requires unaffected { at_issue ≡ false → IsBridgeBetween side fork.old.left fork.old.right (edge_on side fork.old) }
     requires clear { IsClearOf side (edge_on side fork.old) p
         → IsBridgeBetween side fork.old.left fork.old.right (edge_on side fork.old) }
+    requires low { max (node_height fork.old.left) (node_height fork.old.right) ≤ 28 }
     requires end { IsEndUnlessClear change side p fork.old.left fork.old.right (edge_on side fork.old) }
     ensures same { IsSameBut side fork.old fork.new }
     ensures bridge { IsBridge side (On (tree_of fork.old.left)) (On (tree_of fork.old.right))
         (edge_on side fork.new).0 (edge_on side fork.new).1 }
-    ensures turns { result.0 ≤ 2 * max (node_height fork.old.left) (node_height fork.old.right) + 12 }
+    ensures turns { result.0 ≤ 4 * max (node_height fork.old.left) (node_height fork.old.right) + 24 }
     ensures closes { result.1 ≡ false
         → (at_issue ≡ false) ⊎ IsCovered side p (points_below fork.old.left ++ points_below fork.old.right) }
 {
@@ -195,7 +260,7 @@ pub(crate) fn renew_edges(fork: &mut Fork, p: Point, change: Change, sides: Affe
     ensures renewed { IsRenewed fork.new }
     ensures left { fork.new.left ≡ fork.old.left }
     ensures right { fork.new.right ≡ fork.old.right }
-    ensures turns { result.turns ≤ 4 * max (node_height fork.old.left) (node_height fork.old.right) + 24 }
+    ensures turns { result.turns ≤ 8 * max (node_height fork.old.left) (node_height fork.old.right) + 48 }
     ensures closes { ClosesBy p sides result.sides (points_below fork.old.left ++ points_below fork.old.right) }
 {
     let (upper_turns, upper) = renew_edge(Side::Upper, fork, p, change, sides.upper);
@@ -225,7 +290,7 @@ fn renew(
     ensures points { points_below result.node ≡ points_below left ++ points_below right }
     ensures multiplicities { multiplicities_below result.node ≡ multiplicities_below left ++ multiplicities_below right }
     ensures height { node_height result.node ≡ max (node_height left) (node_height right) + 1 }
-    ensures turns { result.turns ≤ 4 * max (node_height left) (node_height right) + 24 }
+    ensures turns { result.turns ≤ 8 * max (node_height left) (node_height right) + 48 }
     ensures closes { ClosesBy p sides result.sides (points_below left ++ points_below right) }
 {
     let height = height_of(&left).max(height_of(&right)) + 1;

@@ -5,8 +5,6 @@ use Rattle.bridge_search.specs.TurnedTrees.{height_turned}
 use Rattle.bucket_tree.specs.Nodes.{tree_of}
 use Rattle.bucket_tree.specs.Parts.{part_tree}
 use Rattle.bucket_tree.proofs.NodeRows.{vertices_low}
-use Rattle.lattice.specs.declared.side.Side.TheVariants.{Lower, Upper}
-use Rattle.bucket_tree.proofs.Added.{within_from}
 use Rattle.bucket_tree.proofs.OtherEnds.{before_by_turn, lower_from, within_by_turn_from}
 use Rattle.bucket_tree.proofs.other_end.end_from.Goals as goal
 
@@ -40,14 +38,9 @@ returns-in-Lower-clause-turns c = omega (
 )
 
 pub upper_end_from-requires-clause-within : goal.upper_end_from-requires-clause-within
-upper_end_from-requires-clause-within c =
-    rw c.new-part.ensures
-    (within_from Upper c.args.p c.args.node.now c.args.first c.last_of-last.result c.requires.built c.last_of-last.ensures
-    (rw c.in-Upper.is at c.requires.first))
+upper_end_from-requires-clause-within c = rw c.new-part.ensures (rw c.in-Upper.is at c.requires.within)
 
 pub upper_end_to-end-requires-clause-within : goal.upper_end_to-end-requires-clause-within
 upper_end_to-end-requires-clause-within c =
     rw (c.new.ensures, c.new-part.ensures, c.turned.ensures, c.turned-in-Lower.ensures, c.turned-in-Lower-2.ensures)
-    (within_by_turn_from c.args.p (tree_of c.args.node.now) c.args.first c.last_of-last.result
-    (within_from Lower c.args.p c.args.node.now c.args.first c.last_of-last.result c.requires.built c.last_of-last.ensures
-    (rw c.in-Lower.is at c.requires.first)))
+    (within_by_turn_from c.args.p (tree_of c.args.node.now) c.args.first c.args.last (rw c.in-Lower.is at c.requires.within))

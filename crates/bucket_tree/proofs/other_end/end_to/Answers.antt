@@ -5,8 +5,6 @@ use Rattle.bridge_search.specs.TurnedTrees.{height_turned}
 use Rattle.bucket_tree.specs.Nodes.{tree_of}
 use Rattle.bucket_tree.specs.Parts.{part_tree}
 use Rattle.bucket_tree.proofs.NodeRows.{vertices_low}
-use Rattle.lattice.specs.declared.side.Side.TheVariants.{Lower, Upper}
-use Rattle.bucket_tree.proofs.Added.{within_to}
 use Rattle.bucket_tree.proofs.OtherEnds.{after_by_turn, lower_to, within_by_turn_to}
 use Rattle.bucket_tree.proofs.other_end.end_to.Goals as goal
 
@@ -40,14 +38,9 @@ returns-in-Lower-clause-turns c = omega (
 )
 
 pub upper_end_to-requires-clause-within : goal.upper_end_to-requires-clause-within
-upper_end_to-requires-clause-within c =
-    rw c.new-part.ensures
-    (within_to Upper c.args.node.now c.args.p c.first_of-first.result c.args.last c.requires.built c.first_of-first.ensures
-    (rw c.in-Upper.is at c.requires.last))
+upper_end_to-requires-clause-within c = rw c.new-part.ensures (rw c.in-Upper.is at c.requires.within)
 
 pub upper_end_from-end-requires-clause-within : goal.upper_end_from-end-requires-clause-within
 upper_end_from-end-requires-clause-within c =
     rw (c.new.ensures, c.new-part.ensures, c.turned.ensures, c.turned-in-Lower.ensures, c.turned-in-Lower-2.ensures)
-    (within_by_turn_to (tree_of c.args.node.now) c.args.p c.first_of-first.result c.args.last
-    (within_to Lower c.args.node.now c.args.p c.first_of-first.result c.args.last c.requires.built c.first_of-first.ensures
-    (rw c.in-Lower.is at c.requires.last)))
+    (within_by_turn_to (tree_of c.args.node.now) c.args.p c.args.first c.args.last (rw c.in-Lower.is at c.requires.within))

@@ -2,7 +2,9 @@
 use Rattle.std.proofs.Common.{◌∙◌, true, false, ap, subst, arith, List, length, length-append, sym}
 use Rattle.std.specs.Prelude.{IfSome}
 use Rattle.lattice.specs.Plane.{Pair}
-use Rattle.bucket_tree.specs.Changes.{IsUnaffectedOver}
+use Rattle.bucket_tree.specs.Changes.{IsUnaffectedOver, edge_on}
+use Rattle.bucket_tree.specs.declared.renewal.Change.TheVariants.{OtherLeft, OtherRight}
+use Rattle.bucket_tree.proofs.Added.{end_as, lost_at}
 use Rattle.bucket_tree.specs.Counts.{HasLost, Goes}
 use Rattle.bucket_tree.specs.Nodes.{points_below, node_height}
 use Rattle.bucket_tree.specs.declared.node.Fork.{Fork}
@@ -271,3 +273,26 @@ returns-in-Some-rest-clause-turns t c =
     (omega (arith, e)) c.remove-rest-else-before.ensures.turns
     (omega (arith, c.prepare-above-else-before.ensures.turns, lost.3.0, e)) in
     omega (arith, s)
+
+pub prepare-above-requires-clause-end : goal.prepare-above-requires-clause-end
+prepare-above-requires-clause-end t c =
+    let o = c.take_apart-left.ensures in
+    let lost = subst (HasLost c.args.p c.take_apart-left.result.0) c.in-Some.is c.remove-rest.ensures.lost in
+    let f = c.take_apart-left.result.2.value in
+    end_as OtherLeft c.args.p c.in-Some.rest c.take_apart-left.result.1 f _
+    (same_edges f _ (ap (λ (g : Fork). g.lower) c.deref_mut.ensures.value)
+    (ap (λ (g : Fork). g.upper) c.deref_mut.ensures.value))
+    (λ side. lost_at true side c.args.p c.take_apart-left.result.0 c.take_apart-left.result.1 c.in-Some.rest (edge_on side f)
+    o.row (o.stored side) lost.1)
+
+pub prepare-above-requires-else-before-clause-end : goal.prepare-above-requires-else-before-clause-end
+prepare-above-requires-else-before-clause-end t c =
+    let o = c.take_apart-left.ensures in
+    let lost = subst (HasLost c.args.p c.take_apart-left.result.1) c.in-Some-rest.is
+    c.remove-rest-else-before.ensures.lost in
+    let f = c.take_apart-left.result.2.value in
+    end_as OtherRight c.args.p c.take_apart-left.result.0 c.in-Some-rest.rest f _
+    (same_edges f _ (ap (λ (g : Fork). g.lower) c.deref_mut-else-before.ensures.value)
+    (ap (λ (g : Fork). g.upper) c.deref_mut-else-before.ensures.value))
+    (λ side. lost_at false side c.args.p c.take_apart-left.result.0 c.take_apart-left.result.1 c.in-Some-rest.rest
+    (edge_on side f) o.row (o.stored side) lost.1)

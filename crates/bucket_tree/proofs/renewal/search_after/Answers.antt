@@ -2,6 +2,7 @@
 use Rattle.std.proofs.Common.{subst}
 use Rattle.bucket_tree.specs.Changes.{IsEndOf, edge_on}
 use Rattle.bucket_tree.proofs.Added.{after_first, before_second, end_not_before, start_not_after, with_end_from, with_end_to}
+use Rattle.bucket_tree.proofs.Added.{within_from, within_to}
 use Rattle.bucket_tree.proofs.renewal.search_after.Goals as goal
 
 pub end_from-end-requires-clause-after : goal.end_from-end-requires-clause-after
@@ -30,15 +31,40 @@ returns-in-AddedRight-clause-bridge c =
     with_end_to c.args.side f.left f.right c.args.p c.end_to-end.result.0 c.requires.row (λ e b. (k.1 e b).0)
     c.end_to-end.ensures.end
 
-pub end_from-end-requires-clause-first : goal.end_from-end-requires-clause-first
-end_from-end-requires-clause-first c =
+pub end_from-end-requires-clause-within : goal.end_from-end-requires-clause-within
+end_from-end-requires-clause-within c =
     let f = c.args.fork.now in
     let k = subst (λ z. IsEndOf z c.args.side c.args.p f.left f.right (edge_on c.args.side f)) c.in-AddedLeft.is c.requires.end in
-    rw c.edge.ensures (λ q h. end_not_before c.args.side f.left f.right c.args.p q (edge_on c.args.side f).1 c.requires.row k.1 h)
+    rw c.edge.ensures
+    (within_from c.args.side c.args.p f.right (edge_on c.args.side f).1 c.last_of.result c.requires.row.right_built
+    c.last_of.ensures
+    (λ q h. end_not_before c.args.side f.left f.right c.args.p q (edge_on c.args.side f).1 c.requires.row k.1 h))
 
-pub end_to-end-requires-clause-last : goal.end_to-end-requires-clause-last
-end_to-end-requires-clause-last c =
+pub end_to-end-requires-clause-within : goal.end_to-end-requires-clause-within
+end_to-end-requires-clause-within c =
     let f = c.args.fork.now in
     let k = subst (λ z. IsEndOf z c.args.side c.args.p f.left f.right (edge_on c.args.side f)) c.in-AddedRight.is c.requires.end in
     rw c.edge-in-AddedRight.ensures
-    (λ q h. start_not_after c.args.side f.left f.right c.args.p q (edge_on c.args.side f).0 c.requires.row k.1 h)
+    (within_to c.args.side f.left c.args.p c.first_of.result (edge_on c.args.side f).0 c.requires.row.left_built
+    c.first_of.ensures
+    (λ q h. start_not_after c.args.side f.left f.right c.args.p q (edge_on c.args.side f).0 c.requires.row k.1 h))
+
+pub search_by_end-requires-clause-there : goal.search_by_end-requires-clause-there
+search_by_end-requires-clause-there c =
+    let f = c.args.fork.now in
+    (subst (λ z. IsEndOf z c.args.side c.args.p f.left f.right (edge_on c.args.side f)) c.in-OtherLeft.is c.requires.end).0
+
+pub search_by_end-requires-clause-inner : goal.search_by_end-requires-clause-inner
+search_by_end-requires-clause-inner c =
+    let f = c.args.fork.now in
+    (subst (λ z. IsEndOf z c.args.side c.args.p f.left f.right (edge_on c.args.side f)) c.in-OtherLeft.is c.requires.end).1
+
+pub search_by_start-requires-clause-there : goal.search_by_start-requires-clause-there
+search_by_start-requires-clause-there c =
+    let f = c.args.fork.now in
+    (subst (λ z. IsEndOf z c.args.side c.args.p f.left f.right (edge_on c.args.side f)) c.in-OtherRight.is c.requires.end).0
+
+pub search_by_start-requires-clause-inner : goal.search_by_start-requires-clause-inner
+search_by_start-requires-clause-inner c =
+    let f = c.args.fork.now in
+    (subst (λ z. IsEndOf z c.args.side c.args.p f.left f.right (edge_on c.args.side f)) c.in-OtherRight.is c.requires.end).1
