@@ -14,10 +14,10 @@ use Rattle.lattice.specs.declared.side.Side.TheVariants.{Lower, Upper}
 use Rattle.hull_geometry.specs.Positions.{first_of, last_of}
 use Rattle.hull_buckets.specs.Buckets.{BucketValue, IsBucket}
 use Rattle.hull_set.specs.Held.{once}
-use Rattle.bucket_tree.specs.Changes.{HasEdgesBehind, IsBridgeBetween, IsUnaffectedOver, IsBehind}
+use Rattle.bucket_tree.specs.Changes.{HasEdgesAfter, IsBridgeBetween, IsUnaffectedOver, IsAfter}
 use Rattle.bucket_tree.specs.Changes.{IsEndUnlessClear, IsRenewed, IsSameBut, change_of, edge_on}
 use Rattle.bucket_tree.specs.Counts.{counted, multiplicity_at, Alters, Kind, Comes, Goes}
-use Rattle.bucket_tree.specs.InPlace.{AreFewFor, HasChanged, HasChangedIn, IsBehindPart, IsInPlace, IsRenewedAfter}
+use Rattle.bucket_tree.specs.InPlace.{AreFewFor, HasChanged, HasChangedIn, IsAfterPart, IsInPlace, IsRenewedAfter}
 use Rattle.bucket_tree.specs.InPlace.{IsToRenew, IsUnsearched}
 use Rattle.bucket_tree.specs.Nodes.{points_below, multiplicities_below, node_height, AreNear, AreInRow, IsWellBuilt}
 use Rattle.bucket_tree.specs.declared.renewal.Change.{Change}
@@ -178,8 +178,8 @@ heights_with true f k e = (e, refl)
 heights_with false f k e = (refl, e)
 
 -- a fork that is stale over two subtrees is stale with these in it
-pub over_parts : (p : Pair) (sides : Affected) (l r : Node) (f : Below) → IsBehind p sides l r f
-    → IsBehind p sides l r (with_part false (with_part true f l) r)
+pub over_parts : (p : Pair) (sides : Affected) (l r : Node) (f : Below) → IsAfter p sides l r f
+    → IsAfter p sides l r (with_part false (with_part true f l) r)
 over_parts p sides l r f h =
     let g = with_part false (with_part true f l) r in
     behind_as p sides l r f g h.unaffected h.clear (same_edges f g refl refl) h.last h.first
@@ -217,7 +217,7 @@ edges_with : (left put : Bool) (p : Pair) (f : Below) (k : Node) (sides : Affect
     → ((side : Side) → IsBridgeBetween side f.left f.right (edge_on side f))
     → Alters (kind_of put) p (cond left f.left f.right) k
     → DiffersAt p (points_below (cond left f.left f.right)) (points_below k) → IsUnaffectedOver p sides (points_below k)
-    → HasEdgesBehind p sides (with_part left f k)
+    → HasEdgesAfter p sides (with_part left f k)
 edges_with left put p f k sides row b h d c =
     let g = with_part left f k in
     let e = edges_as p sides g.left g.right f g
@@ -230,7 +230,7 @@ behind_with : (left put : Bool) (p : Pair) (n : Node) (h : ℕ) (f : Below) (k :
     → IsWellBuilt k → AreInRow (cond left k f.left) (cond left f.right k)
     → Alters (kind_of put) p (cond left f.left f.right) k
     → DiffersAt p (points_below (cond left f.left f.right)) (points_below k) → IsUnaffectedOver p sides (points_below k)
-    → IsBehindPart left p sides (with_part left f k)
+    → IsAfterPart left p sides (with_part left f k)
 behind_with true put p n h f k sides a w row h' d c = record {
   row = row;
   edges = edges_with true put p f k sides a.row a.edges h' d c;

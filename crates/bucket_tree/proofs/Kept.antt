@@ -24,7 +24,7 @@ use Rattle.hull_geometry.proofs.Fringed.{of_candidate_lists}
 use Rattle.lattice.specs.declared.side.Side.TheVariants.{Lower, Upper}
 use Rattle.bucket_tree.proofs.NodeCandidateLists.{node_candidates}
 use Rattle.bucket_tree.proofs.NodePoints.{some_below}
-use Rattle.bucket_tree.specs.Changes.{IsClearOf, IsBridgeBetween, IsBehind, IsUnaffectedOver, ClosesBy, is_affected, edge_on}
+use Rattle.bucket_tree.specs.Changes.{IsClearOf, IsBridgeBetween, IsAfter, IsUnaffectedOver, ClosesBy, is_affected, edge_on}
 use Rattle.bucket_tree.specs.Nodes.{tree_of, points_below, AreInRow, IsWellBuilt}
 use Rattle.bucket_tree.specs.declared.node.Fork.{Fork}
 use Rattle.bucket_tree.specs.declared.node.Node.{Node}
@@ -164,7 +164,7 @@ pub behind_as : (p : Pair) (sides : Affected) (l r : Node) (f g : Fork)
     → ((side : Side) → is_affected side sides ≡ false → IsBridgeBetween side l r (edge_on side f))
     → ((side : Side) → IsClearOf side (edge_on side f) p → IsBridgeBetween side l r (edge_on side f))
     → ((side : Side) → edge_on side g ≡ edge_on side f) → g.last_left ≡ last_of (points_below l)
-    → g.right_first ≡ first_of (points_below r) → IsBehind p sides l r g
+    → g.right_first ≡ first_of (points_below r) → IsAfter p sides l r g
 behind_as p sides l r f g unaffected clear same last first =
     let e = edges_as p sides l r f g unaffected clear same in
     record { last = last; first = first; unaffected = e.0; clear = e.1 }
@@ -209,7 +209,7 @@ covered_by side p l r e k b =
     )
 
 -- the same by a fork that is one change stale
-pub covered_at : (side : Side) (p : Pair) (l r : Node) (sides : Affected) (f : Fork) → IsBehind p sides l r f
+pub covered_at : (side : Side) (p : Pair) (l r : Node) (sides : Affected) (f : Fork) → IsAfter p sides l r f
     → (n : Bool) → (n ≡ false) ⊎ IsInwards side (edge_on side f).0 (edge_on side f).1 p
     → (n ≡ false) ⊎ IsCovered side p (points_below l ++ points_below r)
 covered_at side p l r sides f h n (inl k) = inl k

@@ -15,8 +15,8 @@ use Rattle.bucket_tree.specs.declared.node.Node.{Node}
 use Rattle.bucket_tree.specs.declared.renewal.Affected.{Affected}
 use Rattle.bucket_tree.specs.declared.renewal.Change.{Change}
 use Rattle.bucket_tree.specs.declared.renewal.Change.TheVariants.{AddedLeft, AddedRight, OtherLeft, OtherRight}
-use Rattle.bucket_tree.specs.declared.renewal.Standing.{Standing}
-use Rattle.bucket_tree.specs.declared.renewal.Standing.TheVariants.{Covered, Clear, Touching}
+use Rattle.bucket_tree.specs.declared.renewal.EdgePosition.{EdgePosition}
+use Rattle.bucket_tree.specs.declared.renewal.EdgePosition.TheVariants.{Covered, Clear, Touching}
 use Rattle.bucket_tree.specs.Nodes.{tree_of, points_below, AreInRow}
 
 -- whether a chain is affected: whether the change may matter on that side to the forks above
@@ -42,7 +42,7 @@ abbrev pub IsClearOf : Side → Pair × Pair → Pair → Type 0
 IsClearOf side e p = ¬ (e.0 ≡ p) × ¬ (e.1 ≡ p) × IsInnerToEdge side e.0 e.1 p
 
 -- the meaning of each position of a point relative to an edge
-abbrev pub ReturnsOf : Side → Pair × Pair → Pair → Standing → Type 0
+abbrev pub ReturnsOf : Side → Pair × Pair → Pair → EdgePosition → Type 0
 ReturnsOf side e p Covered = IsInwards side e.0 e.1 p
 ReturnsOf side e p Clear = IsClearOf side e p
 ReturnsOf side e p Touching = ¬ IsClearOf side e p
@@ -77,7 +77,7 @@ IsEndUnlessClear change side p l r old = ¬ IsClearOf side old p → IsEndOf cha
 
 -- a stale fork: a fork over two subtrees, of which one changed at p since its edges were stored. It stores the points at the split; an edge is still
 -- the bridge if its chain is unaffected or if p is clear of it
-pub record IsBehind (p : Pair) (sides : Affected) (l r : Node) (f : Fork) : Type 0 where
+pub record IsAfter (p : Pair) (sides : Affected) (l r : Node) (f : Fork) : Type 0 where
   pub last : f.last_left ≡ last_of (points_below l)
   pub first : f.right_first ≡ first_of (points_below r)
   pub unaffected : (side : Side) → is_affected side sides ≡ false → IsBridgeBetween side l r (edge_on side f)
@@ -88,22 +88,22 @@ abbrev pub ClosesBy : Pair → Affected → Affected → List Pair → Type 0
 ClosesBy p before after S =
     (side : Side) → is_affected side after ≡ false → (is_affected side before ≡ false) ⊎ IsCovered side p S
 
--- the edges that a fork stores are bridges unless a change at p may have altered them (as `IsBehind` says)
-pub record HasEdgesBehind (p : Pair) (sides : Affected) (f : Fork) : Type 0 where
+-- the edges that a fork stores are bridges unless a change at p may have altered them (as `IsAfter` says)
+pub record HasEdgesAfter (p : Pair) (sides : Affected) (f : Fork) : Type 0 where
   pub unaffected : (side : Side) → is_affected side sides ≡ false → IsBridgeBetween side f.left f.right (edge_on side f)
   pub clear : (side : Side) → IsClearOf side (edge_on side f) p → IsBridgeBetween side f.left f.right (edge_on side f)
 
 -- a fork whose left subtree changed at p since its edges and the last point there were stored
-pub record IsBehindLeft (p : Pair) (sides : Affected) (f : Fork) : Type 0 where
+pub record IsAfterLeft (p : Pair) (sides : Affected) (f : Fork) : Type 0 where
   pub row : AreInRow f.left f.right
-  pub edges : HasEdgesBehind p sides f
+  pub edges : HasEdgesAfter p sides f
   pub first : f.right_first ≡ first_of (points_below f.right)
   pub kept : IsBefore p f.last_left → f.last_left ≡ last_of (points_below f.left)
 
 -- a fork whose right subtree changed in the same way
-pub record IsBehindRight (p : Pair) (sides : Affected) (f : Fork) : Type 0 where
+pub record IsAfterRight (p : Pair) (sides : Affected) (f : Fork) : Type 0 where
   pub row : AreInRow f.left f.right
-  pub edges : HasEdgesBehind p sides f
+  pub edges : HasEdgesAfter p sides f
   pub last : f.last_left ≡ last_of (points_below f.left)
   pub kept : IsBefore f.right_first p → f.right_first ≡ first_of (points_below f.right)
 

@@ -11,7 +11,7 @@ use Rattle.bucket_tree.specs.declared.renewal.Changed.{Changed}
 use Rattle.bucket_tree.specs.declared.node.Node.{Node}
 use Rattle.bucket_tree.specs.declared.node.Fork.{Fork}
 use Rattle.bucket_tree.specs.declared.renewal.Affected.{Affected}
-use Rattle.bucket_tree.specs.Changes.{ClosesBy, IsBehindLeft, IsBehindRight, IsEndUnlessClear, IsUnaffectedOver, IsRenewed, edge_on}
+use Rattle.bucket_tree.specs.Changes.{ClosesBy, IsAfterLeft, IsAfterRight, IsEndUnlessClear, IsUnaffectedOver, IsRenewed, edge_on}
 use Rattle.bucket_tree.specs.Counts.{counted, multiplicity_at, HasGained, HasLost}
 use Rattle.bucket_tree.specs.Nodes.{points_below, node_height, IsWellBuilt}
 use Rattle.bucket_tree.specs.Turns.{most_turns}
@@ -71,13 +71,13 @@ HasChangedIn true = HasPutInto
 HasChangedIn false = HasTakenFrom
 
 -- a fork of which one subtree, the left one or else the right one, changed at p since its edges were stored
-abbrev pub IsBehindPart : Bool → Pair → Affected → Fork → Type 0
-IsBehindPart true = IsBehindLeft
-IsBehindPart false = IsBehindRight
+abbrev pub IsAfterPart : Bool → Pair → Affected → Fork → Type 0
+IsAfterPart true = IsAfterLeft
+IsAfterPart false = IsAfterRight
 
 -- the fork has to be renewed, and can be
 pub record IsToRenew (left : Bool) (change : Change) (p : Pair) (below : Changed) (f : Fork) : Type 0 where
-  pub behind : IsBehindPart left p below.sides f
+  pub behind : IsAfterPart left p below.sides f
   pub end : (side : Side) → IsEndUnlessClear change side p f.left f.right (edge_on side f)
   pub few : length (points_below f.left ++ points_below f.right) ≤ POINT_LIMIT
   pub low : max (node_height f.left) (node_height f.right) ≤ 28

@@ -3,7 +3,7 @@ ghost use Rattle.std.specs.Prelude.{◌≡◌, ◌≤◌, ◌+◌, ◌*◌, ◌+
 ghost use Rattle.hull_geometry.specs.Monotone.{IsInwards};
 ghost use Rattle.hull_set.specs.declared.TheConstants.{POINT_LIMIT};
 ghost use Rattle.lattice.specs.declared.side.Side.{Side};
-ghost use Rattle.bucket_tree.specs.Changes.{IsBehind, IsEndUnlessClear, IsUnaffectedOver, ClosesBy, edge_on, is_affected};
+ghost use Rattle.bucket_tree.specs.Changes.{IsAfter, IsEndUnlessClear, IsUnaffectedOver, ClosesBy, edge_on, is_affected};
 ghost use Rattle.bucket_tree.specs.Counts.{multiplicity_at, HasLost};
 ghost use Rattle.bucket_tree.specs.Nodes.{points_below, multiplicities_below, node_height, AreInRow, IsHeightOver, IsWellBuilt};
 ghost use Rattle.bucket_tree.specs.Turns.{most_turns};
@@ -13,7 +13,7 @@ use crate::insertion::{affected_at, bucket_of};
 use crate::join::take_apart;
 use crate::node::{Fork, Node, height_of};
 use crate::renewal::{
-    Affected, Change, Renewed, Standing, balance, first_after, how_stands, last_after,
+    Affected, Change, EdgePosition, Renewed, balance, edge_position_of, first_after, last_after,
 };
 use heap::Heap;
 use hull_buckets::{Bucket, buckets_are_sound};
@@ -82,10 +82,10 @@ fn stays_affected(side: Side, edge: &(Point, Point), p: Point, at_issue: bool) -
     if !at_issue {
         return false;
     }
-    match how_stands(side, edge, p) {
-        Standing::Covered => false,
-        Standing::Clear => true,
-        Standing::Touching => true,
+    match edge_position_of(side, edge, p) {
+        EdgePosition::Covered => false,
+        EdgePosition::Clear => true,
+        EdgePosition::Touching => true,
     }
 }
 
@@ -95,7 +95,7 @@ fn merge(left: Node, right: Node, place: Box<Fork, Heap>, p: Point, sides: Affec
     requires left { node_height left ≡ 0 }
     requires right { node_height right ≡ 0 }
     requires few { length (points_below left) + length (points_below right) ≤ 48 }
-    requires behind { IsBehind p sides left right place.value }
+    requires behind { IsAfter p sides left right place.value }
     ensures built { IsWellBuilt result.node }
     ensures points { points_below result.node ≡ points_below left ++ points_below right }
     ensures multiplicities { multiplicities_below result.node ≡ multiplicities_below left ++ multiplicities_below right }
@@ -130,7 +130,7 @@ fn prepare(
 ) -> Renewed
     requires row { AreInRow left right }
     requires few { length (points_below left ++ points_below right) ≤ POINT_LIMIT }
-    requires behind { IsBehind p sides left right place.value }
+    requires behind { IsAfter p sides left right place.value }
     requires end { (side : Side) → IsEndUnlessClear change side p left right (edge_on side place.value) }
     requires near_left { node_height left ≤ node_height right + 2 }
     requires near_right { node_height right ≤ node_height left + 2 }

@@ -9,7 +9,7 @@ ghost use Rattle.hull_buckets.specs.Buckets.{IsCovered};
 ghost use Rattle.hull_geometry.specs.Positions.{first_of as first_in, last_of as last_in};
 ghost use Rattle.hull_set.specs.declared.TheConstants.{POINT_LIMIT};
 ghost use Rattle.lattice.specs.Plane.{IsBefore};
-ghost use Rattle.bucket_tree.specs.Changes.{IsBehind, IsBridgeBetween, IsClearOf, IsRenewed, IsSameBut, ReturnsOf, ClosesBy, edge_on};
+ghost use Rattle.bucket_tree.specs.Changes.{IsAfter, IsBridgeBetween, IsClearOf, IsRenewed, IsSameBut, ReturnsOf, ClosesBy, edge_on};
 ghost use Rattle.std.specs.List.{Contains};
 ghost use Rattle.bucket_tree.specs.Changes.{AreInnerTo, IsEndOf, IsEndUnlessClear, change_of};
 ghost use Rattle.bucket_tree.specs.Nodes.{tree_of, points_below, multiplicities_below, node_height, AreInRow, IsWellBuilt};
@@ -42,7 +42,7 @@ pub(crate) struct Renewed {
 
 /// The position of a point relative to an edge.
 #[derive(Clone, Copy)]
-pub(crate) enum Standing {
+pub(crate) enum EdgePosition {
     /// Strictly between its ends, and inwards of it.
     Covered,
     /// Inner to it and no end of it, but not between its ends.
@@ -66,19 +66,19 @@ fn is_inwards(side: Side, edge: &(Point, Point), p: Point) -> bool
 }
 
 /// Returns the position of a point relative to an edge on a side.
-pub(crate) fn how_stands(side: Side, edge: &(Point, Point), p: Point) -> Standing
+pub(crate) fn edge_position_of(side: Side, edge: &(Point, Point), p: Point) -> EdgePosition
     ensures { ReturnsOf side edge.now p result }
 {
     if before(edge.0, p) && before(p, edge.1) {
         if is_inner(side, edge, p) {
-            return Standing::Covered;
+            return EdgePosition::Covered;
         }
-        return Standing::Touching;
+        return EdgePosition::Touching;
     }
     if edge.0 != p && edge.1 != p && is_inwards(side, edge, p) {
-        return Standing::Clear;
+        return EdgePosition::Clear;
     }
-    Standing::Touching
+    EdgePosition::Touching
 }
 
 /// How one half of a fork changed at a point.
@@ -215,10 +215,10 @@ fn renew_affected_edge(side: Side, fork: &mut Fork, p: Point, change: Change) ->
     ensures closes { result.1 ≡ false
         → IsCovered side p (points_below fork.old.left ++ points_below fork.old.right) }
 {
-    match how_stands(side, fork.edge(side), p) {
-        Standing::Covered => (0, false),
-        Standing::Clear => (0, true),
-        Standing::Touching => {
+    match edge_position_of(side, fork.edge(side), p) {
+        EdgePosition::Covered => (0, false),
+        EdgePosition::Clear => (0, true),
+        EdgePosition::Touching => {
             let (edge, turns) = search_after(side, fork, p, change);
             fork.set_edge(side, edge);
             (turns, true)
@@ -254,7 +254,7 @@ fn renew_edge(side: Side, fork: &mut Fork, p: Point, change: Change, at_issue: b
 pub(crate) fn renew_edges(fork: &mut Fork, p: Point, change: Change, sides: Affected) -> Changed
     requires row { AreInRow fork.old.left fork.old.right }
     requires few { length (points_below fork.old.left ++ points_below fork.old.right) ≤ POINT_LIMIT }
-    requires behind { IsBehind p sides fork.old.left fork.old.right fork.old }
+    requires behind { IsAfter p sides fork.old.left fork.old.right fork.old }
     requires end { (side : Side) → IsEndUnlessClear change side p fork.old.left fork.old.right (edge_on side fork.old) }
     requires low { max (node_height fork.old.left) (node_height fork.old.right) ≤ 28 }
     ensures renewed { IsRenewed fork.new }
@@ -282,7 +282,7 @@ fn renew(
 ) -> Renewed
     requires row { AreInRow left right }
     requires few { length (points_below left ++ points_below right) ≤ POINT_LIMIT }
-    requires behind { IsBehind p sides left right place.value }
+    requires behind { IsAfter p sides left right place.value }
     requires end { (side : Side) → IsEndUnlessClear change side p left right (edge_on side place.value) }
     requires near { AreNear (node_height left) (node_height right) }
     requires low { max (node_height left) (node_height right) ≤ 28 }
@@ -316,7 +316,7 @@ pub(crate) fn balance(
 ) -> Renewed
     requires row { AreInRow left right }
     requires few { length (points_below left ++ points_below right) ≤ POINT_LIMIT }
-    requires behind { IsBehind p sides left right place.value }
+    requires behind { IsAfter p sides left right place.value }
     requires end { (side : Side) → IsEndUnlessClear change side p left right (edge_on side place.value) }
     requires near_left { node_height left ≤ node_height right + 2 }
     requires near_right { node_height right ≤ node_height left + 2 }

@@ -4,10 +4,10 @@ use Rattle.leaf_trees.proofs.Counting.{other_point}
 use Rattle.leaf_trees.proofs.Multiplicities.{same_point}
 use Rattle.bucket_tree.proofs.Added.{beyond_not_clear, outwards_not_clear}
 use Rattle.bucket_tree.proofs.Gained.{failed, passed}
-use Rattle.bucket_tree.proofs.renewal.how_stands.Goals.{else-before-via-else-before, else-before-via-then-before+else-before-2}
-use Rattle.bucket_tree.proofs.renewal.how_stands.Goals.{else-ne-via-else-ne, else-ne-via-then-ne+else-ne-2}
-use Rattle.bucket_tree.proofs.renewal.how_stands.Goals.{else-ne-via-then-ne+then-ne-2+else-is_inwards}
-use Rattle.bucket_tree.proofs.renewal.how_stands.Goals as goal
+use Rattle.bucket_tree.proofs.renewal.edge_position_of.Goals.{else-before-via-else-before, else-before-via-then-before+else-before-2}
+use Rattle.bucket_tree.proofs.renewal.edge_position_of.Goals.{else-ne-via-else-ne, else-ne-via-then-ne+else-ne-2}
+use Rattle.bucket_tree.proofs.renewal.edge_position_of.Goals.{else-ne-via-then-ne+then-ne-2+else-is_inwards}
+use Rattle.bucket_tree.proofs.renewal.edge_position_of.Goals as goal
 
 pub returns-then-is_inner : goal.returns-then-is_inner
 returns-then-is_inner c = (
