@@ -75,7 +75,7 @@ fn corner_beside(this: &Polygon, other: &Polygon, bracket: Bracket, way: Offset)
 }
 
 /// Whether the distance from the origin falls along the edge of the difference from a vertex of a bracket to the next.
-fn falls_after(this: &Polygon, other: &Polygon, bracket: Bracket, at: Corner) -> bool
+fn is_falling_after(this: &Polygon, other: &Polygon, bracket: Bracket, at: Corner) -> bool
     requires this { 0 < length (vertices_of this.now) }
     requires that { 0 < length (vertices_of other.now) }
 {
@@ -91,7 +91,7 @@ fn falls_after(this: &Polygon, other: &Polygon, bracket: Bracket, at: Corner) ->
 }
 
 /// Whether it rises along the edge of the difference to that vertex.
-fn rises_before(this: &Polygon, other: &Polygon, bracket: Bracket, at: Corner) -> bool
+fn is_rising_before(this: &Polygon, other: &Polygon, bracket: Bracket, at: Corner) -> bool
     requires this { 0 < length (vertices_of this.now) }
     requires that { 0 < length (vertices_of other.now) }
 {
@@ -191,9 +191,9 @@ pub(crate) fn guess_closest(this: &Polygon, other: &Polygon, way: Offset) -> Opt
     let mut bracket = bracket_beside(this, other, way);
     let mut corner = corner_beside(this, other, bracket, way);
     for _step in 0..STEPS {
-        if falls_after(this, other, bracket, corner) {
+        if is_falling_after(this, other, bracket, corner) {
             bracket.start = corner;
-        } else if rises_before(this, other, bracket, corner) {
+        } else if is_rising_before(this, other, bracket, corner) {
             bracket.end = corner;
         } else {
             return Some(Feature::OfOther(corner.other));
