@@ -75,11 +75,7 @@ fn vertex_beside(this: &Polygon, other: &Polygon, bracket: Bracket, way: Offset)
 }
 
 /// Whether the distance from the origin falls along the edge of the difference from a vertex of a bracket to the next.
-<<<<<<< HEAD
-fn falls_after(this: &Polygon, other: &Polygon, bracket: Bracket, at: DifferenceVertex) -> bool
-=======
-fn is_falling_after(this: &Polygon, other: &Polygon, bracket: Bracket, at: Corner) -> bool
->>>>>>> a2e6aa25882aab1669c08952c815634135a051da
+fn is_falling_after(this: &Polygon, other: &Polygon, bracket: Bracket, at: DifferenceVertex) -> bool
     requires this { 0 < length (vertices_of this.now) }
     requires that { 0 < length (vertices_of other.now) }
 {
@@ -95,11 +91,7 @@ fn is_falling_after(this: &Polygon, other: &Polygon, bracket: Bracket, at: Corne
 }
 
 /// Whether it rises along the edge of the difference to that vertex.
-<<<<<<< HEAD
-fn rises_before(this: &Polygon, other: &Polygon, bracket: Bracket, at: DifferenceVertex) -> bool
-=======
-fn is_rising_before(this: &Polygon, other: &Polygon, bracket: Bracket, at: Corner) -> bool
->>>>>>> a2e6aa25882aab1669c08952c815634135a051da
+fn is_rising_before(this: &Polygon, other: &Polygon, bracket: Bracket, at: DifferenceVertex) -> bool
     requires this { 0 < length (vertices_of this.now) }
     requires that { 0 < length (vertices_of other.now) }
 {
@@ -199,17 +191,10 @@ pub(crate) fn guess_closest(this: &Polygon, other: &Polygon, way: Offset) -> Opt
     let mut bracket = bracket_beside(this, other, way);
     let mut vertex = vertex_beside(this, other, bracket, way);
     for _step in 0..STEPS {
-<<<<<<< HEAD
-        if falls_after(this, other, bracket, vertex) {
+        if is_falling_after(this, other, bracket, vertex) {
             bracket.start = vertex;
-        } else if rises_before(this, other, bracket, vertex) {
+        } else if is_rising_before(this, other, bracket, vertex) {
             bracket.end = vertex;
-=======
-        if is_falling_after(this, other, bracket, corner) {
-            bracket.start = corner;
-        } else if is_rising_before(this, other, bracket, corner) {
-            bracket.end = corner;
->>>>>>> a2e6aa25882aab1669c08952c815634135a051da
         } else {
             return Some(Feature::OfOther(vertex.other));
         }
