@@ -123,14 +123,14 @@ def test_edits(tests):
             changes, why = mutants.changes_in(text, top)
             tests.see(f"{text!r}: {wanted}", (why is None and changes) if wanted is None else changes is None and wanted in why, why)
         crate = crate_in(top)
-        first, second = edit_of(crate, "first", ("one + second()", "one")), edit_of(crate, "second", ("    three", "    four"))
-        again, trait = edit_of(crate, "again", ("one + ", "two + ")), edit_of(crate, "trait", ("LIMIT + twice", "twice"))
+        first, second = edit_of(crate, "first", ("+ second()", "+ 1")), edit_of(crate, "second", ("    three", "    four"))
+        again, over, trait = edit_of(crate, "again", ("    one ", "    two ")), edit_of(crate, "over", ("one + sec", "sec")), edit_of(crate, "trait", ("LIMIT + twice", "twice"))
         constant = edit_of(crate, "constant", ("const LIMIT: u32 = 3", "const LIMIT: u32 = 4"))
         function = lambda name, block="": frozenset([mutants.Function("small::", name, block)])
         tests.same("the function of a mutant", [first.functions, second.functions, trait.functions], [function("first"), function("second"), function("moved", "PointDisplay")])
         tests.see("a constant is in no function, and its users show it", constant.is_alone() and constant.witnesses == function("moved", "PointDisplay"), constant)
-        tests.same("two changes of one text overlap", mutants.applied(crate, [first, again]), None)
-        tests.see("two others are applied", "    four" in mutants.applied(crate, [first, second])["src/lib.rt"] and "    one\n" in mutants.applied(crate, [first, second])["src/lib.rt"])
+        tests.same("two changes of one text overlap", mutants.applied(crate, [first, over]), None)
+        tests.see("two others are applied", "    four" in mutants.applied(crate, [first, second])["src/lib.rt"] and "    one + 1\n" in mutants.applied(crate, [first, second])["src/lib.rt"])
         groups = mutants.groups_of(crate, [first, second, again, trait, constant])
         tests.see("no group has two of one function", all(len({f for it in group for f in it.functions}) == sum(len(it.functions) for it in group) for group in groups), groups)
         tests.see("each is in one group, and a constant's by itself", sorted(it.name for group in groups for it in group) == ["again.edit", "constant.edit", "first.edit", "second.edit", "trait.edit"]
@@ -141,10 +141,12 @@ def test_edits(tests):
         try:
             kit.Crate.sources = lambda self: "sources"
             one = mutants.sum_of(crate)
-            edit_of(crate, "more", ("three", "five"))
+            edit_of(crate, "second", ("three", "five"))
             two = mutants.sum_of(crate)
+            edit_of(crate, "more", ("three", "five"))
+            three = mutants.sum_of(crate)
             kit.Crate.sources = lambda self: "others"
-            tests.see("the record's sum is that of the sources and of the mutants", len({one, two, mutants.sum_of(crate)}) == 3)
+            tests.see("the record's sum is that of the sources and of the mutants", len({one, two, three, mutants.sum_of(crate)}) == 4)
         finally:
             kit.Crate.sources = before
 
