@@ -423,6 +423,10 @@ def test_found(tests):
         tests.refuses("put of other bytes", "has other bytes than dist/SUMS says", top, "tools/product.sh", "put", names[0], f"{top}/none")
         tests.see("it makes no file", not os.path.exists(f"{top}/none"))
         tests.refuses("check", f"dist/{names[0]}: FAILED, its bytes are not those of dist/SUMS\n2 passed, 1 failed", top, "tools/product.sh", "check")
+        write(f"{top}/dist/web/more", "")
+        tests.refuses("a file that SUMS does not name", "dist/web/more: FAILED, dist/SUMS does not name it\n2 passed, 2 failed", top,
+                      "tools/product.sh", "check")
+        os.remove(f"{top}/dist/web/more")
         os.remove(f"{top}/dist/{names[0]}")
         tests.refuses("a file that is gone", "2 passed, 1 failed", top, "tools/product.sh", "check")
         tests.same("words that are none", [run(top, "tools/product.sh", *words)[0] for words in ((), ("other",), ("find",), ("sum", "a", "b"))], [1,
@@ -476,7 +480,8 @@ def test_release(tests):
         tests.see("the page that was not built", "dist/web/hull.wasm: not compared, web/build.py" in run(top, "tools/release.sh", "--compare",
                 env=env)[1])
         write(f"{top}/dist/{names[1]}", "changed\n")
-        tests.refuses("a released file with other bytes than its sum", "FAILED", top, "tools/release.sh", "--compare", env=env)
+        tests.refuses("a released file with other bytes than its sum", f"dist/{names[1]}: FAILED, its bytes are not", top, "tools/release.sh",
+                      "--compare", env={**env, "STALE": names[1]})
         tests.same("words that are none", [run(top, "tools/release.sh", it, env=env)[0] for it in ("--help", "--other")], [0, 1])
 
 
