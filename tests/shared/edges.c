@@ -553,7 +553,10 @@ static void cuts_only_what_a_crash_leaves(void) {
     static const char *wrong[] = {"6 0 Add 1 1 = added\nend 1\n", "6 0 ad 1 1 = added\nend 1\n", "6 0 add 1 1 = addedX\nend 1\n",
                                   "6 0 add 1 1 = adde\nend 1\n",  "6 64 count = count 1\nend 1\n", "6 0 count = count 01\nend 1\n",
                                   "6 0 add 1 1 = left 1\nend 1\n", "6 0 add 1 -0 = added\nend 1\n", "6 0 add 1 1099511627777 = added\nend 1\n",
-                                  "7 0 add 1 1 = added\nend 1\n", "6 0 add 1 1 = added ", "6 0 vertices = list 2 0 0\nend 1\n"};
+                                  "7 0 add 1 1 = added\nend 1\n", "6 0 add 1 1 = added ", "6 0 vertices = list 2 0 0\nend 1\n",
+                                  "6 0 area = area 01\nend 1\n", "6 0 area = area 123456789012345678901234567\nend 1\n",
+                                  "6 0 count = count 1048577\nend 1\n", "6 0 add 1 1 = again 65536\nend 1\n",
+                                  "6 0 vertices = list 1048577 0 0\nend 1\n"};
     for (size_t k = 0; k < sizeof wrong / sizeof *wrong; k++) {
         snprintf(bytes, sizeof bytes, "%s%s", SEGMENT NEXT, wrong[k]);
         check_damaged(bytes, strlen(bytes), 5);
@@ -564,6 +567,18 @@ static void cuts_only_what_a_crash_leaves(void) {
     snprintf(bytes, sizeof bytes, "%s6 0 add 1 1 = added\nend 1\n", SEGMENT NEXT);
     bytes[length + 8] = 0; /* in the middle of a sector */
     check_damaged(bytes, length + 26, 5);
+    for (size_t at = 768; at <= 1024; at += 256) { /* in whole sectors, or not */
+        hull_shared_journal *journal;
+        memset(bytes, 0, sizeof bytes);
+        strcpy(bytes, SEGMENT NEXT);
+        strcpy(bytes + at, "1 = added\n");
+        put(path, bytes, at + 10);
+        check("zeros before a sector's end", hull_shared_journal_open(path, &journal).code, at == 1024 ? HULL_OPEN : HULL_DAMAGED);
+        if (journal != NULL) {
+            hull_shared_journal_close(journal);
+            unlink(beside(".torn"));
+        }
+    }
     memset(bytes, 0, sizeof bytes);
     strcpy(bytes + 1024, "another's words\n");
     check_damaged(bytes, 1040, 1); /* though the zeros are whole sectors */
@@ -622,6 +637,7 @@ static void continues_at_each_limit(void) {
         {HEAD "5 0 add 0 0 = added\n6 0 remove 0 0 = removed\nend 2\n", 7, 0},
         {HEAD "5 0 add 1099511627776 -1099511627776 = added\n6 0 remove 0 0 = absent\n7 0 area = area 0\nend 3\n", 8, 1},
         {HEAD "end 0\n", 5, 0},
+        {HEAD "5 0 count = count 1048576\n6 0 area = area 19342813113834066795298816\nend 2\n", 7, 0},
         {HEAD "5 0 add 0 0 = added\n6 0 add 1 0 = added\n7 0 add 2 0 = added\n8 0 remove 1 0 = removed\n9 0 add 3 0 = added\n"
               "10 0 add 3 0 = again 2\n11 0 remove 3 0 = left 1\nend 7\n", 12, 3},
     };
@@ -790,6 +806,11 @@ static void compacts_all_or_nothing(void) {
     check("compact", compact(&number), HULL_DURABLE);
     check("its mode", stat(path, &s) == 0 && (s.st_mode & 07777) == 01640, 1);
     check("its owner", geteuid() != 0 || (s.st_uid == 12345 && s.st_gid == 54321), 1);
+    for (unsigned k = 0; k < 2 && geteuid() == 0; k++) { /* another user, or another group */
+        check("owner", (uint64_t)chown(path, k == 0 ? 12345 : geteuid(), k == 0 ? getegid() : 54321), 0);
+        check("compact", compact(&number), HULL_DURABLE);
+        check("its owner", stat(path, &s) == 0 && s.st_uid == (k == 0 ? 12345 : geteuid()) && s.st_gid == (k == 0 ? getegid() : 54321), 1);
+    }
     put_text(HEAD "end 0\n" "hullbook journal 3 first 5 limit 3 capacity 9\n5 0 add 0 0 = added\nend 1\n");
     hull_shared_journal_close(open_journal(6));
     writes_fail = 1;
@@ -946,6 +967,10 @@ static unsigned long syncs_at(uint64_t every, uint64_t *used) {
     syncs_do_nothing = 1;
     add(1, 1);
     sleep_for(every == 0 ? MILLISECOND : every > SECOND ? MILLISECOND : 2 * every);
+    for (int k = 0; k < 100 && every == 50 * MILLISECOND && hull_shared_journal_durable(journal).number == 0; k++) {
+        sleep_for(20 * MILLISECOND);
+    }
+    check("one line is durable by itself", hull_shared_journal_durable(journal).number > 0, every == 50 * MILLISECOND);
     uint64_t before = processor_time();
     sleep_for(50 * MILLISECOND);
     *used = processor_time() - before;
@@ -1033,6 +1058,36 @@ static void opens_long_paths(void) {
         unlink(path);
     }
     check("no folder", hull_shared_journal_open("", &journal).code, HULL_NO_FILE);
+    int here = open(".", O_RDONLY);
+    name[begin] = 0;
+    check("in the folder", (uint64_t)chdir(name), 0);
+    check("by its name only", hull_shared_journal_open(path + begin + 1, &journal).code, HULL_OPEN);
+    hull_shared_journal_close(journal);
+    check("in the folder before", (uint64_t)fchdir(here), 0);
+    close(here);
+    check("the file", is_there(path), 1);
+}
+
+/* More changes than are sorted together: those of a point that is there, that was removed, and that comes again. */
+static void compacts_many_changes(void) {
+    enum { POINTS = 100, ROUNDS = 1500 };
+    uint64_t number, line = 0;
+    FILE *file = fopen(path, "w");
+    fprintf(file, "hullbook journal 3 first 0 limit 100 capacity 1000000\n");
+    for (int round = 0; round < ROUNDS; round++) {
+        for (int x = 0; x < POINTS; x++, line++) {
+            fprintf(file, round % 2 == 0 ? "%llu 0 add %d 5 = added\n" : "%llu 0 remove %d 5 = removed\n", (unsigned long long)line, x);
+        }
+    }
+    for (int x = 0; x < 3; x++, line++) {
+        fprintf(file, "%llu 0 add %d 5 = added\n", (unsigned long long)line, x);
+    }
+    fprintf(file, "end %llu\n", (unsigned long long)line);
+    fclose(file);
+    check("compact", compact(&number), HULL_DURABLE);
+    check("its number", number, line);
+    check("its text", has_only(path, "hullbook journal 3 first 150000 limit 100 capacity 3\n150000 0 add 0 5 = added\n150001 0 add 1 5 = added\n"
+                                     "150002 0 add 2 5 = added\nend 3\n"), 1);
 }
 
 /* What a start refuses, and with which code: the shared hull and the journal are as before. */
@@ -1124,6 +1179,7 @@ static const struct {
     {"waits_for_a_drain_without_memory", waits_for_a_drain_without_memory},
     {"reads_long_lines", reads_long_lines},
     {"opens_long_paths", opens_long_paths},
+    {"compacts_many_changes", compacts_many_changes},
     {"starts_only_right", starts_only_right},
     {"compacts_to_the_same_number", compacts_to_the_same_number},
 };

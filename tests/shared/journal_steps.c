@@ -433,6 +433,12 @@ static void refuse_calls(size_t at) {
             }
         }
         why = EIO;
+        if (strncmp(steps[step], "read ", 5) == 0 || strncmp(steps[step], "write ", 6) == 0) { /* it is made again */
+            why = EINTR;
+            const hull_reply reply = run(at, step, -1);
+            check("an interrupted call", reply.code, all.code);
+            why = EIO;
+        }
         is_past_length |= strncmp(steps[step], "length of ", 10) == 0;
         if (is_past_length && strncmp(steps[step], "read ", 5) == 0) { /* as if another process had cut the file */
             reads_nothing = 1;

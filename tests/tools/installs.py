@@ -50,7 +50,8 @@ Libs: -L${{libdir}} -l{name}{more}
 """
 PCS = {
     "hull": PC.format(name="hull", about="An exact dynamic planar convex hull, formally verified", more=""),
-    "hull_shared": PC.format(name="hull_shared", about="An exact dynamic planar convex hull that threads share, formally verified", more=" -lpthread"),
+    "hull_shared": PC.format(name="hull_shared", about="An exact dynamic planar convex hull that threads share, formally verified",
+            more=" -lpthread"),
 }
 USAGE = "usage: bin/install [--library] PREFIX | bin/install --uninstall PREFIX\n"
 
@@ -58,7 +59,8 @@ USAGE = "usage: bin/install [--library] PREFIX | bin/install --uninstall PREFIX\
 def lay(top):
     """Lays the repository: of release 7.8.9, with the files that are installed and packed."""
     lay_tools(top)
-    for it in ("include", "man", "python", "c", "rust", "examples", "docs", "web", "LICENSE", "CHANGELOG.md", "README.md", "HANDLES", "pyproject.toml"):
+    for it in ("include", "man", "python", "c", "rust", "examples", "docs", "web", "LICENSE", "CHANGELOG.md", "README.md", "HANDLES",
+            "pyproject.toml"):
         (shutil.copytree if os.path.isdir(f"{TOP}/{it}") else shutil.copy)(f"{TOP}/{it}", f"{top}/{it}")
     write(f"{top}/VERSION", "7.8.9\n")
     write(f"{top}/tools/product.sh", PRODUCT, 0o755)
@@ -70,7 +72,8 @@ def lay(top):
         for it in ("libhull.a", "hull.wasm", "hull32.wasm"):
             write(f"{top}/dist/{processor}/{it}", f"released {processor} {it}\n")
     write(f"{top}/dist/SUMS", "sums\n")
-    subprocess.run(["find", top, "-type", "f", "!", "-perm", "/100", "-exec", "chmod", "640", "{}", "+"], check=True)  # (not those that are installed)
+    subprocess.run(["find", top, "-type", "f", "!", "-perm", "/100", "-exec", "chmod", "640", "{}", "+"],
+            check=True)  # (not those that are installed)
 
 
 def contents(path):
@@ -86,7 +89,8 @@ def found(prefix):
 
 def wanted(processor, has_programs):
     """Returns the paths that an installation has, each with its mode."""
-    made = ["share/hullbook/installed", "lib/hull/hull/py.typed", "lib/cmake/hull/hull-config-version.cmake", *(f"lib/pkgconfig/{it}.pc" for it in PCS)]
+    made = ["share/hullbook/installed", "lib/hull/hull/py.typed", "lib/cmake/hull/hull-config-version.cmake",
+            *(f"lib/pkgconfig/{it}.pc" for it in PCS)]
     files = [*COPIES, *PRODUCTS, *made, *(COPIES_OF_PROGRAMS if has_programs else []), *(f"bin/{it}" for it in PROGRAMS if has_programs)]
     return {it: 0o755 if it.startswith("bin/") or it.endswith(".so") else 0o644 for it in files}
 
@@ -149,7 +153,8 @@ def test_again(tests, top, prefix, work):
     kept = {it: contents(f"{prefix}/{it}") for it in found(prefix)}
     for status in (69, 70, 71):
         came, said = run(top, "bin/install", prefix, env={"PRODUCT_STATUS": str(status), "TMPDIR": work})
-        tests.see(f"a product that fails with {status}", came == status and {it: contents(f"{prefix}/{it}") for it in found(prefix)} == kept, f"{came}: {said}")
+        tests.see(f"a product that fails with {status}", came == status and {it: contents(f"{prefix}/{it}") for it in found(prefix)} == kept,
+                f"{came}: {said}")
         came, said = run(top, "bin/install", f"{prefix}.none", env={"PRODUCT_STATUS": str(status), "TMPDIR": work})
         tests.see("it leaves nothing", came == status and not os.path.exists(f"{prefix}.none") and not os.listdir(work), f"{came}: {said}")
     tests.same("--uninstall", run(top, "bin/install", "--uninstall", prefix), (0, ""))
@@ -198,9 +203,11 @@ def test_archive(tests, out, name, prefix, processor):
     tests.same(f"{name}: owner and time", kinds, {(315532800, 0, 0, "root", "root")})
     installed = wanted(processor, processor == "x86_64")
     tests.same(f"{name}: modes", {it: modes.get(top + it) for it in installed}, installed)
-    more = {f"share/doc/hullbook/{it}.md" for it in ("EMBEDDING", "PLANNERS", "SHARED", "PROGRAM", "FORMATS")} | {"LICENSE", "CHANGELOG.md", "README.md"}
+    more = {f"share/doc/hullbook/{it}.md" for it in ("EMBEDDING", "PLANNERS", "SHARED", "PROGRAM", "FORMATS")} | {"LICENSE", "CHANGELOG.md",
+            "README.md"}
     rest = {it.removeprefix(top) for it in texts} - set(installed)
-    tests.see(f"{name}: documents and examples", more <= rest and all(it in more or it.startswith("share/doc/hullbook/examples/") for it in rest), rest ^ more)
+    tests.see(f"{name}: documents and examples", more <= rest and all(it in more or it.startswith("share/doc/hullbook/examples/") for it in rest),
+            rest ^ more)
     tests.same(f"{name}: what it is of", texts[f"{top}lib/libhull.a"].decode(), f"product {processor}/libhull.a\n")
     tests.same(f"{name}: its page", texts[f"{top}README.md"], contents(f"{prefix}/share/doc/hullbook/README.md"))
 
@@ -211,16 +218,19 @@ def test_wheel(tests, out, name, processor):
         texts, infos = {it: wheel.read(it) for it in wheel.namelist()}, wheel.infolist()
     about = "hullbook-7.8.9.dist-info"
     record = [it.rsplit(",", 2) for it in texts[f"{about}/RECORD"].decode().splitlines()]
-    sums = [[it, f"sha256={base64.urlsafe_b64encode(hashlib.sha256(data).digest()).rstrip(b'=').decode()}", str(len(data))] for it, data in texts.items()]
+    sums = [[it, f"sha256={base64.urlsafe_b64encode(hashlib.sha256(data).digest()).rstrip(b'=').decode()}", str(len(data))] for it,
+            data in texts.items()]
     tests.same(f"{name}: the record", sorted(record), sorted([*(it for it in sums if it[0] != f"{about}/RECORD"), [f"{about}/RECORD", "", ""]]))
-    files = {"hull/__init__.py", "hull/libhull.so", "hull/libhull_shared.so", "hull/py.typed", *(f"{about}/{it}" for it in ("METADATA", "WHEEL", "LICENSE", "RECORD"))}
+    files = {"hull/__init__.py", "hull/libhull.so", "hull/libhull_shared.so", "hull/py.typed", *(f"{about}/{it}" for it in ("METADATA", "WHEEL",
+            "LICENSE", "RECORD"))}
     tests.same(f"{name}: its files", set(texts), files)
     tests.same(f"{name}: modes and times", {(it.external_attr >> 16, it.date_time) for it in infos}, {(0o644, (1980, 1, 1, 0, 0, 0))})
     tags = [it for it in texts[f"{about}/WHEEL"].decode().splitlines() if it.startswith("Tag: ")]
     tests.same(f"{name}: its tags", tags, [f"Tag: py3-none-manylinux2014_{processor}", f"Tag: py3-none-musllinux_1_1_{processor}"])
     said = texts[f"{about}/METADATA"].decode()
     heads = ("Name: hullbook\n", "Version: 7.8.9\n", "Requires-Python: >=3.8\n", "Description-Content-Type: text/markdown\n")
-    tests.see(f"{name}: what it is", all(it in said.partition("\n\n")[0] + "\n" for it in heads) and said.endswith(contents(f"{TOP}/python/README.md").decode()), said[:300])
+    tests.see(f"{name}: what it is",
+            all(it in said.partition("\n\n")[0] + "\n" for it in heads) and said.endswith(contents(f"{TOP}/python/README.md").decode()), said[:300])
     tests.same(f"{name}: the library", texts["hull/libhull.so"].decode(), f"product {processor}/libhull.so\n")
     tests.see(f"{name}: it is no pure module", "Root-Is-Purelib: false\n" in texts[f"{about}/WHEEL"].decode())
 
@@ -229,11 +239,14 @@ def test_sources(tests, top, out):
     """The archive for pip, that for npm, and the crate have what their builds need."""
     texts, kinds, modes = members(f"{out}/hullbook-7.8.9.tar.gz")
     at = "hullbook-7.8.9/"
-    needed = ["VERSION", "pyproject.toml", "python/backend.py", "tools/packages.py", "bin/install", "include/hull.h", "c/gate.c", "dist/SUMS", "man/hull.3", "rust/hull/Cargo.toml",
+    needed = ["VERSION", "pyproject.toml", "python/backend.py", "tools/packages.py", "bin/install", "include/hull.h", "c/gate.c", "dist/SUMS",
+            "man/hull.3", "rust/hull/Cargo.toml",
               "docs/INSTALLED.md", "crates.txt", "crates/low/src/lib.rt", "crates/hull_c/src/lib.rt", "crates/hull_shared/src/lib.rt", "dist/x86_64/libhull.a", "dist/aarch64/libhull.a"]
     tests.same("the archive for pip", {it: texts.get(at + it) for it in needed}, {it: contents(f"{top}/{it}") for it in needed})
-    tests.same("it has nothing else of crates", {it for it in texts if "/crates/" in it}, {f"{at}crates/{it}/src/lib.rt" for it in ("low", "hull_c", "hull_shared")})
-    tests.see("its description", texts[f"{at}PKG-INFO"].startswith(b"Metadata-Version: 2.1\nName: hullbook\nVersion: 7.8.9\n") and modes[f"{at}bin/install"] == 0o755)
+    tests.same("it has nothing else of crates", {it for it in texts if "/crates/" in it}, {f"{at}crates/{it}/src/lib.rt" for it in ("low", "hull_c",
+            "hull_shared")})
+    tests.see("its description",
+            texts[f"{at}PKG-INFO"].startswith(b"Metadata-Version: 2.1\nName: hullbook\nVersion: 7.8.9\n") and modes[f"{at}bin/install"] == 0o755)
     tests.same("its owner and time", kinds, {(315532800, 0, 0, "root", "root")})
     texts, kinds, modes = members(f"{out}/hullbook-7.8.9.tgz")
     named = ["package.json", *json.loads(contents(f"{top}/web/package.json"))["files"]]
@@ -243,7 +256,8 @@ def test_sources(tests, top, out):
     texts, kinds, modes = members(f"{out}/hull-7.8.9-rust.tar.gz")
     files = {**{it.removeprefix("lib/rust/hull/"): contents(f"{top}/{source}") for it, source in COPIES.items() if it.startswith("lib/rust/")},
              "LICENSE": contents(f"{top}/LICENSE"),
-             **{f"archives/{it}/{name}.a": f"product {it}/{name}.a\n".encode() for it in ("x86_64", "aarch64") for name in ("libhull", "libhull_shared")}}
+             **{f"archives/{it}/{name}.a": f"product {it}/{name}.a\n".encode() for it in ("x86_64", "aarch64") for name in ("libhull",
+                     "libhull_shared")}}
     tests.same("the crate", texts, {f"hull-7.8.9/{it}": data for it, data in files.items()})
     tests.same("its modes, owner and time", (set(modes.values()), kinds), ({0o644}, {(315532800, 0, 0, "root", "root")}))
 
@@ -258,7 +272,8 @@ def test_deb(tests, room, out):
                {"Package": "hullbook", "Version": "7.8.9", "Architecture": "amd64", "Depends": None, "Section": "math"})
     run(room, "dpkg-deb", "-x", f"{out}/{DEB}", f"{room}/deb")
     modes, about = found(f"{room}/deb"), "usr/share/doc/hullbook"
-    moved = {"lib/hull/": "lib/python3/dist-packages/", "lib/rust/": "share/hullbook/rust/", "share/hullbook/completions/hullbook.bash": "share/bash-completion/completions/hullbook",
+    moved = {"lib/hull/": "lib/python3/dist-packages/", "lib/rust/": "share/hullbook/rust/",
+            "share/hullbook/completions/hullbook.bash": "share/bash-completion/completions/hullbook",
              "share/hullbook/completions/_hullbook": "share/zsh/vendor-completions/_hullbook",
              "share/hullbook/completions/hullbook.fish": "share/fish/vendor_completions.d/hullbook.fish", "share/doc/hullbook/LICENSE": "share/doc/hullbook/copyright"}
     files = {}
@@ -272,8 +287,10 @@ def test_deb(tests, room, out):
     tests.same("its folders", folders_of(f"{room}/deb"), {0o755})
     tests.same("a manual page", gzip.decompress(contents(f"{room}/deb/usr/share/man/man3/hull.3.gz")), contents(f"{TOP}/man/hull.3"))
     tests.same("its changes", gzip.decompress(contents(f"{room}/deb/{about}/changelog.gz")), contents(f"{TOP}/CHANGELOG.md"))
-    tests.see("its entry", gzip.decompress(contents(f"{room}/deb/{about}/changelog.Debian.gz")).startswith(b"hullbook (7.8.9) unstable; urgency=low\n"))
-    tests.see("its size, in units of 1024 bytes", abs(int(fields["Installed-Size"]) - sum(os.path.getsize(f"{room}/deb/{it}") for it in modes) // 1024) <= 1, fields)
+    tests.see("its entry",
+            gzip.decompress(contents(f"{room}/deb/{about}/changelog.Debian.gz")).startswith(b"hullbook (7.8.9) unstable; urgency=low\n"))
+    tests.see("its size, in units of 1024 bytes",
+            abs(int(fields["Installed-Size"]) - sum(os.path.getsize(f"{room}/deb/{it}") for it in modes) // 1024) <= 1, fields)
     owners = {it.split()[1] for it in run(room, "dpkg-deb", "-c", f"{out}/{DEB}")[1].splitlines()}
     tests.same("its owner", owners, {"root/root"})
 
@@ -284,10 +301,12 @@ def test_packages(tests):
         top, out, work = f"{room}/repository", f"{room}/out", f"{room}/temporary"
         lay(top), os.makedirs(work)
         # (of a program the head of its ELF file is read)
-        write(f"{top}/tools/product.sh", PRODUCT.replace("chmod 600", "case $2 in */hull[bd]*) head -c 100 /dev/zero >>\"$3\" ;; esac; chmod 600"), 0o755)
+        write(f"{top}/tools/product.sh", PRODUCT.replace("chmod 600", "case $2 in */hull[bd]*) head -c 100 /dev/zero >>\"$3\" ;; esac; chmod 600"),
+                0o755)
         status, said = run(top, "bin/package", out, env={"TMPDIR": work})
         names = sorted([*MADE, *([DEB] if shutil.which("dpkg-deb") else [])])
-        tests.see("bin/package", status == 0 and sorted(it.split()[1] for it in said.splitlines() if it[:9].strip().isdigit()) == names, f"{status}: {said}")
+        tests.see("bin/package", status == 0 and sorted(it.split()[1] for it in said.splitlines() if it[:9].strip().isdigit()) == names,
+                f"{status}: {said}")
         tests.same("its packages", sorted(os.listdir(out)), names)
         tests.same("nothing temporary is left", os.listdir(work), [])
         run(top, "bin/install", f"{room}/prefix")
@@ -306,10 +325,12 @@ def test_stale(tests, top, room, names):
     mine = os.uname().machine
     for stale in ("x86_64/libhull.a", "web/hull.wasm", "aarch64/libhull_shared.so"):
         status, said = run(top, "bin/package", f"{room}/none", env={"STALE": stale})
-        tests.see(f"{stale} of other sources", status == 69 and f"made of other sources: {stale};" in said and not os.path.exists(f"{room}/none"), f"{status}: {said}")
+        tests.see(f"{stale} of other sources", status == 69 and f"made of other sources: {stale};" in said and not os.path.exists(f"{room}/none"),
+                f"{status}: {said}")
     status, said = run(top, "bin/package", "--test", f"{room}/tested", env={"STALE": "web/hull.wasm"})
     others = {"x86_64", "aarch64"} - {mine}
-    tests.see("--test", status == 0 and sorted(os.listdir(f"{room}/tested")) == [it for it in names if not any(other in it for other in others)], f"{status}: {said}")
+    tests.see("--test", status == 0 and sorted(os.listdir(f"{room}/tested")) == [it for it in names if not any(other in it for other in others)],
+            f"{status}: {said}")
     status, said = run(top, "bin/package", f"{room}/failed", env={"PRODUCT_STATUS": "70"})
     tests.see("a package that fails leaves nothing", status != 0 and not os.path.exists(f"{room}/failed"), f"{status}: {said}")
     for words, wanted_status in (([], 2), (["a", "b"], 2), (["-x"], 2), (["--test"], 2), (["--help"], 0)):

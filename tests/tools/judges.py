@@ -23,16 +23,20 @@ CHECKS = (
     ("an error in a proof", 1, "proofs/b/Answers.antt:3:1: error: this goal is open\nlogic=not-proved\n", (), Kind.BY_GOAL, "this goal is open"),
     ("a name that went", 1, "proofs/b/Answers.antt:3:1: error: `x` is not in scope\nlogic=not-proved\n", (), Kind.BY_SHAPE, "not in scope"),
     ("a field that went", 1, "./proofs/b/A.antt:3:1: error: `x` has no field `y`\nlogic=not-proved\n", (), Kind.BY_SHAPE, "no field"),
-    ("a name that went, and a goal", 1, "proofs/b/A.antt:3:1: error: `x` has no field `y`\nsrc/lib.rt:1:1: error: `c`: a goal\nlogic=not-proved\n", (), Kind.BY_GOAL, "a goal"),
-    ("a type that is shown", 1, "proofs/b/A.antt:3:1: error: `t` is not in scope here, so what is shown is `u`\nlogic=not-proved\n", (), Kind.BY_GOAL, ""),
+    ("a name that went, and a goal", 1, "proofs/b/A.antt:3:1: error: `x` has no field `y`\nsrc/lib.rt:1:1: error: `c`: a goal\nlogic=not-proved\n",
+            (), Kind.BY_GOAL, "a goal"),
+    ("a type that is shown", 1, "proofs/b/A.antt:3:1: error: `t` is not in scope here, so what is shown is `u`\nlogic=not-proved\n", (),
+            Kind.BY_GOAL, ""),
     ("a limit", 3, "fn a::b: could not tell\nno verdict\n", (), Kind.AT_LIMIT, "no verdict"),
     ("status 3 with no limit", 3, "no verdict\n", (), Kind.UNSURE, "BAD EDIT"),
     ("a killed check", -9, "logic=not-proved\n", (), Kind.UNSURE, "BAD EDIT"),
     ("a check with another end", 1, "fn a::b: not proved\nsomething else\n", (), Kind.UNSURE, "did not reach the prover"),
     ("a function alone", 1, "fn a::b: not proved\nonly=a::b\n", (), Kind.BY_GOAL, ""),
     ("a text of src/ that is not read", 1, "src/lib.rt:1:1: error: expected the end\nlogic=not-proved\n", (), Kind.UNSURE, "BAD EDIT: src/lib.rt"),
-    ("a text of specs/ that is not read", 1, "specs/A.antt:1:1: error: `f` is not in scope\nlogic=not-proved\n", (), Kind.UNSURE, "BAD EDIT: specs/A.antt"),
-    ("a changed proof that is not read", 1, "proofs/A.antt:1:1: error: an operand is missing\nlogic=not-proved\n", ("proofs/A.antt",), Kind.UNSURE, "BAD EDIT"),
+    ("a text of specs/ that is not read", 1, "specs/A.antt:1:1: error: `f` is not in scope\nlogic=not-proved\n", (), Kind.UNSURE,
+            "BAD EDIT: specs/A.antt"),
+    ("a changed proof that is not read", 1, "proofs/A.antt:1:1: error: an operand is missing\nlogic=not-proved\n", ("proofs/A.antt",), Kind.UNSURE,
+            "BAD EDIT"),
     ("a kept library that is stale", 1, "module `Rattle-low-1`. Run the lower steps again\nlogic=not-proved\n", (), Kind.UNSURE, "kept work"),
     ("a proved crate with a stale library", 0, "module `Rattle-low-1`. Run the lower steps again\n", (), Kind.UNSURE, "kept work"),
 )
@@ -93,12 +97,14 @@ def test_outcomes(tests):
         outcome = mutants.Outcome("x.edit", kind, "why " * 90)
         tests.see(f"{kind.name} counts as {'refused' if kind is Kind.BY_GOAL else 'not refused'}", outcome.is_refused() == (kind is Kind.BY_GOAL))
     several = "note: src/lib.rt:1: it is not proved that p\nfn a::b: not proved\nfn a::c: no proof; it calls b\nfn a::d: no proof: the plan did not prove q; it calls b\nfn a::e: proved\n"
-    tests.same("each open goal is its own function's", mutants.goals_of(several), {"a::b": "note: src/lib.rt:1: it is not proved that p", "a::d": "q"})
+    tests.same("each open goal is its own function's", mutants.goals_of(several), {"a::b": "note: src/lib.rt:1: it is not proved that p",
+            "a::d": "q"})
     by_error = "proofs/m/b/Answers.antt:3:1: error: this is open\n  in two lines\nfn a::m::b: no proof\nfn a::m::c: not proved\n"
     by_error = by_error.replace("no proof\n", "not proved\n", 1)
     tests.same("an error in its proof is its goal", mutants.goals_of(by_error), {"a::m::b": "this is open in two lines"})
     method = mutants.Function("a::", "moved", "Point")
-    tests.see("a method by its block", method.is_at("a::other::Point::moved") and not method.is_at("a::PointDisplay::moved") and not method.is_at("a::moved"))
+    tests.see("a method by its block",
+            method.is_at("a::other::Point::moved") and not method.is_at("a::PointDisplay::moved") and not method.is_at("a::moved"))
 
 
 def crate_in(top):
@@ -123,17 +129,23 @@ def test_edits(tests):
             changes, why = mutants.changes_in(text, top)
             tests.see(f"{text!r}: {wanted}", (why is None and changes) if wanted is None else changes is None and wanted in why, why)
         crate = crate_in(top)
-        first, second = edit_of(crate, "first", ("one + second()", "one")), edit_of(crate, "second", ("    three", "    four"))
-        again, trait = edit_of(crate, "again", ("one + ", "two + ")), edit_of(crate, "trait", ("LIMIT + twice", "twice"))
+        first, second = edit_of(crate, "first", ("+ second()", "+ 1")), edit_of(crate, "second", ("    three", "    four"))
+        again, over, trait = edit_of(crate, "again", ("    one ", "    two ")), edit_of(crate, "over", ("one + sec", "sec")), edit_of(crate, "trait",
+                ("LIMIT + twice", "twice"))
         constant = edit_of(crate, "constant", ("const LIMIT: u32 = 3", "const LIMIT: u32 = 4"))
         function = lambda name, block="": frozenset([mutants.Function("small::", name, block)])
-        tests.same("the function of a mutant", [first.functions, second.functions, trait.functions], [function("first"), function("second"), function("moved", "PointDisplay")])
-        tests.see("a constant is in no function, and its users show it", constant.is_alone() and constant.witnesses == function("moved", "PointDisplay"), constant)
-        tests.same("two changes of one text overlap", mutants.applied(crate, [first, again]), None)
-        tests.see("two others are applied", "    four" in mutants.applied(crate, [first, second])["src/lib.rt"] and "    one\n" in mutants.applied(crate, [first, second])["src/lib.rt"])
+        tests.same("the function of a mutant", [first.functions, second.functions, trait.functions], [function("first"), function("second"),
+                function("moved", "PointDisplay")])
+        tests.see("a constant is in no function, and its users show it", constant.is_alone() and constant.witnesses == function("moved",
+                "PointDisplay"), constant)
+        tests.same("two changes of one text overlap", mutants.applied(crate, [first, over]), None)
+        tests.see("two others are applied", "    four" in mutants.applied(crate, [first,
+                second])["src/lib.rt"] and "    one + 1\n" in mutants.applied(crate, [first, second])["src/lib.rt"])
         groups = mutants.groups_of(crate, [first, second, again, trait, constant])
-        tests.see("no group has two of one function", all(len({f for it in group for f in it.functions}) == sum(len(it.functions) for it in group) for group in groups), groups)
-        tests.see("each is in one group, and a constant's by itself", sorted(it.name for group in groups for it in group) == ["again.edit", "constant.edit", "first.edit", "second.edit", "trait.edit"]
+        tests.see("no group has two of one function",
+                all(len({f for it in group for f in it.functions}) == sum(len(it.functions) for it in group) for group in groups), groups)
+        tests.see("each is in one group, and a constant's by itself", sorted(it.name for group in groups for it in group) == ["again.edit",
+                "constant.edit", "first.edit", "second.edit", "trait.edit"]
                   and [constant] in groups)
         many = [mutants.Edit(f"{k}.edit", "", (("src/lib.rt", "one", "two"),), frozenset([mutants.Function("small::", str(k))])) for k in range(3)]
         tests.same("an overlap makes another group", len(mutants.grouped(crate, many)), 3)
@@ -141,10 +153,12 @@ def test_edits(tests):
         try:
             kit.Crate.sources = lambda self: "sources"
             one = mutants.sum_of(crate)
-            edit_of(crate, "more", ("three", "five"))
+            edit_of(crate, "second", ("three", "five"))
             two = mutants.sum_of(crate)
+            edit_of(crate, "more", ("three", "five"))
+            three = mutants.sum_of(crate)
             kit.Crate.sources = lambda self: "others"
-            tests.see("the record's sum is that of the sources and of the mutants", len({one, two, mutants.sum_of(crate)}) == 3)
+            tests.see("the record's sum is that of the sources and of the mutants", len({one, two, three, mutants.sum_of(crate)}) == 4)
         finally:
             kit.Crate.sources = before
 
@@ -175,9 +189,12 @@ def test_layouts(tests):
         tests.accepts("a layout", top, "tools/layout.py", "--write", env=env)
         tests.see("its counts", kit.text_of(f"{top}/.ci/counts.txt").endswith("\nsmall 1 1\n"), kit.text_of(f"{top}/.ci/counts.txt"))
         tests.accepts("the same again", top, "tools/layout.py", env=env)
-        for name, text, wanted in (("src/lib.rt", "#[test]\nfn a() {}  \n", "src/lib.rt: FAILED, not in the layout of rt fmt"), ("specs/A.antt", "a  \n", "specs/A.antt: FAILED, not in"),
-                                   ("tests/a.rt", "", "tests/a.rt: FAILED, no check reads it there"), ("A.antt", "", "small/A.antt: FAILED, no check reads"),
-                                   ("src/lib.rt", "fn a() {}\n", ".ci/counts.txt: FAILED, it says 'small 1 1'"), ("src/more.rt", "#[test]\n", "FAILED, counted 'small 1 2'"),
+        for name, text, wanted in (("src/lib.rt", "#[test]\nfn a() {}  \n", "src/lib.rt: FAILED, not in the layout of rt fmt"), ("specs/A.antt",
+                "a  \n", "specs/A.antt: FAILED, not in"),
+                                   ("tests/a.rt", "", "tests/a.rt: FAILED, no check reads it there"), ("A.antt", "",
+                                           "small/A.antt: FAILED, no check reads"),
+                                   ("src/lib.rt", "fn a() {}\n", ".ci/counts.txt: FAILED, it says 'small 1 1'"), ("src/more.rt", "#[test]\n",
+                                           "FAILED, counted 'small 1 2'"),
                                    ("mutants/two.edit", "file: src/lib.rt\nold: fn\nnew: x\n", "FAILED, counted 'small 2 1'"),
                                    ("must-fail/two.edit", "file: src/lib.rt\nold: gone\nnew: x\n", "must-fail/two.edit: FAILED, an 'old:' text")):
             before = kit.text_of(f"{top}/crates/small/{name}")
@@ -189,17 +206,21 @@ def test_layouts(tests):
             tests.refuses(f"a link {name}", f"{name}: FAILED, it is a link", top, "tools/layout.py", env=env)
             os.remove(f"{top}/crates/small/{name}")
         write(f"{top}/crates/another/src/lib.rt", "")
-        tests.refuses("a crate that crates.txt does not name", "crates/another/src/lib.rt: FAILED, no check reads it there", top, "tools/layout.py", env=env)
+        tests.refuses("a crate that crates.txt does not name", "crates/another/src/lib.rt: FAILED, no check reads it there", top, "tools/layout.py",
+                env=env)
 
 
 # the files that readers read, each with how a sentence is prose in it, and how it is none
 PROSE = {
-    "README.md": ("{}\n", None), "docs/A.md": ("{}\n", None), "include/a.h": ("/* {} */\n", 'const char *a = "{}";\n'), "include/a.hpp": ("// {}\n", 'auto a = "{}";\n'),
-    "man/a.3": ("{}\n", None), "python/a.py": ('"""{}"""\n', "a = '{}'\n"), "python/README.md": ("{}\n", None), "rust/hull/src/a.rs": ("/// {}\n", "// {}\n"),
+    "README.md": ("{}\n", None), "docs/A.md": ("{}\n", None), "include/a.h": ("/* {} */\n", 'const char *a = "{}";\n'), "include/a.hpp": ("// {}\n",
+            'auto a = "{}";\n'),
+    "man/a.3": ("{}\n", None), "python/a.py": ('"""{}"""\n', "a = '{}'\n"), "python/README.md": ("{}\n", None), "rust/hull/src/a.rs": ("/// {}\n",
+            "// {}\n"),
     "web/a.d.ts": ("/** {} */\n", 'type A = "{}";\n'), "crates/small/src/a.rt": ("//! {}\n", "// {}\n"),
 }
 UNREAD = ("CHANGELOG.md", "docs/GLOSSARY.md", "python/a.txt", "c/a.c", "crates/small_tests/src/a.rt", "crates/small/out/a.rt", "tests/a.md")
-SENTENCES = {"told": "It tells us.", "stands": "It stands.", "behind": "Behind it.", "alone": "Alone.", "where": "Where is it?", "lent": "One lends it.", "whoever": "Whoever.",
+SENTENCES = {"told": "It tells us.", "stands": "It stands.", "behind": "Behind it.", "alone": "Alone.", "where": "Where is it?",
+        "lent": "One lends it.", "whoever": "Whoever.",
              "corner": "Two corners.", "wrong body": "A wrong-body and wrong bodies.", "desk": "Desks.", "outline": "An outline.", "room": "Rooms.", "teller": "A teller.", "hall": "Halls.",
              "door": "A door.", "fringe": "Fringes.", "of its own accord": "Of its own accord.", "nobody else": "Nobody else."}
 
@@ -210,7 +231,8 @@ def test_words(tests):
     for word, sentence in SENTENCES.items():
         found = {it: len(language.occurrences(sentence, pattern)) for it, pattern in language.RARE.items()}
         tests.same(f"'{word}'", found, {it: (2 if it == "wrong body" else 1) if it == word else 0 for it in language.RARE})
-    tests.same("parts of words are none", sum(len(language.occurrences("understands rooming shallow doorway nowhere talent cornered", it)) for it in language.RARE.values()), 0)
+    tests.same("parts of words are none", sum(len(language.occurrences("understands rooming shallow doorway nowhere talent cornered",
+            it)) for it in language.RARE.values()), 0)
     with tempfile.TemporaryDirectory() as top:
         lay_tools(top)
         for path, (prose, _) in PROSE.items():
@@ -239,7 +261,8 @@ def test_lengths(tests):
     with tempfile.TemporaryDirectory() as top:
         lay_tools(top)
         write(f"{top}/crates.txt", "small:\ncalls: small\n")
-        write(f"{top}/crates/small/src/lib.rt", "//! What it is about.\n//! In two lines.\n//!\n//! More.\npub use inner::{Two, One};\npub use inner::Three;\nuse other::Four;\n")
+        write(f"{top}/crates/small/src/lib.rt",
+                "//! What it is about.\n//! In two lines.\n//!\n//! More.\npub use inner::{Two, One};\npub use inner::Three;\nuse other::Four;\n")
         write(f"{top}/crates/small/specs/Lib.antt", "")
         write(f"{top}/crates/small/specs/Sets.antt", "-- All about sets.\n\n-- What a set is\npub set : Set\n\n-- Hidden.\nhidden : Set\n")
         write(f"{top}/crates/calls/src/lib.rt", "//! Callers.\n")
@@ -249,11 +272,13 @@ def test_lengths(tests):
         tests.refuses("a page that is not written", "crates/small/CALLING.md: FAILED", top, "tools/reference.py")
         tests.accepts("--write", top, "tools/reference.py", "--write")
         page = kit.text_of(f"{top}/crates/small/CALLING.md")
-        tests.see("its page", page.startswith("# Calling `small`\n\nWhat it is about. In two lines.\n") and "```rust\nfn call() {}\n```" in page and "\n`One`, `Three`, `Two`.\n" in page, page)
+        tests.see("its page",
+                page.startswith("# Calling `small`\n\nWhat it is about. In two lines.\n") and "```rust\nfn call() {}\n```" in page and "\n`One`, `Three`, `Two`.\n" in page, page)
         tests.accepts("the same again", top, "tools/reference.py")
         run(top, "tools/reference.py", "--definitions")
         text = kit.text_of(f"{top}/out/DEFINITIONS.md")
-        tests.see("the definitions that contracts can name", "| `set` | What a set is. |\n" in text and "**Sets.** All about sets." in text and "hidden" not in text, text)
+        tests.see("the definitions that contracts can name",
+                "| `set` | What a set is. |\n" in text and "**Sets.** All about sets." in text and "hidden" not in text, text)
         write(f"{top}/crates/calls/src/of.rt", "//! A caller of `small`.\nfn call() { again }\n")
         tests.refuses("a caller that has changed", "crates/small/CALLING.md: FAILED", top, "tools/reference.py")
         run(top, "tools/reference.py", "--write")
@@ -277,7 +302,8 @@ def test_each_place(tests):
     """Each stretch that repeats the table fails if a line of it is gone, and --write puts it back; so does each place of the version."""
     with tempfile.TemporaryDirectory() as top:
         lay_tools(top)
-        marked = subprocess.run(["git", "grep", "-lI", "written by tools/table.py: "], cwd=TOP, capture_output=True, text=True, check=False).stdout.split()
+        marked = subprocess.run(["git", "grep", "-lI", "written by tools/table.py: "], cwd=TOP, capture_output=True, text=True,
+                check=False).stdout.split()
         marked = [it for it in marked if not it.startswith(("tools/", "tests/", "docs/DEV", "docs/ARCH"))]
         if not marked:
             print("skipped: the places of the table: this is no checkout of git")
@@ -297,7 +323,8 @@ def test_each_place(tests):
                 write(f"{top}/{path}", gone)
                 number += 1
                 status, said = run(top, "tools/table.py")
-                tests.see(f"a line of '{mark}' is gone from {path}", status == 1 and f"{path}: FAILED, " in said and said.endswith(" passed, 1 failed\n"), said)
+                tests.see(f"a line of '{mark}' is gone from {path}",
+                        status == 1 and f"{path}: FAILED, " in said and said.endswith(" passed, 1 failed\n"), said)
                 run(top, "tools/table.py", "--write") if number % 4 == 0 else write(f"{top}/{path}", text)
                 tests.see("it is there again", kit.text_of(f"{top}/{path}") == text)
         tests.see("stretches", number > 20, number)
@@ -311,7 +338,8 @@ def test_table_itself(tests):
     def row(number, name, said="x"):
         return table.Row(number, name, None, said, None)
 
-    right = {"code": [row(3, "A", "see `x` and `high`"), row(4, "B")], "kind": [row(1, "K", "it: A, B")], "reply": [row(1, "R")], "call": [row(1, "C", "it: R; more")]}
+    right = {"code": [row(3, "A", "see `x` and `high`"), row(4, "B")], "kind": [row(1, "K", "it: A, B")], "reply": [row(1, "R")], "call": [row(1,
+            "C", "it: R; more")]}
     cases = (
         ("as it should be", {}, ""),
         ("with a number left out", {"code": [row(3, "A"), row(5, "B")]}, "the numbers of each code"),
@@ -370,9 +398,12 @@ def test_found(tests):
         tests.same("all are found", [run(top, "tools/product.sh", "find", it) for it in names], [(0, f"{top}/dist/{it}\n") for it in names])
         tests.accepts("all have their bytes", top, "tools/product.sh", "check")
         changes = (  # a file, and which products it makes stale
-            ("crates/low/src/lib.rt", [1, 1, 1]), ("crates/low/specs/A.antt", [1, 1, 1]), ("crates/low/proofs/A.antt", [1, 1, 1]), ("crates/hull_c/src/more.rt", [1, 1, 1]),
-            ("crates/hullbook/src/lib.rt", [0, 1, 0]), ("crates/other/src/lib.rt", [0, 0, 0]), ("crates/low/mutants/a.edit", [0, 0, 0]), ("c/a.c", [1, 0, 0]),
-            ("include/a.h", [1, 0, 0]), ("c/b.c", [0, 0, 0]), ("web/build.py", [0, 0, 1]), ("dist/x86_64/libhull.a", [2, 0, 0]), ("dist/web/hull.wasm", [0, 0, 2]),
+            ("crates/low/src/lib.rt", [1, 1, 1]), ("crates/low/specs/A.antt", [1, 1, 1]), ("crates/low/proofs/A.antt", [1, 1,
+                    1]), ("crates/hull_c/src/more.rt", [1, 1, 1]),
+            ("crates/hullbook/src/lib.rt", [0, 1, 0]), ("crates/other/src/lib.rt", [0, 0, 0]), ("crates/low/mutants/a.edit", [0, 0, 0]), ("c/a.c",
+                    [1, 0, 0]),
+            ("include/a.h", [1, 0, 0]), ("c/b.c", [0, 0, 0]), ("web/build.py", [0, 0, 1]), ("dist/x86_64/libhull.a", [2, 0,
+                    0]), ("dist/web/hull.wasm", [0, 0, 2]),
         )
         for name, wanted in changes:
             before = kit.text_of(f"{top}/{name}")
@@ -380,19 +411,26 @@ def test_found(tests):
             tests.same(f"{name} is changed", statuses(), wanted)
             write(f"{top}/{name}", before) if before else os.remove(f"{top}/{name}")
         crates = kit.text_of(f"{top}/crates.txt")
-        for changed, wanted in ((crates.replace("other:", "other: low"), [0, 0, 0]), (crates.replace("hull_c staticlib", "hull_c"), [1, 1, 1]), ("# a comment\n" + crates, [0, 0, 0])):
+        for changed, wanted in ((crates.replace("other:", "other: low"), [0, 0, 0]), (crates.replace("hull_c staticlib", "hull_c"), [1, 1, 1]),
+                ("# a comment\n" + crates, [0, 0, 0])):
             write(f"{top}/crates.txt", changed)
             tests.same(f"crates.txt is {changed!r}", statuses(), wanted)
         write(f"{top}/crates.txt", crates)
-        tests.same("put copies what is found", (run(top, "tools/product.sh", "put", names[0], f"{top}/copy")[0], kit.text_of(f"{top}/copy")), (0, f"bytes of {names[0]}\n"))
+        tests.same("put copies what is found", (run(top, "tools/product.sh", "put", names[0], f"{top}/copy")[0], kit.text_of(f"{top}/copy")), (0,
+                f"bytes of {names[0]}\n"))
         tests.same("ready", run(top, "tools/product.sh", "ready", names[0])[0], 0)
         write(f"{top}/dist/{names[0]}", "others\n")
         tests.refuses("put of other bytes", "has other bytes than dist/SUMS says", top, "tools/product.sh", "put", names[0], f"{top}/none")
         tests.see("it makes no file", not os.path.exists(f"{top}/none"))
         tests.refuses("check", f"dist/{names[0]}: FAILED, its bytes are not those of dist/SUMS\n2 passed, 1 failed", top, "tools/product.sh", "check")
+        write(f"{top}/dist/web/more", "")
+        tests.refuses("a file that SUMS does not name", "dist/web/more: FAILED, dist/SUMS does not name it\n2 passed, 2 failed", top,
+                      "tools/product.sh", "check")
+        os.remove(f"{top}/dist/web/more")
         os.remove(f"{top}/dist/{names[0]}")
         tests.refuses("a file that is gone", "2 passed, 1 failed", top, "tools/product.sh", "check")
-        tests.same("words that are none", [run(top, "tools/product.sh", *words)[0] for words in ((), ("other",), ("find",), ("sum", "a", "b"))], [1, 1, 1, 1])
+        tests.same("words that are none", [run(top, "tools/product.sh", *words)[0] for words in ((), ("other",), ("find",), ("sum", "a", "b"))], [1,
+                1, 1, 1])
 
 
 RELEASE_RT = "#!/bin/sh\n[ \"$1\" = version ] && echo \"${TOOLCHAIN:-kit-1}\"\n"
@@ -417,7 +455,8 @@ def test_release(tests):
             write(f"{top}/path/{name}", text, 0o755)
         env = {"PATH": f"{top}/path:{os.environ['PATH']}"}
         status, said = run(top, "tools/release.sh", env={**env, "BROKEN": "x86_64/hullbook"})
-        tests.see("a file that cannot be made leaves dist/ as it was", status == 70 and "version" not in kit.text_of(f"{top}/dist/SUMS"), f"{status}: {said}")
+        tests.see("a file that cannot be made leaves dist/ as it was", status == 70 and "version" not in kit.text_of(f"{top}/dist/SUMS"),
+                f"{status}: {said}")
         status, said = run(top, "tools/release.sh", env=env)
         names, sums = ("x86_64/libhull.a", "x86_64/hullbook", "web/hull.wasm"), kit.text_of(f"{top}/dist/SUMS")
         rows = "".join(f"file {it} sha256={sum_of(f'{top}/dist/{it}')} bytes={os.path.getsize(f'{top}/dist/{it}')} crate={crate} "
@@ -429,16 +468,20 @@ def test_release(tests):
         write(f"{top}/web/out/made-of", run(top, "tools/real.sh", "sum", "hull_c")[1])
         tests.accepts("the same bytes again", top, "tools/release.sh", "--compare", env=env)
         for name in names:
-            tests.refuses(f"{name} with other bytes", f"dist/{name}: FAILED, made again", top, "tools/release.sh", "--compare", env={**env, "OTHER": name})
-            tests.refuses(f"{name} that cannot be made", f"dist/{name}: FAILED, made again", top, "tools/release.sh", "--compare", env={**env, "BROKEN": name})
+            tests.refuses(f"{name} with other bytes", f"dist/{name}: FAILED, made again", top, "tools/release.sh", "--compare", env={**env,
+                    "OTHER": name})
+            tests.refuses(f"{name} that cannot be made", f"dist/{name}: FAILED, made again", top, "tools/release.sh", "--compare", env={**env,
+                    "BROKEN": name})
         for what, more, wanted in (("other sources", {"STALE": names[0]}, [names[0]]), ("another toolchain", {"TOOLCHAIN": "kit-2"}, names[:2]),
                                    ("another compiler", {"COMPILER": "2"}, names[:2])):
             said = run(top, "tools/release.sh", "--compare", env={**env, **more})[1]
             tests.same(f"not compared with {what}", re.findall("dist/(\\S+): not compared", said), [*wanted])
         os.remove(f"{top}/web/out/made-of")
-        tests.see("the page that was not built", "dist/web/hull.wasm: not compared, web/build.py" in run(top, "tools/release.sh", "--compare", env=env)[1])
+        tests.see("the page that was not built", "dist/web/hull.wasm: not compared, web/build.py" in run(top, "tools/release.sh", "--compare",
+                env=env)[1])
         write(f"{top}/dist/{names[1]}", "changed\n")
-        tests.refuses("a released file with other bytes than its sum", "FAILED", top, "tools/release.sh", "--compare", env=env)
+        tests.refuses("a released file with other bytes than its sum", f"dist/{names[1]}: FAILED, its bytes are not", top, "tools/release.sh",
+                      "--compare", env={**env, "STALE": names[1]})
         tests.same("words that are none", [run(top, "tools/release.sh", it, env=env)[0] for it in ("--help", "--other")], [0, 1])
 
 

@@ -147,7 +147,7 @@ await tried("memory is given back, on each way out", async () => {
         "a copy": () => kept.copy().free(), "a polygon of a hull": () => kept.polygon().free(),
     };
     for (const [name, run] of Object.entries(ways)) {
-        for (let again = 0; again < (name === "a hull" ? 30000 : 120); again++) {
+        for (let again = 0; again < (name === "a hull" ? 60000 : 120); again++) {
             try {
                 run();
             } catch (error) {
