@@ -343,8 +343,10 @@ typedef struct hull_witness {
  * up to 84 bits, divided by the squared length of the edge. HULL_EMPTY if there are fewer than two vertices. O(h log h). */
 hull_witness hull_polygon_least_width(const hull_point *vertices, size_t count);
 
-/* Questions of two polygons. Both arrays are as above, may be the same, and either may be empty. For h and k vertices they take
- * O(k log h), and hull_polygon_witness O(h log k) more if they are disjoint.
+/* Questions of two polygons. Both arrays are as above, may be the same, and either may be empty. For h and k vertices
+ * hull_polygon_intersects, _within_distance, _distance and _witness take at most 44 steps of O(log h + log k): a walk guesses, and
+ * what it finds is confirmed. (If it is not, they take O(k log h + h log k); no polygons of three vertices or more are known for
+ * which that happens.) The others take O(k log h).
  *
  * Returns HULL_NUMBER with 1 if they intersect, boundaries included, else with 0. */
 hull_reply hull_polygon_intersects(const hull_point *vertices, size_t count, const hull_point *others, size_t other_count);
@@ -422,7 +424,7 @@ size_t hull_polygon_indices(const hull_point *vertices, size_t count, const hull
  * of the first and a vertex b of the second; the squared distance is that of the two. HULL_VERTEX: at a vertex a of the first
  * and its foot on the edge of the second from b to c, counterclockwise, strictly between them. HULL_EDGE: at the foot on the
  * edge of the first from a to b, and a vertex c of the second. With an edge the squared distance is computed as for
- * hull_polygon_nearest. HULL_EMPTY if one has no vertices. O(k log h + h log k). */
+ * hull_polygon_nearest. HULL_EMPTY if one has no vertices. */
 hull_witness hull_polygon_distance(const hull_point *vertices, size_t count, const hull_point *others, size_t other_count);
 
 /* The distance of two polygons, or of a polygon and a segment, in numbers that compare without a division; what the code does
