@@ -74,6 +74,7 @@ mod tests;
 mod threads;
 
 use hull_reply::{HullPoint, HullReply};
+use journal_file::add_to_sum;
 pub use law::{
     answers_at_shared_hulls_are_of_lines, headline_holds_of_shared_hulls,
     snapshots_are_of_the_journal,
