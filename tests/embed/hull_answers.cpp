@@ -91,7 +91,7 @@ static void comparisons() {
     }
     for (std::uint32_t code = 0; code < 200; code++) { // no two codes have one text
         const std::string text = hull::Fault(static_cast<Refusal>(code)).what();
-        CHECK(text.size() > 10 && (code == HULL_BUSY || text.find("too long") == std::string::npos));
+        CHECK(text.size() > 10 && (code == HULL_BUSY) == (text.find("too long") != std::string::npos));
         CHECK((code == HULL_NO_FILE) == (text.find("errno") != std::string::npos));
         CHECK((code == HULL_DAMAGED) == (text.find("damaged") != std::string::npos));
     }
@@ -298,6 +298,13 @@ static void sets() {
     }
     CHECK(twin.extreme_d(0.25, -0.5) == h.extreme({1, -2}) && h.remove_all(all) == 700 && h.remove_all(all) == 700 && h.empty());
     CHECK(h.nearest_held({0, 0}) == std::nullopt && copy.size() == 700);
+    for (std::uint32_t k = 1; k <= 9; k++) {
+        CHECK(h.add({1, 1}) == k);
+    }
+    for (std::uint32_t k = 9; k-- > 0;) {
+        CHECK(h.remove({1, 1}) == k);
+    }
+    CHECK(!h.remove({1, 1}));
 }
 
 // ---- texts and numbers

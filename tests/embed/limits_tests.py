@@ -17,7 +17,8 @@ FAR = hull.COORDINATE_LIMIT
 SQUARE = [(0, 0), (10, 0), (10, 10), (0, 10)]
 CALLS = {"place": 2, "tangents": 2, "extreme": 2, "add": 2, "remove": 2, "multiplicity": 2, "nearest_held": 2, "nearest": 2, "width_along": 2,
         "intersects_segment": 4,
-         "separation_from_segment": 4, "squared_distance_to_point": 2, "relation_to_segment": 4, "raycast": 4, "raycast_exit": 4, "raycast_segment": 4, "rotate": 2,
+         "separation_from_segment": 4, "squared_distance_to_point": 2, "relation_to_segment": 4, "raycast": 4, "raycast_exit": 4,
+         "raycast_segment": 4, "rotate": 2,
          "squared_distance_to_segment": 4, "distance_bounds_to_segment": 4, "distance_bounds_to_point": 2}
 
 
@@ -121,7 +122,8 @@ class Lengths(unittest.TestCase):
         pairs = list(itertools.combinations(range(len(cells)), 2))
         lengths = [0, 9, 10, Fraction(99999, 10000), 10.000000001, 0.1, 13, 1e300, 2 ** 64, 2 ** 64 - 1, Fraction(10 ** 12 - 1, 10 ** 11),
                 Fraction(10 ** 12 + 1, 10 ** 11),
-                   Fraction(10 * 2 ** 32 - 1, 2 ** 32), Fraction(10, 1), Fraction(165 * 10 ** 11 + 1, 10 ** 12), Fraction(13 * 10 ** 10 - 1, 10 ** 10), Decimal("12.99999999999")]
+                   Fraction(10 * 2 ** 32 - 1, 2 ** 32), Fraction(10, 1), Fraction(165 * 10 ** 11 + 1, 10 ** 12), Fraction(13 * 10 ** 10 - 1,
+                   10 ** 10), Decimal("12.99999999999")]
         for length in lengths:
             exact = Fraction(length)
             near = [(i, j) for i, j in pairs if cells[i].squared_distance(cells[j]) <= exact * exact]
@@ -308,7 +310,8 @@ class Shared(unittest.TestCase):
         text = segment.text()
         for size in (1, 100, 1 << 16, 1 << 24):
             self.assertEqual("".join(segment.pieces(size)), text)
-        self.assertTrue(all(len(it) <= 1000 or it.count("\n") == 1 for it in segment.pieces(1000)) and all(it.endswith("\n") for it in segment.pieces(1000)))
+        self.assertTrue(all(len(it) <= 1000 or it.count("\n") == 1 for it in segment.pieces(1000))
+                and all(it.endswith("\n") for it in segment.pieces(1000)))
         self.assertEqual(list(segment), text.splitlines())
         self.assertEqual("".join(shared.close_in_pieces(50)), shared.close())
 

@@ -228,8 +228,6 @@ waits() {
     count "errno, deadlines, other gates, threads that are cancelled or die" $?
     build "$here/deadlines.c" -Wl,--wrap=malloc,--wrap=realloc && "$room/deadlines"
     count "16 threads whose calls give up after 0 to 300 microseconds: each line is that of a call, and all is idle in the end" $?
-    build_slow "$here/deadlines.c" -Wl,--wrap=malloc,--wrap=realloc && "$room/deadlines" 60
-    count "the same with threads that are delayed" $?
     build_by_pthreads "$here/waits.c" -Wl,--wrap=malloc,--wrap=clock_gettime && "$room/waits"
     count "the same without futex" $?
 }
