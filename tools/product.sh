@@ -190,13 +190,14 @@ make_archive() {
     mv "$3.new" "$3"
 }
 
-# writes the shared object of a library from its archive: FILE ARCHIVE TO. It names no C library, so it loads beside any.
+# writes the shared object of a library from its archive: FILE ARCHIVE TO. It names no C library, so it loads beside any. A division
+# of 128 bits is a function of the compiler's, which is linked in.
 make_object() {
     mkdir "$work/calls"
     # shellcheck disable=SC2046 # the files are separated by spaces
     compile "${1%%/*}" "$work/calls" $(c_files "$1" python) &&
         $(compiler "${1%%/*}") -shared -nostdlib -s -Wl,--build-id=none "-Wl,-soname,$(basename "$1")" -o "$3" "$work"/calls/*.o \
-            -Wl,--whole-archive "$2" -Wl,--no-whole-archive || return 71
+            -Wl,--whole-archive "$2" -Wl,--no-whole-archive -lgcc || return 71
 }
 
 # links a program statically, so that it runs with any C library: NAME TO
