@@ -211,7 +211,7 @@ class Calls(unittest.TestCase):
                 self.assertEqual(sum(" add " in line for line in file), 240)
             self.assertEqual(SharedHull.compact(path), lines)
             with open(path, encoding="ascii") as file:
-                self.assertEqual(len(list(file)), 242)
+                self.assertEqual(len(list(file)), 244)
             self.assertRaises(ValueError, SharedHull.compact, "a\0b")
             with open(path, "w", encoding="ascii") as file:
                 file.write("somebody's\n")

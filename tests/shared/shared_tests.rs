@@ -317,7 +317,7 @@ fn opens_a_journal() {
             let first: u64 = text.split(' ').nth(4).unwrap().parse().unwrap();
             lines = first + text.lines().count() as u64 - 2;
             assert_eq!(hull.durable(), Err(Fault::NotOpen));
-            assert_eq!((SharedHull::compact(&path), std::fs::read_to_string(&path).unwrap().lines().count()), (Ok(lines), 2 + 80 * round as usize));
+            assert_eq!((SharedHull::compact(&path), std::fs::read_to_string(&path).unwrap().lines().count()), (Ok(lines), 4 + 80 * round as usize));
         }
     }
     std::fs::write(&path, "somebody's\n").unwrap();
