@@ -542,6 +542,13 @@ static hull_shared_reply refusal(uint32_t code) {
     return none;
 }
 
+/* Stores what others may know after a call was served. */
+static void note_served(struct gate *gate, const hull_shared_reply *reply) {
+    HULL_SHARED_STEP("served");
+    __atomic_store_n(&gate->held, reply->held, __ATOMIC_RELAXED);
+    store_turn(gate, reply->turn + 1);
+}
+
 /* Looks once with a seat; returns whether its call was served. */
 static int look(struct gate *gate, hull_shared_seat *seat, const hull_shared_target *to, hull_shared_reply *reply) {
     *reply = to->segment != NULL ? hull_shared_look_and_drain(seat, to->segment)
@@ -553,9 +560,7 @@ static int look(struct gate *gate, hull_shared_seat *seat, const hull_shared_tar
     case HULL_VACANT:
     case HULL_NO_SPACE: return 0;
     }
-    HULL_SHARED_STEP("served");
-    __atomic_store_n(&gate->held, reply->held, __ATOMIC_RELAXED);
-    store_turn(gate, reply->turn + 1);
+    note_served(gate, reply);
     if (to->segment != NULL && reply->answer.code != HULL_FULL) {
         announce_space(gate);
     }
@@ -667,6 +672,14 @@ static void serve_claimed(const struct call *call, uint32_t seat, uint64_t numbe
     }
 }
 
+/* Serves the calls that are posted from this number on, which was handed on; at first the book has `held` lines. */
+static void serve_next(const struct call *call, uint64_t number, uint32_t held) {
+    uint32_t seat = claim(call->gate, number);
+    if (seat != 0) {
+        serve_claimed(call, seat, number, held);
+    }
+}
+
 static uint64_t announcement(const struct call *call, uint64_t number) {
     return number * ONE_NUMBER + (call->number - 1) * ONE_SEAT + ANNOUNCED;
 }
@@ -707,59 +720,76 @@ static uint32_t await_notice(uint32_t *notice) {
     }
 }
 
-/* Waits until the number that the seat of a call has taken is served; returns the answer. If it looked itself, it then serves those
+/* Waits until the number that the seat of a call has taken is served; writes the answer. If it looked itself, it then serves those
  * that are posted after it. */
-static hull_shared_reply wait_for_turn(const struct call *call, uint64_t number, const hull_shared_target *to) {
+static void wait_for_turn(const struct call *call, uint64_t number, const hull_shared_target *to, hull_shared_reply *reply) {
     struct gate *gate = call->gate;
     struct binding *binding = binding_of(call->seat);
     uint64_t turn = __atomic_load_n(&gate->turn, __ATOMIC_RELAXED);
-    hull_shared_reply reply;
-    uint32_t next;
     int is_served;
-    reply.answer.code = HULL_NOT_YET;
-    is_served = (turn == number || turn == 0 || gate->beside == 0) && look(gate, call->seat, to, &reply);
-    while (!is_served && reply.answer.code == HULL_NOT_YET) {
+    reply->answer.code = HULL_NOT_YET;
+    is_served = (turn == number || turn == 0 || gate->beside == 0) && look(gate, call->seat, to, reply);
+    while (!is_served && reply->answer.code == HULL_NOT_YET) {
         announce(call, number, to);
-        is_served = look(gate, call->seat, to, &reply);
-        if (!is_served && reply.answer.code == HULL_NOT_YET && post(call, number)) {
+        is_served = look(gate, call->seat, to, reply);
+        if (!is_served && reply->answer.code == HULL_NOT_YET && post(call, number)) {
             uint32_t notice = await_notice(&node_of(gate, call->number)->notice);
             hull_mark_after(binding);
             if (notice == IS_SERVED) {
-                return binding->reply;
+                *reply = binding->reply;
+                return;
             }
-            is_served = look(gate, call->seat, to, &reply);
+            is_served = look(gate, call->seat, to, reply);
         }
     }
-    next = is_served ? claim(gate, number + 1) : 0;
-    if (next != 0) {
-        serve_claimed(call, next, number + 1, reply.held);
+    if (is_served) {
+        serve_next(call, number + 1, reply->held);
     }
-    return reply;
 }
 
 /* ---- calls */
 
-/* Makes a call once, waits for its answer and returns it; returns BUSY if it could not enter by the deadline. */
-static hull_shared_reply make_once(const struct call *call, hull_shared_target to) {
+/* Takes a number for a call, and looks at once if no other call is inside, where the number is served unless a seat is used without
+ * this gate. Returns whether the seat waits with a number; if not, the reply is that of the call. */
+static int take(const struct call *call, const hull_shared_target *to, hull_shared_reply *reply) {
+    if (call->gate->beside != 0 || to->segment != NULL || to->out != NULL) {
+        *reply = hull_shared_take(call->seat, call->kind, call->x, call->y);
+        return reply->answer.code == HULL_TAKEN;
+    }
+    *reply = hull_shared_take_and_look(call->seat, call->kind, call->x, call->y);
+    switch (reply->answer.code) {
+    case HULL_NOT_YET: return 1;
+    case HULL_VACANT:
+    case HULL_WAITING:
+    case HULL_UNKNOWN_KIND:
+    case HULL_OUT_OF_RANGE:
+    case HULL_ZERO_DIRECTION: return 0;
+    }
+    note_served(call->gate, reply);
+    serve_next(call, reply->turn + 1, reply->held);
+    return 0;
+}
+
+/* Makes a call once, waits for its answer and writes it; writes BUSY if it could not enter by the deadline. */
+static void make_once(const struct call *call, const hull_shared_target *to, hull_shared_reply *reply) {
     struct gate *gate = call->gate;
     struct wait_node *node = node_of(gate, call->number);
-    hull_shared_reply reply;
     if (!enter(gate, call->number, call->until)) {
-        return refusal(HULL_BUSY);
+        *reply = refusal(HULL_BUSY);
+        return;
     }
     __atomic_store_n(&node->since, hull_now_coarse(), __ATOMIC_RELAXED);
     hull_mark_after(&gate->state);
-    reply = hull_shared_take(call->seat, call->kind, call->x, call->y);
-    if (reply.answer.code == HULL_TAKEN) {
-        __atomic_store_n(&node->turn, reply.turn, __ATOMIC_RELAXED);
+    if (take(call, to, reply)) {
+        const uint64_t turn = reply->turn;
+        __atomic_store_n(&node->turn, turn, __ATOMIC_RELAXED);
         __atomic_store_n(&node->has_turn, HAS_TURN, __ATOMIC_RELEASE);
-        reply = wait_for_turn(call, reply.turn, &to);
+        wait_for_turn(call, turn, to, reply);
         __atomic_store_n(&node->has_turn, 0, __ATOMIC_RELAXED);
     }
     hull_mark_before(&gate->state);
     __atomic_store_n(&node->since, 0, __ATOMIC_RELAXED);
     leave(gate);
-    return reply;
 }
 
 /* Calls the hook; the thread is not cancelled meanwhile. */
@@ -773,8 +803,9 @@ static void run_hook(struct gate *gate) {
 /* Drains by the seat of a call, and calls the hook. Returns whether there is space again. */
 static int drain_and_call_hook(const struct call *call) {
     struct gate *gate = call->gate;
-    hull_shared_target to = {NULL, 0, gate->segment};
+    const hull_shared_target to = {NULL, 0, gate->segment};
     struct call count = *call;
+    hull_shared_reply reply;
     uint32_t capacity = hull_shared_capacity(call->seat);
     if (hull_shared_segment_space(gate->segment) < capacity) {
         hull_shared_segment_end(gate->segment);
@@ -784,7 +815,8 @@ static int drain_and_call_hook(const struct call *call) {
         return 0;
     }
     count.kind = HULL_KIND_COUNT;
-    if (!make_once(&count, to).has_line) {
+    make_once(&count, &to, &reply);
+    if (!reply.has_line) {
         return 0;
     }
     run_hook(gate);
@@ -819,32 +851,32 @@ static int drain_for_hook(const struct call *call) {
     return has_space;
 }
 
-/* Makes a call. If it found no space, makes it again after a drain, if the gate waits for space or drains by itself. The word
- * `drains` is read before a number is taken: a drain after the call changes it. */
-static hull_shared_reply make(const struct call *call, hull_shared_target to) {
+/* Makes a call, and writes its answer. If it found no space, makes it again after a drain, if the gate waits for space or drains by
+ * itself. The word `drains` is read before a number is taken: a drain after the call changes it. */
+static void make(const struct call *call, const hull_shared_target *to, hull_shared_reply *reply) {
     struct gate *gate = call->gate;
     for (;;) {
         uint32_t drains = __atomic_load_n(&gate->drains, __ATOMIC_SEQ_CST);
-        hull_shared_reply reply = make_once(call, to);
-        if (to.segment != NULL || reply.answer.code == HULL_BUSY) {
-            return reply;
+        make_once(call, to, reply);
+        if (to->segment != NULL || reply->answer.code == HULL_BUSY) {
+            return;
         }
-        if (reply.answer.code != HULL_FULL) {
-            if (gate->hook != NULL && reply.held > 0 && reply.held >= hull_shared_capacity(call->seat) / 2) {
+        if (reply->answer.code != HULL_FULL) {
+            if (gate->hook != NULL && reply->held > 0 && reply->held >= hull_shared_capacity(call->seat) / 2) {
                 (void)(become_drainer(call) && drain_for_hook(call));
             }
-            return reply;
+            return;
         }
         if (become_drainer(call) && drain_for_hook(call)) {
             continue;
         }
         if (!gate->waits || call->until == 0) {
-            return reply;
+            return;
         }
         HULL_SHARED_STEP("no space");
         wait_for_drain(gate, drains, call->until);
         if (call->until != HULL_NEVER && hull_now() >= call->until) {
-            return reply;
+            return;
         }
     }
 }
@@ -861,7 +893,7 @@ hull_shared_reply hull_shared_call_into(hull_shared_gate *opaque, hull_shared_se
     if (to.segment != NULL && hull_shared_segment_space(to.segment) < hull_shared_capacity(seat)) {
         return refusal(HULL_NO_SPACE);
     }
-    reply = make(&call, to);
+    make(&call, &to, &reply);
     errno = saved_errno;
     return reply;
 }

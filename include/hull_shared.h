@@ -188,7 +188,12 @@ hull_shared_reply hull_shared_take(hull_shared_seat *seat, uint32_t kind, int64_
  * NOT_YET. For vertices it returns how many there are. */
 hull_shared_reply hull_shared_look(hull_shared_seat *seat);
 
-/* The same; if the call asked for vertices, they are written to the front of the array of `capacity` points, as hull_vertices
+/* Takes a number as hull_shared_take does, and if it did, looks once as hull_shared_look does: in one call, where no other seat
+ * has a number. Returns the reply of the look; or of the take, if no number was taken: VACANT, WAITING, UNKNOWN_KIND,
+ * OUT_OF_RANGE, ZERO_DIRECTION. */
+hull_shared_reply hull_shared_take_and_look(hull_shared_seat *seat, uint32_t kind, int64_t x, int64_t y);
+
+/* As hull_shared_look; if the call asked for vertices, they are written to the front of the array of `capacity` points, as hull_vertices
  * writes them. TOO_SMALL if they do not fit: the call was made nevertheless, and has its line, and the array is unchanged. For
  * all other calls and replies the array is unchanged. */
 hull_shared_reply hull_shared_look_into(hull_shared_seat *seat, hull_point *out, size_t capacity);

@@ -83,6 +83,38 @@ static void read_in_pieces(hull_shared *shared, const uint8_t *text, size_t leng
     check("all pieces of a shared hull", so_far == length && memcmp(all, text, length) == 0, 1);
 }
 
+/* A number is taken and looked for in one call: it is served, or waits as after a take. */
+static void take_and_look(hull_shared *shared, hull_shared_seat *one, hull_shared_seat *two) {
+    hull_shared_reply reply;
+    check("open", hull_shared_open(shared, 3, 5, 20, 2), HULL_OPEN);
+    check("seat 0", hull_shared_acquire_seat(shared, &gate, one, 0), HULL_ACQUIRED);
+    check("seat 1", hull_shared_acquire_seat(shared, &gate, two, 1), HULL_ACQUIRED);
+    reply = hull_shared_take_and_look(one, 0, 0, 0);
+    check("take and look of kind 0", reply.answer.code, HULL_UNKNOWN_KIND);
+    check("it took no number", reply.turn, 0);
+    check("out of range", hull_shared_take_and_look(one, HULL_KIND_ADD, HULL_COORDINATE_MAX + 1, 0).answer.code, HULL_OUT_OF_RANGE);
+    check("zero direction", hull_shared_take_and_look(one, HULL_KIND_EXTREME, 0, 0).answer.code, HULL_ZERO_DIRECTION);
+    reply = hull_shared_take_and_look(one, HULL_KIND_ADD, 5, 7);
+    check("served at once", reply.answer.code, HULL_ADDED);
+    check("by its number", reply.turn, 5);
+    check("its line", reply.line, 5);
+    check("a line", reply.has_line, 1);
+    check("lines", reply.held, 1);
+    check("take", hull_shared_take(two, HULL_KIND_PLACE, 5, 7).turn, 6);
+    reply = hull_shared_take_and_look(one, HULL_KIND_REMOVE, 5, 7);
+    check("another number is served", reply.answer.code, HULL_NOT_YET);
+    check("its number", reply.turn, 7);
+    reply = hull_shared_take_and_look(one, HULL_KIND_COUNT, 0, 0);
+    check("it waits", reply.answer.code, HULL_WAITING);
+    check("with that number", reply.turn, 7);
+    check("the other is served", hull_shared_look(two).answer.code, HULL_ON);
+    check("then it is", hull_shared_look(one).answer.code, HULL_REMOVED);
+    check("release", hull_shared_release_seat(shared, one), HULL_RELEASED);
+    check("release", hull_shared_release_seat(shared, two), HULL_RELEASED);
+    check("close", hull_shared_close(shared), HULL_CLOSED);
+    check("end", hull_shared_end(shared), HULL_ENDED);
+}
+
 static void check_codes(hull_shared *shared, hull_shared_seat *one, hull_shared_seat *two) {
     static uint8_t text[4096];
     uint64_t first = UINT64_C(18446744073709551613);
@@ -100,6 +132,7 @@ static void check_codes(hull_shared *shared, hull_shared_seat *one, hull_shared_
     check("open", hull_shared_open(shared, 3, first, 22, 2), HULL_OPEN);
     check("open again", hull_shared_open(shared, 3, first, 20, 2), HULL_WAS_OPENED);
     check("take of none", hull_shared_take(one, 1, 0, 0).answer.code, HULL_VACANT);
+    check("take and look of none", hull_shared_take_and_look(one, 1, 0, 0).answer.code, HULL_VACANT);
     check("look of none", hull_shared_look(one).answer.code, HULL_VACANT);
     check("release of none", hull_shared_release_seat(shared, one), HULL_VACANT);
     check("seat 2", hull_shared_acquire_seat(shared, &gate, one, 2), HULL_NO_SEAT);
@@ -337,6 +370,8 @@ static void check_reopened(hull_shared *shared, hull_shared_seat *seat, hull_sha
     uint8_t text[256];
     hull_shared_reply reply;
     check_not_reopened(shared, "", HULL_NO_JOURNAL, 1);
+    check_not_reopened(shared, "end 0\n", HULL_NO_JOURNAL, 1);
+    check("it has no header", reopen(shared, "end 0\n", 4, 2).high, 7);
     check_not_reopened(shared, "hullbook journal 3 first 5 limit 3 capacity 9\n5 1 add 0 = added\nend 1\n", HULL_NO_JOURNAL, 2);
     check_not_reopened(shared, "hullbook journal 2 first 5 limit 3 capacity 9\n5 1 add 0 0 = added\nend 1\n", HULL_OLD_RULES, 0);
     check_not_reopened(shared, "hullbook journal 3 first 5 limit 3 capacity 9\n5 2 add 0 0 = added\nend 1\n", HULL_TOO_FEW_SEATS, 3);
@@ -455,6 +490,7 @@ int main(void) {
     check("alignment", (uintptr_t)shared % hull_shared_alignment(), 0);
     check("alignment", (uintptr_t)one % hull_shared_seat_alignment(), 0);
     check_codes(shared, one, two);
+    take_and_look(shared, one, two);
     wake_by_own_looks(shared, one, two);
     check_segments(shared, one, segment);
     check_reopened(shared, one, segment);

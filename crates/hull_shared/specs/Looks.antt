@@ -140,6 +140,16 @@ PutsSeen before after (Served answer turn state_after) r =
 abbrev pub HasReplied : SharedSeat → SharedSeat → SeatReply → Type 0
 HasReplied old new r = (seen : Seen) × HasSeen old new seen × EncodesSeen seen r
 
+-- A take and a look: a seat with no number that was asked for a call took a number for it, and looked; else it is a take,
+-- which took none.
+abbrev pub TakesAndLooks : Result Call Code → SharedSeat → SharedSeat → SeatReply → Type 0
+TakesAndLooks (Ok call) (Idle i) new r = (w : WaitingSeat) × WaitsFor i w call × HasReplied (Waiting w) new r
+TakesAndLooks asked old new r = TakesAsked asked old new r
+
+-- a take and a look, for the requested call
+abbrev pub HasTakenAndLooked : ℕ → ℤ → ℤ → SharedSeat → SharedSeat → SeatReply → Type 0
+HasTakenAndLooked kind x y old new r = (asked : Result Call Code) × IsAsked kind x y asked × TakesAndLooks asked old new r
+
 -- a look, whose answer is in the reply, with vertices written to the array
 abbrev pub HasRepliedInto : SharedSeat → SharedSeat → List Pair → List Pair → SeatReply → Type 0
 HasRepliedInto old new before after r = (seen : Seen) × HasSeen old new seen × PutsSeen before after seen r

