@@ -2,14 +2,14 @@
 ghost use Rattle.std.specs.Prelude.{◌≡◌, ◌<◌, ◌≤◌, ◌+◌, ◌*◌, ◌++◌, max, length};
 ghost use Rattle.lattice.specs.Bridges.{IsAllBefore, IsBridge, IsUpperBridge, IsLowerBridge};
 ghost use Rattle.bridge_search.specs.Trees.{On};
-ghost use Rattle.hull_geometry.specs.Positions.{first_of as first_in, last_of as last_in};
+ghost use Rattle.hull_geometry.specs.Positions.{first_of as first_in};
 ghost use Rattle.lattice.specs.declared.side.Side.{Side};
-ghost use Rattle.bucket_tree.specs.Changes.{IsBridgeBetween, edge_on};
+ghost use Rattle.bucket_tree.specs.Changes.{HasEnds, IsBridgeBetween, edge_on};
 ghost use Rattle.hull_set.specs.declared.TheConstants.{POINT_LIMIT};
 ghost use Rattle.bucket_tree.specs.Nodes.{tree_of, points_below, multiplicities_below, node_height, AreNear, AreInRow};
 ghost use Rattle.bucket_tree.specs.Nodes.{IsWellBuilt, IsHeightOver};
 
-use crate::node::{Fork, Node, first_of, height_of, last_of};
+use crate::node::{Fork, Node, ends_of, height_of};
 use crate::part::Part;
 use crate::questions::vertices_are_few;
 use bridge_search::{both_bridges, lower_bridge_counted, upper_bridge_counted};
@@ -65,12 +65,12 @@ pub(crate) fn join(left: Node, right: Node, mut place: Box<Fork, Heap>) -> (Node
 {
     let (upper, lower, turns) = search(&left, &right);
     let height = height_of(&left).max(height_of(&right)) + 1;
-    let (last_left, right_first) = (last_of(&left), first_of(&right));
+    let (left_ends, right_ends) = (ends_of(&left), ends_of(&right));
     *place = Fork {
-        right_first,
+        right_ends,
         left,
         right,
-        last_left,
+        left_ends,
         upper,
         lower,
     };
@@ -86,8 +86,8 @@ pub(crate) fn take_apart(node: Node) -> (Node, Node, Box<Fork, Heap>)
     ensures points { points_below node ≡ points_below result.0 ++ points_below result.1 }
     ensures multiplicities { multiplicities_below node ≡ multiplicities_below result.0 ++ multiplicities_below result.1 }
     ensures height { node_height node ≡ max (node_height result.0) (node_height result.1) + 1 }
-    ensures split { result.2.value.right_first ≡ first_in (points_below result.1) }
-    ensures last { result.2.value.last_left ≡ last_in (points_below result.0) }
+    ensures split { result.2.value.right_ends.first ≡ first_in (points_below result.1) }
+    ensures ends { HasEnds result.0 result.1 result.2.value }
     ensures stored { (side : Side) → IsBridgeBetween side result.0 result.1 (edge_on side result.2.value) }
 {
     let Node::Fork(_, mut fork) = node else {

@@ -6,18 +6,15 @@ ghost use Rattle.lattice.specs.Orientations as orientations;
 ghost use Rattle.lattice.specs.Bridges.{IsAllBefore, IsBridge};
 ghost use Rattle.bridge_search.specs.Trees.{On, height_of as height_in};
 ghost use Rattle.hull_buckets.specs.Buckets.{IsCovered};
-ghost use Rattle.hull_geometry.specs.Positions.{first_of as first_in, last_of as last_in};
 ghost use Rattle.hull_set.specs.declared.TheConstants.{POINT_LIMIT};
-ghost use Rattle.lattice.specs.Plane.{IsBefore};
 ghost use Rattle.bucket_tree.specs.Changes.{IsAfter, IsBridgeBetween, IsClearOf, IsRenewed, IsSameBut, ReturnsOf, ClosesBy, edge_on};
 ghost use Rattle.std.specs.List.{Contains};
-ghost use Rattle.bucket_tree.specs.Changes.{AreInnerTo, IsEndOf, IsEndUnlessClear, change_of};
+ghost use Rattle.bucket_tree.specs.Changes.{AreInnerTo, AreKept, HasEnds, IsEndOf, IsEndUnlessClear, change_of};
 ghost use Rattle.bucket_tree.specs.Nodes.{tree_of, points_below, multiplicities_below, node_height, AreInRow, IsWellBuilt};
-ghost use Rattle.bucket_tree.specs.Nodes.{AreNear, HasBuckets};
-ghost use Rattle.bucket_tree.specs.Nodes.{IsHeightOver};
+ghost use Rattle.bucket_tree.specs.Nodes.{AreNear, HasBuckets, IsHeightOver, IsLabelled, ends_in};
 
 use crate::join::{rotate_left, rotate_right, search_one};
-use crate::node::{Fork, Node, first_of, height_of, last_of};
+use crate::node::{Ends, Fork, Node, ends_of, height_of};
 use crate::other_end::{end_from, end_to};
 use heap::Heap;
 use lattice::{Point, Side, before, orient_on};
@@ -121,6 +118,7 @@ fn search_by_end(side: Side, fork: &Fork) -> ((Point, Point), u32)
     requires row { AreInRow fork.now.left fork.now.right }
     requires few { length (points_below fork.now.left ++ points_below fork.now.right) ≤ POINT_LIMIT }
     requires low { max (node_height fork.now.left) (node_height fork.now.right) ≤ 28 }
+    requires ends { HasEnds fork.now.left fork.now.right fork.now }
     requires there { Contains (points_below fork.now.right) (edge_on side fork.now).1 }
     requires inner { AreInnerTo side fork.now.left fork.now.right (edge_on side fork.now) }
     ensures bridge { IsBridge side (On (tree_of fork.now.left)) (On (tree_of fork.now.right)) result.0.0 result.0.1 }
@@ -131,10 +129,10 @@ fn search_by_end(side: Side, fork: &Fork) -> ((Point, Point), u32)
         side,
         &fork.left,
         kept,
-        first_of(&fork.left),
-        last_of(&fork.left),
+        fork.left_ends.first,
+        fork.left_ends.last,
     );
-    let (end, back) = end_from(side, start, &fork.right, first_of(&fork.right), kept);
+    let (end, back) = end_from(side, start, &fork.right, fork.right_ends.first, kept);
     if end == kept {
         return ((start, end), there + back);
     }
@@ -147,6 +145,7 @@ fn search_by_start(side: Side, fork: &Fork) -> ((Point, Point), u32)
     requires row { AreInRow fork.now.left fork.now.right }
     requires few { length (points_below fork.now.left ++ points_below fork.now.right) ≤ POINT_LIMIT }
     requires low { max (node_height fork.now.left) (node_height fork.now.right) ≤ 28 }
+    requires ends { HasEnds fork.now.left fork.now.right fork.now }
     requires there { Contains (points_below fork.now.left) (edge_on side fork.now).0 }
     requires inner { AreInnerTo side fork.now.left fork.now.right (edge_on side fork.now) }
     ensures bridge { IsBridge side (On (tree_of fork.now.left)) (On (tree_of fork.now.right)) result.0.0 result.0.1 }
@@ -157,10 +156,10 @@ fn search_by_start(side: Side, fork: &Fork) -> ((Point, Point), u32)
         side,
         kept,
         &fork.right,
-        first_of(&fork.right),
-        last_of(&fork.right),
+        fork.right_ends.first,
+        fork.right_ends.last,
     );
-    let (start, back) = end_to(side, &fork.left, end, kept, last_of(&fork.left));
+    let (start, back) = end_to(side, &fork.left, end, kept, fork.left_ends.last);
     if start == kept {
         return ((start, end), there + back);
     }
@@ -174,6 +173,7 @@ fn search_after(side: Side, fork: &Fork, p: Point, change: Change) -> ((Point, P
     requires row { AreInRow fork.now.left fork.now.right }
     requires few { length (points_below fork.now.left ++ points_below fork.now.right) ≤ POINT_LIMIT }
     requires low { max (node_height fork.now.left) (node_height fork.now.right) ≤ 28 }
+    requires ends { HasEnds fork.now.left fork.now.right fork.now }
     requires end { IsEndOf change side p fork.now.left fork.now.right (edge_on side fork.now) }
     ensures bridge { IsBridge side (On (tree_of fork.now.left)) (On (tree_of fork.now.right)) result.0.0 result.0.1 }
     ensures turns { result.1 ≤ 4 * max (node_height fork.now.left) (node_height fork.now.right) + 24 }
@@ -185,12 +185,12 @@ fn search_after(side: Side, fork: &Fork, p: Point, change: Change) -> ((Point, P
                 p,
                 &fork.right,
                 fork.edge(side).1,
-                last_of(&fork.right),
+                fork.right_ends.last,
             );
             ((p, end), turns)
         }
         Change::AddedRight => {
-            let (end, turns) = end_to(side, &fork.left, p, first_of(&fork.left), fork.edge(side).0);
+            let (end, turns) = end_to(side, &fork.left, p, fork.left_ends.first, fork.edge(side).0);
             ((end, p), turns)
         }
         Change::OtherLeft => search_by_end(side, fork),
@@ -207,6 +207,7 @@ fn renew_affected_edge(side: Side, fork: &mut Fork, p: Point, change: Change) ->
     requires clear { IsClearOf side (edge_on side fork.old) p
         → IsBridgeBetween side fork.old.left fork.old.right (edge_on side fork.old) }
     requires low { max (node_height fork.old.left) (node_height fork.old.right) ≤ 28 }
+    requires ends { HasEnds fork.old.left fork.old.right fork.old }
     requires end { IsEndUnlessClear change side p fork.old.left fork.old.right (edge_on side fork.old) }
     ensures same { IsSameBut side fork.old fork.new }
     ensures bridge { IsBridge side (On (tree_of fork.old.left)) (On (tree_of fork.old.right))
@@ -235,6 +236,7 @@ fn renew_edge(side: Side, fork: &mut Fork, p: Point, change: Change, at_issue: b
     requires clear { IsClearOf side (edge_on side fork.old) p
         → IsBridgeBetween side fork.old.left fork.old.right (edge_on side fork.old) }
     requires low { max (node_height fork.old.left) (node_height fork.old.right) ≤ 28 }
+    requires ends { HasEnds fork.old.left fork.old.right fork.old }
     requires end { IsEndUnlessClear change side p fork.old.left fork.old.right (edge_on side fork.old) }
     ensures same { IsSameBut side fork.old fork.new }
     ensures bridge { IsBridge side (On (tree_of fork.old.left)) (On (tree_of fork.old.right))
@@ -340,24 +342,15 @@ pub(crate) fn balance(
     }
 }
 
-/// Returns the last point below a subtree that changed at a point: the one that was stored if the change was before it.
-pub(crate) fn last_after(node: &Node, kept: Point, p: Point) -> Point
+/// Returns the first and the last point below a subtree that changed at a point: those that were stored if the change was between them.
+pub(crate) fn ends_after(node: &Node, kept: Ends, p: Point) -> Ends
     requires buckets { HasBuckets node.now }
-    requires kept { IsBefore p kept → kept ≡ last_in (points_below node.now) }
-    ensures { result ≡ last_in (points_below node.now) }
+    requires labelled { IsLabelled node.now }
+    requires kept { AreKept p kept (points_below node.now) }
+    ensures { result ≡ ends_in (points_below node.now) }
 {
-    if before(p, kept) { kept } else { last_of(node) }
-}
-
-/// Returns the first point below a subtree that changed at a point: the one that was stored if the change was after it.
-pub(crate) fn first_after(node: &Node, kept: Point, p: Point) -> Point
-    requires buckets { HasBuckets node.now }
-    requires kept { IsBefore kept p → kept ≡ first_in (points_below node.now) }
-    ensures { result ≡ first_in (points_below node.now) }
-{
-    if before(kept, p) {
-        kept
-    } else {
-        first_of(node)
+    if before(kept.first, p) && before(p, kept.last) {
+        return kept;
     }
+    ends_of(node)
 }

@@ -1,11 +1,12 @@
 -- the bridge from the end that is still there and the bridge back are one if both have this end
-use Rattle.std.proofs.Common.{◌∙◌, subst, sym}
+use Rattle.std.proofs.Common.{◌∙◌, ap, subst, sym}
 use Rattle.bridge_search.specs.Trees.{On}
 use Rattle.hull_set.proofs.HeldMultiplicities.{returned_same}
 use Rattle.lattice.specs.declared.side.Side.TheVariants.{Lower}
 use Rattle.bucket_tree.specs.Changes.{edge_on}
 use Rattle.bucket_tree.specs.Nodes.{tree_of}
 use Rattle.bucket_tree.specs.OtherEnds.{IsEndTo}
+use Rattle.bucket_tree.specs.declared.node.Ends.{Ends}
 use Rattle.bucket_tree.proofs.Added.{after_first, back_not_after, before_second, in_bounds, not_before_first, one_by_both}
 use Rattle.bucket_tree.proofs.NodeCandidateLists.{node_candidates}
 use Rattle.bucket_tree.proofs.renewal.search_by_end.Goals as goal
@@ -17,8 +18,7 @@ end_to-start-requires-clause-before c =
 
 pub end_to-start-requires-clause-within : goal.end_to-start-requires-clause-within
 end_to-start-requires-clause-within c = λ q h.
-    in_bounds c.args.fork.now.left q c.first_of.result c.last_of.result c.requires.row.left_built c.first_of.ensures
-    c.last_of.ensures h.from_left
+    in_bounds c.args.fork.now.left q c.args.fork.now.left_ends c.requires.row.left_built c.requires.ends.left h.from_left
 
 pub end_from-end-requires-clause-after : goal.end_from-end-requires-clause-after
 end_from-end-requires-clause-after c =
@@ -31,7 +31,8 @@ pub end_from-end-requires-clause-within : goal.end_from-end-requires-clause-with
 end_from-end-requires-clause-within c =
     let f = c.args.fork.now in
     rw c.edge.ensures (λ q h. (
-      not_before_first f.right q c.first_of-2.result c.requires.row.right_built c.first_of-2.ensures h.to_right,
+      not_before_first f.right q f.right_ends.first c.requires.row.right_built
+          (ap (λ (z : Ends). z.first) c.requires.ends.right) h.to_right,
       back_not_after c.args.side f.left f.right (edge_on c.args.side f) c.end_to-start.result.0 q c.requires.row
           c.requires.inner c.requires.there c.end_to-start.ensures.end.from_left h,
     ))

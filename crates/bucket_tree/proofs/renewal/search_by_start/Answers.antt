@@ -1,11 +1,12 @@
 -- the bridge to the start that is still there and the bridge back are one if both have this start
-use Rattle.std.proofs.Common.{◌∙◌, subst, sym}
+use Rattle.std.proofs.Common.{◌∙◌, ap, subst, sym}
 use Rattle.bridge_search.specs.Trees.{On}
 use Rattle.hull_set.proofs.HeldMultiplicities.{returned_same}
 use Rattle.lattice.specs.declared.side.Side.TheVariants.{Lower}
 use Rattle.bucket_tree.specs.Changes.{edge_on}
 use Rattle.bucket_tree.specs.Nodes.{tree_of}
 use Rattle.bucket_tree.specs.OtherEnds.{IsEndFrom}
+use Rattle.bucket_tree.specs.declared.node.Ends.{Ends}
 use Rattle.bucket_tree.proofs.Added.{after_first, back_not_before, before_second, in_bounds, not_after_last, one_by_both}
 use Rattle.bucket_tree.proofs.NodeCandidateLists.{node_candidates}
 use Rattle.bucket_tree.proofs.renewal.search_by_start.Goals as goal
@@ -17,8 +18,7 @@ end_from-end-requires-clause-after c =
 
 pub end_from-end-requires-clause-within : goal.end_from-end-requires-clause-within
 end_from-end-requires-clause-within c = λ q h.
-    in_bounds c.args.fork.now.right q c.first_of.result c.last_of.result c.requires.row.right_built
-    c.first_of.ensures c.last_of.ensures h.to_right
+    in_bounds c.args.fork.now.right q c.args.fork.now.right_ends c.requires.row.right_built c.requires.ends.right h.to_right
 
 pub end_to-start-requires-clause-before : goal.end_to-start-requires-clause-before
 end_to-start-requires-clause-before c =
@@ -33,7 +33,8 @@ end_to-start-requires-clause-within c =
     rw c.edge.ensures (λ q h. (
       back_not_before c.args.side f.left f.right (edge_on c.args.side f) c.end_from-end.result.0 q c.requires.row
           c.requires.inner c.requires.there c.end_from-end.ensures.end.to_right h,
-      not_after_last f.left q c.last_of-2.result c.requires.row.left_built c.last_of-2.ensures h.from_left,
+      not_after_last f.left q f.left_ends.last c.requires.row.left_built (ap (λ (z : Ends). z.last) c.requires.ends.left)
+          h.from_left,
     ))
 
 pub returns-then-eq-clause-bridge : goal.returns-then-eq-clause-bridge
