@@ -60,7 +60,7 @@ beyond_not_clear side e p h n c = elim (before_total e.0 p) [
 -- ---- the other end
 
 -- two sets have one bridge on a side
-unique : (side : Side) (l r : Pair → Type 0) (p q a b : Pair) → IsAllBefore l r → IsBridge side l r p q
+pub unique : (side : Side) (l r : Pair → Type 0) (p q a b : Pair) → IsAllBefore l r → IsBridge side l r p q
     → IsBridge side l r a b → (p ≡ a) × (q ≡ b)
 unique Lower l r p q a b o h k = one_lower_bridge l r p q a b o h k
 unique Upper l r p q a b o h k = one_bridge l r p q a b o h k

@@ -15,7 +15,7 @@ ghost use Rattle.bucket_tree.specs.declared.node.Node.{Leaf};
 use crate::join::{join, take_apart};
 use crate::load::blank;
 use crate::node::{Node, height_of};
-use crate::renewal::{Affected, balance, change_at, ends_after};
+use crate::renewal::{Affected, balance, change_at, renew_ends};
 use heap::Heap;
 use hull_buckets::{Bucket, buckets_are_sound};
 use lattice::{Point, Side, before};
@@ -196,7 +196,7 @@ pub fn insert(alloc: Heap, node: Node, p: Point) -> Inserted
     let (left, right, mut place) = take_apart(node);
     if before(p, place.right_ends.first) {
         let change = insert(alloc, left, p);
-        place.left_ends = ends_after(&change.node, place.left_ends, p);
+        renew_ends(&mut place.left_ends, &change.node, p);
         let above = balance(
             change.node,
             right,
@@ -213,7 +213,7 @@ pub fn insert(alloc: Heap, node: Node, p: Point) -> Inserted
         }
     } else {
         let change = insert(alloc, right, p);
-        place.right_ends = ends_after(&change.node, place.right_ends, p);
+        renew_ends(&mut place.right_ends, &change.node, p);
         let above = balance(
             left,
             change.node,

@@ -64,6 +64,7 @@ impl Fork {
 }
 
 /// Returns the first and the last point below a node. A fork stores those of its halves, so this takes one step.
+#[inline(never)]
 pub(crate) fn ends_of(node: &Node) -> Ends
     requires buckets { HasBuckets node.now }
     requires labelled { IsLabelled node.now }

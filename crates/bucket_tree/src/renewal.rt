@@ -13,11 +13,13 @@ ghost use Rattle.bucket_tree.specs.Changes.{AreInnerTo, AreKept, HasEnds, IsEndO
 ghost use Rattle.bucket_tree.specs.Nodes.{tree_of, points_below, multiplicities_below, node_height, AreInRow, IsWellBuilt};
 ghost use Rattle.bucket_tree.specs.Nodes.{AreNear, HasBuckets, IsHeightOver, IsLabelled, ends_in};
 
-use crate::join::{rotate_left, rotate_right, search_one};
+use crate::join::search_one;
 use crate::node::{Ends, Fork, Node, ends_of, height_of};
 use crate::other_end::{end_from, end_to};
+use crate::rotation::{rotate_left, rotate_right};
 use heap::Heap;
 use lattice::{Point, Side, before, orient_on};
+use std::mem;
 
 /// The chains that are affected by a point that was added or removed, that is, on which it may matter to the bridges above: it does not if it is
 /// under an edge of two points that stay.
@@ -273,45 +275,39 @@ pub(crate) fn renew_edges(fork: &mut Fork, p: Point, change: Change, sides: Affe
     }
 }
 
-/// Makes a fork over two subtrees whose heights differ by at most one, of which one changed at a point after its edges were stored.
-fn renew(
-    left: Node,
-    right: Node,
-    mut place: Box<Fork, Heap>,
-    p: Point,
-    change: Change,
-    sides: Affected,
-) -> Renewed
-    requires row { AreInRow left right }
-    requires few { length (points_below left ++ points_below right) ≤ POINT_LIMIT }
-    requires behind { IsAfter p sides left right place.value }
-    requires end { (side : Side) → IsEndUnlessClear change side p left right (edge_on side place.value) }
-    requires near { AreNear (node_height left) (node_height right) }
-    requires low { max (node_height left) (node_height right) ≤ 28 }
-    ensures built { IsWellBuilt result.node }
-    ensures points { points_below result.node ≡ points_below left ++ points_below right }
-    ensures multiplicities { multiplicities_below result.node ≡ multiplicities_below left ++ multiplicities_below right }
-    ensures height { node_height result.node ≡ max (node_height left) (node_height right) + 1 }
-    ensures turns { result.turns ≤ 8 * max (node_height left) (node_height right) + 48 }
-    ensures closes { ClosesBy p sides result.sides (points_below left ++ points_below right) }
+/// Makes a balanced tree of a fork over two subtrees whose heights differ by at most two. Returns it and the turns of the searches of a rotation.
+fn rebalanced(mut place: Box<Fork, Heap>) -> (Node, u32)
+    requires renewed { IsRenewed place.value }
+    requires few { length (points_below place.value.left ++ points_below place.value.right) ≤ POINT_LIMIT }
+    requires near_left { node_height place.value.left ≤ node_height place.value.right + 2 }
+    requires near_right { node_height place.value.right ≤ node_height place.value.left + 2 }
+    requires low { max (node_height place.value.left) (node_height place.value.right) ≤ 28 }
+    ensures built { IsWellBuilt result.0 }
+    ensures points { points_below result.0 ≡ points_below place.value.left ++ points_below place.value.right }
+    ensures multiplicities { multiplicities_below result.0
+        ≡ multiplicities_below place.value.left ++ multiplicities_below place.value.right }
+    ensures height { IsHeightOver (node_height place.value.left) (node_height place.value.right) (node_height result.0) }
+    ensures turns { result.1 ≤ 8 * max (node_height place.value.left) (node_height place.value.right) + 48 }
 {
-    let height = height_of(&left).max(height_of(&right)) + 1;
-    place.left = left;
-    place.right = right;
-    let above = renew_edges(&mut place, p, change, sides);
-    Renewed {
-        node: Node::Fork(height, place),
-        turns: above.turns,
-        sides: above.sides,
+    let (on_left, on_right) = (height_of(&place.left), height_of(&place.right));
+    if on_left <= on_right + 1 && on_right <= on_left + 1 {
+        return (Node::Fork(on_left.max(on_right) + 1, place), 0);
+    }
+    let left = mem::replace(&mut place.left, Node::Taken);
+    let right = mem::replace(&mut place.right, Node::Taken);
+    if on_left > on_right {
+        rotate_right(left, right, place)
+    } else {
+        rotate_left(left, right, place)
     }
 }
 
 /// Makes a balanced tree over two subtrees whose heights differ by at most two, of which one changed at a point after the edges of the fork over them
-/// were stored. The forks that a rotation makes are searched.
+/// were stored. The edges are renewed first, so that a rotation can keep them.
 pub(crate) fn balance(
     left: Node,
     right: Node,
-    place: Box<Fork, Heap>,
+    mut place: Box<Fork, Heap>,
     p: Point,
     change: Change,
     sides: Affected,
@@ -327,30 +323,30 @@ pub(crate) fn balance(
     ensures points { points_below result.node ≡ points_below left ++ points_below right }
     ensures multiplicities { multiplicities_below result.node ≡ multiplicities_below left ++ multiplicities_below right }
     ensures height { IsHeightOver (node_height left) (node_height right) (node_height result.node) }
-    ensures turns { result.turns ≤ 12 * max (node_height left) (node_height right) + 72 }
+    ensures turns { result.turns ≤ 16 * max (node_height left) (node_height right) + 96 }
     ensures closes { ClosesBy p sides result.sides (points_below left ++ points_below right) }
 {
-    let (on_left, on_right) = (height_of(&left), height_of(&right));
-    if on_left > on_right + 1 {
-        let (node, turns) = rotate_right(left, right, place);
-        Renewed { node, turns, sides }
-    } else if on_right > on_left + 1 {
-        let (node, turns) = rotate_left(left, right, place);
-        Renewed { node, turns, sides }
-    } else {
-        renew(left, right, place, p, change, sides)
+    place.left = left;
+    place.right = right;
+    let above = renew_edges(&mut place, p, change, sides);
+    let (node, turns) = rebalanced(place);
+    Renewed {
+        node,
+        turns: above.turns + turns,
+        sides: above.sides,
     }
 }
 
-/// Returns the first and the last point below a subtree that changed at a point: those that were stored if the change was between them.
-pub(crate) fn ends_after(node: &Node, kept: Ends, p: Point) -> Ends
+/// Renews the ends of a subtree that changed at a point: they stay if the change was between them.
+#[inline(always)]
+pub(crate) fn renew_ends(ends: &mut Ends, node: &Node, p: Point)
     requires buckets { HasBuckets node.now }
     requires labelled { IsLabelled node.now }
-    requires kept { AreKept p kept (points_below node.now) }
-    ensures { result ≡ ends_in (points_below node.now) }
+    requires kept { AreKept p ends.old (points_below node.now) }
+    ensures { ends.new ≡ ends_in (points_below node.now) }
 {
-    if before(kept.first, p) && before(p, kept.last) {
-        return kept;
+    if before(ends.first, p) && before(p, ends.last) {
+        return;
     }
-    ends_of(node)
+    *ends = ends_of(node);
 }

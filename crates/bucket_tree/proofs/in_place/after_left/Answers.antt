@@ -9,7 +9,7 @@ renew_edges-above-requires-clause-behind c =
     let edges = c.requires.behind.edges in
     let f = c.args.fork.now in
     behind_as c.args.p c.args.below.sides f.left f.right f _ edges.unaffected edges.clear (same_edges f _ refl refl)
-    record { left = c.ends_after-fork.ensures; right = c.requires.behind.right }
+    record { left = c.renew_ends.ensures; right = c.requires.behind.right }
 
 pub renew_edges-above-requires-clause-end : goal.renew_edges-above-requires-clause-end
 renew_edges-above-requires-clause-end c =

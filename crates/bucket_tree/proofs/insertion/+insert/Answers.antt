@@ -31,13 +31,13 @@ balance-above-requires-clause-few t c =
     few_with true (Comes c.insert-change.result.refused) _ _ _ _ c.insert-change.result.node i
     c.insert-change.ensures.gained (c.requires.absent, c.requires.few)
 
-pub ends_after-requires-clause-kept : goal.ends_after-requires-clause-kept
-ends_after-requires-clause-kept t c =
+pub renew_ends-requires-clause-kept : goal.renew_ends-requires-clause-kept
+renew_ends-requires-clause-kept t c =
     let o = c.take_apart-left.ensures in
     let d = differs (Comes c.insert-change.result.refused) c.args.p c.take_apart-left.result.0
     c.insert-change.result.node o.row.left_built.ordered c.insert-change.ensures.gained in
     ends_kept _ _ _ _ o.row.left_built c.insert-change.ensures.built d
-    (ap (λ (f : Fork). f.left_ends) c.deref-then-before.ensures ∙ o.ends.left)
+    (ap (λ (f : Fork). f.left_ends) c.deref_mut.ensures.value ∙ o.ends.left)
 
 pub balance-above-requires-clause-behind : goal.balance-above-requires-clause-behind
 balance-above-requires-clause-behind t c =
@@ -52,7 +52,7 @@ balance-above-requires-clause-behind t c =
     (o.stored side) d)
     (same_edges f _ (ap (λ (g : Fork). g.lower) c.deref_mut.ensures.value)
     (ap (λ (g : Fork). g.upper) c.deref_mut.ensures.value))
-    record { left = c.ends_after.ensures; right = ap (λ (g : Fork). g.right_ends) c.deref_mut.ensures.value ∙ o.ends.right }
+    record { left = c.renew_ends.ensures; right = ap (λ (g : Fork). g.right_ends) c.deref_mut.ensures.value ∙ o.ends.right }
 
 pub returns-then-before-clause-gained : goal.returns-then-before-clause-gained
 returns-then-before-clause-gained t c =
@@ -129,13 +129,13 @@ balance-above-requires-else-before-clause-few t c =
     few_with false (Comes c.insert-change-else-before.result.refused) _ _ _ _ c.insert-change-else-before.result.node i
     c.insert-change-else-before.ensures.gained (c.requires.absent, c.requires.few)
 
-pub ends_after-requires-else-before-clause-kept : goal.ends_after-requires-else-before-clause-kept
-ends_after-requires-else-before-clause-kept t c =
+pub renew_ends-requires-else-before-clause-kept : goal.renew_ends-requires-else-before-clause-kept
+renew_ends-requires-else-before-clause-kept t c =
     let o = c.take_apart-left.ensures in
     let d = differs (Comes c.insert-change-else-before.result.refused) c.args.p c.take_apart-left.result.1
     c.insert-change-else-before.result.node o.row.right_built.ordered c.insert-change-else-before.ensures.gained in
     ends_kept _ _ _ _ o.row.right_built c.insert-change-else-before.ensures.built d
-    (ap (λ (f : Fork). f.right_ends) c.deref-else-before.ensures ∙ o.ends.right)
+    (ap (λ (f : Fork). f.right_ends) c.deref_mut-else-before.ensures.value ∙ o.ends.right)
 
 pub balance-above-requires-else-before-clause-behind : goal.balance-above-requires-else-before-clause-behind
 balance-above-requires-else-before-clause-behind t c =
@@ -153,7 +153,7 @@ balance-above-requires-else-before-clause-behind t c =
     (ap (λ (g : Fork). g.upper) c.deref_mut-else-before.ensures.value))
     record {
       left = ap (λ (g : Fork). g.left_ends) c.deref_mut-else-before.ensures.value ∙ o.ends.left;
-      right = c.ends_after-else-before.ensures;
+      right = c.renew_ends-else-before.ensures;
     }
 
 pub returns-else-before-clause-gained : goal.returns-else-before-clause-gained

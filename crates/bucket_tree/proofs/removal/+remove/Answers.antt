@@ -65,13 +65,13 @@ prepare-above-requires-clause-few t c =
     let lost = subst (HasLost c.args.p c.take_apart-left.result.0) c.in-Some.is c.remove-rest.ensures.lost in
     few_with true Goes _ _ _ _ c.in-Some.rest i (lost.1, lost.2) c.requires.few
 
-pub ends_after-requires-clause-kept : goal.ends_after-requires-clause-kept
-ends_after-requires-clause-kept t c =
+pub renew_ends-requires-clause-kept : goal.renew_ends-requires-clause-kept
+renew_ends-requires-clause-kept t c =
     let o = c.take_apart-left.ensures in
     let lost = subst (HasLost c.args.p c.take_apart-left.result.0) c.in-Some.is c.remove-rest.ensures.lost in
     let d = differs Goes c.args.p c.take_apart-left.result.0 c.in-Some.rest o.row.left_built.ordered (lost.1, lost.2) in
     ends_kept _ _ _ _ o.row.left_built lost.0 d
-    (ap (λ (f : Fork). f.left_ends) c.deref-then-before.ensures ∙ o.ends.left)
+    (ap (λ (f : Fork). f.left_ends) c.deref_mut.ensures.value ∙ o.ends.left)
 
 pub prepare-above-requires-clause-behind : goal.prepare-above-requires-clause-behind
 prepare-above-requires-clause-behind t c =
@@ -87,7 +87,7 @@ prepare-above-requires-clause-behind t c =
     (o.stored side) d)
     (same_edges f _ (ap (λ (g : Fork). g.lower) c.deref_mut.ensures.value)
     (ap (λ (g : Fork). g.upper) c.deref_mut.ensures.value))
-    record { left = c.ends_after.ensures; right = ap (λ (g : Fork). g.right_ends) c.deref_mut.ensures.value ∙ o.ends.right }
+    record { left = c.renew_ends.ensures; right = ap (λ (g : Fork). g.right_ends) c.deref_mut.ensures.value ∙ o.ends.right }
 
 pub returns-in-Some-clause-lost : goal.returns-in-Some-clause-lost
 returns-in-Some-clause-lost t c =
@@ -142,6 +142,15 @@ returns-in_default-clause-turns t c =
           (omega (arith, c.take_apart-left.ensures.height)) c.remove-rest.ensures.turns,
     )
 
+pub returns-in_default-rest-clause-turns : goal.returns-in_default-rest-clause-turns
+returns-in_default-rest-clause-turns t c =
+    omega (
+      arith,
+      c.other_part-in_default-rest.ensures.turns,
+      below_fork (node_height c.args.node) (node_height c.take_apart-left.result.1) c.remove-rest-else-before.result.turns
+          (omega (arith, c.take_apart-left.ensures.height)) c.remove-rest-else-before.ensures.turns,
+    )
+
 pub remove-rest-requires-else-before : goal.remove-rest-requires-else-before
 remove-rest-requires-else-before t c =
     let o = c.take_apart-left.ensures in
@@ -193,15 +202,15 @@ prepare-above-requires-else-before-clause-few t c =
     c.remove-rest-else-before.ensures.lost in
     few_with false Goes _ _ _ _ c.in-Some-rest.rest i (lost.1, lost.2) c.requires.few
 
-pub ends_after-requires-else-before-clause-kept : goal.ends_after-requires-else-before-clause-kept
-ends_after-requires-else-before-clause-kept t c =
+pub renew_ends-requires-else-before-clause-kept : goal.renew_ends-requires-else-before-clause-kept
+renew_ends-requires-else-before-clause-kept t c =
     let o = c.take_apart-left.ensures in
     let lost = subst (HasLost c.args.p c.take_apart-left.result.1) c.in-Some-rest.is
     c.remove-rest-else-before.ensures.lost in
     let d = differs Goes c.args.p c.take_apart-left.result.1 c.in-Some-rest.rest o.row.right_built.ordered
     (lost.1, lost.2) in
     ends_kept _ _ _ _ o.row.right_built lost.0 d
-    (ap (λ (f : Fork). f.right_ends) c.deref-else-before.ensures ∙ o.ends.right)
+    (ap (λ (f : Fork). f.right_ends) c.deref_mut-else-before.ensures.value ∙ o.ends.right)
 
 pub prepare-above-requires-else-before-clause-behind : goal.prepare-above-requires-else-before-clause-behind
 prepare-above-requires-else-before-clause-behind t c =
@@ -222,7 +231,7 @@ prepare-above-requires-else-before-clause-behind t c =
     (ap (λ (g : Fork). g.upper) c.deref_mut-else-before.ensures.value))
     record {
       left = ap (λ (g : Fork). g.left_ends) c.deref_mut-else-before.ensures.value ∙ o.ends.left;
-      right = c.ends_after-else-before.ensures;
+      right = c.renew_ends-else-before.ensures;
     }
 
 pub returns-in-Some-rest-clause-lost : goal.returns-in-Some-rest-clause-lost
