@@ -200,7 +200,11 @@ pub over_parts : (p : Pair) (sides : Affected) (l r : Node) (f : Below) → IsAf
     → IsAfter p sides l r (with_part false (with_part true f l) r)
 over_parts p sides l r f h =
     let g = with_part false (with_part true f l) r in
-    behind_as p sides l r f g h.unaffected h.clear (same_edges f g refl refl) record { left = h.ends.left; right = h.ends.right }
+    behind_as p sides l r f g h.unaffected h.clear (same_edges f g refl refl) record {
+      left = h.ends.left;
+      right =
+          h.ends.right;
+    }
 
 -- a point that is an end of the bridge over two subtrees, unless it is clear of a fork's edge, is so with these in the fork
 pub end_over_parts : (change : Change) (p : Pair) (l r : Node) (f : Below)

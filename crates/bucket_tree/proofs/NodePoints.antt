@@ -47,7 +47,8 @@ last_of_fork n h f e b = rw e (sym (last_join (points_below f.value.left) (point
 
 -- so the ends of a fork are those that it stores of its halves
 pub ends_of_fork : (n : Node) (h : ℕ) (f : Box Below _) (x y : Below) → n ≡ Fork h f → x ≡ f.value → y ≡ f.value
-    → HasBuckets n → IsLabelled n → record { first = x.left_ends.first; last = y.right_ends.last } ≡ ends_in (points_below n)
+    → HasBuckets n → IsLabelled n → record { first = x.left_ends.first; last = y.right_ends.last } ≡ ends_in
+    (points_below n)
 ends_of_fork n h f x y e i j b w =
     let k = subst IsLabelled e w in
     let first = ap (λ (z : Below). z.left_ends.first) i ∙ ap (λ (z : Ends). z.first) k.0 ∙ first_of_fork n h f e b in

@@ -1,4 +1,5 @@
--- The bridges that a rotation keeps: each is the bridge of the new halves by what it is of the old ones, or because each pair of halves has one bridge.
+-- The bridges that a rotation keeps: each is the bridge of the new halves by what it is of the old ones, or because
+-- each pair of halves has one bridge.
 use Rattle.std.proofs.Common.{◌≡◌, ◌⊎◌, inl, inr, sym, subst}
 use Rattle.lattice.specs.Bridges.{IsAllBefore, IsBridge}
 use Rattle.lattice.specs.Plane.{Pair, IsBefore}
@@ -90,7 +91,8 @@ fork_of u w b c o =
 -- ---- the upper bridge ends in the middle
 
 -- then the old lower bridge is the new upper one, after a rotation to the right
-outer_right : (side : Side) (x y z : Tree) (split : Pair) (e d : Pair × Pair) → AreThree Right x y z split → IsWhole Right side x y z e
+outer_right : (side : Side) (x y z : Tree) (split : Pair) (e d : Pair × Pair) → AreThree Right x y z split
+    → IsWhole Right side x y z e
     → On y e.0 → IsPart Right side x y z d → IsWhole Left side x y z d
 outer_right side x y z split e d h w i p =
     let f = fork_of y z h.middle h.last h.middle_last in
@@ -98,7 +100,8 @@ outer_right side x y z split e d h w i p =
     λ s t j k. elim k [ inl m ↦ h.first_middle s t j m | inr m ↦ h.first_last s t j m ] in
     let b = some_bridge side x (Fork f.0 f.1 y z) h.first f.2 o in
     elim b.2.to_right [
-      | inl k ↦ same (unique side (On x) (On y) b.0 b.1 d.0 d.1 h.first_middle (first_two side (On x) (On y) (On z) b.0 b.1 b.2 k) p)
+      | inl k ↦ same (unique side (On x) (On y) b.0 b.1 d.0 d.1 h.first_middle (first_two side (On x) (On y) (On z) b.0
+          b.1 b.2 k) p)
           b.2
       | inr k ↦
           let q = unique side (IsOnEither x y) (On z) b.0 b.1 e.0 e.1
@@ -113,7 +116,8 @@ outer_right side x y z split e d h w i p =
         (subst (IsBridge side (On x) (IsOnEither y z) _) e.1 b)
 
 -- and after one to the left
-outer_left : (side : Side) (x y z : Tree) (split : Pair) (e d : Pair × Pair) → AreThree Left x y z split → IsWhole Left side x y z e
+outer_left : (side : Side) (x y z : Tree) (split : Pair) (e d : Pair × Pair) → AreThree Left x y z split
+    → IsWhole Left side x y z e
     → On y e.1 → IsPart Left side x y z d → IsWhole Right side x y z d
 outer_left side x y z split e d h w i p =
     let f = fork_of x y h.first h.middle h.first_middle in
@@ -126,7 +130,8 @@ outer_left side x y z split e d h w i p =
           (λ s t j m. elim m [ inl n ↦ h.first_middle s t j n | inr n ↦ h.first_last s t j n ])
           (across_right side (On x) (On y) (On z) b.0 b.1 b.2 k) w in
           absurd (before_irrefl b.1 (h.middle_last b.1 b.1 (subst (On y) (sym q.1) i) b.2.to_right))
-      | inr k ↦ same (unique side (On y) (On z) b.0 b.1 d.0 d.1 h.middle_last (later_two side (On x) (On y) (On z) b.0 b.1 b.2 k) p)
+      | inr k ↦ same (unique side (On y) (On z) b.0 b.1 d.0 d.1 h.middle_last (later_two side (On x) (On y) (On z) b.0
+          b.1 b.2 k) p)
           b.2
     ]
   where
@@ -147,7 +152,8 @@ lower_second Left x y z = y
 lower_second Right x y z = z
 
 -- the edges after a rotation are the bridges of the two forks that it makes
-pub regrouped_is : (side : Side) (rotation : Rotation) (x y z : Tree) (whole part : Pair × Pair) (split : Pair) (new : Regrouped)
+pub regrouped_is : (side : Side) (rotation : Rotation) (x y z : Tree) (whole part : Pair
+    × Pair) (split : Pair) (new : Regrouped)
     → AreThree rotation x y z split → IsWhole rotation side x y z whole → IsPart rotation side x y z part
     → IsRegrouped side rotation whole part split (lower_first rotation x y z) (lower_second rotation x y z) new
     → IsPart (other rotation) side x y z new.inner × IsWhole (other rotation) side x y z new.outer

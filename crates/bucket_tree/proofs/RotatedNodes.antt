@@ -46,7 +46,8 @@ before_both : (l n : Node) (e f : Pair × Pair) (x y : Tree) → AreInRow l n �
 before_both l n e f x y w s = subst (λ z. IsAllBefore (On (tree_of l)) (On z)) s (vertices_in_row l n w)
 
 -- the fork n over a and b, and r: a rotation to the right makes a fork of b and r
-pub rotated_right : (side : Side) (n r a b : Node) (f g : Fork) (whole part : Pair × Pair) (split : Pair) (new : Regrouped)
+pub rotated_right : (side : Side) (n r a b : Node) (f g : Fork) (whole part : Pair
+    × Pair) (split : Pair) (new : Regrouped)
     → AreInRow n r → AreInRow a b → tree_of n ≡ ForkTree f.upper f.lower (tree_of a) (tree_of b)
     → IsBridgeBetween side a b (edge_on side f) → split ≡ first_of (points_below b)
     → IsBridge side (On (tree_of n)) (On (tree_of r)) (edge_on side g).0 (edge_on side g).1
@@ -76,7 +77,8 @@ rotated_right side n r a b f g whole part split new w v s p e h wh pa k =
     (o.0, o.1)
 
 -- l, and the fork n over b and c: a rotation to the left makes a fork of l and b
-pub rotated_left : (side : Side) (l n b c : Node) (f g : Fork) (whole part : Pair × Pair) (split : Pair) (new : Regrouped)
+pub rotated_left : (side : Side) (l n b c : Node) (f g : Fork) (whole part : Pair
+    × Pair) (split : Pair) (new : Regrouped)
     → AreInRow l n → AreInRow b c → tree_of n ≡ ForkTree f.upper f.lower (tree_of b) (tree_of c)
     → IsBridgeBetween side b c (edge_on side f) → split ≡ first_of (points_below c)
     → IsBridge side (On (tree_of l)) (On (tree_of n)) (edge_on side g).0 (edge_on side g).1
@@ -128,7 +130,8 @@ pub record AreFour (a b c d : Node) (split : Pair) : Type 0 where
   pub c_after : (t : Pair) → On (tree_of c) t → ¬ IsBefore t split
   pub d_after : (t : Pair) → On (tree_of d) t → ¬ IsBefore t split
 
-pub four_of : (a b c d : Node) (split : Pair) → AreFourInRow a b c d → split ≡ first_of (points_below c) → AreFour a b c d split
+pub four_of : (a b c d : Node) (split : Pair) → AreFourInRow a b c d → split ≡ first_of (points_below c)
+    → AreFour a b c d split
 four_of a b c d split w e = record {
   built_a = w.front.left_built.bridged;
   built_b = w.front.right_built.bridged;
@@ -186,7 +189,8 @@ AreTwiceRotated side a b c d left right outer = IsBridge side (On a) (On b) left
     × IsBridge side (On c) (On d) right.0 right.1 × IsBridge side (IsOnEither a b) (IsOnEither c d) outer.0 outer.1
 
 -- the lower two forks are rotated to the right, and then the upper two to the left
-pub twice_left : (side : Side) (a b c d : Node) (split : Pair) (whole low middle : Pair × Pair) (lower upper : Regrouped)
+pub twice_left : (side : Side) (a b c d : Node) (split : Pair) (whole low middle : Pair
+    × Pair) (lower upper : Regrouped)
     → AreFour a b c d split → AreEdgesOfFour Left side (tree_of a) (tree_of b) (tree_of c) (tree_of d) whole low middle
     → IsRegrouped side Right low middle split (tree_of c) (tree_of d) lower
     → IsRegrouped side Left whole lower.outer split (tree_of a) (tree_of b) upper
@@ -212,13 +216,15 @@ twice_left side a b c d split whole low middle lower upper h e k m =
       first_last = λ p q i j. elim j [ inl n ↦ h.apart.ac p q i n | inr n ↦ h.apart.ad p q i n ];
       begins = (h.b_before, λ t i. elim i [ inl n ↦ h.c_after t n | inr n ↦ h.d_after t n ]);
     } in
-    let r = regrouped_is side Left (tree_of a) (tree_of b) (ForkTree f.0 f.1 (tree_of c) (tree_of d)) whole lower.outer split
+    let r = regrouped_is side Left (tree_of a) (tree_of b) (ForkTree f.0 f.1 (tree_of c) (tree_of d)) whole lower.outer
+    split
     upper two
     (second_again side (On (tree_of a)) (On (tree_of b)) (On (tree_of c)) (On (tree_of d)) whole.0 whole.1 e.0) g.1 m in
     (r.0, g.0, r.1)
 
 -- the lower two forks are rotated to the left, and then the upper two to the right
-pub twice_right : (side : Side) (a b c d : Node) (split : Pair) (whole low middle : Pair × Pair) (lower upper : Regrouped)
+pub twice_right : (side : Side) (a b c d : Node) (split : Pair) (whole low middle : Pair
+    × Pair) (lower upper : Regrouped)
     → AreFour a b c d split → AreEdgesOfFour Right side (tree_of a) (tree_of b) (tree_of c) (tree_of d) whole low middle
     → IsRegrouped side Left low middle split (tree_of a) (tree_of b) lower
     → IsRegrouped side Right whole lower.outer split (tree_of c) (tree_of d) upper
@@ -244,14 +250,16 @@ twice_right side a b c d split whole low middle lower upper h e k m =
       first_last = λ p q i j. elim i [ inl n ↦ h.apart.ad p q n j | inr n ↦ h.apart.bd p q n j ];
       begins = (λ t i. elim i [ inl n ↦ h.a_before t n | inr n ↦ h.b_before t n ], h.c_after);
     } in
-    let r = regrouped_is side Right (ForkTree f.0 f.1 (tree_of a) (tree_of b)) (tree_of c) (tree_of d) whole lower.outer split
+    let r = regrouped_is side Right (ForkTree f.0 f.1 (tree_of a) (tree_of b)) (tree_of c) (tree_of d) whole
+    lower.outer split
     upper two
     (first_again side (On (tree_of a)) (On (tree_of b)) (On (tree_of c)) (On (tree_of d)) whole.0 whole.1 e.0) g.1 m in
     (g.0, r.0, r.1)
 
 -- the bridges of three forks, of which one is the right half of the left half of another
 pub edges_right : (side : Side) (n r a i b c : Node) (f g : Fork) (e : Pair × Pair) → AreInRow a i → AreInRow b c
-    → tree_of n ≡ ForkTree f.upper f.lower (tree_of a) (tree_of i) → tree_of i ≡ ForkTree g.upper g.lower (tree_of b) (tree_of c)
+    → tree_of n ≡ ForkTree f.upper f.lower (tree_of a) (tree_of i)
+    → tree_of i ≡ ForkTree g.upper g.lower (tree_of b) (tree_of c)
     → IsBridgeBetween side a i (edge_on side f) → IsBridgeBetween side b c (edge_on side g)
     → IsBridge side (On (tree_of n)) (On (tree_of r)) e.0 e.1
     → AreEdgesOfFour Right side (tree_of a) (tree_of b) (tree_of c) (tree_of r) e (edge_on side f) (edge_on side g)
@@ -265,7 +273,8 @@ edges_right side n r a i b c f g e w v s t p q h = (
 
 -- the bridges of three forks, of which one is the left half of the right half of another
 pub edges_left : (side : Side) (l n i d b c : Node) (f g : Fork) (e : Pair × Pair) → AreInRow i d → AreInRow b c
-    → tree_of n ≡ ForkTree f.upper f.lower (tree_of i) (tree_of d) → tree_of i ≡ ForkTree g.upper g.lower (tree_of b) (tree_of c)
+    → tree_of n ≡ ForkTree f.upper f.lower (tree_of i) (tree_of d)
+    → tree_of i ≡ ForkTree g.upper g.lower (tree_of b) (tree_of c)
     → IsBridgeBetween side i d (edge_on side f) → IsBridgeBetween side b c (edge_on side g)
     → IsBridge side (On (tree_of l)) (On (tree_of n)) e.0 e.1
     → AreEdgesOfFour Left side (tree_of l) (tree_of b) (tree_of c) (tree_of d) e (edge_on side f) (edge_on side g)
@@ -289,8 +298,10 @@ edges_as rotation side a b c d x y z u v w e f g h =
 
 -- a list of two parts, the second of which is two, before another
 pub four_right : {T : Type 0} (l d a i b c : List T) → l ≡ a ++ i → i ≡ b ++ c → l ++ d ≡ (a ++ b) ++ (c ++ d)
-four_right l d a i b c e f = ap (λ z. z ++ d) (e ∙ ap (λ z. a ++ z) f ∙ sym (append_assoc a b c)) ∙ append_assoc (a ++ b) c d
+four_right l d a i b c e f = ap (λ z. z ++ d) (e ∙ ap (λ z. a ++ z) f ∙ sym (append_assoc a b c))
+    ∙ append_assoc (a ++ b) c d
 
 -- a list of two parts, the first of which is two, after another
 pub four_left : {T : Type 0} (a r i d b c : List T) → r ≡ i ++ d → i ≡ b ++ c → a ++ r ≡ (a ++ b) ++ (c ++ d)
-four_left a r i d b c e f = ap (λ z. a ++ z) (e ∙ ap (λ z. z ++ d) f ∙ append_assoc b c d) ∙ sym (append_assoc a b (c ++ d))
+four_left a r i d b c e f = ap (λ z. a ++ z) (e ∙ ap (λ z. z ++ d) f ∙ append_assoc b c d)
+    ∙ sym (append_assoc a b (c ++ d))

@@ -85,8 +85,8 @@ pub record HasEnds (l r : Node) (f : Fork) : Type 0 where
 abbrev pub AreKept : Pair → Ends → List Pair → Type 0
 AreKept p e S = (IsBefore e.first p → e.first ≡ first_of S) × (IsBefore p e.last → e.last ≡ last_of S)
 
--- a stale fork: a fork over two subtrees, of which one changed at p since its edges were stored. It stores their ends; an edge is still
--- the bridge if its chain is unaffected or if p is clear of it
+-- a stale fork: a fork over two subtrees, of which one changed at p since its edges were stored. It stores their ends;
+-- an edge is still the bridge if its chain is unaffected or if p is clear of it
 pub record IsAfter (p : Pair) (sides : Affected) (l r : Node) (f : Fork) : Type 0 where
   pub ends : HasEnds l r f
   pub unaffected : (side : Side) → is_affected side sides ≡ false → IsBridgeBetween side l r (edge_on side f)

@@ -35,7 +35,8 @@ points_below Taken = []
 -- the multiplicity of each of them
 abbrev pub multiplicities_below : Node → List ℕ
 multiplicities_below (Leaf b) = b.value.multiplicities
-multiplicities_below (Fork' height i right_ends left right left_ends upper lower) = multiplicities_below left ++ multiplicities_below right
+multiplicities_below (Fork' height i right_ends left right left_ends upper lower) = multiplicities_below left ++
+    multiplicities_below right
 multiplicities_below Taken = []
 
 -- the height of a node: the number of forks above its deepest bucket

@@ -30,13 +30,14 @@ abbrev pub IsWhole : Rotation → Side → Tree → Tree → Tree → Pair × Pa
 IsWhole Left side x y z e = IsBridge side (On x) (IsOnEither y z) e.0 e.1
 IsWhole Right side x y z e = IsBridge side (IsOnEither x y) (On z) e.0 e.1
 
--- the bridge of the upper fork ends in the middle half, where `split` is the first point of the later half of the lower fork
+-- the bridge of the upper fork ends in the middle half, where `split` is the first point of the later half of the lower
+-- fork
 abbrev pub IsInMiddle : Rotation → Pair × Pair → Pair → Type 0
 IsInMiddle Left whole split = IsBefore whole.1 split
 IsInMiddle Right whole split = ¬ IsBefore whole.0 split
 
--- the edges after a rotation: if the upper bridge ends in the middle, it is the new lower edge, and the old lower edge is the new upper one; otherwise it
--- is the new upper edge, and the new lower one is the bridge of its halves u and w
+-- the edges after a rotation: if the upper bridge ends in the middle, it is the new lower edge, and the old lower edge
+-- is the new upper one; otherwise it is the new upper edge, and the new lower one is the bridge of its halves u and w
 abbrev pub IsRegrouped : Side → Rotation → Pair × Pair → Pair × Pair → Pair → Tree → Tree → Regrouped → Type 0
 IsRegrouped side rotation whole part split u w new =
     (IsInMiddle rotation whole split × (new.inner ≡ whole) × (new.outer ≡ part))
@@ -48,9 +49,11 @@ pub record AreFourInRow (a b c d : Node) : Type 0 where
   pub back : AreInRow c d
   pub in_order : IsPointSet ((points_below a ++ points_below b) ++ (points_below c ++ points_below d))
 
--- the bridges of three forks over four halves before a double rotation, from the top: to the left they are over a and the others, over (b, c) and d, and
--- over b and c; to the right over the others and d, over a and (b, c), and over b and c
-abbrev pub AreEdgesOfFour : Rotation → Side → Tree → Tree → Tree → Tree → Pair × Pair → Pair × Pair → Pair × Pair → Type 0
+-- the bridges of three forks over four halves before a double rotation, from the top: to the left they are over a and
+-- the others, over (b, c) and d, and over b and c; to the right over the others and d, over a and (b, c), and over b
+-- and c
+abbrev pub AreEdgesOfFour : Rotation → Side → Tree → Tree → Tree → Tree → Pair × Pair → Pair × Pair → Pair × Pair
+    → Type 0
 AreEdgesOfFour Left side a b c d whole low middle =
     IsBridge side (On a) (λ t. IsOnEither b c t ⊎ On d t) whole.0 whole.1 × IsWhole Right side b c d low
     × IsBridge side (On b) (On c) middle.0 middle.1

@@ -28,7 +28,8 @@ pub(crate) struct Ends {
     pub(crate) last: Point,
 }
 
-/// The two halves of a fork, all points of the left one before all of the right one, the ends of each, and their bridges.
+/// The two halves of a fork, all points of the left one before all of the right one, the ends of each, and their
+/// bridges.
 #[cycle(node)]
 #[derive(Drop)]
 pub struct Fork {

@@ -15,7 +15,7 @@ ghost use Rattle.bucket_tree.specs.Nodes.{AreNear, HasBuckets, IsHeightOver, IsL
 
 use crate::join::search_one;
 use crate::node::{Ends, Fork, Node, ends_of, height_of};
-use crate::other_end::{end_from, end_to};
+use crate::other_end::{BridgeEnd, other_end};
 use crate::rotation::{rotate_left, rotate_right};
 use heap::Heap;
 use lattice::{Point, Side, before, orient_on};
@@ -127,14 +127,22 @@ fn search_by_end(side: Side, fork: &Fork) -> ((Point, Point), u32)
     ensures turns { result.1 ≤ 4 * max (node_height fork.now.left) (node_height fork.now.right) + 24 }
 {
     let kept = fork.edge(side).1;
-    let (start, there) = end_to(
+    let (start, there) = other_end(
+        BridgeEnd::Start,
         side,
-        &fork.left,
         kept,
+        &fork.left,
         fork.left_ends.first,
         fork.left_ends.last,
     );
-    let (end, back) = end_from(side, start, &fork.right, fork.right_ends.first, kept);
+    let (end, back) = other_end(
+        BridgeEnd::End,
+        side,
+        start,
+        &fork.right,
+        fork.right_ends.first,
+        kept,
+    );
     if end == kept {
         return ((start, end), there + back);
     }
@@ -154,14 +162,22 @@ fn search_by_start(side: Side, fork: &Fork) -> ((Point, Point), u32)
     ensures turns { result.1 ≤ 4 * max (node_height fork.now.left) (node_height fork.now.right) + 24 }
 {
     let kept = fork.edge(side).0;
-    let (end, there) = end_from(
+    let (end, there) = other_end(
+        BridgeEnd::End,
         side,
         kept,
         &fork.right,
         fork.right_ends.first,
         fork.right_ends.last,
     );
-    let (start, back) = end_to(side, &fork.left, end, kept, fork.left_ends.last);
+    let (start, back) = other_end(
+        BridgeEnd::Start,
+        side,
+        end,
+        &fork.left,
+        kept,
+        fork.left_ends.last,
+    );
     if start == kept {
         return ((start, end), there + back);
     }
@@ -182,7 +198,8 @@ fn search_after(side: Side, fork: &Fork, p: Point, change: Change) -> ((Point, P
 {
     match change {
         Change::AddedLeft => {
-            let (end, turns) = end_from(
+            let (end, turns) = other_end(
+                BridgeEnd::End,
                 side,
                 p,
                 &fork.right,
@@ -192,8 +209,15 @@ fn search_after(side: Side, fork: &Fork, p: Point, change: Change) -> ((Point, P
             ((p, end), turns)
         }
         Change::AddedRight => {
-            let (end, turns) = end_to(side, &fork.left, p, fork.left_ends.first, fork.edge(side).0);
-            ((end, p), turns)
+            let (start, turns) = other_end(
+                BridgeEnd::Start,
+                side,
+                p,
+                &fork.left,
+                fork.left_ends.first,
+                fork.edge(side).0,
+            );
+            ((start, p), turns)
         }
         Change::OtherLeft => search_by_end(side, fork),
         Change::OtherRight => search_by_start(side, fork),
@@ -275,7 +299,8 @@ pub(crate) fn renew_edges(fork: &mut Fork, p: Point, change: Change, sides: Affe
     }
 }
 
-/// Makes a balanced tree of a fork over two subtrees whose heights differ by at most two. Returns it and the turns of the searches of a rotation.
+/// Makes a balanced tree of a fork over two subtrees whose heights differ by at most two. Returns it and the turns of
+/// the searches of a rotation.
 fn rebalanced(mut place: Box<Fork, Heap>) -> (Node, u32)
     requires renewed { IsRenewed place.value }
     requires few { length (points_below place.value.left ++ points_below place.value.right) ≤ POINT_LIMIT }

@@ -1,7 +1,8 @@
 //! Rotations of three neighbouring subtrees, which keep the bridges that they can.
 //!
-//! If the bridge of the upper fork ends in the middle subtree, it is that of the new lower fork, and the bridge of the old lower fork is that of the new
-//! upper one. Otherwise it is the bridge of the new upper fork, and only that of the new lower one is searched.
+//! If the bridge of the upper fork ends in the middle subtree, it is that of the new lower fork, and the bridge of the
+//! old lower fork is that of the new upper one. Otherwise it is the bridge of the new upper fork, and only that of the
+//! new lower one is searched.
 ghost use Rattle.std.specs.Prelude.{◌≡◌, ◌≤◌, ◌+◌, ◌*◌, ◌++◌, ◌↔◌, IsTrue, max, length};
 ghost use Rattle.lattice.specs.declared.side.Side.{Side};
 ghost use Rattle.bridge_search.specs.Trees.{On};
@@ -18,8 +19,8 @@ use crate::node::{Fork, Node, height_of};
 use heap::Heap;
 use lattice::{Point, Side, before};
 
-/// The direction in which a rotation moves the middle one of three neighbouring subtrees: to the left, from the fork that it has with the last one to
-/// one with the first one; to the right, the other way round.
+/// The direction in which a rotation moves the middle one of three neighbouring subtrees: to the left, from the fork
+/// that it has with the last one to one with the first one; to the right, the other way round.
 #[derive(Clone, Copy)]
 pub(crate) enum Rotation {
     /// To the left.
@@ -36,7 +37,8 @@ pub(crate) struct Regrouped {
     pub(crate) turns: u32,
 }
 
-/// Whether the edge of the upper fork ends in the middle subtree; `split` is the first point of the later one of the lower fork's halves.
+/// Whether the edge of the upper fork ends in the middle subtree; `split` is the first point of the later one of the
+/// lower fork's halves.
 fn is_in_middle(rotation: Rotation, whole: &(Point, Point), split: Point) -> bool
     ensures { IsTrue result ↔ IsInMiddle rotation whole.now split }
 {
@@ -46,8 +48,8 @@ fn is_in_middle(rotation: Rotation, whole: &(Point, Point), split: Point) -> boo
     }
 }
 
-/// Returns the edges, on a side, of the forks that a rotation makes; `whole` and `part` are those of the upper and of the lower fork before, and `first`
-/// and `second` will be the halves of the lower one.
+/// Returns the edges, on a side, of the forks that a rotation makes; `whole` and `part` are those of the upper and of
+/// the lower fork before, and `first` and `second` will be the halves of the lower one.
 fn regroup(
     side: Side,
     rotation: Rotation,
@@ -86,9 +88,9 @@ pub(crate) struct RegroupedTwice {
     pub(crate) turns: u32,
 }
 
-/// Returns the edges, on a side, of the forks over `a` and `b`, over `c` and `d`, and over both, which a double rotation makes: that of the lower two
-/// forks in the other direction, and then that of the upper two. `whole`, `low` and `middle` are the edges of the three forks before, from the top, and
-/// `split` is the first point of `c`.
+/// Returns the edges, on a side, of the forks over `a` and `b`, over `c` and `d`, and over both, which a double
+/// rotation makes: that of the lower two forks in the other direction, and then that of the upper two. `whole`, `low`
+/// and `middle` are the edges of the three forks before, from the top, and `split` is the first point of `c`.
 fn regroup_twice(
     side: Side,
     rotation: Rotation,
@@ -136,7 +138,8 @@ fn regroup_twice(
     }
 }
 
-/// Makes the tree over four neighbouring subtrees after a double rotation. The edges in the boxes are those of the three forks before, from the top.
+/// Makes the tree over four neighbouring subtrees after a double rotation. The edges in the boxes are those of the
+/// three forks before, from the top.
 fn rotate_twice(
     rotation: Rotation,
     a: Node,
@@ -194,8 +197,8 @@ fn rotate_twice(
     (whole, upper.turns + lower.turns)
 }
 
-/// Makes the fork over two subtrees of which the left one is two higher, after a rotation to the right, which is double if that one leans to the
-/// right. The edges in the box are those of the two subtrees.
+/// Makes the fork over two subtrees of which the left one is two higher, after a rotation to the right, which is double
+/// if that one leans to the right. The edges in the box are those of the two subtrees.
 pub(crate) fn rotate_right(left: Node, right: Node, place: Box<Fork, Heap>) -> (Node, u32)
     requires row { AreInRow left right }
     requires few { length (points_below left ++ points_below right) ≤ POINT_LIMIT }
@@ -248,8 +251,8 @@ pub(crate) fn rotate_right(left: Node, right: Node, place: Box<Fork, Heap>) -> (
     )
 }
 
-/// Makes the fork over two subtrees of which the right one is two higher, after a rotation to the left, which is double if that one leans to the
-/// left. The edges in the box are those of the two subtrees.
+/// Makes the fork over two subtrees of which the right one is two higher, after a rotation to the left, which is double
+/// if that one leans to the left. The edges in the box are those of the two subtrees.
 pub(crate) fn rotate_left(left: Node, right: Node, place: Box<Fork, Heap>) -> (Node, u32)
     requires row { AreInRow left right }
     requires few { length (points_below left ++ points_below right) ≤ POINT_LIMIT }

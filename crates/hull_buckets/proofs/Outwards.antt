@@ -35,7 +35,8 @@ pub record IsUnderWay (side : Side) (S : List Pair) (chain rest : ℕ) (a b : Pa
       → Contains taken t ⊎ (Contains (at_places left S) t ⊎ (orient_on side a t b ≤ℤ pos 0))
 
 -- at first none was taken
-pub under_way : (side : Side) (S : List Pair) (chain rest : ℕ) (a b : Pair) → IsPointSet S → IsConvex side (at_places chain S)
+pub under_way : (side : Side) (S : List Pair) (chain rest : ℕ) (a b : Pair) → IsPointSet S
+    → IsConvex side (at_places chain S)
     → IsUnderWay side S chain rest a b chain rest
 under_way side S chain rest a b s h = record {
   taken = [];
@@ -45,7 +46,8 @@ under_way side S chain rest a b s h = record {
 }
 
 -- one step takes a point or leaves it out
-pub one_more : (side : Side) (S : List Pair) (chain rest : ℕ) (a b : Pair) (kept left place next bit : ℕ) → IsStep S kept left place
+pub one_more : (side : Side) (S : List Pair) (chain rest : ℕ) (a b : Pair) (kept left place next bit : ℕ)
+    → IsStep S kept left place
     → bit ≡ 2 ^ place → IsUnderWay side S chain rest a b kept left → IsPushedOutwards side S kept place a b next
     → IsUnderWay side S chain rest a b next (left - bit)
 one_more side S chain rest a b kept left place next bit s e u h =
@@ -61,8 +63,10 @@ one_more side S chain rest a b kept left place next bit s e u h =
     go : IsPushedOutwards side S kept place a b next → IsUnderWay side S chain rest a b next (left - 2 ^ place)
     go (inl k) = record {
       taken = u.taken ++ p ∷ [];
-      passed = subst (λ (z : List Pair). IsPassed side z (at_places next S)) (append_twice (at_places chain S) u.taken (p ∷ []))
-          (passed_through side (at_places chain S ++ u.taken) (at_places kept S) (p ∷ []) (at_places next S) u.passed k);
+      passed = subst (λ (z : List Pair). IsPassed side z (at_places next S)) (append_twice (at_places chain S) u.taken
+          (p ∷ []))
+          (passed_through side (at_places chain S ++ u.taken) (at_places kept S) (p ∷ []) (at_places next S) u.passed
+          k);
       others = λ t m. elim (u.others t m) [
         | inl i ↦ inl (Contains-append_left u.taken (p ∷ []) t i)
         | inr (inl i) ↦ elim (first_or t i) [
@@ -86,7 +90,8 @@ one_more side S chain rest a b kept left place next bit s e u h =
     }
 
 -- a chain to which a point was appended or not bends on
-pub still_convex : (side : Side) (S : List Pair) (kept place : ℕ) (a b : Pair) (next : ℕ) → IsConvex side (at_places kept S)
+pub still_convex : (side : Side) (S : List Pair) (kept place : ℕ) (a b : Pair) (next : ℕ)
+    → IsConvex side (at_places kept S)
     → IsPushedOutwards side S kept place a b next → IsConvex side (at_places next S)
 still_convex side S kept place a b next h (inl k) = k.strict.convex
 still_convex side S kept place a b next h (inr k) = subst (λ (z : ℕ). IsConvex side (at_places z S)) (sym k.0) h
@@ -137,7 +142,8 @@ last_of_low S low h p within there above e =
     (Contains-append_right (at_places (low - 2 ^ h) S) (p ∷ []) p (0, omega arith, refl))
 
 -- and the first one after them
-pub first_of_high : (S : List Pair) (high l : ℕ) (p : Pair) → high < 2 ^ length S → 2 ^ l ≤ high → high % 2 ^ (l + 1) ≡ 2 ^ l
+pub first_of_high : (S : List Pair) (high l : ℕ) (p : Pair) → high < 2 ^ length S → 2 ^ l ≤ high
+    → high % 2 ^ (l + 1) ≡ 2 ^ l
     → p ≡ get_or S l p → Contains (at_places high S) p
 first_of_high S high l p within least there e =
     let k = top_before high l (length S) least within in
@@ -145,13 +151,15 @@ first_of_high S high l p within least there e =
     (ap (λ (z : Pair). z ∷ at_places (high - 2 ^ l) S) (read_at S l p k e) ∙ sym (first_at S high l there k))
     (0, omega arith, refl)
 
--- a pass over the vertices before a gap and the points in it that were taken is a front, if the others are inwards of a segment
+-- a pass over the vertices before a gap and the points in it that were taken is a front, if the others are inwards of a
+-- segment
 module _ (side : Side) (T : List Pair) (low high middle front : ℕ) (s : IsPointSet T) (e : AreEnds side T low high)
     (g : IsGap low high (length T) middle)
     (within : (k : ℕ) → low < 2 ^ k → middle < 2 ^ k → front < 2 ^ k) where
   front_by : (taken : List Pair) → IsPassed side (at_places low T ++ taken) (at_places front T)
       → ((t : Pair) → Contains (at_places middle T) t → IsAmid (at_places low T) (at_places high T) t
-      → Contains taken t ⊎ ((a b : Pair) × Contains (at_places low T) a × Contains (at_places high T) b × IsInwards side a b t))
+      → Contains taken t ⊎ ((a b : Pair) × Contains (at_places low T) a × Contains (at_places high T) b
+      × IsInwards side a b t))
       → IsFront side T low high front
   front_by taken passed others =
       let w = gap_within low high (length T) middle g in
@@ -165,7 +173,8 @@ module _ (side : Side) (T : List Pair) (low high middle front : ℕ) (s : IsPoin
       }
 
   -- all of them were taken
-  pub front_all : IsPassed side (at_places low T ++ at_places middle T) (at_places front T) → IsFront side T low high front
+  pub front_all : IsPassed side (at_places low T ++ at_places middle T) (at_places front T)
+      → IsFront side T low high front
   front_all passed = front_by (at_places middle T) passed (λ t m a. inl m)
 
   -- those outwards of a segment between two vertices were taken
@@ -202,7 +211,8 @@ joined_is side T low high front new s e f q within = record {
     C = (at_places low T ++ f.taken) ++ at_places high T
 
     passed : IsPassed side C (at_places new T)
-    passed = passed_through side (at_places low T ++ f.taken) (at_places front T) (at_places high T) (at_places new T) f.passed q
+    passed = passed_through side (at_places low T ++ f.taken) (at_places front T) (at_places high T) (at_places new T)
+        f.passed q
 
     chain : IsChainOf side C (at_places new T)
     chain = chain_of side C (at_places new T)

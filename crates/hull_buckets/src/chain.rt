@@ -86,7 +86,8 @@ pub(crate) fn passed_over(side: Side, points: &[Point], chain: u64, rest: u64) -
     kept
 }
 
-/// Appends the point at an index to the chain, as [`pushed`], if it is outwards of the segment from `a` to `b`; otherwise leaves the chain as it is.
+/// Appends the point at an index to the chain, as [`pushed`], if it is outwards of the segment from `a` to `b`;
+/// otherwise leaves the chain as it is.
 fn pushed_outwards(
     side: Side,
     points: &[Point],
@@ -110,8 +111,8 @@ fn pushed_outwards(
     }
 }
 
-/// Continues a chain as [`passed_over`], but over those of the points only that are outwards of the segment from `a` to `b`: one orientation for each
-/// of the others.
+/// Continues a chain as [`passed_over`], but over those of the points only that are outwards of the segment from `a` to
+/// `b`: one orientation for each of the others.
 pub(crate) fn passed_outwards(
     side: Side,
     points: &[Point],

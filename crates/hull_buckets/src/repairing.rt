@@ -50,8 +50,9 @@ pub(crate) fn with_vertex(side: Side, points: &[Point], old: u64, place: usize) 
     taken_up(side, points, front, high)
 }
 
-/// Returns the chain of the vertices of `low` and the points between them and the vertices of `high`. If there are vertices on both sides, only the
-/// points that are outwards of the segment between the two nearest of them are passed over: the others are no vertices.
+/// Returns the chain of the vertices of `low` and the points between them and the vertices of `high`. If there are
+/// vertices on both sides, only the points that are outwards of the segment between the two nearest of them are passed
+/// over: the others are no vertices.
 fn front_between(side: Side, points: &[Point], low: u64, high: u64) -> u64
     requires few { length points.now ≤ BUCKET_SIZE }
     requires ordered { IsPointSet points.now }
@@ -86,8 +87,8 @@ fn joined(side: Side, points: &[Point], low: u64, high: u64) -> u64
 
 /// Returns the mask of the chain of points after the one at `place` was removed; `old` is that of all of them.
 ///
-/// If the point was no vertex, nothing changes. Otherwise its neighbours stay, and one pass goes over the points between them that are outwards of
-/// their segment.
+/// If the point was no vertex, nothing changes. Otherwise its neighbours stay, and one pass goes over the points
+/// between them that are outwards of their segment.
 pub(crate) fn without_vertex(side: Side, points: &[Point], old: u64, place: usize) -> u64
     requires { WasMaskOf side points.now place old }
     ensures { IsMaskOf side points.now result }

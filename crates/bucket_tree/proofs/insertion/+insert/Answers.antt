@@ -52,7 +52,11 @@ balance-above-requires-clause-behind t c =
     (o.stored side) d)
     (same_edges f _ (ap (λ (g : Fork). g.lower) c.deref_mut.ensures.value)
     (ap (λ (g : Fork). g.upper) c.deref_mut.ensures.value))
-    record { left = c.renew_ends.ensures; right = ap (λ (g : Fork). g.right_ends) c.deref_mut.ensures.value ∙ o.ends.right }
+    record {
+      left = c.renew_ends.ensures;
+      right = ap (λ (g : Fork). g.right_ends) c.deref_mut.ensures.value
+          ∙ o.ends.right;
+    }
 
 pub returns-then-before-clause-gained : goal.returns-then-before-clause-gained
 returns-then-before-clause-gained t c =

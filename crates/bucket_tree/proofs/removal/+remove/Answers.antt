@@ -87,7 +87,11 @@ prepare-above-requires-clause-behind t c =
     (o.stored side) d)
     (same_edges f _ (ap (λ (g : Fork). g.lower) c.deref_mut.ensures.value)
     (ap (λ (g : Fork). g.upper) c.deref_mut.ensures.value))
-    record { left = c.renew_ends.ensures; right = ap (λ (g : Fork). g.right_ends) c.deref_mut.ensures.value ∙ o.ends.right }
+    record {
+      left = c.renew_ends.ensures;
+      right = ap (λ (g : Fork). g.right_ends) c.deref_mut.ensures.value
+          ∙ o.ends.right;
+    }
 
 pub returns-in-Some-clause-lost : goal.returns-in-Some-clause-lost
 returns-in-Some-clause-lost t c =
@@ -147,7 +151,8 @@ returns-in_default-rest-clause-turns t c =
     omega (
       arith,
       c.other_part-in_default-rest.ensures.turns,
-      below_fork (node_height c.args.node) (node_height c.take_apart-left.result.1) c.remove-rest-else-before.result.turns
+      below_fork (node_height c.args.node) (node_height c.take_apart-left.result.1)
+          c.remove-rest-else-before.result.turns
           (omega (arith, c.take_apart-left.ensures.height)) c.remove-rest-else-before.ensures.turns,
     )
 

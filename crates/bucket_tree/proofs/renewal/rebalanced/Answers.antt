@@ -9,6 +9,14 @@ pub returns-then-on_right-on_left-clause-built : goal.returns-then-on_right-on_l
 returns-then-on_right-on_left-clause-built c =
     let l = ap (λ (z : Fork). node_height z.left) c.deref.ensures in
     let r = ap (λ (z : Fork). node_height z.right) c.deref-2.ensures in
-    fork_built _ _ c.requires.renewed
-    (omega (arith, c.if-on_left-on_right.true, c.if-on_right-on_left.true, l, r), omega (arith, c.if-on_left-on_right.true, c.if-on_right-on_left.true, l, r))
+    fork_built _ _ c.requires.renewed (
+      omega (arith, c.if-on_left-on_right.true, c.if-on_right-on_left.true, l, r),
+      omega (
+        arith,
+        c.if-on_left-on_right.true,
+        c.if-on_right-on_left.true,
+        l,
+        r,
+      ),
+    )
     (omega (arith, c.max.ensures, l, r))

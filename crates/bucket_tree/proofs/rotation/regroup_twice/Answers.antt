@@ -6,7 +6,8 @@ use Rattle.bucket_tree.proofs.RotatedNodes.{four_of, twice_left, twice_right}
 use Rattle.bucket_tree.proofs.rotation.regroup_twice.Goals as goal
 
 pub returns-in-Left-clause-left : goal.returns-in-Left-clause-left
-returns-in-Left-clause-left c = (twice_left c.args.side c.args.a.now c.args.b.now c.args.c.now c.args.d.now c.args.split c.args.whole
+returns-in-Left-clause-left c = (twice_left c.args.side c.args.a.now c.args.b.now c.args.c.now c.args.d.now
+    c.args.split c.args.whole
     c.args.low c.args.middle c.regroup-lower.result c.regroup-upper.result
     (four_of c.args.a.now c.args.b.now c.args.c.now c.args.d.now c.args.split c.requires.row c.requires.split)
     (subst (λ z. AreEdgesOfFour z c.args.side (tree_of c.args.a.now) (tree_of c.args.b.now) (tree_of c.args.c.now)
@@ -14,7 +15,8 @@ returns-in-Left-clause-left c = (twice_left c.args.side c.args.a.now c.args.b.no
     c.regroup-lower.ensures.edges c.regroup-upper.ensures.edges).0
 
 pub returns-in-Left-clause-right : goal.returns-in-Left-clause-right
-returns-in-Left-clause-right c = (twice_left c.args.side c.args.a.now c.args.b.now c.args.c.now c.args.d.now c.args.split c.args.whole
+returns-in-Left-clause-right c = (twice_left c.args.side c.args.a.now c.args.b.now c.args.c.now c.args.d.now
+    c.args.split c.args.whole
     c.args.low c.args.middle c.regroup-lower.result c.regroup-upper.result
     (four_of c.args.a.now c.args.b.now c.args.c.now c.args.d.now c.args.split c.requires.row c.requires.split)
     (subst (λ z. AreEdgesOfFour z c.args.side (tree_of c.args.a.now) (tree_of c.args.b.now) (tree_of c.args.c.now)
@@ -22,7 +24,8 @@ returns-in-Left-clause-right c = (twice_left c.args.side c.args.a.now c.args.b.n
     c.regroup-lower.ensures.edges c.regroup-upper.ensures.edges).1
 
 pub returns-in-Left-clause-outer : goal.returns-in-Left-clause-outer
-returns-in-Left-clause-outer c = (twice_left c.args.side c.args.a.now c.args.b.now c.args.c.now c.args.d.now c.args.split c.args.whole
+returns-in-Left-clause-outer c = (twice_left c.args.side c.args.a.now c.args.b.now c.args.c.now c.args.d.now
+    c.args.split c.args.whole
     c.args.low c.args.middle c.regroup-lower.result c.regroup-upper.result
     (four_of c.args.a.now c.args.b.now c.args.c.now c.args.d.now c.args.split c.requires.row c.requires.split)
     (subst (λ z. AreEdgesOfFour z c.args.side (tree_of c.args.a.now) (tree_of c.args.b.now) (tree_of c.args.c.now)
@@ -30,7 +33,8 @@ returns-in-Left-clause-outer c = (twice_left c.args.side c.args.a.now c.args.b.n
     c.regroup-lower.ensures.edges c.regroup-upper.ensures.edges).2
 
 pub returns-in-Right-clause-left : goal.returns-in-Right-clause-left
-returns-in-Right-clause-left c = (twice_right c.args.side c.args.a.now c.args.b.now c.args.c.now c.args.d.now c.args.split c.args.whole
+returns-in-Right-clause-left c = (twice_right c.args.side c.args.a.now c.args.b.now c.args.c.now c.args.d.now
+    c.args.split c.args.whole
     c.args.low c.args.middle c.regroup-lower-in-Right.result c.regroup-upper-in-Right.result
     (four_of c.args.a.now c.args.b.now c.args.c.now c.args.d.now c.args.split c.requires.row c.requires.split)
     (subst (λ z. AreEdgesOfFour z c.args.side (tree_of c.args.a.now) (tree_of c.args.b.now) (tree_of c.args.c.now)
@@ -38,7 +42,8 @@ returns-in-Right-clause-left c = (twice_right c.args.side c.args.a.now c.args.b.
     c.regroup-lower-in-Right.ensures.edges c.regroup-upper-in-Right.ensures.edges).0
 
 pub returns-in-Right-clause-right : goal.returns-in-Right-clause-right
-returns-in-Right-clause-right c = (twice_right c.args.side c.args.a.now c.args.b.now c.args.c.now c.args.d.now c.args.split c.args.whole
+returns-in-Right-clause-right c = (twice_right c.args.side c.args.a.now c.args.b.now c.args.c.now c.args.d.now
+    c.args.split c.args.whole
     c.args.low c.args.middle c.regroup-lower-in-Right.result c.regroup-upper-in-Right.result
     (four_of c.args.a.now c.args.b.now c.args.c.now c.args.d.now c.args.split c.requires.row c.requires.split)
     (subst (λ z. AreEdgesOfFour z c.args.side (tree_of c.args.a.now) (tree_of c.args.b.now) (tree_of c.args.c.now)
@@ -46,7 +51,8 @@ returns-in-Right-clause-right c = (twice_right c.args.side c.args.a.now c.args.b
     c.regroup-lower-in-Right.ensures.edges c.regroup-upper-in-Right.ensures.edges).1
 
 pub returns-in-Right-clause-outer : goal.returns-in-Right-clause-outer
-returns-in-Right-clause-outer c = (twice_right c.args.side c.args.a.now c.args.b.now c.args.c.now c.args.d.now c.args.split c.args.whole
+returns-in-Right-clause-outer c = (twice_right c.args.side c.args.a.now c.args.b.now c.args.c.now c.args.d.now
+    c.args.split c.args.whole
     c.args.low c.args.middle c.regroup-lower-in-Right.result c.regroup-upper-in-Right.result
     (four_of c.args.a.now c.args.b.now c.args.c.now c.args.d.now c.args.split c.requires.row c.requires.split)
     (subst (λ z. AreEdgesOfFour z c.args.side (tree_of c.args.a.now) (tree_of c.args.b.now) (tree_of c.args.c.now)

@@ -39,41 +39,49 @@ fork_over-whole-requires-clause-row c =
     c.take_apart-inner.ensures.points c.fork_over-first.ensures.points)
 
 pub fork_over-first-requires-clause-upper : goal.fork_over-first-requires-clause-upper
-fork_over-first-requires-clause-upper c = (rotated_left Upper c.args.left c.args.right c.take_apart-inner.result.0 c.take_apart-inner.result.1
+fork_over-first-requires-clause-upper c = (rotated_left Upper c.args.left c.args.right c.take_apart-inner.result.0
+    c.take_apart-inner.result.1
     c.take_apart-inner.result.2.value c.args.place.value _ _ _ c.regroup-upper.result c.requires.row
     c.take_apart-inner.ensures.row c.take_apart-inner.ensures.tree (c.take_apart-inner.ensures.stored Upper)
     (ap (λ (z : Fork). z.right_ends.first) c.deref.ensures ∙ c.take_apart-inner.ensures.split) (c.requires.edges Upper)
-    (ap (λ (z : Fork). z.upper) c.deref-then-height_of.ensures) (ap (λ (z : Fork). z.upper) c.deref-then-height_of-2.ensures)
+    (ap (λ (z : Fork). z.upper) c.deref-then-height_of.ensures) (ap (λ (z : Fork). z.upper)
+    c.deref-then-height_of-2.ensures)
     c.regroup-upper.ensures.edges).0
 
 pub fork_over-whole-requires-clause-upper : goal.fork_over-whole-requires-clause-upper
 fork_over-whole-requires-clause-upper c =
     let e = c.regroup-upper.result.outer in
-    subst (λ z. IsBridge Upper (On z) (On (tree_of c.take_apart-inner.result.1)) e.0 e.1) (sym c.fork_over-first.ensures.tree)
+    subst (λ z. IsBridge Upper (On z) (On (tree_of c.take_apart-inner.result.1)) e.0 e.1) (sym
+    c.fork_over-first.ensures.tree)
     (rotated_left Upper c.args.left c.args.right c.take_apart-inner.result.0 c.take_apart-inner.result.1
     c.take_apart-inner.result.2.value c.args.place.value _ _ _ c.regroup-upper.result c.requires.row
     c.take_apart-inner.ensures.row c.take_apart-inner.ensures.tree (c.take_apart-inner.ensures.stored Upper)
     (ap (λ (z : Fork). z.right_ends.first) c.deref.ensures ∙ c.take_apart-inner.ensures.split) (c.requires.edges Upper)
-    (ap (λ (z : Fork). z.upper) c.deref-then-height_of.ensures) (ap (λ (z : Fork). z.upper) c.deref-then-height_of-2.ensures)
+    (ap (λ (z : Fork). z.upper) c.deref-then-height_of.ensures) (ap (λ (z : Fork). z.upper)
+    c.deref-then-height_of-2.ensures)
     c.regroup-upper.ensures.edges).1
 
 pub fork_over-first-requires-clause-lower : goal.fork_over-first-requires-clause-lower
-fork_over-first-requires-clause-lower c = (rotated_left Lower c.args.left c.args.right c.take_apart-inner.result.0 c.take_apart-inner.result.1
+fork_over-first-requires-clause-lower c = (rotated_left Lower c.args.left c.args.right c.take_apart-inner.result.0
+    c.take_apart-inner.result.1
     c.take_apart-inner.result.2.value c.args.place.value _ _ _ c.regroup-lower.result c.requires.row
     c.take_apart-inner.ensures.row c.take_apart-inner.ensures.tree (c.take_apart-inner.ensures.stored Lower)
     (ap (λ (z : Fork). z.right_ends.first) c.deref.ensures ∙ c.take_apart-inner.ensures.split) (c.requires.edges Lower)
-    (ap (λ (z : Fork). z.lower) c.deref-then-height_of-3.ensures) (ap (λ (z : Fork). z.lower) c.deref-then-height_of-4.ensures)
+    (ap (λ (z : Fork). z.lower) c.deref-then-height_of-3.ensures) (ap (λ (z : Fork). z.lower)
+    c.deref-then-height_of-4.ensures)
     c.regroup-lower.ensures.edges).0
 
 pub fork_over-whole-requires-clause-lower : goal.fork_over-whole-requires-clause-lower
 fork_over-whole-requires-clause-lower c =
     let e = c.regroup-lower.result.outer in
-    subst (λ z. IsBridge Lower (On z) (On (tree_of c.take_apart-inner.result.1)) e.0 e.1) (sym c.fork_over-first.ensures.tree)
+    subst (λ z. IsBridge Lower (On z) (On (tree_of c.take_apart-inner.result.1)) e.0 e.1) (sym
+    c.fork_over-first.ensures.tree)
     (rotated_left Lower c.args.left c.args.right c.take_apart-inner.result.0 c.take_apart-inner.result.1
     c.take_apart-inner.result.2.value c.args.place.value _ _ _ c.regroup-lower.result c.requires.row
     c.take_apart-inner.ensures.row c.take_apart-inner.ensures.tree (c.take_apart-inner.ensures.stored Lower)
     (ap (λ (z : Fork). z.right_ends.first) c.deref.ensures ∙ c.take_apart-inner.ensures.split) (c.requires.edges Lower)
-    (ap (λ (z : Fork). z.lower) c.deref-then-height_of-3.ensures) (ap (λ (z : Fork). z.lower) c.deref-then-height_of-4.ensures)
+    (ap (λ (z : Fork). z.lower) c.deref-then-height_of-3.ensures) (ap (λ (z : Fork). z.lower)
+    c.deref-then-height_of-4.ensures)
     c.regroup-lower.ensures.edges).1
 
 pub rotate_twice-requires-clause-row : goal.rotate_twice-requires-clause-row
@@ -88,7 +96,8 @@ rotate_twice-requires-clause-row c =
           c.take_apart-inner.result.1) c.requires.row.in_order to.points) tm.points);
       back = in_row c.take_apart-middle_left.result.1 c.take_apart-inner.result.1 tm.row.right_built to.row.right_built
           (back (points_below c.take_apart-inner.result.0) (points_below c.take_apart-inner.result.1) (points_below
-          c.take_apart-middle_left.result.0) (points_below c.take_apart-middle_left.result.1) to.row.in_order tm.points);
+          c.take_apart-middle_left.result.0) (points_below c.take_apart-middle_left.result.1) to.row.in_order
+          tm.points);
       in_order = subst IsPointSet (four_left _ _ _ _ _ _ to.points tm.points) c.requires.row.in_order;
     }
 
@@ -114,4 +123,5 @@ returns-clause-points c = c.rotate_twice.ensures.points ∙ sym (four_left _ _ _
 
 pub returns-clause-multiplicities : goal.returns-clause-multiplicities
 returns-clause-multiplicities c = c.rotate_twice.ensures.multiplicities
-    ∙ sym (four_left _ _ _ _ _ _ c.take_apart-inner.ensures.multiplicities c.take_apart-middle_left.ensures.multiplicities)
+    ∙ sym (four_left _ _ _ _ _ _ c.take_apart-inner.ensures.multiplicities
+    c.take_apart-middle_left.ensures.multiplicities)
