@@ -5,7 +5,9 @@
 //
 // SHAPE is `square` (random points of a square), `circle` or `parabola` (every point a vertex), `spike` (a parabola, over which one
 // point is added and removed) or `outermost` (a parabola whose points are removed from its ends inward). Each round inserts the
-// points in a random order, and then makes steps of churn: one point is removed, one place is asked, the point is added again. Each
+// points in a random order, and then makes steps of churn: one point is removed, one place is asked, the point is added again.
+// Three shapes are inserted in their own order, and only removed again, from outside: `outwards` and `inwards` (a parabola from its
+// middle to its ends, and from its ends to its middle) and `spiral` (points on a spiral, each outside the hull of those before). Each
 // line shows nanoseconds per change, the least of the rounds, the peers in turns with the library, in processor time of the thread;
 // a ratio above 1 means that the library is the faster one.
 #include <CGAL/Delaunay_triangulation_2.h>
@@ -135,6 +137,9 @@ class VertexArray {
     }
 };
 
+// Whether the points are inserted in their own order and then only removed.
+bool is_in_order(const std::string &shape) { return shape == "outwards" || shape == "inwards" || shape == "spiral"; }
+
 std::vector<Point> points_of(const std::string &shape, size_t count, std::mt19937_64 &random) {
     std::vector<Point> points;
     std::uniform_int_distribution<int64_t> any(-1'000'000'000, 1'000'000'000);
@@ -143,9 +148,18 @@ std::vector<Point> points_of(const std::string &shape, size_t count, std::mt1993
         const double angle = 2 * 3.14159265358979323846 * static_cast<double>(i) / static_cast<double>(count);
         points.push_back(shape == "square"   ? Point{any(random), any(random)}
                          : shape == "circle" ? Point{std::llround(1e9 * std::cos(angle)), std::llround(1e9 * std::sin(angle))}
+                         : shape == "spiral" ? Point{std::llround(1e3 * static_cast<double>(i + 1) * std::cos(2.399963 * static_cast<double>(i))),
+                                                     std::llround(1e3 * static_cast<double>(i + 1) * std::sin(2.399963 * static_cast<double>(i)))}
                                              : Point{x, x * x});
     }
-    std::shuffle(points.begin(), points.end(), random);
+    if (shape == "outwards" || shape == "inwards") {
+        const bool outwards = shape == "outwards";
+        std::sort(points.begin(), points.end(), [outwards](const Point &a, const Point &b) {
+            return a.y != b.y ? (a.y < b.y) == outwards : a.x < b.x;
+        });
+    } else if (!is_in_order(shape)) {
+        std::shuffle(points.begin(), points.end(), random);
+    }
     return points;
 }
 
@@ -160,7 +174,11 @@ struct Churn {
 };
 
 Churn churn_of(const std::string &shape, std::vector<Point> points, size_t steps) {
-    if (shape == "outermost") {
+    if (shape == "spiral") {
+        std::reverse(points.begin(), points.end());
+        return {points, false};
+    }
+    if (shape == "outermost" || is_in_order(shape)) {
         std::sort(points.begin(), points.end(), [](const Point &a, const Point &b) { return std::llabs(a.x) > std::llabs(b.x); });
         return {points, false};
     }
@@ -205,16 +223,16 @@ void print(const char *name, const Times &ours, const Times &peer) {
 
 int main(int argc, char **argv) {
     if (argc != 4) {
-        std::fprintf(stderr, "usage: changes square|circle|parabola|spike|outermost POINTS ROUNDS\n");
+        std::fprintf(stderr, "usage: changes square|circle|parabola|spike|outermost|outwards|inwards|spiral POINTS ROUNDS\n");
         return 2;
     }
     const std::string shape = argv[1];
     const size_t count = std::strtoull(argv[2], nullptr, 10);
     const int rounds = std::atoi(argv[3]);
-    const size_t steps = shape == "outermost" ? count - 8 : std::min<size_t>(20000, count);
+    const size_t steps = shape == "outermost" || is_in_order(shape) ? count - 8 : std::min<size_t>(20000, count);
     // if all vertices are computed again at each change, fewer steps are made
     const size_t few = shape == "square" ? steps : std::min<size_t>(steps, 200);
-    const bool tries_array = shape == "square" || (count <= 10000 && shape != "spike" && shape != "outermost");
+    const bool tries_array = shape == "square" || (count <= 10000 && shape != "spike" && shape != "outermost" && !is_in_order(shape));
     std::mt19937_64 random(12345);
     const std::vector<Point> points = points_of(shape, count, random);
     const Churn churn = churn_of(shape, points, steps);

@@ -20,7 +20,7 @@ for points in 1000 100000 1000000; do
     "$room/changes" square "$points" "${1:-3}"
 done
 for points in 1000 10000; do
-    for shape in parabola circle spike outermost; do
+    for shape in parabola circle spike outermost outwards inwards spiral; do
         "$room/changes" "$shape" "$points" "${1:-3}"
     done
 done

@@ -1,5 +1,5 @@
 -- A point that was added to one of two halves: a bridge of which it is not clear ends at it, and the other end is searched alone.
-use Rattle.std.proofs.Common.{◌≡◌, ◌∙◌, Bool, true, false, cond, refl, sym, subst, inl, inr}
+use Rattle.std.proofs.Common.{◌≡◌, ◌∙◌, Bool, true, false, cond, refl, sym, ap, subst, inl, inr}
 use Rattle.std.specs.Prelude.{not, pos, ◌≤ℤ◌, ◌<ℤ◌}
 use Rattle.std.specs.List.{Contains}
 use Rattle.lattice.specs.Bridges.{IsAllBefore, IsBridge, IsInner, IsNotBeyond}
@@ -21,8 +21,9 @@ use Rattle.hull_geometry.proofs.SetLaws.{with_point_law, without_point_law}
 use Rattle.hull_geometry.proofs.Touching.{straight}
 use Rattle.bucket_tree.specs.Changes.{AreInnerTo, IsBridgeBetween, IsClearOf, IsEndOf, IsEndUnlessClear, IsSameBut, change_of, edge_on}
 use Rattle.bucket_tree.specs.Counts.{Alters, Comes}
-use Rattle.bucket_tree.specs.Nodes.{tree_of, points_below, AreInRow, IsWellBuilt}
+use Rattle.bucket_tree.specs.Nodes.{tree_of, points_below, ends_in, AreInRow, IsWellBuilt}
 use Rattle.bucket_tree.specs.OtherEnds.{IsAfterPoint, IsBeforePoint, IsEndFrom, IsEndTo, IsEndFromWithin, IsEndToWithin}
+use Rattle.bucket_tree.specs.declared.node.Ends.{Ends}
 use Rattle.bucket_tree.specs.declared.node.Fork.{Fork}
 use Rattle.bucket_tree.specs.declared.node.Node.{Node}
 use Rattle.bucket_tree.specs.declared.renewal.Change.{Change}
@@ -59,7 +60,7 @@ beyond_not_clear side e p h n c = elim (before_total e.0 p) [
 -- ---- the other end
 
 -- two sets have one bridge on a side
-unique : (side : Side) (l r : Pair → Type 0) (p q a b : Pair) → IsAllBefore l r → IsBridge side l r p q
+pub unique : (side : Side) (l r : Pair → Type 0) (p q a b : Pair) → IsAllBefore l r → IsBridge side l r p q
     → IsBridge side l r a b → (p ≡ a) × (q ≡ b)
 unique Lower l r p q a b o h k = one_lower_bridge l r p q a b o h k
 unique Upper l r p q a b o h k = one_bridge l r p q a b o h k
@@ -167,9 +168,12 @@ not_after_last n q last w e i b =
     ]
 
 -- so each is within both
-pub in_bounds : (n : Node) (q first last : Pair) → IsWellBuilt n → first ≡ first_of (points_below n)
-    → last ≡ last_of (points_below n) → On (tree_of n) q → IsNotBeyond first last q
-in_bounds n q first last w d e i = (not_before_first n q first w d i, not_after_last n q last w e i)
+pub in_bounds : (n : Node) (q : Pair) (e : Ends) → IsWellBuilt n → e ≡ ends_in (points_below n) → On (tree_of n) q
+    → IsNotBeyond e.first e.last q
+in_bounds n q e w is i = (
+  not_before_first n q e.first w (ap (λ (z : Ends). z.first) is) i,
+  not_after_last n q e.last w (ap (λ (z : Ends). z.last) is) i,
+)
 
 -- the end among the vertices of a node is not after its last point
 pub within_from : (side : Side) (p : Pair) (n : Node) (first last : Pair) → IsWellBuilt n → last ≡ last_of (points_below n)

@@ -11,23 +11,24 @@ use Rattle.lattice.specs.Covers.{with_point, without_point}
 use Rattle.lattice.specs.Plane.{Pair}
 use Rattle.lattice.specs.declared.side.Side.{Side}
 use Rattle.lattice.specs.declared.side.Side.TheVariants.{Lower, Upper}
-use Rattle.hull_geometry.specs.Positions.{first_of, last_of}
 use Rattle.hull_buckets.specs.Buckets.{BucketValue, IsBucket}
 use Rattle.hull_set.specs.Held.{once}
-use Rattle.bucket_tree.specs.Changes.{HasEdgesAfter, IsBridgeBetween, IsUnaffectedOver, IsAfter}
+use Rattle.bucket_tree.specs.Changes.{HasEdgesAfter, HasEnds, IsBridgeBetween, IsUnaffectedOver, IsAfter}
 use Rattle.bucket_tree.specs.Changes.{IsEndUnlessClear, IsRenewed, IsSameBut, change_of, edge_on}
 use Rattle.bucket_tree.specs.Counts.{counted, multiplicity_at, Alters, Kind, Comes, Goes}
 use Rattle.bucket_tree.specs.InPlace.{AreFewFor, HasChanged, HasChangedIn, IsAfterPart, IsInPlace, IsRenewedAfter}
 use Rattle.bucket_tree.specs.InPlace.{IsToRenew, IsUnsearched}
-use Rattle.bucket_tree.specs.Nodes.{points_below, multiplicities_below, node_height, AreNear, AreInRow, IsWellBuilt}
+use Rattle.bucket_tree.specs.Nodes.{points_below, ends_in, multiplicities_below, node_height, AreNear, AreInRow}
+use Rattle.bucket_tree.specs.Nodes.{IsWellBuilt}
 use Rattle.bucket_tree.specs.declared.renewal.Change.{Change}
 use Rattle.bucket_tree.specs.declared.renewal.Changed.{Changed}
+use Rattle.bucket_tree.specs.declared.node.Ends.{Ends}
 use Rattle.bucket_tree.specs.declared.node.Fork.{Fork as Below}
 use Rattle.bucket_tree.specs.declared.node.Node.{Node, Leaf, Fork}
 use Rattle.bucket_tree.specs.declared.renewal.Affected.{Affected}
 use Rattle.bucket_tree.proofs.Added.{ends_at, lost_at}
 use Rattle.bucket_tree.proofs.BuiltLeaves.{leaf_built}
-use Rattle.bucket_tree.proofs.Kept.{DiffersAt, behind_as, unaffected_within, edges_as, first_kept, last_kept, same_edges}
+use Rattle.bucket_tree.proofs.Kept.{DiffersAt, behind_as, unaffected_within, edges_as, ends_kept, same_edges}
 use Rattle.bucket_tree.proofs.Kept.{stored}
 use Rattle.bucket_tree.proofs.Parts.{BelongsTo, HasSpaceFor, IsAt, alters_with, at, unaffected_with, differs, few_with}
 use Rattle.bucket_tree.proofs.Parts.{row_with}
@@ -47,8 +48,7 @@ pub record IsApart (n : Node) (h : ℕ) (f : Below) : Type 0 where
   pub multiplicities : multiplicities_below n ≡ multiplicities_below f.left ++ multiplicities_below f.right
   pub height : node_height n ≡ max (node_height f.left) (node_height f.right) + 1
   pub label : h ≡ max (node_height f.left) (node_height f.right) + 1
-  pub first : f.right_first ≡ first_of (points_below f.right)
-  pub last : f.last_left ≡ last_of (points_below f.left)
+  pub ends : HasEnds f.left f.right f
   pub edges : (side : Side) → IsBridgeBetween side f.left f.right (edge_on side f)
 
 pub apart : (n : Node) (h : ℕ) (f : Box Below _) → n ≡ Fork h f → IsWellBuilt n → IsApart n h f.value
@@ -62,8 +62,7 @@ apart n h f e w =
       multiplicities = ap multiplicities_below e;
       height = ap node_height e;
       label = b.labelled.2;
-      first = b.labelled.1;
-      last = b.labelled.0;
+      ends = record { left = b.labelled.0; right = b.labelled.1 };
       edges = stored n h f e w;
     }
 
@@ -71,7 +70,19 @@ apart n h f e w =
 pub fork_built : (h : ℕ) (f : Box Below _) → IsRenewed f.value
     → AreNear (node_height f.value.left) (node_height f.value.right)
     → h ≡ max (node_height f.value.left) (node_height f.value.right) + 1 → IsWellBuilt (Fork h f)
-fork_built h f r near e = grind (arith, common_steps, vertices_in_row)
+fork_built h f r near e = record {
+  ordered = r.row.in_order;
+  bridged = (
+    vertices_in_row f.value.left f.value.right r.row,
+    r.upper,
+    r.lower,
+    r.row.left_built.bridged,
+    r.row.right_built.bridged,
+  );
+  balanced = (near, r.row.left_built.balanced, r.row.right_built.balanced);
+  labelled = (r.ends.left, r.ends.right, e, r.row.left_built.labelled, r.row.right_built.labelled);
+  buckets = (r.row.left_built.buckets, r.row.right_built.buckets);
+}
 
 -- it is as high as before, if its parts are
 pub built_again : (n : Node) (h : ℕ) (f : Below) (b : Box Below _) → IsApart n h f → IsRenewed b.value
@@ -84,15 +95,22 @@ pub lower_moved : (f g : Below) → IsSameBut Upper f g → IsBridgeBetween Lowe
     → IsBridgeBetween Lower g.left g.right g.lower
 lower_moved f g s b = grind (arith, common_steps)
 
+-- and it stores the same ends
+pub ends_moved : (side : Side) (f g : Below) → IsSameBut side f g → HasEnds f.left f.right f → HasEnds g.left g.right g
+ends_moved side f g s h = record {
+  left = s.left_ends ∙ h.left ∙ ap (λ z. ends_in (points_below z)) (sym s.left);
+  right = s.right_ends ∙ h.right ∙ ap (λ z. ends_in (points_below z)) (sym s.right);
+}
+
 -- ---- one subtree: the left one if the word is true, otherwise the right one
 
 -- the fork with another one in its place
 abbrev pub with_part : Bool → Below → Node → Below
 with_part left f k = record {
-  right_first = f.right_first;
+  right_ends = f.right_ends;
   left = cond left k f.left;
   right = cond left f.right k;
-  last_left = f.last_left;
+  left_ends = f.left_ends;
   upper = f.upper;
   lower = f.lower;
 }
@@ -104,13 +122,13 @@ pub record IsForkAt (left : Bool) (p : Pair) (n : Node) (h : ℕ) (f : Below) : 
 
 -- by the fork as it is read at two indices
 pub fork_at : (left : Bool) (p : Pair) (n : Node) (h : ℕ) (b : Box Below _) (f g : Below) → n ≡ Fork h b → f ≡ b.value
-    → g ≡ b.value → IsWellBuilt n → BelongsTo left p g.right_first → IsForkAt left p n h f
+    → g ≡ b.value → IsWellBuilt n → BelongsTo left p g.right_ends.first → IsForkAt left p n h f
 fork_at left p n h b f g e v w built here =
     let a = subst (IsApart n h) (sym v) (apart n h b e built) in
     record {
       apart = a;
-      at = at left p n f.left f.right g.right_first a.row a.points a.multiplicities
-          (ap (λ (z : Below). z.right_first) (w ∙ sym v) ∙ a.first) here;
+      at = at left p n f.left f.right g.right_ends.first a.row a.points a.multiplicities
+          (ap (λ (z : Below). z.right_ends.first) (w ∙ sym v) ∙ ap (λ (z : Ends). z.first) a.ends.right) here;
     }
 
 -- the multiplicity of p in the fork is that in the subtree
@@ -182,7 +200,11 @@ pub over_parts : (p : Pair) (sides : Affected) (l r : Node) (f : Below) → IsAf
     → IsAfter p sides l r (with_part false (with_part true f l) r)
 over_parts p sides l r f h =
     let g = with_part false (with_part true f l) r in
-    behind_as p sides l r f g h.unaffected h.clear (same_edges f g refl refl) h.last h.first
+    behind_as p sides l r f g h.unaffected h.clear (same_edges f g refl refl) record {
+      left = h.ends.left;
+      right =
+          h.ends.right;
+    }
 
 -- a point that is an end of the bridge over two subtrees, unless it is clear of a fork's edge, is so with these in the fork
 pub end_over_parts : (change : Change) (p : Pair) (l r : Node) (f : Below)
@@ -234,14 +256,14 @@ behind_with : (left put : Bool) (p : Pair) (n : Node) (h : ℕ) (f : Below) (k :
 behind_with true put p n h f k sides a w row h' d c = record {
   row = row;
   edges = edges_with true put p f k sides a.row a.edges h' d c;
-  first = a.first;
-  kept = last_kept p f.left k f.last_left a.row.left_built w d a.last;
+  right = a.ends.right;
+  kept = ends_kept p f.left k f.left_ends a.row.left_built w d a.ends.left;
 }
 behind_with false put p n h f k sides a w row h' d c = record {
   row = row;
   edges = edges_with false put p f k sides a.row a.edges h' d c;
-  last = a.last;
-  kept = first_kept p f.right k f.right_first a.row.right_built w d a.first;
+  left = a.ends.left;
+  kept = ends_kept p f.right k f.right_ends a.row.right_built w d a.ends.right;
 }
 
 -- a fork whose part changed is to be renewed

@@ -1,5 +1,5 @@
 -- Bridges that stay valid when their sets change at one point.
-use Rattle.std.proofs.Common.{◌≡◌, ◌∙◌, ◌⊎◌, ℕ, ◌<◌, false, Bool, refl, sym, subst, inl, inr, List, ◌++◌, length}
+use Rattle.std.proofs.Common.{◌≡◌, ◌∙◌, ◌⊎◌, ℕ, ◌<◌, false, Bool, refl, sym, ap, subst, inl, inr, List, ◌++◌, length}
 use Rattle.std.proofs.Common.{Box}
 use Rattle.std.specs.List.{Contains}
 use Rattle.std.proofs.lemmas.List.Elements.{Contains-append_left, Contains-append_right}
@@ -24,8 +24,10 @@ use Rattle.hull_geometry.proofs.Fringed.{of_candidate_lists}
 use Rattle.lattice.specs.declared.side.Side.TheVariants.{Lower, Upper}
 use Rattle.bucket_tree.proofs.NodeCandidateLists.{node_candidates}
 use Rattle.bucket_tree.proofs.NodePoints.{some_below}
-use Rattle.bucket_tree.specs.Changes.{IsClearOf, IsBridgeBetween, IsAfter, IsUnaffectedOver, ClosesBy, is_affected, edge_on}
-use Rattle.bucket_tree.specs.Nodes.{tree_of, points_below, AreInRow, IsWellBuilt}
+use Rattle.bucket_tree.specs.Changes.{AreKept, HasEnds, IsClearOf, IsBridgeBetween, IsAfter, IsUnaffectedOver, ClosesBy}
+use Rattle.bucket_tree.specs.Changes.{is_affected, edge_on}
+use Rattle.bucket_tree.specs.Nodes.{tree_of, points_below, ends_in, AreInRow, IsWellBuilt}
+use Rattle.bucket_tree.specs.declared.node.Ends.{Ends}
 use Rattle.bucket_tree.specs.declared.node.Fork.{Fork}
 use Rattle.bucket_tree.specs.declared.node.Node.{Node}
 use Rattle.bucket_tree.specs.declared.node.Node as node
@@ -163,11 +165,10 @@ edges_as p sides l r f g unaffected clear same = (
 pub behind_as : (p : Pair) (sides : Affected) (l r : Node) (f g : Fork)
     → ((side : Side) → is_affected side sides ≡ false → IsBridgeBetween side l r (edge_on side f))
     → ((side : Side) → IsClearOf side (edge_on side f) p → IsBridgeBetween side l r (edge_on side f))
-    → ((side : Side) → edge_on side g ≡ edge_on side f) → g.last_left ≡ last_of (points_below l)
-    → g.right_first ≡ first_of (points_below r) → IsAfter p sides l r g
-behind_as p sides l r f g unaffected clear same last first =
+    → ((side : Side) → edge_on side g ≡ edge_on side f) → HasEnds l r g → IsAfter p sides l r g
+behind_as p sides l r f g unaffected clear same ends =
     let e = edges_as p sides l r f g unaffected clear same in
-    record { last = last; first = first; unaffected = e.0; clear = e.1 }
+    record { ends = ends; unaffected = e.0; clear = e.1 }
 
 -- ---- sides
 
@@ -297,15 +298,18 @@ first_stays p S T s t l m d b =
       ])
     ]
 
--- so a part that changed keeps the point at the split
-pub last_kept : (p : Pair) (n m : Node) (x : Pair) → IsWellBuilt n → IsWellBuilt m
-    → DiffersAt p (points_below n) (points_below m) → x ≡ last_of (points_below n) → IsBefore p x
-    → x ≡ last_of (points_below m)
-last_kept p n m x v w d e b = e ∙ last_stays p (points_below n) (points_below m) v.ordered w.ordered
-    (some_below n v.buckets) (some_below m w.buckets) d (subst (IsBefore p) e b)
+-- so a part that changed keeps each end that p is on the inner side of
+pub ends_kept : (p : Pair) (n m : Node) (e : Ends) → IsWellBuilt n → IsWellBuilt m
+    → DiffersAt p (points_below n) (points_below m) → e ≡ ends_in (points_below n) → AreKept p e (points_below m)
+ends_kept p n m e v w d is = (
+  λ b. first ∙ first_stays p (points_below n) (points_below m) v.ordered w.ordered (some_below n v.buckets)
+      (some_below m w.buckets) d (subst (λ z. IsBefore z p) first b),
+  λ b. last ∙ last_stays p (points_below n) (points_below m) v.ordered w.ordered (some_below n v.buckets)
+      (some_below m w.buckets) d (subst (IsBefore p) last b),
+)
+  where
+    first : e.first ≡ first_of (points_below n)
+    first = ap (λ (z : Ends). z.first) is
 
-pub first_kept : (p : Pair) (n m : Node) (x : Pair) → IsWellBuilt n → IsWellBuilt m
-    → DiffersAt p (points_below n) (points_below m) → x ≡ first_of (points_below n) → IsBefore x p
-    → x ≡ first_of (points_below m)
-first_kept p n m x v w d e b = e ∙ first_stays p (points_below n) (points_below m) v.ordered w.ordered
-    (some_below n v.buckets) (some_below m w.buckets) d (subst (λ z. IsBefore z p) e b)
+    last : e.last ≡ last_of (points_below n)
+    last = ap (λ (z : Ends). z.last) is

@@ -22,3 +22,5 @@ pub mod OtherEnds
 pub mod SomeBridge
 pub mod EdgeEnds
 pub mod Added
+pub mod Rotated
+pub mod RotatedNodes

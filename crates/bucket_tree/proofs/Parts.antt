@@ -17,6 +17,7 @@ use Rattle.leaf_trees.proofs.Rows.{with_left, with_right, with_length, without_l
 use Rattle.bucket_tree.specs.Changes.{IsBridgeBetween, IsClearOf, IsUnaffectedOver, edge_on, is_affected}
 use Rattle.bucket_tree.specs.Counts.{multiplicity_at, Alters, HasLost, IsCounted, Kind, Comes, Goes, altered}
 use Rattle.bucket_tree.specs.Nodes.{points_below, multiplicities_below, node_height, AreInRow, IsWellBuilt}
+use Rattle.bucket_tree.specs.declared.node.Ends.{Ends}
 use Rattle.bucket_tree.specs.declared.node.Fork.{Fork as Below}
 use Rattle.bucket_tree.specs.declared.node.Node.{Node, Fork}
 use Rattle.bucket_tree.specs.declared.renewal.Affected.{Affected}
@@ -188,10 +189,11 @@ lost_with_none false p n l r i h high = (
 
 -- a fork has a point in the half in which it is
 pub count_in : (left : Bool) (n : Node) (h : ℕ) (f : Box Below _) (p : Pair) → n ≡ Fork h f → IsWellBuilt n
-    → BelongsTo left p f.value.right_first → multiplicity_at n p ≡ multiplicity_at (cond left f.value.left f.value.right) p
+    → BelongsTo left p f.value.right_ends.first → multiplicity_at n p ≡ multiplicity_at (cond left f.value.left
+    f.value.right) p
 count_in left n h f p e w b = same_at left p n f.value.left f.value.right
-    (at left p n f.value.left f.value.right f.value.right_first (halves_row n h f e w) (ap points_below e)
-    (ap multiplicities_below e) (subst IsWellBuilt e w).labelled.1 b)
+    (at left p n f.value.left f.value.right f.value.right_ends.first (halves_row n h f e w) (ap points_below e)
+    (ap multiplicities_below e) (ap (λ (z : Ends). z.first) (subst IsWellBuilt e w).labelled.1) b)
 
 -- ---- bridges
 

@@ -12,7 +12,7 @@ use Rattle.lattice.specs.Plane.{Pair}
 use Rattle.lattice.specs.declared.side.Side.{Side}
 use Rattle.lattice.specs.declared.side.Side.TheVariants.{Lower, Upper}
 use Rattle.bridge_search.specs.Trees.{IsBridged, Leaf as LeafTree, Fork as ForkTree}
-use Rattle.hull_geometry.specs.Positions.{IsPositionOf, origin, point_at, first_of, last_of}
+use Rattle.hull_geometry.specs.Positions.{IsPositionOf, origin, point_at}
 use Rattle.hull_buckets.specs.Buckets.{BucketValue, mask_on}
 use Rattle.hull_buckets.specs.Slices.{width_of, left_slice, right_slice, end_of_slice, start_of_slice}
 use Rattle.hull_buckets.specs.Slices.{tree_by, tree_to, tree_of_slice, all_of}
@@ -21,7 +21,7 @@ use Rattle.bucket_tree.specs.Counts.{counted, multiplicity_at, IsSameButMultipli
 use Rattle.leaf_trees.specs.Entries.{several}
 use Rattle.bucket_tree.specs.declared.node.Fork.{Fork as Below}
 use Rattle.bucket_tree.specs.declared.node.Node.{Node, Leaf, Fork}
-use Rattle.bucket_tree.specs.Nodes.{tree_of, tree_of_bucket, points_below, multiplicities_below, node_height}
+use Rattle.bucket_tree.specs.Nodes.{tree_of, tree_of_bucket, points_below, multiplicities_below, node_height, ends_in}
 use Rattle.bucket_tree.specs.Nodes.{AreInRow, IsWellBuilt}
 use Rattle.bucket_tree.proofs.BuiltLeaves.{leaf_built}
 use Rattle.bucket_tree.proofs.Gained.{held_row}
@@ -124,8 +124,8 @@ fork_like n h f l r e w u v =
           v.built.balanced,
         );
         labelled = (
-          g.labelled.0 ∙ ap last_of (sym u.points),
-          g.labelled.1 ∙ ap first_of (sym v.points),
+          g.labelled.0 ∙ ap ends_in (sym u.points),
+          g.labelled.1 ∙ ap ends_in (sym v.points),
           omega (arith, g.labelled.2, u.height, v.height),
           u.built.labelled,
           v.built.labelled,
@@ -147,7 +147,7 @@ fork_like n h f l r e w u v =
 
 -- a point of one half, of a fork that is read through a reference
 pub recounted_in : (left : Bool) (multiplicity : ℕ) (p : Pair) (n : Node) (h : ℕ) (f : Box Below _) (v : Below) (k : Node)
-    → v ≡ f.value → n ≡ Fork h f → IsWellBuilt n → BelongsTo left p f.value.right_first
+    → v ≡ f.value → n ≡ Fork h f → IsWellBuilt n → BelongsTo left p f.value.right_ends.first
     → IsRecounted multiplicity p (cond left v.left v.right) k
     → IsRecounted multiplicity p n (Fork h (with_value f (with_part left v k)))
 recounted_in left multiplicity p n h f v k u e w b r =

@@ -10,6 +10,7 @@ use Rattle.bridge_search.specs.Trees.{On}
 use Rattle.hull_buckets.specs.Buckets.{IsCovered}
 use Rattle.hull_geometry.specs.Monotone.{IsInwards}
 use Rattle.hull_geometry.specs.Positions.{first_of, last_of}
+use Rattle.bucket_tree.specs.declared.node.Ends.{Ends}
 use Rattle.bucket_tree.specs.declared.node.Fork.{Fork}
 use Rattle.bucket_tree.specs.declared.node.Node.{Node}
 use Rattle.bucket_tree.specs.declared.renewal.Affected.{Affected}
@@ -17,7 +18,7 @@ use Rattle.bucket_tree.specs.declared.renewal.Change.{Change}
 use Rattle.bucket_tree.specs.declared.renewal.Change.TheVariants.{AddedLeft, AddedRight, OtherLeft, OtherRight}
 use Rattle.bucket_tree.specs.declared.renewal.EdgePosition.{EdgePosition}
 use Rattle.bucket_tree.specs.declared.renewal.EdgePosition.TheVariants.{Covered, Clear, Touching}
-use Rattle.bucket_tree.specs.Nodes.{tree_of, points_below, AreInRow}
+use Rattle.bucket_tree.specs.Nodes.{tree_of, points_below, ends_in, AreInRow}
 
 -- whether a chain is affected: whether the change may matter on that side to the forks above
 abbrev pub is_affected : Side → Affected → Bool
@@ -75,11 +76,19 @@ IsEndOf OtherRight side p l r old = Contains (points_below l) old.0 × AreInnerT
 abbrev pub IsEndUnlessClear : Change → Side → Pair → Node → Node → Pair × Pair → Type 0
 IsEndUnlessClear change side p l r old = ¬ IsClearOf side old p → IsEndOf change side p l r old
 
--- a stale fork: a fork over two subtrees, of which one changed at p since its edges were stored. It stores the points at the split; an edge is still
--- the bridge if its chain is unaffected or if p is clear of it
+-- a fork stores the ends of two subtrees
+pub record HasEnds (l r : Node) (f : Fork) : Type 0 where
+  pub left : f.left_ends ≡ ends_in (points_below l)
+  pub right : f.right_ends ≡ ends_in (points_below r)
+
+-- ends that were those of a list before it changed at p: each is still an end if p is on the inner side of it
+abbrev pub AreKept : Pair → Ends → List Pair → Type 0
+AreKept p e S = (IsBefore e.first p → e.first ≡ first_of S) × (IsBefore p e.last → e.last ≡ last_of S)
+
+-- a stale fork: a fork over two subtrees, of which one changed at p since its edges were stored. It stores their ends;
+-- an edge is still the bridge if its chain is unaffected or if p is clear of it
 pub record IsAfter (p : Pair) (sides : Affected) (l r : Node) (f : Fork) : Type 0 where
-  pub last : f.last_left ≡ last_of (points_below l)
-  pub first : f.right_first ≡ first_of (points_below r)
+  pub ends : HasEnds l r f
   pub unaffected : (side : Side) → is_affected side sides ≡ false → IsBridgeBetween side l r (edge_on side f)
   pub clear : (side : Side) → IsClearOf side (edge_on side f) p → IsBridgeBetween side l r (edge_on side f)
 
@@ -93,27 +102,26 @@ pub record HasEdgesAfter (p : Pair) (sides : Affected) (f : Fork) : Type 0 where
   pub unaffected : (side : Side) → is_affected side sides ≡ false → IsBridgeBetween side f.left f.right (edge_on side f)
   pub clear : (side : Side) → IsClearOf side (edge_on side f) p → IsBridgeBetween side f.left f.right (edge_on side f)
 
--- a fork whose left subtree changed at p since its edges and the last point there were stored
+-- a fork whose left subtree changed at p since its edges and the ends there were stored
 pub record IsAfterLeft (p : Pair) (sides : Affected) (f : Fork) : Type 0 where
   pub row : AreInRow f.left f.right
   pub edges : HasEdgesAfter p sides f
-  pub first : f.right_first ≡ first_of (points_below f.right)
-  pub kept : IsBefore p f.last_left → f.last_left ≡ last_of (points_below f.left)
+  pub right : f.right_ends ≡ ends_in (points_below f.right)
+  pub kept : AreKept p f.left_ends (points_below f.left)
 
 -- a fork whose right subtree changed in the same way
 pub record IsAfterRight (p : Pair) (sides : Affected) (f : Fork) : Type 0 where
   pub row : AreInRow f.left f.right
   pub edges : HasEdgesAfter p sides f
-  pub last : f.last_left ≡ last_of (points_below f.left)
-  pub kept : IsBefore f.right_first p → f.right_first ≡ first_of (points_below f.right)
+  pub left : f.left_ends ≡ ends_in (points_below f.left)
+  pub kept : AreKept p f.right_ends (points_below f.right)
 
--- a fork whose edges are the bridges of the vertices of its two subtrees, and which stores the points at the split
+-- a fork whose edges are the bridges of the vertices of its two subtrees, and which stores their ends
 pub record IsRenewed (f : Fork) : Type 0 where
   pub row : AreInRow f.left f.right
   pub upper : IsBridge Upper (On (tree_of f.left)) (On (tree_of f.right)) f.upper.0 f.upper.1
   pub lower : IsBridge Lower (On (tree_of f.left)) (On (tree_of f.right)) f.lower.0 f.lower.1
-  pub last : f.last_left ≡ last_of (points_below f.left)
-  pub first : f.right_first ≡ first_of (points_below f.right)
+  pub ends : HasEnds f.left f.right f
 
 -- the other side
 abbrev pub opposite : Side → Side
@@ -124,6 +132,6 @@ opposite Upper = Lower
 pub record IsSameBut (side : Side) (f g : Fork) : Type 0 where
   pub left : g.left ≡ f.left
   pub right : g.right ≡ f.right
-  pub last : g.last_left ≡ f.last_left
-  pub first : g.right_first ≡ f.right_first
+  pub left_ends : g.left_ends ≡ f.left_ends
+  pub right_ends : g.right_ends ≡ f.right_ends
   pub other : edge_on (opposite side) g ≡ edge_on (opposite side) f

@@ -81,7 +81,7 @@ pub record IsToRenew (left : Bool) (change : Change) (p : Pair) (below : Changed
   pub end : (side : Side) → IsEndUnlessClear change side p f.left f.right (edge_on side f)
   pub few : length (points_below f.left ++ points_below f.right) ≤ POINT_LIMIT
   pub low : max (node_height f.left) (node_height f.right) ≤ 28
-  pub turns : below.turns ≤ 6912
+  pub turns : below.turns ≤ 9208
 
 -- it became g, with its subtrees in their places; its searches are added to those below
 pub record IsRenewedAfter (p : Pair) (below : Changed) (f g : Fork) (above : Changed) : Type 0 where

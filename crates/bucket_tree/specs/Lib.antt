@@ -11,3 +11,4 @@ pub mod Sets
 pub mod Changes
 pub mod InPlace
 pub mod OtherEnds
+pub mod Rotations

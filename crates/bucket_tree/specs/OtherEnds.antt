@@ -1,10 +1,17 @@
 -- Bridges between one point and a half: one end is known, and the other is searched.
-use Rattle.std.specs.Prelude.{◌≡◌, ◌⊎◌, ℕ, ◌+◌, ◌≤◌, None}
+use Rattle.std.specs.Prelude.{◌≡◌, ◌⊎◌, ℕ, ◌+◌, ◌≤◌, None, pos, ◌≤ℤ◌, ◌<ℤ◌}
 use Rattle.lattice.specs.Bridges.{IsAllBefore, IsBridge, IsNotBeyond}
-use Rattle.lattice.specs.Plane.{Pair}
+use Rattle.lattice.specs.Plane.{Pair, orient}
 use Rattle.lattice.specs.declared.side.Side.{Side}
 use Rattle.lattice.specs.declared.side.Side.TheVariants.{Upper}
 use Rattle.bridge_search.specs.Trees.{Tree, Leaf, On, edge_of, height_of}
+use Rattle.bucket_tree.specs.declared.other_end.BridgeEnd.{BridgeEnd}
+use Rattle.bucket_tree.specs.declared.other_end.BridgeEnd.TheVariants.{Start, End}
+
+-- the other end of a bridge
+abbrev pub opposite : BridgeEnd → BridgeEnd
+opposite Start = End
+opposite End = Start
 
 -- all of the half is after the point
 abbrev pub IsAfterPoint : Pair → Tree → Type 0
@@ -30,20 +37,33 @@ IsEndFromWithin side p w first last = (q : Pair) → IsEndFrom side p w q → Is
 abbrev pub IsEndToWithin : Side → Tree → Pair → Pair → Pair → Type 0
 IsEndToWithin side u p first last = (q : Pair) → IsEndTo side u p q → IsNotBeyond first last q
 
+-- the half in which an end is searched is on that side of the point: before it for the start, after it for the end
+abbrev pub IsBeside : BridgeEnd → Pair → Tree → Type 0
+IsBeside Start p v = IsBeforePoint v p
+IsBeside End p v = IsAfterPoint p v
+
+-- the bridge, on a side, between the half and the point has this end at q
+abbrev pub IsEndAt : BridgeEnd → Side → Pair → Tree → Pair → Type 0
+IsEndAt Start side p v q = IsEndTo side v p q
+IsEndAt End side p v q = IsEndFrom side p v q
+
+-- this end is neither before a point of the order nor after another one
+abbrev pub IsEndWithin : BridgeEnd → Side → Pair → Tree → Pair → Pair → Type 0
+IsEndWithin end side p v first last = (q : Pair) → IsEndAt end side p v q → IsNotBeyond first last q
+
+-- the end of the upper bridge is in the right one of the halves with this edge: the edge's line goes under the point
+-- before it, or its start lies on or under the line from the point after it to its end
+abbrev pub IsToTheRight : BridgeEnd → Pair → Pair × Pair → Type 0
+IsToTheRight Start p e = orient e.0 e.1 p <ℤ pos 0
+IsToTheRight End p e = pos 0 ≤ℤ orient p e.0 e.1
+
 -- a search is done if its bounds meet or its half is one point
 abbrev pub IsFound : Tree → Pair → Pair → Type 0
 IsFound v first last = (first ≡ last) ⊎ (edge_of v ≡ None)
 
--- n turns lead from the half w to v, which has the end of the upper bridge from the point, within these bounds
-pub record IsRangeFrom (p : Pair) (w v : Tree) (first last : Pair) (n : ℕ) : Type 0 where
-  pub after : IsAfterPoint p v
-  pub lifts : (q : Pair) → IsEndFrom Upper p v q → IsEndFrom Upper p w q
-  pub within : IsEndFromWithin Upper p v first last
+-- n turns lead from the half w to v, which has the end of the upper bridge, within these bounds
+pub record IsRange (end : BridgeEnd) (p : Pair) (w v : Tree) (first last : Pair) (n : ℕ) : Type 0 where
+  pub beside : IsBeside end p v
+  pub lifts : (q : Pair) → IsEndAt end Upper p v q → IsEndAt end Upper p w q
+  pub within : IsEndWithin end Upper p v first last
   pub lower : height_of v + n ≤ height_of w
-
--- n turns lead from the half u to v, which has the start of the upper bridge to the point, within these bounds
-pub record IsRangeTo (u : Tree) (p : Pair) (v : Tree) (first last : Pair) (n : ℕ) : Type 0 where
-  pub before : IsBeforePoint v p
-  pub lifts : (q : Pair) → IsEndTo Upper v p q → IsEndTo Upper u p q
-  pub within : IsEndToWithin Upper v p first last
-  pub lower : height_of v + n ≤ height_of u

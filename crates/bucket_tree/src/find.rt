@@ -17,7 +17,7 @@ pub fn find_multiplicity(node: &Node, p: Point) -> u16
             Err(_) => 0,
         },
         Node::Fork(_, fork) => {
-            if before(p, fork.right_first) {
+            if before(p, fork.right_ends.first) {
                 find_multiplicity(&fork.left, p)
             } else {
                 find_multiplicity(&fork.right, p)

@@ -12,7 +12,7 @@ use crate::find::find_multiplicity;
 use crate::insertion::{affected_at, put_at};
 use crate::node::{Fork, Node};
 use crate::removal::are_few;
-use crate::renewal::{Change, Changed, change_at, first_after, last_after, renew_edges};
+use crate::renewal::{Change, Changed, change_at, renew_edges, renew_ends};
 use hull_buckets::{Bucket, buckets_are_sound};
 use lattice::{Point, before};
 
@@ -101,11 +101,12 @@ impl InPlace for Going {
 }
 
 /// Renews a fork whose left subtree changed at a point.
+#[inline(always)]
 fn after_left(fork: &mut Fork, p: Point, change: Change, below: Changed) -> Changed
     requires { IsToRenew true change p below fork.old }
     ensures { IsRenewedAfter p below fork.old fork.new result }
 {
-    fork.last_left = last_after(&fork.left, fork.last_left, p);
+    renew_ends(&mut fork.left_ends, &fork.left, p);
     let above = renew_edges(fork, p, change, below.sides);
     Changed {
         turns: below.turns + above.turns,
@@ -114,11 +115,12 @@ fn after_left(fork: &mut Fork, p: Point, change: Change, below: Changed) -> Chan
 }
 
 /// Renews a fork whose right subtree changed at a point.
+#[inline(always)]
 fn after_right(fork: &mut Fork, p: Point, change: Change, below: Changed) -> Changed
     requires { IsToRenew false change p below fork.old }
     ensures { IsRenewedAfter p below fork.old fork.new result }
 {
-    fork.right_first = first_after(&fork.right, fork.right_first, p);
+    renew_ends(&mut fork.right_ends, &fork.right, p);
     let above = renew_edges(fork, p, change, below.sides);
     Changed {
         turns: below.turns + above.turns,
@@ -142,7 +144,7 @@ fn change_in_place<C: InPlace>(node: &mut Node, p: Point) -> Result<Changed, u16
     match node {
         Node::Leaf(bucket) => C::change(bucket, p),
         Node::Fork(_, fork) => {
-            if before(p, fork.right_first) {
+            if before(p, fork.right_ends.first) {
                 match change_in_place::<C>(&mut fork.left, p) {
                     Ok(below) => Ok(after_left(fork, p, change_at(true, C::is_adding()), below)),
                     Err(multiplicity) => Err(multiplicity),

@@ -15,7 +15,7 @@ ghost use Rattle.bucket_tree.specs.declared.node.Node.{Leaf};
 use crate::join::{join, take_apart};
 use crate::load::blank;
 use crate::node::{Node, height_of};
-use crate::renewal::{Affected, balance, change_at, first_after, last_after};
+use crate::renewal::{Affected, balance, change_at, renew_ends};
 use heap::Heap;
 use hull_buckets::{Bucket, buckets_are_sound};
 use lattice::{Point, Side, before};
@@ -194,9 +194,9 @@ pub fn insert(alloc: Heap, node: Node, p: Point) -> Inserted
         return insert_leaf(alloc, bucket_of(node), p);
     }
     let (left, right, mut place) = take_apart(node);
-    if before(p, place.right_first) {
+    if before(p, place.right_ends.first) {
         let change = insert(alloc, left, p);
-        place.last_left = last_after(&change.node, place.last_left, p);
+        renew_ends(&mut place.left_ends, &change.node, p);
         let above = balance(
             change.node,
             right,
@@ -213,7 +213,7 @@ pub fn insert(alloc: Heap, node: Node, p: Point) -> Inserted
         }
     } else {
         let change = insert(alloc, right, p);
-        place.right_first = first_after(&change.node, place.right_first, p);
+        renew_ends(&mut place.right_ends, &change.node, p);
         let above = balance(
             left,
             change.node,

@@ -20,6 +20,7 @@ mod questions;
 mod recounting;
 mod removal;
 mod renewal;
+mod rotation;
 mod tree;
 
 pub use find::find_multiplicity;

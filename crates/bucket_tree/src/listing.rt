@@ -98,7 +98,7 @@ pub(crate) fn push_from(
     match node {
         Node::Leaf(bucket) => push_bucket_from(bucket, start, most, entries),
         Node::Fork(_, fork) => {
-            if !before(fork.last_left, start) {
+            if !before(fork.left_ends.last, start) {
                 push_from(&fork.left, start, most, entries);
             }
             push_from(&fork.right, start, most, entries);

@@ -7,7 +7,7 @@ ghost use Rattle.bucket_tree.specs.Lists.{numbers_listed};
 ghost use Rattle.bucket_tree.specs.Nodes.{IsWellBuilt, points_below, multiplicities_below, node_height};
 
 use crate::join::join;
-use crate::node::{Fork, Node};
+use crate::node::{Ends, Fork, Node};
 use heap::Heap;
 use hull_buckets::{BUCKET_SIZE, Bucket, buckets_are_sound};
 use lattice::Point;
@@ -15,11 +15,15 @@ use std::alloc::AllocError;
 
 /// Allocates the box of a fork that is made later.
 pub(crate) fn blank(alloc: Heap, point: Point) -> Result<Box<Fork, Heap>, AllocError> {
+    let ends = Ends {
+        first: point,
+        last: point,
+    };
     let fork = Fork {
-        right_first: point,
+        right_ends: ends,
         left: Node::Taken,
         right: Node::Taken,
-        last_left: point,
+        left_ends: ends,
         upper: (point, point),
         lower: (point, point),
     };

@@ -1,8 +1,7 @@
 //! The nodes of the tree.
 ghost use Rattle.std.specs.Prelude.{◌≡◌};
-ghost use Rattle.hull_geometry.specs.Positions.{first_of as first_in, last_of as last_in};
 ghost use Rattle.bucket_tree.specs.Changes.{IsSameBut, edge_on};
-ghost use Rattle.bucket_tree.specs.Nodes.{points_below, node_height, HasBuckets, IsLabelled};
+ghost use Rattle.bucket_tree.specs.Nodes.{points_below, ends_in, node_height, HasBuckets, IsLabelled};
 
 use heap::Heap;
 use hull_buckets::Bucket;
@@ -22,14 +21,22 @@ pub enum Node {
     Taken,
 }
 
-/// The two halves of a fork, all points of the left one before all of the right one, the two points at their split, and their bridges.
+/// The first and the last point of a subtree.
+#[derive(Clone, Copy)]
+pub(crate) struct Ends {
+    pub(crate) first: Point,
+    pub(crate) last: Point,
+}
+
+/// The two halves of a fork, all points of the left one before all of the right one, the ends of each, and their
+/// bridges.
 #[cycle(node)]
 #[derive(Drop)]
 pub struct Fork {
-    pub(crate) right_first: Point,
+    pub(crate) right_ends: Ends,
     pub(crate) left: Node,
     pub(crate) right: Node,
-    pub(crate) last_left: Point,
+    pub(crate) left_ends: Ends,
     pub(crate) upper: (Point, Point),
     pub(crate) lower: (Point, Point),
 }
@@ -57,29 +64,25 @@ impl Fork {
     }
 }
 
-/// Returns the first point below a node: one step a level.
-pub(crate) fn first_of(node: &Node) -> Point
-    requires { HasBuckets node.now }
-    ensures { result ≡ first_in (points_below node.now) }
-{
-    match node {
-        Node::Leaf(bucket) => bucket.points()[0],
-        Node::Fork(_, fork) => first_of(&fork.left),
-        Node::Taken => unreachable!(),
-    }
-}
-
-/// Returns the last point below a node: one step a level.
-pub(crate) fn last_of(node: &Node) -> Point
-    requires { HasBuckets node.now }
-    ensures { result ≡ last_in (points_below node.now) }
+/// Returns the first and the last point below a node. A fork stores those of its halves, so this takes one step.
+#[inline(never)]
+pub(crate) fn ends_of(node: &Node) -> Ends
+    requires buckets { HasBuckets node.now }
+    requires labelled { IsLabelled node.now }
+    ensures { result ≡ ends_in (points_below node.now) }
 {
     match node {
         Node::Leaf(bucket) => {
             let points = bucket.points();
-            points[points.len() - 1]
+            Ends {
+                first: points[0],
+                last: points[points.len() - 1],
+            }
         }
-        Node::Fork(_, fork) => last_of(&fork.right),
+        Node::Fork(_, fork) => Ends {
+            first: fork.left_ends.first,
+            last: fork.right_ends.last,
+        },
         Node::Taken => unreachable!(),
     }
 }

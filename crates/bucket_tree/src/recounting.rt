@@ -36,7 +36,7 @@ pub fn recount(node: &mut Node, p: Point, multiplicity: u16)
     match node {
         Node::Leaf(bucket) => recount_leaf(bucket, p, multiplicity),
         Node::Fork(_, fork) => {
-            if before(p, fork.right_first) {
+            if before(p, fork.right_ends.first) {
                 recount(&mut fork.left, p, multiplicity);
             } else {
                 recount(&mut fork.right, p, multiplicity);

@@ -13,7 +13,7 @@ use crate::insertion::{affected_at, bucket_of};
 use crate::join::take_apart;
 use crate::node::{Fork, Node, height_of};
 use crate::renewal::{
-    Affected, Change, EdgePosition, Renewed, balance, edge_position_of, first_after, last_after,
+    Affected, Change, EdgePosition, Renewed, balance, edge_position_of, renew_ends,
 };
 use heap::Heap;
 use hull_buckets::{Bucket, buckets_are_sound};
@@ -140,7 +140,7 @@ fn prepare(
     ensures multiplicities { multiplicities_below result.node ≡ multiplicities_below left ++ multiplicities_below right }
     ensures height { IsHeightOver (node_height left) (node_height right) (node_height result.node)
         ⊎ ((height ≡ 1) × (node_height result.node ≡ 0)) }
-    ensures turns { result.turns ≤ 12 * max (node_height left) (node_height right) + 72 }
+    ensures turns { result.turns ≤ 16 * max (node_height left) (node_height right) + 96 }
     ensures closes { ClosesBy p sides result.sides (points_below left ++ points_below right) }
 {
     if height == 1 && are_few(&left, &right) {
@@ -180,12 +180,12 @@ pub fn remove(node: Node, p: Point) -> Removed
         return remove_leaf(bucket_of(node), p);
     }
     let (left, right, mut place) = take_apart(node);
-    if before(p, place.right_first) {
+    if before(p, place.right_ends.first) {
         let Removed { rest, turns, sides } = remove(left, p);
         let Some(rest) = rest else {
             return other_part(right, turns);
         };
-        place.last_left = last_after(&rest, place.last_left, p);
+        renew_ends(&mut place.left_ends, &rest, p);
         let above = prepare(rest, right, place, p, Change::OtherLeft, sides, height);
         Removed {
             rest: Some(above.node),
@@ -197,7 +197,7 @@ pub fn remove(node: Node, p: Point) -> Removed
         let Some(rest) = rest else {
             return other_part(left, turns);
         };
-        place.right_first = first_after(&rest, place.right_first, p);
+        renew_ends(&mut place.right_ends, &rest, p);
         let above = prepare(left, rest, place, p, Change::OtherRight, sides, height);
         Removed {
             rest: Some(above.node),

@@ -6,21 +6,20 @@ ghost use Rattle.lattice.specs.Orientations as orientations;
 ghost use Rattle.lattice.specs.Bridges.{IsAllBefore, IsBridge};
 ghost use Rattle.bridge_search.specs.Trees.{On, height_of as height_in};
 ghost use Rattle.hull_buckets.specs.Buckets.{IsCovered};
-ghost use Rattle.hull_geometry.specs.Positions.{first_of as first_in, last_of as last_in};
 ghost use Rattle.hull_set.specs.declared.TheConstants.{POINT_LIMIT};
-ghost use Rattle.lattice.specs.Plane.{IsBefore};
 ghost use Rattle.bucket_tree.specs.Changes.{IsAfter, IsBridgeBetween, IsClearOf, IsRenewed, IsSameBut, ReturnsOf, ClosesBy, edge_on};
 ghost use Rattle.std.specs.List.{Contains};
-ghost use Rattle.bucket_tree.specs.Changes.{AreInnerTo, IsEndOf, IsEndUnlessClear, change_of};
+ghost use Rattle.bucket_tree.specs.Changes.{AreInnerTo, AreKept, HasEnds, IsEndOf, IsEndUnlessClear, change_of};
 ghost use Rattle.bucket_tree.specs.Nodes.{tree_of, points_below, multiplicities_below, node_height, AreInRow, IsWellBuilt};
-ghost use Rattle.bucket_tree.specs.Nodes.{AreNear, HasBuckets};
-ghost use Rattle.bucket_tree.specs.Nodes.{IsHeightOver};
+ghost use Rattle.bucket_tree.specs.Nodes.{AreNear, HasBuckets, IsHeightOver, IsLabelled, ends_in};
 
-use crate::join::{rotate_left, rotate_right, search_one};
-use crate::node::{Fork, Node, first_of, height_of, last_of};
-use crate::other_end::{end_from, end_to};
+use crate::join::search_one;
+use crate::node::{Ends, Fork, Node, ends_of, height_of};
+use crate::other_end::{BridgeEnd, other_end};
+use crate::rotation::{rotate_left, rotate_right};
 use heap::Heap;
 use lattice::{Point, Side, before, orient_on};
+use std::mem;
 
 /// The chains that are affected by a point that was added or removed, that is, on which it may matter to the bridges above: it does not if it is
 /// under an edge of two points that stay.
@@ -121,20 +120,29 @@ fn search_by_end(side: Side, fork: &Fork) -> ((Point, Point), u32)
     requires row { AreInRow fork.now.left fork.now.right }
     requires few { length (points_below fork.now.left ++ points_below fork.now.right) ≤ POINT_LIMIT }
     requires low { max (node_height fork.now.left) (node_height fork.now.right) ≤ 28 }
+    requires ends { HasEnds fork.now.left fork.now.right fork.now }
     requires there { Contains (points_below fork.now.right) (edge_on side fork.now).1 }
     requires inner { AreInnerTo side fork.now.left fork.now.right (edge_on side fork.now) }
     ensures bridge { IsBridge side (On (tree_of fork.now.left)) (On (tree_of fork.now.right)) result.0.0 result.0.1 }
     ensures turns { result.1 ≤ 4 * max (node_height fork.now.left) (node_height fork.now.right) + 24 }
 {
     let kept = fork.edge(side).1;
-    let (start, there) = end_to(
+    let (start, there) = other_end(
+        BridgeEnd::Start,
         side,
-        &fork.left,
         kept,
-        first_of(&fork.left),
-        last_of(&fork.left),
+        &fork.left,
+        fork.left_ends.first,
+        fork.left_ends.last,
     );
-    let (end, back) = end_from(side, start, &fork.right, first_of(&fork.right), kept);
+    let (end, back) = other_end(
+        BridgeEnd::End,
+        side,
+        start,
+        &fork.right,
+        fork.right_ends.first,
+        kept,
+    );
     if end == kept {
         return ((start, end), there + back);
     }
@@ -147,20 +155,29 @@ fn search_by_start(side: Side, fork: &Fork) -> ((Point, Point), u32)
     requires row { AreInRow fork.now.left fork.now.right }
     requires few { length (points_below fork.now.left ++ points_below fork.now.right) ≤ POINT_LIMIT }
     requires low { max (node_height fork.now.left) (node_height fork.now.right) ≤ 28 }
+    requires ends { HasEnds fork.now.left fork.now.right fork.now }
     requires there { Contains (points_below fork.now.left) (edge_on side fork.now).0 }
     requires inner { AreInnerTo side fork.now.left fork.now.right (edge_on side fork.now) }
     ensures bridge { IsBridge side (On (tree_of fork.now.left)) (On (tree_of fork.now.right)) result.0.0 result.0.1 }
     ensures turns { result.1 ≤ 4 * max (node_height fork.now.left) (node_height fork.now.right) + 24 }
 {
     let kept = fork.edge(side).0;
-    let (end, there) = end_from(
+    let (end, there) = other_end(
+        BridgeEnd::End,
         side,
         kept,
         &fork.right,
-        first_of(&fork.right),
-        last_of(&fork.right),
+        fork.right_ends.first,
+        fork.right_ends.last,
     );
-    let (start, back) = end_to(side, &fork.left, end, kept, last_of(&fork.left));
+    let (start, back) = other_end(
+        BridgeEnd::Start,
+        side,
+        end,
+        &fork.left,
+        kept,
+        fork.left_ends.last,
+    );
     if start == kept {
         return ((start, end), there + back);
     }
@@ -174,24 +191,33 @@ fn search_after(side: Side, fork: &Fork, p: Point, change: Change) -> ((Point, P
     requires row { AreInRow fork.now.left fork.now.right }
     requires few { length (points_below fork.now.left ++ points_below fork.now.right) ≤ POINT_LIMIT }
     requires low { max (node_height fork.now.left) (node_height fork.now.right) ≤ 28 }
+    requires ends { HasEnds fork.now.left fork.now.right fork.now }
     requires end { IsEndOf change side p fork.now.left fork.now.right (edge_on side fork.now) }
     ensures bridge { IsBridge side (On (tree_of fork.now.left)) (On (tree_of fork.now.right)) result.0.0 result.0.1 }
     ensures turns { result.1 ≤ 4 * max (node_height fork.now.left) (node_height fork.now.right) + 24 }
 {
     match change {
         Change::AddedLeft => {
-            let (end, turns) = end_from(
+            let (end, turns) = other_end(
+                BridgeEnd::End,
                 side,
                 p,
                 &fork.right,
                 fork.edge(side).1,
-                last_of(&fork.right),
+                fork.right_ends.last,
             );
             ((p, end), turns)
         }
         Change::AddedRight => {
-            let (end, turns) = end_to(side, &fork.left, p, first_of(&fork.left), fork.edge(side).0);
-            ((end, p), turns)
+            let (start, turns) = other_end(
+                BridgeEnd::Start,
+                side,
+                p,
+                &fork.left,
+                fork.left_ends.first,
+                fork.edge(side).0,
+            );
+            ((start, p), turns)
         }
         Change::OtherLeft => search_by_end(side, fork),
         Change::OtherRight => search_by_start(side, fork),
@@ -207,6 +233,7 @@ fn renew_affected_edge(side: Side, fork: &mut Fork, p: Point, change: Change) ->
     requires clear { IsClearOf side (edge_on side fork.old) p
         → IsBridgeBetween side fork.old.left fork.old.right (edge_on side fork.old) }
     requires low { max (node_height fork.old.left) (node_height fork.old.right) ≤ 28 }
+    requires ends { HasEnds fork.old.left fork.old.right fork.old }
     requires end { IsEndUnlessClear change side p fork.old.left fork.old.right (edge_on side fork.old) }
     ensures same { IsSameBut side fork.old fork.new }
     ensures bridge { IsBridge side (On (tree_of fork.old.left)) (On (tree_of fork.old.right))
@@ -235,6 +262,7 @@ fn renew_edge(side: Side, fork: &mut Fork, p: Point, change: Change, at_issue: b
     requires clear { IsClearOf side (edge_on side fork.old) p
         → IsBridgeBetween side fork.old.left fork.old.right (edge_on side fork.old) }
     requires low { max (node_height fork.old.left) (node_height fork.old.right) ≤ 28 }
+    requires ends { HasEnds fork.old.left fork.old.right fork.old }
     requires end { IsEndUnlessClear change side p fork.old.left fork.old.right (edge_on side fork.old) }
     ensures same { IsSameBut side fork.old fork.new }
     ensures bridge { IsBridge side (On (tree_of fork.old.left)) (On (tree_of fork.old.right))
@@ -271,45 +299,40 @@ pub(crate) fn renew_edges(fork: &mut Fork, p: Point, change: Change, sides: Affe
     }
 }
 
-/// Makes a fork over two subtrees whose heights differ by at most one, of which one changed at a point after its edges were stored.
-fn renew(
-    left: Node,
-    right: Node,
-    mut place: Box<Fork, Heap>,
-    p: Point,
-    change: Change,
-    sides: Affected,
-) -> Renewed
-    requires row { AreInRow left right }
-    requires few { length (points_below left ++ points_below right) ≤ POINT_LIMIT }
-    requires behind { IsAfter p sides left right place.value }
-    requires end { (side : Side) → IsEndUnlessClear change side p left right (edge_on side place.value) }
-    requires near { AreNear (node_height left) (node_height right) }
-    requires low { max (node_height left) (node_height right) ≤ 28 }
-    ensures built { IsWellBuilt result.node }
-    ensures points { points_below result.node ≡ points_below left ++ points_below right }
-    ensures multiplicities { multiplicities_below result.node ≡ multiplicities_below left ++ multiplicities_below right }
-    ensures height { node_height result.node ≡ max (node_height left) (node_height right) + 1 }
-    ensures turns { result.turns ≤ 8 * max (node_height left) (node_height right) + 48 }
-    ensures closes { ClosesBy p sides result.sides (points_below left ++ points_below right) }
+/// Makes a balanced tree of a fork over two subtrees whose heights differ by at most two. Returns it and the turns of
+/// the searches of a rotation.
+fn rebalanced(mut place: Box<Fork, Heap>) -> (Node, u32)
+    requires renewed { IsRenewed place.value }
+    requires few { length (points_below place.value.left ++ points_below place.value.right) ≤ POINT_LIMIT }
+    requires near_left { node_height place.value.left ≤ node_height place.value.right + 2 }
+    requires near_right { node_height place.value.right ≤ node_height place.value.left + 2 }
+    requires low { max (node_height place.value.left) (node_height place.value.right) ≤ 28 }
+    ensures built { IsWellBuilt result.0 }
+    ensures points { points_below result.0 ≡ points_below place.value.left ++ points_below place.value.right }
+    ensures multiplicities { multiplicities_below result.0
+        ≡ multiplicities_below place.value.left ++ multiplicities_below place.value.right }
+    ensures height { IsHeightOver (node_height place.value.left) (node_height place.value.right) (node_height result.0) }
+    ensures turns { result.1 ≤ 8 * max (node_height place.value.left) (node_height place.value.right) + 48 }
 {
-    let height = height_of(&left).max(height_of(&right)) + 1;
-    place.left = left;
-    place.right = right;
-    let above = renew_edges(&mut place, p, change, sides);
-    Renewed {
-        node: Node::Fork(height, place),
-        turns: above.turns,
-        sides: above.sides,
+    let (on_left, on_right) = (height_of(&place.left), height_of(&place.right));
+    if on_left <= on_right + 1 && on_right <= on_left + 1 {
+        return (Node::Fork(on_left.max(on_right) + 1, place), 0);
+    }
+    let left = mem::replace(&mut place.left, Node::Taken);
+    let right = mem::replace(&mut place.right, Node::Taken);
+    if on_left > on_right {
+        rotate_right(left, right, place)
+    } else {
+        rotate_left(left, right, place)
     }
 }
 
 /// Makes a balanced tree over two subtrees whose heights differ by at most two, of which one changed at a point after the edges of the fork over them
-/// were stored. The forks that a rotation makes are searched.
+/// were stored. The edges are renewed first, so that a rotation can keep them.
 pub(crate) fn balance(
     left: Node,
     right: Node,
-    place: Box<Fork, Heap>,
+    mut place: Box<Fork, Heap>,
     p: Point,
     change: Change,
     sides: Affected,
@@ -325,39 +348,30 @@ pub(crate) fn balance(
     ensures points { points_below result.node ≡ points_below left ++ points_below right }
     ensures multiplicities { multiplicities_below result.node ≡ multiplicities_below left ++ multiplicities_below right }
     ensures height { IsHeightOver (node_height left) (node_height right) (node_height result.node) }
-    ensures turns { result.turns ≤ 12 * max (node_height left) (node_height right) + 72 }
+    ensures turns { result.turns ≤ 16 * max (node_height left) (node_height right) + 96 }
     ensures closes { ClosesBy p sides result.sides (points_below left ++ points_below right) }
 {
-    let (on_left, on_right) = (height_of(&left), height_of(&right));
-    if on_left > on_right + 1 {
-        let (node, turns) = rotate_right(left, right, place);
-        Renewed { node, turns, sides }
-    } else if on_right > on_left + 1 {
-        let (node, turns) = rotate_left(left, right, place);
-        Renewed { node, turns, sides }
-    } else {
-        renew(left, right, place, p, change, sides)
+    place.left = left;
+    place.right = right;
+    let above = renew_edges(&mut place, p, change, sides);
+    let (node, turns) = rebalanced(place);
+    Renewed {
+        node,
+        turns: above.turns + turns,
+        sides: above.sides,
     }
 }
 
-/// Returns the last point below a subtree that changed at a point: the one that was stored if the change was before it.
-pub(crate) fn last_after(node: &Node, kept: Point, p: Point) -> Point
+/// Renews the ends of a subtree that changed at a point: they stay if the change was between them.
+#[inline(always)]
+pub(crate) fn renew_ends(ends: &mut Ends, node: &Node, p: Point)
     requires buckets { HasBuckets node.now }
-    requires kept { IsBefore p kept → kept ≡ last_in (points_below node.now) }
-    ensures { result ≡ last_in (points_below node.now) }
+    requires labelled { IsLabelled node.now }
+    requires kept { AreKept p ends.old (points_below node.now) }
+    ensures { ends.new ≡ ends_in (points_below node.now) }
 {
-    if before(p, kept) { kept } else { last_of(node) }
-}
-
-/// Returns the first point below a subtree that changed at a point: the one that was stored if the change was after it.
-pub(crate) fn first_after(node: &Node, kept: Point, p: Point) -> Point
-    requires buckets { HasBuckets node.now }
-    requires kept { IsBefore kept p → kept ≡ first_in (points_below node.now) }
-    ensures { result ≡ first_in (points_below node.now) }
-{
-    if before(kept, p) {
-        kept
-    } else {
-        first_of(node)
+    if before(ends.first, p) && before(p, ends.last) {
+        return;
     }
+    *ends = ends_of(node);
 }

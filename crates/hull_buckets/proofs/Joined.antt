@@ -12,9 +12,8 @@ use Rattle.lattice.specs.Covers.{IsPointSet}
 use Rattle.lattice.specs.Plane.{Pair, IsBefore}
 use Rattle.lattice.specs.declared.side.Side.{Side}
 use Rattle.lattice.proofs.Order.{before_irrefl, before_not, before_trans}
-use Rattle.hull_geometry.specs.Monotone.{IsChainOf, IsInner, IsInnerFrom, IsPassed, IsConvex, EndsWith}
-use Rattle.hull_geometry.proofs.Mended.{chain_of}
-use Rattle.hull_geometry.proofs.Passes.{ends_cut, inner_cut, inner_left, inner_right, member_inner, passed_through}
+use Rattle.hull_geometry.specs.Monotone.{IsChainOf, IsInner, IsInnerFrom, IsConvex, EndsWith}
+use Rattle.hull_geometry.proofs.Passes.{ends_cut, inner_cut}
 use Rattle.hull_geometry.proofs.Passes.{convex_left, convex_right}
 use Rattle.hull_geometry.specs.Positions.{point_at, origin}
 use Rattle.hull_geometry.proofs.PointLists.{AllPairs-head, all_of, append_none, cut, get_or_free, only_member}
@@ -36,7 +35,7 @@ before_end xs d u s e m =
     ]
 
 -- a point of a list is its first one, or a later one
-first_or_later : (y : Pair) (rest : List Pair) (u : Pair) → Contains (y ∷ rest) u → (u ≡ y) ⊎ Contains rest u
+pub first_or_later : (y : Pair) (rest : List Pair) (u : Pair) → Contains (y ∷ rest) u → (u ≡ y) ⊎ Contains rest u
 first_or_later y rest u (zero, l, e) = inl (sym e)
 first_or_later y rest u (suc i, l, e) = inr (i, omega (arith, l), e)
 
@@ -180,36 +179,6 @@ all_between T low high mask t s g hw (i, l, e) after before =
               | inr (inr q) ↦ before_irrefl (point_at T i)
                   (before_trans (point_at T i) (point_at T g.end) (point_at T i) f (in_order g.end i q l))
             ]
-
--- ---- the chain
-
--- the pass over the points between, and on over the vertices after, leaves the chain of all
-pub joined_is : (side : Side) (T : List Pair) (low high middle front new : ℕ) → IsPointSet T → AreEnds side T low high
-    → IsGap low high (length T) middle → IsPassed side (at_places low T ++ at_places middle T) (at_places front T)
-    → IsPassed side (at_places front T ++ at_places high T) (at_places new T) → new < 2 ^ length T → IsMaskOf side T new
-joined_is side T low high middle front new s e g h q within =
-    let passed = passed_through side (at_places low T ++ at_places middle T) (at_places front T) (at_places high T)
-    (at_places new T) h q in
-    record {
-      within = within;
-      chain = chain_of side T (at_places new T)
-          record {
-            ordered = passed.strict.ordered;
-            among = λ t m. at_among new T t m;
-            inner = λ u m. passed.inner u (inner u m);
-          }
-          passed.strict.convex;
-    }
-  where
-    inner : (u : Pair) → Contains T u → IsInner side ((at_places low T ++ at_places middle T) ++ at_places high T) u
-    inner u m = elim (e.others u m) [
-      | inl i ↦ inner_left side (at_places low T ++ at_places middle T) (at_places high T) u
-          (inner_left side (at_places low T) (at_places middle T) u i)
-      | inr (inl i) ↦ inner_right side (at_places low T ++ at_places middle T) (at_places high T) u i
-      | inr (inr a) ↦ inner_left side (at_places low T ++ at_places middle T) (at_places high T) u
-          (inner_right side (at_places low T) (at_places middle T) u
-          (member_inner side (at_places middle T) u (all_between T low high middle u s g e.high_within m a.0 a.1)))
-    ]
 
 -- ---- a list that is cut
 

@@ -13,3 +13,4 @@ pub mod Removed
 pub mod Rows
 pub mod Changed
 pub mod Covered
+pub mod Outwards

@@ -1,3 +1,4 @@
 pub mod Masks
 pub mod Buckets
 pub mod Slices
+pub mod Outwards

@@ -6,6 +6,7 @@ ghost use Rattle.lattice.specs.Orientations as orientations;
 ghost use Rattle.hull_geometry.specs.Monotone.{EndsInwards, IsConvex, IsPassed};
 ghost use Rattle.hull_geometry.specs.Positions.{point_at};
 ghost use Rattle.hull_buckets.specs.Masks.{at_places, AreApart};
+ghost use Rattle.hull_buckets.specs.Outwards.{IsPassedOutwards, IsPushedOutwards};
 ghost use Rattle.hull_buckets.specs.declared.TheConstants.{BUCKET_SIZE};
 
 use super::mask::{bit, highest, lowest};
@@ -80,6 +81,60 @@ pub(crate) fn passed_over(side: Side, points: &[Point], chain: u64, rest: u64) -
     while left != 0 {
         let place = lowest(left);
         kept = pushed(side, points, kept, place);
+        left -= bit(place);
+    }
+    kept
+}
+
+/// Appends the point at an index to the chain, as [`pushed`], if it is outwards of the segment from `a` to `b`;
+/// otherwise leaves the chain as it is.
+fn pushed_outwards(
+    side: Side,
+    points: &[Point],
+    chain: u64,
+    place: usize,
+    a: Point,
+    b: Point,
+) -> u64
+    requires few { length points.now ≤ BUCKET_SIZE }
+    requires within { place < length points.now }
+    requires ordered { IsPointSet points.now }
+    requires before { chain < 2 ^ place }
+    requires convex { IsConvex side (at_places chain points.now) }
+    ensures within { result < 2 ^ (place + 1) }
+    ensures pushed { IsPushedOutwards side points.now chain place a b result }
+{
+    if is_convex_at(side, a, points[place], b) {
+        pushed(side, points, chain, place)
+    } else {
+        chain
+    }
+}
+
+/// Continues a chain as [`passed_over`], but over those of the points only that are outwards of the segment from `a` to
+/// `b`: one orientation for each of the others.
+pub(crate) fn passed_outwards(
+    side: Side,
+    points: &[Point],
+    chain: u64,
+    rest: u64,
+    a: Point,
+    b: Point,
+) -> u64
+    requires few { length points.now ≤ BUCKET_SIZE }
+    requires ordered { IsPointSet points.now }
+    requires apart { AreApart chain rest }
+    requires chain_within { chain < 2 ^ length points.now }
+    requires rest_within { rest < 2 ^ length points.now }
+    requires convex { IsConvex side (at_places chain points.now) }
+    ensures within { (k : ℕ) → chain < 2 ^ k → rest < 2 ^ k → result < 2 ^ k }
+    ensures passed { IsPassedOutwards side points.now chain rest a b result }
+{
+    let mut kept = chain;
+    let mut left = rest;
+    while left != 0 {
+        let place = lowest(left);
+        kept = pushed_outwards(side, points, kept, place, a, b);
         left -= bit(place);
     }
     kept

@@ -5,9 +5,10 @@ ghost use Rattle.hull_geometry.specs.Mending.{IsOverEdge};
 ghost use Rattle.hull_geometry.specs.Positions.{point_at};
 ghost use Rattle.hull_buckets.specs.Buckets.{AreEnds, IsMaskOf, WasMaskOf};
 ghost use Rattle.hull_buckets.specs.Masks.{at_places, without_place};
+ghost use Rattle.hull_buckets.specs.Outwards.{IsFront};
 ghost use Rattle.hull_buckets.specs.declared.TheConstants.{BUCKET_SIZE};
 
-use super::chain::{is_convex_at, passed_over, pushed, taken_up};
+use super::chain::{is_convex_at, passed_outwards, passed_over, pushed, taken_up};
 use super::mask::{below, between, first, has, highest, lowest, moved_down, moved_up};
 use lattice::{Point, Side};
 
@@ -49,6 +50,29 @@ pub(crate) fn with_vertex(side: Side, points: &[Point], old: u64, place: usize) 
     taken_up(side, points, front, high)
 }
 
+/// Returns the chain of the vertices of `low` and the points between them and the vertices of `high`. If there are
+/// vertices on both sides, only the points that are outwards of the segment between the two nearest of them are passed
+/// over: the others are no vertices.
+fn front_between(side: Side, points: &[Point], low: u64, high: u64) -> u64
+    requires few { length points.now ≤ BUCKET_SIZE }
+    requires ordered { IsPointSet points.now }
+    requires ends { AreEnds side points.now low high }
+    ensures { IsFront side points.now low high result }
+{
+    let middle = between(low, high, points.len());
+    if low == 0 || high == 0 {
+        return passed_over(side, points, low, middle);
+    }
+    passed_outwards(
+        side,
+        points,
+        low,
+        middle,
+        points[highest(low)],
+        points[lowest(high)],
+    )
+}
+
 /// Returns the mask of the chain of points, given vertices at its two ends: one pass goes over the points between these, and on over the vertices
 /// after them until the chain bends as it did.
 fn joined(side: Side, points: &[Point], low: u64, high: u64) -> u64
@@ -57,14 +81,14 @@ fn joined(side: Side, points: &[Point], low: u64, high: u64) -> u64
     requires ends { AreEnds side points.now low high }
     ensures { IsMaskOf side points.now result }
 {
-    let middle = between(low, high, points.len());
-    let front = passed_over(side, points, low, middle);
+    let front = front_between(side, points, low, high);
     taken_up(side, points, front, high)
 }
 
 /// Returns the mask of the chain of points after the one at `place` was removed; `old` is that of all of them.
 ///
-/// If the point was no vertex, nothing changes. Otherwise its neighbours stay, and one pass goes over the points between them.
+/// If the point was no vertex, nothing changes. Otherwise its neighbours stay, and one pass goes over the points
+/// between them that are outwards of their segment.
 pub(crate) fn without_vertex(side: Side, points: &[Point], old: u64, place: usize) -> u64
     requires { WasMaskOf side points.now place old }
     ensures { IsMaskOf side points.now result }

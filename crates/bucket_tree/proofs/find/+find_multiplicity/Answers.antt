@@ -55,12 +55,12 @@ pub returns-then-before : goal.returns-then-before
 returns-then-before t c =
     c.find_multiplicity.ensures ∙ ap (λ z. multiplicity_at z.left c.args.p) c.deref-then-before.ensures
     ∙ sym (count_in true c.args.node.now c.in-Fork.field-0 c.in-Fork.fork c.args.p c.in-Fork.is c.requires
-    (subst (IsBefore c.args.p) (ap (λ z. z.right_first) c.deref-in-Fork.ensures)
+    (subst (IsBefore c.args.p) (ap (λ z. z.right_ends.first) c.deref-in-Fork.ensures)
     (passed c.before-in-Fork.result c.before-in-Fork.ensures.0 c.if-before.true)))
 
 pub returns-else-before : goal.returns-else-before
 returns-else-before t c =
     c.find_multiplicity-else-before.ensures ∙ ap (λ z. multiplicity_at z.right c.args.p) c.deref-else-before.ensures
     ∙ sym (count_in false c.args.node.now c.in-Fork.field-0 c.in-Fork.fork c.args.p c.in-Fork.is c.requires
-    (subst (λ z. ¬ IsBefore c.args.p z) (ap (λ z. z.right_first) c.deref-in-Fork.ensures)
+    (subst (λ z. ¬ IsBefore c.args.p z) (ap (λ z. z.right_ends.first) c.deref-in-Fork.ensures)
     (failed c.before-in-Fork.result c.before-in-Fork.ensures.1 c.if-before.false)))

@@ -1,4 +1,4 @@
--- the fork's edges are as they were, and it keeps the points at its split
+-- the fork's edges are as they were, and it has the ends of its parts
 use Rattle.std.proofs.Common.{refl}
 use Rattle.bucket_tree.proofs.Added.{end_as}
 use Rattle.bucket_tree.proofs.Kept.{behind_as, same_edges}
@@ -9,7 +9,7 @@ renew_edges-above-requires-clause-behind c =
     let edges = c.requires.behind.edges in
     let f = c.args.fork.now in
     behind_as c.args.p c.args.below.sides f.left f.right f _ edges.unaffected edges.clear (same_edges f _ refl refl)
-    c.last_after-fork.ensures c.requires.behind.first
+    record { left = c.renew_ends.ensures; right = c.requires.behind.right }
 
 pub renew_edges-above-requires-clause-end : goal.renew_edges-above-requires-clause-end
 renew_edges-above-requires-clause-end c =

@@ -9,7 +9,7 @@ use Rattle.bucket_tree.specs.Nodes.{points_below, node_height}
 use Rattle.bucket_tree.specs.declared.node.Fork.{Fork}
 use Rattle.bucket_tree.proofs.MostTurns.{one_fork, few_sum}
 use Rattle.bucket_tree.proofs.Gained.{passed, failed}
-use Rattle.bucket_tree.proofs.Kept.{behind_as, unaffected_within, first_kept, last_kept, same_edges}
+use Rattle.bucket_tree.proofs.Kept.{behind_as, unaffected_within, ends_kept, same_edges}
 use Rattle.bucket_tree.proofs.Added.{ends_after}
 use Rattle.bucket_tree.proofs.InPlace.{among_with}
 use Rattle.bucket_tree.proofs.Parts.{alters_with, at, unaffected_with, differs, few_with, row_with, stands_with}
@@ -19,7 +19,7 @@ pub balance-above-requires-clause-row : goal.balance-above-requires-clause-row
 balance-above-requires-clause-row t c =
     let o = c.take_apart-left.ensures in
     let i = at true _ c.args.node _ _ _ o.row o.points o.multiplicities
-    (ap (λ z. z.right_first) c.deref.ensures ∙ o.split) (passed _ c.before-2.ensures.0 c.if-before.true) in
+    (ap (λ z. z.right_ends.first) c.deref.ensures ∙ o.split) (passed _ c.before-2.ensures.0 c.if-before.true) in
     row_with true (Comes c.insert-change.result.refused) _ _ _ _ c.insert-change.result.node i
     c.insert-change.ensures.built c.insert-change.ensures.gained
 
@@ -27,17 +27,17 @@ pub balance-above-requires-clause-few : goal.balance-above-requires-clause-few
 balance-above-requires-clause-few t c =
     let o = c.take_apart-left.ensures in
     let i = at true _ c.args.node _ _ _ o.row o.points o.multiplicities
-    (ap (λ z. z.right_first) c.deref.ensures ∙ o.split) (passed _ c.before-2.ensures.0 c.if-before.true) in
+    (ap (λ z. z.right_ends.first) c.deref.ensures ∙ o.split) (passed _ c.before-2.ensures.0 c.if-before.true) in
     few_with true (Comes c.insert-change.result.refused) _ _ _ _ c.insert-change.result.node i
     c.insert-change.ensures.gained (c.requires.absent, c.requires.few)
 
-pub last_after-requires-clause-kept : goal.last_after-requires-clause-kept
-last_after-requires-clause-kept t c =
+pub renew_ends-requires-clause-kept : goal.renew_ends-requires-clause-kept
+renew_ends-requires-clause-kept t c =
     let o = c.take_apart-left.ensures in
     let d = differs (Comes c.insert-change.result.refused) c.args.p c.take_apart-left.result.0
     c.insert-change.result.node o.row.left_built.ordered c.insert-change.ensures.gained in
-    last_kept _ _ _ _ o.row.left_built c.insert-change.ensures.built d
-    (ap (λ (f : Fork). f.last_left) c.deref-then-before.ensures ∙ o.last)
+    ends_kept _ _ _ _ o.row.left_built c.insert-change.ensures.built d
+    (ap (λ (f : Fork). f.left_ends) c.deref_mut.ensures.value ∙ o.ends.left)
 
 pub balance-above-requires-clause-behind : goal.balance-above-requires-clause-behind
 balance-above-requires-clause-behind t c =
@@ -52,13 +52,17 @@ balance-above-requires-clause-behind t c =
     (o.stored side) d)
     (same_edges f _ (ap (λ (g : Fork). g.lower) c.deref_mut.ensures.value)
     (ap (λ (g : Fork). g.upper) c.deref_mut.ensures.value))
-    c.last_after.ensures (ap (λ (g : Fork). g.right_first) c.deref_mut.ensures.value ∙ o.split)
+    record {
+      left = c.renew_ends.ensures;
+      right = ap (λ (g : Fork). g.right_ends) c.deref_mut.ensures.value
+          ∙ o.ends.right;
+    }
 
 pub returns-then-before-clause-gained : goal.returns-then-before-clause-gained
 returns-then-before-clause-gained t c =
     let o = c.take_apart-left.ensures in
     let i = at true _ c.args.node _ _ _ o.row o.points o.multiplicities
-    (ap (λ z. z.right_first) c.deref.ensures ∙ o.split) (passed _ c.before-2.ensures.0 c.if-before.true) in
+    (ap (λ z. z.right_ends.first) c.deref.ensures ∙ o.split) (passed _ c.before-2.ensures.0 c.if-before.true) in
     alters_with true (Comes c.insert-change.result.refused) _ _ _ _ c.insert-change.result.node
     c.balance-above.result.node i c.insert-change.ensures.built c.balance-above.ensures.points
     c.balance-above.ensures.multiplicities
@@ -117,7 +121,7 @@ pub balance-above-requires-else-before-clause-row : goal.balance-above-requires-
 balance-above-requires-else-before-clause-row t c =
     let o = c.take_apart-left.ensures in
     let i = at false _ c.args.node _ _ _ o.row o.points o.multiplicities
-    (ap (λ z. z.right_first) c.deref.ensures ∙ o.split) (failed _ c.before-2.ensures.1 c.if-before.false) in
+    (ap (λ z. z.right_ends.first) c.deref.ensures ∙ o.split) (failed _ c.before-2.ensures.1 c.if-before.false) in
     row_with false (Comes c.insert-change-else-before.result.refused) _ _ _ _ c.insert-change-else-before.result.node i
     c.insert-change-else-before.ensures.built c.insert-change-else-before.ensures.gained
 
@@ -125,17 +129,17 @@ pub balance-above-requires-else-before-clause-few : goal.balance-above-requires-
 balance-above-requires-else-before-clause-few t c =
     let o = c.take_apart-left.ensures in
     let i = at false _ c.args.node _ _ _ o.row o.points o.multiplicities
-    (ap (λ z. z.right_first) c.deref.ensures ∙ o.split) (failed _ c.before-2.ensures.1 c.if-before.false) in
+    (ap (λ z. z.right_ends.first) c.deref.ensures ∙ o.split) (failed _ c.before-2.ensures.1 c.if-before.false) in
     few_with false (Comes c.insert-change-else-before.result.refused) _ _ _ _ c.insert-change-else-before.result.node i
     c.insert-change-else-before.ensures.gained (c.requires.absent, c.requires.few)
 
-pub first_after-requires-clause-kept : goal.first_after-requires-clause-kept
-first_after-requires-clause-kept t c =
+pub renew_ends-requires-else-before-clause-kept : goal.renew_ends-requires-else-before-clause-kept
+renew_ends-requires-else-before-clause-kept t c =
     let o = c.take_apart-left.ensures in
     let d = differs (Comes c.insert-change-else-before.result.refused) c.args.p c.take_apart-left.result.1
     c.insert-change-else-before.result.node o.row.right_built.ordered c.insert-change-else-before.ensures.gained in
-    first_kept _ _ _ _ o.row.right_built c.insert-change-else-before.ensures.built d
-    (ap (λ (f : Fork). f.right_first) c.deref-else-before.ensures ∙ o.split)
+    ends_kept _ _ _ _ o.row.right_built c.insert-change-else-before.ensures.built d
+    (ap (λ (f : Fork). f.right_ends) c.deref_mut-else-before.ensures.value ∙ o.ends.right)
 
 pub balance-above-requires-else-before-clause-behind : goal.balance-above-requires-else-before-clause-behind
 balance-above-requires-else-before-clause-behind t c =
@@ -151,13 +155,16 @@ balance-above-requires-else-before-clause-behind t c =
     c.insert-change-else-before.result.node _ (o.stored side) d)
     (same_edges f _ (ap (λ (g : Fork). g.lower) c.deref_mut-else-before.ensures.value)
     (ap (λ (g : Fork). g.upper) c.deref_mut-else-before.ensures.value))
-    (ap (λ (g : Fork). g.last_left) c.deref_mut-else-before.ensures.value ∙ o.last) c.first_after.ensures
+    record {
+      left = ap (λ (g : Fork). g.left_ends) c.deref_mut-else-before.ensures.value ∙ o.ends.left;
+      right = c.renew_ends-else-before.ensures;
+    }
 
 pub returns-else-before-clause-gained : goal.returns-else-before-clause-gained
 returns-else-before-clause-gained t c =
     let o = c.take_apart-left.ensures in
     let i = at false _ c.args.node _ _ _ o.row o.points o.multiplicities
-    (ap (λ z. z.right_first) c.deref.ensures ∙ o.split) (failed _ c.before-2.ensures.1 c.if-before.false) in
+    (ap (λ z. z.right_ends.first) c.deref.ensures ∙ o.split) (failed _ c.before-2.ensures.1 c.if-before.false) in
     alters_with false (Comes c.insert-change-else-before.result.refused) _ _ _ _ c.insert-change-else-before.result.node
     c.balance-above-else-before.result.node i c.insert-change-else-before.ensures.built
     c.balance-above-else-before.ensures.points c.balance-above-else-before.ensures.multiplicities
@@ -196,7 +203,7 @@ pub balance-above-requires-clause-end : goal.balance-above-requires-clause-end
 balance-above-requires-clause-end t c = λ side.
     let o = c.take_apart-left.ensures in
     let i = at true _ c.args.node _ _ _ o.row o.points o.multiplicities
-    (ap (λ z. z.right_first) c.deref.ensures ∙ o.split) (passed _ c.before-2.ensures.0 c.if-before.true) in
+    (ap (λ z. z.right_ends.first) c.deref.ensures ∙ o.split) (passed _ c.before-2.ensures.0 c.if-before.true) in
     let f = c.take_apart-left.result.2.value in
     ends_after true c.insert-change.result.refused side c.args.p c.take_apart-left.result.0 c.take_apart-left.result.1
     c.insert-change.result.node (edge_on side f) _ _ o.row
@@ -213,7 +220,7 @@ pub balance-above-requires-else-before-clause-end : goal.balance-above-requires-
 balance-above-requires-else-before-clause-end t c = λ side.
     let o = c.take_apart-left.ensures in
     let i = at false _ c.args.node _ _ _ o.row o.points o.multiplicities
-    (ap (λ z. z.right_first) c.deref.ensures ∙ o.split) (failed _ c.before-2.ensures.1 c.if-before.false) in
+    (ap (λ z. z.right_ends.first) c.deref.ensures ∙ o.split) (failed _ c.before-2.ensures.1 c.if-before.false) in
     let f = c.take_apart-left.result.2.value in
     ends_after false c.insert-change-else-before.result.refused side c.args.p c.take_apart-left.result.0
     c.take_apart-left.result.1 c.insert-change-else-before.result.node (edge_on side f) _ _ o.row

@@ -5,6 +5,7 @@ use Rattle.lattice.specs.Plane.{Pair, IsBefore}
 use Rattle.leaf_trees.specs.ChainRanges.{entries_from}
 use Rattle.bucket_tree.specs.Lists.{entries_below}
 use Rattle.bucket_tree.specs.Nodes.{IsWellBuilt}
+use Rattle.bucket_tree.specs.declared.node.Ends.{Ends}
 use Rattle.bucket_tree.specs.declared.node.Fork.{Fork as Below}
 use Rattle.bucket_tree.proofs.ListedParts.{fork_parts, both_parts, right_alone}
 use Rattle.bucket_tree.proofs.NodeRows.{halves_row}
@@ -68,6 +69,7 @@ returns-after-not-before-clause-entries t c =
           ap (λ (z : List (Pair × ℕ)). take c.args.most (z ++ entries_from c.args.start (entries_below right)))
           (ap (λ v. v.items) w.entries-is)
           ∙ right_alone c.args.start c.args.most c.args.node.now left right c.args.entries.now.items o row.left_built
-          (subst (λ z. IsBefore z c.args.start) (ap (λ (z : Below). z.last_left) c.deref-in-Fork.ensures ∙ w0.labelled.0)
+          (subst (λ z. IsBefore z c.args.start) (ap (λ (z : Below). z.left_ends.last) c.deref-in-Fork.ensures
+          ∙ ap (λ (z : Ends). z.last) w0.labelled.0)
           (w.if-not-before.ensures.0 refl))
     ]

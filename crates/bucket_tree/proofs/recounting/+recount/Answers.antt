@@ -18,7 +18,7 @@ recount-requires t c =
     ap node_height c.in-Fork.is in
     let k = ap (λ z. node_height z.left) c.deref_mut-then-before.ensures.value in
     let m = count_in true c.args.node.now c.in-Fork.field-0 c.in-Fork.fork c.args.p c.in-Fork.is c.requires.built
-    (subst (IsBefore c.args.p) (ap (λ z. z.right_first) c.deref.ensures)
+    (subst (IsBefore c.args.p) (ap (λ z. z.right_ends.first) c.deref.ensures)
     (passed c.before-in-Fork.result c.before-in-Fork.ensures.0 c.if-before.true)) in
     let v = ap (λ z. multiplicity_at z.left c.args.p) c.deref_mut-then-before.ensures.value in (
       omega (arith, c.decreases, e, k),
@@ -36,7 +36,7 @@ recount-requires-else-before t c =
     ap node_height c.in-Fork.is in
     let k = ap (λ z. node_height z.right) c.deref_mut-else-before.ensures.value in
     let m = count_in false c.args.node.now c.in-Fork.field-0 c.in-Fork.fork c.args.p c.in-Fork.is c.requires.built
-    (subst (λ z. ¬ IsBefore c.args.p z) (ap (λ z. z.right_first) c.deref.ensures)
+    (subst (λ z. ¬ IsBefore c.args.p z) (ap (λ z. z.right_ends.first) c.deref.ensures)
     (failed c.before-in-Fork.result c.before-in-Fork.ensures.1 c.if-before.false)) in
     let v = ap (λ z. multiplicity_at z.right c.args.p) c.deref_mut-else-before.ensures.value in (
       omega (arith, c.decreases, e, k),
@@ -61,7 +61,7 @@ pub returns-then-before : goal.returns-then-before
 returns-then-before t c =
     recounted_in true c.args.multiplicity c.args.p c.args.node.now c.in-Fork.field-0 c.in-Fork.fork
     c.deref_mut-then-before.result.now c.recount.new.node c.deref_mut-then-before.ensures.value c.in-Fork.is
-    c.requires.built (subst (IsBefore c.args.p) (ap (λ z. z.right_first) c.deref.ensures)
+    c.requires.built (subst (IsBefore c.args.p) (ap (λ z. z.right_ends.first) c.deref.ensures)
     (passed c.before-in-Fork.result c.before-in-Fork.ensures.0 c.if-before.true))
     c.recount.ensures
 
@@ -69,6 +69,6 @@ pub returns-else-before : goal.returns-else-before
 returns-else-before t c =
     recounted_in false c.args.multiplicity c.args.p c.args.node.now c.in-Fork.field-0 c.in-Fork.fork
     c.deref_mut-else-before.result.now c.recount-else-before.new.node c.deref_mut-else-before.ensures.value c.in-Fork.is
-    c.requires.built (subst (λ z. ¬ IsBefore c.args.p z) (ap (λ z. z.right_first) c.deref.ensures)
+    c.requires.built (subst (λ z. ¬ IsBefore c.args.p z) (ap (λ z. z.right_ends.first) c.deref.ensures)
     (failed c.before-in-Fork.result c.before-in-Fork.ensures.1 c.if-before.false))
     c.recount-else-before.ensures

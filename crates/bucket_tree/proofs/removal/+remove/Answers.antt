@@ -10,7 +10,7 @@ use Rattle.bucket_tree.specs.Nodes.{points_below, node_height}
 use Rattle.bucket_tree.specs.declared.node.Fork.{Fork}
 use Rattle.bucket_tree.proofs.MostTurns.{one_fork, few_sum, below_fork}
 use Rattle.bucket_tree.proofs.Gained.{passed, failed}
-use Rattle.bucket_tree.proofs.Kept.{behind_as, unaffected_within, first_kept, last_kept, same_edges}
+use Rattle.bucket_tree.proofs.Kept.{behind_as, unaffected_within, ends_kept, same_edges}
 use Rattle.bucket_tree.proofs.InPlace.{among_with}
 use Rattle.bucket_tree.proofs.Lost.{prepared_left, prepared_right}
 use Rattle.bucket_tree.proofs.Parts.{alters_with, at, unaffected_with, differs, few_with, lost_with_none, row_with, same_at}
@@ -21,7 +21,7 @@ pub remove-rest-requires : goal.remove-rest-requires
 remove-rest-requires t c =
     let o = c.take_apart-left.ensures in
     let i = at true _ c.args.node _ _ _ o.row o.points o.multiplicities
-    (ap (λ z. z.right_first) c.deref.ensures ∙ o.split) (passed _ c.before-2.ensures.0 c.if-before.true) in (
+    (ap (λ z. z.right_ends.first) c.deref.ensures ∙ o.split) (passed _ c.before-2.ensures.0 c.if-before.true) in (
       omega (arith, c.decreases, o.height),
       (
         o.row.left_built,
@@ -44,7 +44,7 @@ pub returns-in_default-clause-lost : goal.returns-in_default-clause-lost
 returns-in_default-clause-lost t c =
     let o = c.take_apart-left.ensures in
     let i = at true _ c.args.node _ _ _ o.row o.points o.multiplicities
-    (ap (λ z. z.right_first) c.deref.ensures ∙ o.split) (passed _ c.before-2.ensures.0 c.if-before.true) in
+    (ap (λ z. z.right_ends.first) c.deref.ensures ∙ o.split) (passed _ c.before-2.ensures.0 c.if-before.true) in
     subst (HasLost c.args.p c.args.node) (sym c.other_part.ensures.rest)
     (lost_with_none true _ _ _ _ i
     (subst (HasLost c.args.p c.take_apart-left.result.0) c.in_default.is c.remove-rest.ensures.lost) o.height)
@@ -53,7 +53,7 @@ pub prepare-above-requires-clause-row : goal.prepare-above-requires-clause-row
 prepare-above-requires-clause-row t c =
     let o = c.take_apart-left.ensures in
     let i = at true _ c.args.node _ _ _ o.row o.points o.multiplicities
-    (ap (λ z. z.right_first) c.deref.ensures ∙ o.split) (passed _ c.before-2.ensures.0 c.if-before.true) in
+    (ap (λ z. z.right_ends.first) c.deref.ensures ∙ o.split) (passed _ c.before-2.ensures.0 c.if-before.true) in
     let lost = subst (HasLost c.args.p c.take_apart-left.result.0) c.in-Some.is c.remove-rest.ensures.lost in
     row_with true Goes _ _ _ _ c.in-Some.rest i lost.0 (lost.1, lost.2)
 
@@ -61,17 +61,17 @@ pub prepare-above-requires-clause-few : goal.prepare-above-requires-clause-few
 prepare-above-requires-clause-few t c =
     let o = c.take_apart-left.ensures in
     let i = at true _ c.args.node _ _ _ o.row o.points o.multiplicities
-    (ap (λ z. z.right_first) c.deref.ensures ∙ o.split) (passed _ c.before-2.ensures.0 c.if-before.true) in
+    (ap (λ z. z.right_ends.first) c.deref.ensures ∙ o.split) (passed _ c.before-2.ensures.0 c.if-before.true) in
     let lost = subst (HasLost c.args.p c.take_apart-left.result.0) c.in-Some.is c.remove-rest.ensures.lost in
     few_with true Goes _ _ _ _ c.in-Some.rest i (lost.1, lost.2) c.requires.few
 
-pub last_after-requires-clause-kept : goal.last_after-requires-clause-kept
-last_after-requires-clause-kept t c =
+pub renew_ends-requires-clause-kept : goal.renew_ends-requires-clause-kept
+renew_ends-requires-clause-kept t c =
     let o = c.take_apart-left.ensures in
     let lost = subst (HasLost c.args.p c.take_apart-left.result.0) c.in-Some.is c.remove-rest.ensures.lost in
     let d = differs Goes c.args.p c.take_apart-left.result.0 c.in-Some.rest o.row.left_built.ordered (lost.1, lost.2) in
-    last_kept _ _ _ _ o.row.left_built lost.0 d
-    (ap (λ (f : Fork). f.last_left) c.deref-then-before.ensures ∙ o.last)
+    ends_kept _ _ _ _ o.row.left_built lost.0 d
+    (ap (λ (f : Fork). f.left_ends) c.deref_mut.ensures.value ∙ o.ends.left)
 
 pub prepare-above-requires-clause-behind : goal.prepare-above-requires-clause-behind
 prepare-above-requires-clause-behind t c =
@@ -87,13 +87,17 @@ prepare-above-requires-clause-behind t c =
     (o.stored side) d)
     (same_edges f _ (ap (λ (g : Fork). g.lower) c.deref_mut.ensures.value)
     (ap (λ (g : Fork). g.upper) c.deref_mut.ensures.value))
-    c.last_after.ensures (ap (λ (g : Fork). g.right_first) c.deref_mut.ensures.value ∙ o.split)
+    record {
+      left = c.renew_ends.ensures;
+      right = ap (λ (g : Fork). g.right_ends) c.deref_mut.ensures.value
+          ∙ o.ends.right;
+    }
 
 pub returns-in-Some-clause-lost : goal.returns-in-Some-clause-lost
 returns-in-Some-clause-lost t c =
     let o = c.take_apart-left.ensures in
     let i = at true _ c.args.node _ _ _ o.row o.points o.multiplicities
-    (ap (λ z. z.right_first) c.deref.ensures ∙ o.split) (passed _ c.before-2.ensures.0 c.if-before.true) in
+    (ap (λ z. z.right_ends.first) c.deref.ensures ∙ o.split) (passed _ c.before-2.ensures.0 c.if-before.true) in
     let lost = subst (HasLost c.args.p c.take_apart-left.result.0) c.in-Some.is c.remove-rest.ensures.lost in
     let a = alters_with true Goes _ _ _ _ c.in-Some.rest c.prepare-above.result.node i lost.0
     c.prepare-above.ensures.points c.prepare-above.ensures.multiplicities (lost.1, lost.2) in (
@@ -142,11 +146,21 @@ returns-in_default-clause-turns t c =
           (omega (arith, c.take_apart-left.ensures.height)) c.remove-rest.ensures.turns,
     )
 
+pub returns-in_default-rest-clause-turns : goal.returns-in_default-rest-clause-turns
+returns-in_default-rest-clause-turns t c =
+    omega (
+      arith,
+      c.other_part-in_default-rest.ensures.turns,
+      below_fork (node_height c.args.node) (node_height c.take_apart-left.result.1)
+          c.remove-rest-else-before.result.turns
+          (omega (arith, c.take_apart-left.ensures.height)) c.remove-rest-else-before.ensures.turns,
+    )
+
 pub remove-rest-requires-else-before : goal.remove-rest-requires-else-before
 remove-rest-requires-else-before t c =
     let o = c.take_apart-left.ensures in
     let i = at false _ c.args.node _ _ _ o.row o.points o.multiplicities
-    (ap (λ z. z.right_first) c.deref.ensures ∙ o.split) (failed _ c.before-2.ensures.1 c.if-before.false) in (
+    (ap (λ z. z.right_ends.first) c.deref.ensures ∙ o.split) (failed _ c.before-2.ensures.1 c.if-before.false) in (
       omega (arith, c.decreases, o.height),
       (
         o.row.right_built,
@@ -169,7 +183,7 @@ pub returns-in_default-rest-clause-lost : goal.returns-in_default-rest-clause-lo
 returns-in_default-rest-clause-lost t c =
     let o = c.take_apart-left.ensures in
     let i = at false _ c.args.node _ _ _ o.row o.points o.multiplicities
-    (ap (λ z. z.right_first) c.deref.ensures ∙ o.split) (failed _ c.before-2.ensures.1 c.if-before.false) in
+    (ap (λ z. z.right_ends.first) c.deref.ensures ∙ o.split) (failed _ c.before-2.ensures.1 c.if-before.false) in
     subst (HasLost c.args.p c.args.node) (sym c.other_part-in_default-rest.ensures.rest)
     (lost_with_none false _ _ _ _ i
     (subst (HasLost c.args.p c.take_apart-left.result.1) c.in_default-rest.is
@@ -179,7 +193,7 @@ pub prepare-above-requires-else-before-clause-row : goal.prepare-above-requires-
 prepare-above-requires-else-before-clause-row t c =
     let o = c.take_apart-left.ensures in
     let i = at false _ c.args.node _ _ _ o.row o.points o.multiplicities
-    (ap (λ z. z.right_first) c.deref.ensures ∙ o.split) (failed _ c.before-2.ensures.1 c.if-before.false) in
+    (ap (λ z. z.right_ends.first) c.deref.ensures ∙ o.split) (failed _ c.before-2.ensures.1 c.if-before.false) in
     let lost = subst (HasLost c.args.p c.take_apart-left.result.1) c.in-Some-rest.is
     c.remove-rest-else-before.ensures.lost in
     row_with false Goes _ _ _ _ c.in-Some-rest.rest i lost.0 (lost.1, lost.2)
@@ -188,20 +202,20 @@ pub prepare-above-requires-else-before-clause-few : goal.prepare-above-requires-
 prepare-above-requires-else-before-clause-few t c =
     let o = c.take_apart-left.ensures in
     let i = at false _ c.args.node _ _ _ o.row o.points o.multiplicities
-    (ap (λ z. z.right_first) c.deref.ensures ∙ o.split) (failed _ c.before-2.ensures.1 c.if-before.false) in
+    (ap (λ z. z.right_ends.first) c.deref.ensures ∙ o.split) (failed _ c.before-2.ensures.1 c.if-before.false) in
     let lost = subst (HasLost c.args.p c.take_apart-left.result.1) c.in-Some-rest.is
     c.remove-rest-else-before.ensures.lost in
     few_with false Goes _ _ _ _ c.in-Some-rest.rest i (lost.1, lost.2) c.requires.few
 
-pub first_after-requires-clause-kept : goal.first_after-requires-clause-kept
-first_after-requires-clause-kept t c =
+pub renew_ends-requires-else-before-clause-kept : goal.renew_ends-requires-else-before-clause-kept
+renew_ends-requires-else-before-clause-kept t c =
     let o = c.take_apart-left.ensures in
     let lost = subst (HasLost c.args.p c.take_apart-left.result.1) c.in-Some-rest.is
     c.remove-rest-else-before.ensures.lost in
     let d = differs Goes c.args.p c.take_apart-left.result.1 c.in-Some-rest.rest o.row.right_built.ordered
     (lost.1, lost.2) in
-    first_kept _ _ _ _ o.row.right_built lost.0 d
-    (ap (λ (f : Fork). f.right_first) c.deref-else-before.ensures ∙ o.split)
+    ends_kept _ _ _ _ o.row.right_built lost.0 d
+    (ap (λ (f : Fork). f.right_ends) c.deref_mut-else-before.ensures.value ∙ o.ends.right)
 
 pub prepare-above-requires-else-before-clause-behind : goal.prepare-above-requires-else-before-clause-behind
 prepare-above-requires-else-before-clause-behind t c =
@@ -220,13 +234,16 @@ prepare-above-requires-else-before-clause-behind t c =
     (o.stored side) d)
     (same_edges f _ (ap (λ (g : Fork). g.lower) c.deref_mut-else-before.ensures.value)
     (ap (λ (g : Fork). g.upper) c.deref_mut-else-before.ensures.value))
-    (ap (λ (g : Fork). g.last_left) c.deref_mut-else-before.ensures.value ∙ o.last) c.first_after.ensures
+    record {
+      left = ap (λ (g : Fork). g.left_ends) c.deref_mut-else-before.ensures.value ∙ o.ends.left;
+      right = c.renew_ends-else-before.ensures;
+    }
 
 pub returns-in-Some-rest-clause-lost : goal.returns-in-Some-rest-clause-lost
 returns-in-Some-rest-clause-lost t c =
     let o = c.take_apart-left.ensures in
     let i = at false _ c.args.node _ _ _ o.row o.points o.multiplicities
-    (ap (λ z. z.right_first) c.deref.ensures ∙ o.split) (failed _ c.before-2.ensures.1 c.if-before.false) in
+    (ap (λ z. z.right_ends.first) c.deref.ensures ∙ o.split) (failed _ c.before-2.ensures.1 c.if-before.false) in
     let lost = subst (HasLost c.args.p c.take_apart-left.result.1) c.in-Some-rest.is
     c.remove-rest-else-before.ensures.lost in
     let a = alters_with false Goes _ _ _ _ c.in-Some-rest.rest c.prepare-above-else-before.result.node i lost.0

@@ -5,7 +5,7 @@ use Rattle.hull_buckets.specs.Buckets.{IsCovered}
 use Rattle.bucket_tree.specs.Changes.{IsClearOf}
 use Rattle.bucket_tree.specs.Nodes.{points_below}
 use Rattle.bucket_tree.proofs.Added.{end_moved}
-use Rattle.bucket_tree.proofs.InPlace.{lower_moved}
+use Rattle.bucket_tree.proofs.InPlace.{ends_moved, lower_moved}
 use Rattle.bucket_tree.proofs.Kept.{closes_by}
 use Rattle.bucket_tree.proofs.renewal.renew_edges.Goals as goal
 
@@ -34,6 +34,11 @@ returns-clause-closes c =
     record { lower = c.renew_edge-lower_turns.result.1; upper = c.renew_edge-upper_turns.result.1 } _
     (λ h. subst (λ z. (c.args.sides.lower ≡ false) ⊎ IsCovered Lower c.args.p z) e (c.renew_edge-lower_turns.ensures.closes h))
     c.renew_edge-upper_turns.ensures.closes
+
+pub renew_edge-lower_turns-requires-clause-ends : goal.renew_edge-lower_turns-requires-clause-ends
+renew_edge-lower_turns-requires-clause-ends c =
+    ends_moved Upper c.args.fork.now c.renew_edge-upper_turns.new.fork c.renew_edge-upper_turns.ensures.same
+    c.requires.behind.ends
 
 pub renew_edge-upper_turns-requires-clause-end : goal.renew_edge-upper_turns-requires-clause-end
 renew_edge-upper_turns-requires-clause-end c = c.requires.end Upper

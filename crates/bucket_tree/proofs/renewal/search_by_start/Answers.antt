@@ -1,46 +1,50 @@
 -- the bridge to the start that is still there and the bridge back are one if both have this start
-use Rattle.std.proofs.Common.{◌∙◌, subst, sym}
+use Rattle.std.proofs.Common.{◌∙◌, ap, subst, sym}
 use Rattle.bridge_search.specs.Trees.{On}
 use Rattle.hull_set.proofs.HeldMultiplicities.{returned_same}
 use Rattle.lattice.specs.declared.side.Side.TheVariants.{Lower}
 use Rattle.bucket_tree.specs.Changes.{edge_on}
 use Rattle.bucket_tree.specs.Nodes.{tree_of}
 use Rattle.bucket_tree.specs.OtherEnds.{IsEndFrom}
+use Rattle.bucket_tree.specs.declared.node.Ends.{Ends}
 use Rattle.bucket_tree.proofs.Added.{after_first, back_not_before, before_second, in_bounds, not_after_last, one_by_both}
 use Rattle.bucket_tree.proofs.NodeCandidateLists.{node_candidates}
 use Rattle.bucket_tree.proofs.renewal.search_by_start.Goals as goal
 
-pub end_from-end-requires-clause-after : goal.end_from-end-requires-clause-after
-end_from-end-requires-clause-after c =
+pub other_end-end-requires-clause-beside : goal.other_end-end-requires-clause-beside
+other_end-end-requires-clause-beside c =
     let f = c.args.fork.now in
     rw c.edge.ensures (after_first f.left f.right (edge_on c.args.side f).0 c.requires.row c.requires.there)
 
-pub end_from-end-requires-clause-within : goal.end_from-end-requires-clause-within
-end_from-end-requires-clause-within c = λ q h.
-    in_bounds c.args.fork.now.right q c.first_of.result c.last_of.result c.requires.row.right_built
-    c.first_of.ensures c.last_of.ensures h.to_right
+pub other_end-end-requires-clause-within : goal.other_end-end-requires-clause-within
+other_end-end-requires-clause-within c = λ q h.
+    in_bounds c.args.fork.now.right q c.args.fork.now.right_ends c.requires.row.right_built c.requires.ends.right
+    h.to_right
 
-pub end_to-start-requires-clause-before : goal.end_to-start-requires-clause-before
-end_to-start-requires-clause-before c =
+pub other_end-start-requires-clause-beside : goal.other_end-start-requires-clause-beside
+other_end-start-requires-clause-beside c =
     let f = c.args.fork.now in
-    before_second f.left f.right c.end_from-end.result.0 c.requires.row
-    ((node_candidates Lower f.right c.requires.row.right_built.buckets).among c.end_from-end.result.0
-    c.end_from-end.ensures.end.to_right)
+    before_second f.left f.right c.other_end-end.result.0 c.requires.row
+    ((node_candidates Lower f.right c.requires.row.right_built.buckets).among c.other_end-end.result.0
+    c.other_end-end.ensures.end.to_right)
 
-pub end_to-start-requires-clause-within : goal.end_to-start-requires-clause-within
-end_to-start-requires-clause-within c =
+pub other_end-start-requires-clause-within : goal.other_end-start-requires-clause-within
+other_end-start-requires-clause-within c =
     let f = c.args.fork.now in
     rw c.edge.ensures (λ q h. (
-      back_not_before c.args.side f.left f.right (edge_on c.args.side f) c.end_from-end.result.0 q c.requires.row
-          c.requires.inner c.requires.there c.end_from-end.ensures.end.to_right h,
-      not_after_last f.left q c.last_of-2.result c.requires.row.left_built c.last_of-2.ensures h.from_left,
+      back_not_before c.args.side f.left f.right (edge_on c.args.side f) c.other_end-end.result.0 q c.requires.row
+          c.requires.inner c.requires.there c.other_end-end.ensures.end.to_right h,
+      not_after_last f.left q f.left_ends.last c.requires.row.left_built (ap (λ (z : Ends). z.last)
+          c.requires.ends.left)
+          h.from_left,
     ))
 
 pub returns-then-eq-clause-bridge : goal.returns-then-eq-clause-bridge
 returns-then-eq-clause-bridge c =
     let f = c.args.fork.now in
-    one_by_both c.args.side (On (tree_of f.left)) (On (tree_of f.right)) c.end_to-start.result.0 c.end_from-end.result.0
-    c.end_to-start.ensures.end
-    (subst (λ z. IsEndFrom c.args.side z (tree_of f.right) c.end_from-end.result.0)
-    (sym (returned_same c.end_to-start.result.0 c.edge.result.now.0 (sym c.eq.ensures ∙ c.if-eq.true)))
-    c.end_from-end.ensures.end)
+    one_by_both c.args.side (On (tree_of f.left)) (On (tree_of f.right)) c.other_end-start.result.0
+    c.other_end-end.result.0
+    c.other_end-start.ensures.end
+    (subst (λ z. IsEndFrom c.args.side z (tree_of f.right) c.other_end-end.result.0)
+    (sym (returned_same c.other_end-start.result.0 c.edge.result.now.0 (sym c.eq.ensures ∙ c.if-eq.true)))
+    c.other_end-end.ensures.end)
