@@ -75,4 +75,15 @@ impl Motion {
             Motion::Rotation(d) => point_of(rotated_x(d, p), rotated_y(d, p)),
         }
     }
+
+    /// Returns the point that `p` is moved to, which is in range.
+    pub fn apply_in_range(&self, p: Point) -> Point
+        requires { IsInRange (moved self.now p) }
+        ensures { result ≡ moved self.now p }
+    {
+        match self.apply(p) {
+            Some(q) => q,
+            None => unreachable!(),
+        }
+    }
 }

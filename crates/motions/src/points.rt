@@ -27,10 +27,7 @@ impl Motion {
         requires within { i < length points.now }
         ensures { result ≡ moved self.now (point_at points.now i) }
     {
-        match self.apply(points[i]) {
-            Some(p) => p,
-            None => unreachable!(),
-        }
+        self.apply_in_range(points[i])
     }
 
     /// Returns the index of a point before which there is no other after this motion, by x and then y. O(n).
