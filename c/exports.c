@@ -44,6 +44,9 @@ hull_hit hull_proved_polygon_raycast_segment(const hull_point *vertices, size_t 
                                              int64_t by);
 hull_reply hull_proved_is_polygon(const hull_point *points, size_t count);
 hull_reply hull_proved_polygon_of(const hull_point *points, size_t count, hull_point *out, size_t capacity);
+hull_reply hull_proved_polygon_translate(const hull_point *vertices, size_t count, int64_t dx, int64_t dy, hull_point *out, size_t capacity);
+hull_reply hull_proved_polygon_translate_in_place(hull_point *vertices, size_t count, int64_t dx, int64_t dy);
+hull_reply hull_proved_polygon_rotate(const hull_point *vertices, size_t count, int64_t a, int64_t b, hull_point *out, size_t capacity);
 
 /* whether arrays of vertices are tested, as hull_check_arrays decides */
 static int is_checked;
@@ -276,4 +279,13 @@ hull_reply hull_is_polygon(const hull_point *points, size_t count) {
 
 hull_reply hull_polygon_of(const hull_point *points, size_t count, hull_point *out, size_t capacity) {
     return hull_proved_polygon_of(vertices_at(points, count), count, array(out, capacity), capacity);
+}
+
+hull_reply hull_polygon_translate(const hull_point *vertices, size_t count, int64_t dx, int64_t dy, hull_point *out) {
+    return out == vertices ? hull_proved_polygon_translate_in_place(array(out, count), count, dx, dy)
+                           : hull_proved_polygon_translate(vertices_at(vertices, count), count, dx, dy, array(out, count), count);
+}
+
+hull_reply hull_polygon_rotate(const hull_point *vertices, size_t count, int64_t a, int64_t b, hull_point *out) {
+    return hull_proved_polygon_rotate(vertices_at(vertices, count), count, a, b, array(out, count), count);
 }

@@ -3,3 +3,4 @@ pub mod InOrder
 pub mod VerticesOf
 pub mod Rings
 pub mod Asked
+pub mod OuterPoints
