@@ -4,3 +4,4 @@ pub mod VerticesOf
 pub mod Rings
 pub mod Asked
 pub mod OuterPoints
+pub mod Written

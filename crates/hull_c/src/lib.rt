@@ -29,6 +29,8 @@ ghost use Rattle.hull_c.specs.Pairs.{EncodesRelation, EncodesWhetherWithin, Enco
 ghost use Rattle.hull_c.specs.Held.{AreLoaded, IsListed};
 ghost use Rattle.hull_c.specs.Left.{leaves_storage};
 ghost use Rattle.hull_c.specs.Loads.{IsLoaded};
+ghost use Rattle.hull_c.specs.Many.{AreRelations, AreSegmentsAnswered};
+ghost use Rattle.std.specs.List.{All};
 ghost use Rattle.hull_c.specs.Polygons.{ArePolygonAnswers, IsPolygonAnswer, EncodesPolygon};
 ghost use Rattle.hull_polygon.specs.Polygons.{IsShortPolygon};
 ghost use Rattle.polygon_arrays.specs.Moved.{EncodesRotated, EncodesTranslated};
@@ -42,6 +44,7 @@ mod findings;
 mod held;
 mod hull;
 mod load;
+mod many;
 mod pairs;
 mod polygon;
 mod raycasts;
@@ -59,6 +62,7 @@ use hull_polygon::Length;
 pub use hull_reply::HullPoint;
 use hull_reply::{HullReply, Kind};
 use lattice::Point;
+pub use many::HullSegment;
 pub use pairs::HullWitness;
 pub use raycasts::HullHit;
 pub use requests::HullRequest;
@@ -604,6 +608,32 @@ pub extern "C" fn hull_polygon_of(
     ensures { EncodesVerticesOf points.now out.old out.new result }
 {
     vertices_of::vertices_of(alloc, points, out)
+}
+
+/// Writes for each segment 1 if it and the convex polygon of these vertices intersect, else 0, up to the end or the first
+/// segment with a coordinate out of range; returns how many it wrote.
+#[unsafe(no_mangle)]
+pub extern "C" fn hull_polygon_intersects_segments(
+    vertices: &[Point],
+    segments: &[HullSegment],
+    out: &mut [u8],
+) -> usize
+    requires polygon { IsShortPolygon vertices.now }
+    requires long { length out.old ≡ length segments.now }
+    ensures { AreSegmentsAnswered vertices.now segments.now out.old out.new result }
+{
+    many::intersects_segments(vertices, segments, out)
+}
+
+/// Writes the number of the relation of the convex polygon of the first vertices to each of the others.
+#[unsafe(no_mangle)]
+pub extern "C" fn hull_polygon_relations(vertices: &[Point], others: &[&[Point]], out: &mut [u8])
+    requires this { IsShortPolygon vertices.now }
+    requires that { All (λ o. IsShortPolygon o.now) others.now }
+    requires long { length out.old ≡ length others.now }
+    ensures { AreRelations vertices.now others.now out.new }
+{
+    many::relations(vertices, others, out)
 }
 
 /// Writes the vertices moved by (dx, dy) to another array for as many. Refuses, and leaves the array unchanged, if a
