@@ -1285,7 +1285,7 @@ static int is_polygon_of(const hull_point *points, size_t count) {
     return same && memcmp(wanted, got, sizeof got) == 0;
 }
 
-/* point i of a list of so many: drawn from a grid, a disk, a line in any direction or two corners, at a place and of a size */
+/* point i of a list of so many: drawn from a grid, a disk, a line in any direction or at four points, at a place and of a size */
 static hull_point drawn_point(int shape, int64_t size, hull_point place, uint64_t *seed) {
     hull_point p;
     do {

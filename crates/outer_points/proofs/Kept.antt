@@ -63,12 +63,12 @@ pub kept_or : {F : Type 0} (R : F → Pair → Bool → F → Type 0) (D : Pair 
 kept_or R D f h xs ys (bs, q, l, r, e) t m =
     subst (λ (z : List Pair). Contains z t ⊎ D t) (sym e) (kept_in_turn R D f h bs xs q l r t m)
 
--- points of which only those in the octagon are missing are a candidate list of all points, if its corners are among these
+-- points of which only those in the octagon are missing are a candidate list of all points, if its vertices are among these
 pub candidates : (O : Octagon) (S K : List Pair) → IsOctagonInOrder O → length O.lower ≡ 5 → length O.upper ≡ 5
     → ((side : Side) → All (Contains S) (chain_of side O))
     → ((t : Pair) → Contains K t → Contains S t) → ((t : Pair) → Contains S t → Contains K t ⊎ IsInnerTo O t)
     → (side : Side) → IsCandidateList side (Contains K) (Contains S)
-candidates O S K o five fives corners among missing side = record {
+candidates O S K o five fives chosen among missing side = record {
   among = among;
   under = λ t m. elim (missing t m) [
     | inl k ↦ inl k
@@ -100,7 +100,7 @@ candidates O S K o five fives corners among missing side = record {
     kept side i l =
         let c : Pair = point_at (chain_of side O) i in
         let there = Contains-get_or (chain_of side O) i origin (omega (arith, l, long side)) in
-        elim (missing c (All-contains (Contains S) (chain_of side O) c (corners side) there)) [
+        elim (missing c (All-contains (Contains S) (chain_of side O) c (chosen side) there)) [
           | inl k ↦ k
           | inr d ↦ let u = under side d in absurd (ordered side u.0 c u.1 u.2.0 u.2.1 there)
         ]

@@ -15,7 +15,7 @@ chain_of Upper octagon = octagon.upper
 abbrev pub IsOctagonInOrder : Octagon → Type 0
 IsOctagonInOrder octagon = IsInOrder octagon.lower × IsInOrder octagon.upper
 
--- p is between two successive corners of each chain, and not outwards of their segments
+-- p is between two successive vertices of each chain, and not outwards of their segments
 pub record IsInnerTo (octagon : Octagon) (p : Pair) : Type 0 where
   pub below : IsUnder Lower octagon.lower p
   pub above : IsUnder Upper octagon.upper p

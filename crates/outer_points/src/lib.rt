@@ -1,7 +1,8 @@
 //! Drops points that are no vertices from a list of points, before it is sorted.
 //!
-//! The eight points that are farthest along the axes and the diagonals are the corners of an octagon. What lies in it and is
-//! none of them is no vertex, and one pass finds it (Akl and Toussaint, 1978). Of random points few are left.
+//! The eight points that are farthest along the axes and the diagonals are the vertices of an octagon. What lies in it
+//! and is none of them is no vertex of the hull, and one pass finds it (Akl and Toussaint, 1978). Of random points few are
+//! left.
 //!
 //! # A worked example
 //!

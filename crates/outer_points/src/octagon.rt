@@ -7,7 +7,7 @@ use super::chain::{is_in_order, is_under};
 use super::extremes::Extremes;
 use lattice::{Point, Side};
 
-/// The corners of an octagon, in two chains from its first corner to its last.
+/// The vertices of an octagon, in two chains from the first to the last.
 #[derive(Clone, Copy)]
 pub(crate) struct Octagon {
     lower: [Point; 5],
@@ -17,7 +17,7 @@ pub(crate) struct Octagon {
 impl Octagon {
     ghost use Rattle.outer_points.specs.Octagons.{chain_of, IsOctagonInOrder, IsInnerTo};
 
-    /// Returns the octagon of the points, whose corners are some of them.
+    /// Returns the octagon of the points, whose vertices are some of them.
     pub(crate) fn of(points: &[Point]) -> Octagon
         requires { 0 < length points.now }
         ensures { (side : Side) → All (Contains points.now) (chain_of side result) }
@@ -49,7 +49,7 @@ impl Octagon {
         is_in_order(&self.lower) && is_in_order(&self.upper)
     }
 
-    /// Whether `p` is in the octagon and between two successive corners of each chain.
+    /// Whether `p` is in the octagon and between two successive vertices of each chain.
     pub(crate) fn is_inner(&self, p: Point) -> bool
         ensures { result ≡ true → IsInnerTo self.now p }
     {

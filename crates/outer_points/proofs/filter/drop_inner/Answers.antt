@@ -1,4 +1,4 @@
--- the closure returns false only in the octagon, whose corners stay
+-- the closure returns false only in the octagon, whose vertices stay
 use Rattle.std.proofs.Common.{◌⊎◌, subst, List, arith, rules}
 use Rattle.std.specs.List.{All, Contains}
 use Rattle.lattice.specs.Plane.{Pair}

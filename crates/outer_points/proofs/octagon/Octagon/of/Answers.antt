@@ -1,4 +1,4 @@
--- each corner was read at an index of a point
+-- each vertex was read at an index of a point
 use Rattle.std.proofs.Common.{List, [], ◌∷◌, zero, suc, arith, sym}
 use Rattle.std.specs.List.{All, Contains}
 use Rattle.lattice.specs.Plane.{Pair}
