@@ -44,6 +44,13 @@ hull_hit hull_proved_polygon_raycast_segment(const hull_point *vertices, size_t 
                                              int64_t by);
 hull_reply hull_proved_is_polygon(const hull_point *points, size_t count);
 hull_reply hull_proved_polygon_of(const hull_point *points, size_t count, hull_point *out, size_t capacity);
+size_t hull_proved_polygon_intersects_segments(const hull_point *vertices, size_t count, const hull_segment *segments,
+                                               size_t segment_count, uint8_t *out, size_t capacity);
+void hull_proved_polygon_relations(const hull_point *vertices, size_t count, const hull_polygon *others, size_t other_count, uint8_t *out,
+                                   size_t capacity);
+hull_reply hull_proved_polygon_translate(const hull_point *vertices, size_t count, int64_t dx, int64_t dy, hull_point *out, size_t capacity);
+hull_reply hull_proved_polygon_translate_in_place(hull_point *vertices, size_t count, int64_t dx, int64_t dy);
+hull_reply hull_proved_polygon_rotate(const hull_point *vertices, size_t count, int64_t a, int64_t b, hull_point *out, size_t capacity);
 
 /* whether arrays of vertices are tested, as hull_check_arrays decides */
 static int is_checked;
@@ -276,4 +283,31 @@ hull_reply hull_is_polygon(const hull_point *points, size_t count) {
 
 hull_reply hull_polygon_of(const hull_point *points, size_t count, hull_point *out, size_t capacity) {
     return hull_proved_polygon_of(vertices_at(points, count), count, array(out, capacity), capacity);
+}
+
+hull_reply hull_polygon_translate(const hull_point *vertices, size_t count, int64_t dx, int64_t dy, hull_point *out) {
+    return out == vertices ? hull_proved_polygon_translate_in_place(array(out, count), count, dx, dy)
+                           : hull_proved_polygon_translate(vertices_at(vertices, count), count, dx, dy, array(out, count), count);
+}
+
+hull_reply hull_polygon_rotate(const hull_point *vertices, size_t count, int64_t a, int64_t b, hull_point *out) {
+    return hull_proved_polygon_rotate(vertices_at(vertices, count), count, a, b, array(out, count), count);
+}
+
+size_t hull_polygon_intersects_segments(const hull_point *vertices, size_t count, const hull_segment *segments, size_t segment_count,
+                                        uint8_t *out) {
+    return hull_proved_polygon_intersects_segments(vertices_at(vertices, count), count, (const hull_segment *)array(segments, segment_count),
+                                                   segment_count, (uint8_t *)array(out, segment_count), segment_count);
+}
+
+/* (a list of polygons is passed in parts, so that an array of a polygon without vertices may be null) */
+void hull_polygon_relations(const hull_point *vertices, size_t count, const hull_polygon *others, size_t other_count, uint8_t *out) {
+    hull_polygon part[64];
+    size_t made;
+    for (size_t at = 0; at < other_count; at += made) {
+        for (made = 0; made < 64 && made < other_count - at; made++) {
+            part[made] = (hull_polygon){vertices_at(others[at + made].vertices, others[at + made].count), others[at + made].count};
+        }
+        hull_proved_polygon_relations(vertices_at(vertices, count), count, part, made, out + at, made);
+    }
 }

@@ -1,4 +1,4 @@
-/* Convex polygons that are translated, rotated, and move straight to others, for C, C++, Rust and Python.
+/* Convex polygons that move straight to others, for C, C++, Rust and Python.
  *
  * The first moment of a straight motion: two disjoint convex shapes that move straight towards one another first meet at a vertex of
  * one of them. So that moment is the least of the ways that the vertices of the moving one go to the other, and that the vertices of
@@ -70,59 +70,4 @@ hull_motion hull_polygon_first_meeting(const hull_point *vertices, size_t count,
         keep_sooner_hits(&found, others, other_count, vertices, count, -dx, -dy, 0);
     }
     return found;
-}
-
-hull_reply hull_polygon_translate(const hull_point *vertices, size_t count, int64_t dx, int64_t dy, hull_point *out) {
-    hull_reply reply = hull_refusal(HULL_VERTICES);
-    const hull_reply box = hull_polygon_box(vertices, count);
-    const int64_t most = 2 * HULL_COORDINATE_MAX;
-    reply.number = count;
-    if (count != 0 && (dx < -most || dx > most || dy < -most || dy > most || !is_in_range(box.x + dx) || !is_in_range(box.other_x + dx) ||
-                       !is_in_range(box.y + dy) || !is_in_range(box.other_y + dy))) {
-        return hull_refusal(HULL_OUT_OF_RANGE);
-    }
-    for (size_t i = 0; i < count; i++) {
-        out[i] = (hull_point){vertices[i].x + dx, vertices[i].y + dy};
-    }
-    return reply;
-}
-
-/* Rotates a point by the angle of (a, b), and scales it by its length; returns whether the result is in range. */
-static int rotate_point(hull_point p, int64_t a, int64_t b, hull_point *out) {
-    const __int128 x = (__int128)a * p.x - (__int128)b * p.y, y = (__int128)b * p.x + (__int128)a * p.y;
-    const __int128 most = HULL_COORDINATE_MAX;
-    if (x < -most || x > most || y < -most || y > most) {
-        return 0;
-    }
-    out->x = (int64_t)x, out->y = (int64_t)y;
-    return 1;
-}
-
-static int comes_before(hull_point p, hull_point q) {
-    return p.x != q.x ? p.x < q.x : p.y < q.y;
-}
-
-hull_reply hull_polygon_rotate(const hull_point *vertices, size_t count, int64_t a, int64_t b, hull_point *out) {
-    hull_point first = {0, 0}, rotated;
-    size_t from = 0;
-    hull_reply reply = hull_refusal(HULL_VERTICES);
-    if (!is_in_range(a) || !is_in_range(b)) {
-        return hull_refusal(HULL_OUT_OF_RANGE);
-    }
-    if (a == 0 && b == 0) {
-        return hull_refusal(HULL_ZERO_DIRECTION);
-    }
-    for (size_t i = 0; i < count; i++) {
-        if (!rotate_point(vertices[i], a, b, &rotated)) {
-            return hull_refusal(HULL_OUT_OF_RANGE);
-        }
-        if (i == 0 || comes_before(rotated, first)) {
-            first = rotated, from = i;
-        }
-    }
-    for (size_t i = 0; i < count; i++) {
-        rotate_point(vertices[(from + i) % count], a, b, &out[i]);
-    }
-    reply.number = count;
-    return reply;
 }

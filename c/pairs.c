@@ -1,6 +1,6 @@
 /* Many convex polygons at once, for C, C++, Rust and Python: the pairs that are near one another, by a sweep over their boxes, and
- * the relations of one polygon to each of many. Each pair is asked by the proved calls of the header; a pair that is skipped has
- * boxes farther apart than the given length. */
+ * which input a vertex is. Each pair is asked by the proved calls of the header; a pair that is skipped has boxes farther apart than
+ * the given length. */
 #include "hull.h"
 
 #include <stdlib.h>
@@ -78,26 +78,6 @@ hull_reply hull_pairs_within_distance(const hull_polygon *polygons, size_t count
         qsort(out, (size_t)reply.number, sizeof *out, compare_indices);
     }
     return reply;
-}
-
-void hull_polygon_relations(const hull_point *vertices, size_t count, const hull_polygon *others, size_t other_count,
-                            uint8_t *out) {
-    for (size_t i = 0; i < other_count; i++) {
-        out[i] = (uint8_t)hull_polygon_relation(vertices, count, others[i].vertices, others[i].count).number;
-    }
-}
-
-size_t hull_polygon_intersects_segments(const hull_point *vertices, size_t count, const hull_segment *segments,
-                                        size_t segment_count, uint8_t *out) {
-    for (size_t i = 0; i < segment_count; i++) {
-        const hull_segment s = segments[i];
-        const hull_reply reply = hull_polygon_intersects_segment(vertices, count, s.from.x, s.from.y, s.to.x, s.to.y);
-        if (reply.code != HULL_NUMBER) {
-            return i;
-        }
-        out[i] = (uint8_t)reply.number;
-    }
-    return segment_count;
 }
 
 /* Returns the index of a point among vertices in the order of the header, or `count` if it is none of them: along the lower chain

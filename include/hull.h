@@ -383,14 +383,15 @@ hull_reply hull_polygon_within_distance(const hull_point *vertices, size_t count
  * HULL_DISJOINT; HULL_EMPTY if one has no vertices. */
 hull_witness hull_polygon_witness(const hull_point *vertices, size_t count, const hull_point *others, size_t other_count);
 
-/* Questions of many polygons, each given by its vertices and their number. These are C over the calls above (c/pairs.c),
- * tested and not proved; hull_check_arrays does not apply to their arrays, nor to those that translate and rotate polygons.
+/* Questions of many polygons, each given by its vertices and their number. hull_check_arrays does not apply to their arrays, nor
+ * to those that are translated and rotated.
  *
  * Finds the pairs of polygons whose distance is at most numerator / denominator, as hull_polygon_within_distance; with 0 / 1
  * those that intersect. The pairs (first, second), of indices with first < second, are written to `out` in their order. Returns
  * HULL_NUMBER with how many there are; HULL_TOO_SMALL with the same, and then `out` contains some of them; or HULL_NO_MEMORY
  * (it allocates 40 bytes for each polygon). Polygons without vertices are in no pair. Boxes are swept in the order of their
- * left sides, so that pairs that are far apart along x or y cost nothing or a comparison. */
+ * left sides, so that pairs that are far apart along x or y cost nothing or a comparison. This is C over the calls above
+ * (c/pairs.c), tested and not proved. */
 typedef struct hull_polygon {
     const hull_point *vertices;
     size_t count;
@@ -402,12 +403,12 @@ typedef struct hull_pair {
 hull_reply hull_pairs_within_distance(const hull_polygon *polygons, size_t count, uint64_t numerator, uint32_t denominator,
                                       hull_pair *out, size_t capacity);
 
-/* Writes the hull_relation of the polygon to each of the others, as hull_polygon_relation. */
+/* Writes the hull_relation of the polygon to each of the others, as hull_polygon_relation: its cost for each. */
 void hull_polygon_relations(const hull_point *vertices, size_t count, const hull_polygon *others, size_t other_count,
                             uint8_t *out);
 
 /* Writes for each segment 1 if the polygon intersects it, else 0, up to the end or the first segment with a coordinate out of
- * range; returns how many it wrote. */
+ * range; returns how many it wrote. O(log n) for each. */
 typedef struct hull_segment {
     hull_point from;
     hull_point to;
@@ -416,7 +417,7 @@ size_t hull_polygon_intersects_segments(const hull_point *vertices, size_t count
                                         size_t segment_count, uint8_t *out);
 
 /* Writes for each vertex the index of the first of the points that is equal to it, or `point_count` if none is: which input a
- * vertex of hull_polygon_of is. Returns how many vertices are among the points. */
+ * vertex of hull_polygon_of is. Returns how many vertices are among the points. This is C, tested and not proved (c/pairs.c). */
 size_t hull_polygon_indices(const hull_point *vertices, size_t count, const hull_point *points, size_t point_count,
                             size_t *out);
 
@@ -534,12 +535,13 @@ hull_motion hull_polygon_first_meeting(const hull_point *vertices, size_t count,
                                        int64_t dx, int64_t dy);
 
 /* Writes the polygon translated by (dx, dy) to an array for as many vertices, which may be the same array. Returns
- * HULL_VERTICES with how many; or fails with HULL_OUT_OF_RANGE if a coordinate would be, and writes nothing. */
+ * HULL_VERTICES with how many; or fails with HULL_OUT_OF_RANGE if a coordinate would be, and writes nothing. O(n). */
 hull_reply hull_polygon_translate(const hull_point *vertices, size_t count, int64_t dx, int64_t dy, hull_point *out);
 
 /* Writes the polygon rotated about the origin by the angle of (a, b), and scaled by its length, to another array for as many
  * vertices, in integers. For a rational angle, such as (3, 4), scale all other polygons alike, which (5, 0) does. Returns
- * HULL_VERTICES with how many; or fails with HULL_OUT_OF_RANGE if a coordinate is or would be, or HULL_ZERO_DIRECTION. */
+ * HULL_VERTICES with how many; or fails with HULL_OUT_OF_RANGE if a coordinate is or would be, or HULL_ZERO_DIRECTION, and writes
+ * nothing. O(n). */
 hull_reply hull_polygon_rotate(const hull_point *vertices, size_t count, int64_t a, int64_t b, hull_point *out);
 
 /* A support function for directions in doubles: returns the first of the farthest points in the direction (dx, dy), scaled to
@@ -564,10 +566,11 @@ hull_reply hull_is_polygon(const hull_point *points, size_t count);
 
 /* Writes the vertices of any points to the front of the array of `capacity` points, as a convex polygon: those that
  * hull_vertices writes for a set of these points. Returns HULL_VERTICES; HULL_TOO_SMALL, and `number` points are needed; or
- * fails and leaves the array unchanged: HULL_OUT_OF_RANGE (any of them), else HULL_TOO_MANY (more different points than
- * HULL_LIMIT_MAX, or one more often than HULL_MULTIPLICITY_MAX) or HULL_NO_MEMORY. `count` points always suffice. If the points
- * are the vertices of a convex polygon in order, from any vertex on and in either sense, it makes a few passes over them; else
- * it sorts them. The arrays are as for hull_vertices and do not overlap. */
+ * fails and leaves the array unchanged: HULL_OUT_OF_RANGE (any of them), else HULL_TOO_MANY (of those that it sorts, more are
+ * different than HULL_LIMIT_MAX, or one is there more often than HULL_MULTIPLICITY_MAX) or HULL_NO_MEMORY. `count` points always
+ * suffice. If a sample shows that many points lie inside, it drops these by two passes, O(n), and sorts the others. Else, if the
+ * points are the vertices of a convex polygon in order, from any vertex on and in either sense, it makes a few passes over them;
+ * and else it sorts them, O(n log n). The arrays are as for hull_vertices and do not overlap. */
 hull_reply hull_polygon_of(const hull_point *points, size_t count, hull_point *out, size_t capacity);
 
 #ifdef __cplusplus

@@ -1080,10 +1080,10 @@ class Polygon(_Questions):
 
     @classmethod
     def of(cls, points: Any) -> Polygon:
-        """Returns the convex polygon of any points, in any order; TooMany as `Hull.load`.
+        """Returns the convex polygon of any points, in any order; TooMany as `Hull.load`, but for points that are not sorted.
 
-        If they are the vertices of a convex polygon in order, from any vertex on and in either sense, that takes a few passes over them;
-        else they are sorted.
+        If a sample shows that many points lie inside, two passes drop these, and the others are sorted. Else, if the points are the
+        vertices of a convex polygon in order, from any vertex on and in either sense, that takes a few passes; else all are sorted.
         """
         made = cls(())
         made._set_vertices(_vertices_of(_flat(points)))

@@ -1,8 +1,9 @@
 #!/bin/sh
 # This library in C++ beside its peers, in one process, in turns: changes beside CGAL's Delaunay hierarchy and vertices kept in an
-# array, questions about a set that does not change beside sort and chain, CGAL, GEOS and Boost, shapes two at a time beside Box2D and
-# libccd, and the indices of the vertices beside SciPy. Needs c++ and the headers of the peers (Debian: libcgal-dev libgeos-dev libboost-dev libbox2d-dev
-# libccd-dev python3-scipy), and reports if they are not there.
+# array, the polygon of any points beside CGAL's convex hull, questions about a set that does not change beside sort and chain,
+# CGAL, GEOS and Boost, shapes two at a time beside Box2D and libccd, and the indices of the vertices beside SciPy. Needs c++ and the
+# headers of the peers (Debian: libcgal-dev libgeos-dev libboost-dev libbox2d-dev libccd-dev python3-scipy), and reports if they
+# are not there.
 #
 # run.sh [ROUNDS]: the least of so many rounds (3 if none is given)
 set -eu
@@ -23,6 +24,10 @@ for points in 1000 10000; do
     for shape in parabola circle spike outermost outwards inwards spiral; do
         "$room/changes" "$shape" "$points" "${1:-3}"
     done
+done
+c++ -std=c++17 -O2 -DNDEBUG -frounding-math -I"$room/include" "$here/polygon_of.cpp" -L"$room/lib" -lhull -lgmp -lmpfr -o "$room/polygon_of"
+for points in 1000 100000 1000000; do
+    "$room/polygon_of" "$points" "${1:-3}"
 done
 c++ -std=c++17 -O2 -I"$room/include" "$here/memory.cpp" -L"$room/lib" -lhull -o "$room/memory"
 "$room/memory" 1000000

@@ -1272,7 +1272,7 @@ static void check_numbers(void) {
 
 /* whether hull_polygon_of writes what a hull of these points has */
 static int is_polygon_of(const hull_point *points, size_t count) {
-    enum { CAPACITY = 64 };
+    enum { CAPACITY = 1024 };
     hull_point wanted[CAPACITY], got[CAPACITY];
     hull_set *h = hull_new(CAPACITY);
     memset(got, 5, sizeof got);
@@ -1283,6 +1283,46 @@ static int is_polygon_of(const hull_point *points, size_t count) {
     same &= r.number == 0 || number(hull_polygon_of(points, count, got, (size_t)r.number - 1), HULL_TOO_SMALL, r.number);
     hull_free(h);
     return same && memcmp(wanted, got, sizeof got) == 0;
+}
+
+/* point i of a list of so many: drawn from a grid, a disk, a line in any direction or at four points, at a place and of a size */
+static hull_point drawn_point(int shape, int64_t size, hull_point place, uint64_t *seed) {
+    hull_point p;
+    do {
+        *seed ^= *seed << 13, *seed ^= *seed >> 7, *seed ^= *seed << 17;
+        p.x = (int64_t)(*seed % (uint64_t)(2 * size + 1)) - size, p.y = (int64_t)(*seed / 65537 % (uint64_t)(2 * size + 1)) - size;
+    } while (shape == 1 && (__int128)p.x * p.x + (__int128)p.y * p.y > (__int128)size * size);
+    if (shape == 2) {
+        p.y = size % 3 == 0 ? 0 : size % 3 == 1 ? p.x : -p.x;
+    } else if (shape == 3) {
+        p.y = p.x, p.x = 0;
+    } else if (shape == 4) {
+        p.x = p.x < 0 ? -size : size, p.y = p.y < 0 ? -size : size;
+    }
+    return (hull_point){place.x + p.x, place.y + p.y};
+}
+
+/* so many points that those inside are dropped before the others are sorted: with many on each edge, on one line, or equal */
+static void check_polygons_of_many_points(void) {
+    enum { MOST = 1000 };
+    static hull_point points[MOST];
+    const int64_t far = HULL_COORDINATE_MAX;
+    uint64_t seed = 88172645463325252u;
+    int same = 1;
+    for (int round = 0; round < 3000; round++) {
+        const int64_t size = round % 7 == 0 ? far / 2 : 1 + round / 7 % 40;
+        const hull_point place = {round % 3 == 0 ? far / 2 : 0, round % 5 == 0 ? -far / 2 : 0};
+        const size_t count = 250 + (size_t)round % 60 * (round % 11 == 0 ? 12 : 1);
+        for (size_t i = 0; i < count; i++) {
+            points[i] = drawn_point(round % 5, size, place, &seed);
+        }
+        same &= is_polygon_of(points, count);
+    }
+    CHECK(same);
+    for (size_t i = 0; i < MOST; i++) { /* a convex polygon with points in it, which are no ring */
+        points[i] = i % 2 ? (hull_point){(int64_t)i * 3 % 100, 10} : (hull_point){(int64_t)i, (int64_t)(i * i)};
+    }
+    CHECK(is_polygon_of(points, MOST));
 }
 
 /* polygons of any points: rings from each vertex on and in either sense, and points in any order */
@@ -1431,6 +1471,7 @@ int main(int words, char **word) {
     check_bridges();
     check_polygons();
     check_polygons_of_points();
+    check_polygons_of_many_points();
     check_encounters();
     check_two_polygons();
     check_many_polygons();

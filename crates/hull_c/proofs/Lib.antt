@@ -3,3 +3,5 @@ pub mod InOrder
 pub mod VerticesOf
 pub mod Rings
 pub mod Asked
+pub mod OuterPoints
+pub mod Written

@@ -1,6 +1,6 @@
 -- Points in another order have the same vertices.
 use Rattle.std.proofs.Common.{◌≡◌, ℕ, zero, suc, ◌++◌, List, [], ◌∷◌, take, drop, inl, inr, sym, subst, arith}
-use Rattle.std.specs.Prelude.{◌⊎◌}
+use Rattle.std.specs.Prelude.{◌⊎◌, ◌↔◌}
 use Rattle.std.specs.List.{Contains}
 use Rattle.std.proofs.lemmas.List.{take-append-drop}
 use Rattle.std.proofs.lemmas.List.Elements.{Contains-append_left, Contains-append_right, Contains-append_cases}
@@ -16,7 +16,7 @@ use Rattle.leaf_trees.specs.Entries.{held_after_adds}
 use Rattle.hull_c.specs.VerticesOf.{AreVerticesOf, HaveSamePoints}
 
 -- adding points leaves a point set
-added_set : (ps : List Pair) (h : Held) → IsPointSet h.points → IsPointSet (held_after_adds h ps).points
+pub added_set : (ps : List Pair) (h : Held) → IsPointSet h.points → IsPointSet (held_after_adds h ps).points
 added_set [] h s = s
 added_set (p ∷ ps) h s = added_set ps (with_new p h) (with_point_law h.points p s).0
 
@@ -51,16 +51,19 @@ added_all (p ∷ ps) h t s (inr m) =
     only p t (zero, l, e) = sym e
     only p t (suc i, l, e) = absurd (omega (arith, l))
 
+-- the set of some points has these points
+pub set_same : (ps : List Pair) (t : Pair) → Contains (held_after_adds nothing_held ps).points t ↔ Contains ps t
+set_same ps t = (
+  λ m. elim (added_from ps nothing_held t AllPairs-none m) [ inl k ↦ absurd (omega (arith, k.1)) | inr k ↦ k ],
+  λ m. added_all ps nothing_held t AllPairs-none (inr m),
+)
+
 -- a convex polygon with vertices of its own points is also that of those points in another order
 pub own_vertices : (points vertices : List Pair) → IsOwnPolygon vertices → HaveSamePoints vertices points
     → AreVerticesOf points vertices
 own_vertices points vertices own same =
     own (held_after_adds nothing_held points).points (added_set points nothing_held AllPairs-none)
-    (λ t. (
-      λ m. (same t).1 (elim (added_from points nothing_held t AllPairs-none m)
-          [ inl k ↦ absurd (omega (arith, k.1)) | inr k ↦ k ]),
-      λ m. added_all points nothing_held t AllPairs-none (inr ((same t).0 m)),
-    ))
+    (λ t. (λ m. (same t).1 ((set_same points t).0 m), λ m. (set_same points t).1 ((same t).0 m)))
 
 -- a list whose two parts are exchanged has the same points
 pub turned_same : (k : ℕ) (xs ys : List Pair) → ys ≡ drop k xs ++ take k xs → HaveSamePoints ys xs

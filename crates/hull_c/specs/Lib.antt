@@ -10,3 +10,4 @@ pub mod Pairs
 pub mod VerticesOf
 pub mod DistanceBounds
 pub mod Raycasts
+pub mod Many

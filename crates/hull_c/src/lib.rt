@@ -8,7 +8,7 @@
 //! (`proofs/hull_*/Proof.antt`) shows that it lends the set to the function and takes it back.
 #![tactic(auto)]
 
-ghost use Rattle.std.specs.Prelude.{◌≡◌};
+ghost use Rattle.std.specs.Prelude.{◌≡◌, length};
 ghost use Rattle.std.specs.Borrow.{full_share, sem};
 ghost use Rattle.std.specs.Ptr.{lies_at, room_at};
 ghost use Rattle.hull_c.specs.contracts.hull.Hull.{the_row};
@@ -29,8 +29,11 @@ ghost use Rattle.hull_c.specs.Pairs.{EncodesRelation, EncodesWhetherWithin, Enco
 ghost use Rattle.hull_c.specs.Held.{AreLoaded, IsListed};
 ghost use Rattle.hull_c.specs.Left.{leaves_storage};
 ghost use Rattle.hull_c.specs.Loads.{IsLoaded};
+ghost use Rattle.hull_c.specs.Many.{AreRelations, AreSegmentsAnswered};
+ghost use Rattle.std.specs.List.{All};
 ghost use Rattle.hull_c.specs.Polygons.{ArePolygonAnswers, IsPolygonAnswer, EncodesPolygon};
 ghost use Rattle.hull_polygon.specs.Polygons.{IsShortPolygon};
+ghost use Rattle.polygon_arrays.specs.Moved.{EncodesRotated, EncodesTranslated};
 ghost use Rattle.hull_c.specs.Requests.{AreServed};
 ghost use Rattle.hull_c.specs.Calls.{AreVertices, IsCleared, IsFresh, IsLimitOf, IsPrepared};
 
@@ -41,6 +44,7 @@ mod findings;
 mod held;
 mod hull;
 mod load;
+mod many;
 mod pairs;
 mod polygon;
 mod raycasts;
@@ -58,6 +62,7 @@ use hull_polygon::Length;
 pub use hull_reply::HullPoint;
 use hull_reply::{HullReply, Kind};
 use lattice::Point;
+pub use many::HullSegment;
 pub use pairs::HullWitness;
 pub use raycasts::HullHit;
 pub use requests::HullRequest;
@@ -603,6 +608,75 @@ pub extern "C" fn hull_polygon_of(
     ensures { EncodesVerticesOf points.now out.old out.new result }
 {
     vertices_of::vertices_of(alloc, points, out)
+}
+
+/// Writes for each segment 1 if it and the convex polygon of these vertices intersect, else 0, up to the end or the first
+/// segment with a coordinate out of range; returns how many it wrote.
+#[unsafe(no_mangle)]
+pub extern "C" fn hull_polygon_intersects_segments(
+    vertices: &[Point],
+    segments: &[HullSegment],
+    out: &mut [u8],
+) -> usize
+    requires polygon { IsShortPolygon vertices.now }
+    requires long { length out.old ≡ length segments.now }
+    ensures { AreSegmentsAnswered vertices.now segments.now out.old out.new result }
+{
+    many::intersects_segments(vertices, segments, out)
+}
+
+/// Writes the number of the relation of the convex polygon of the first vertices to each of the others.
+#[unsafe(no_mangle)]
+pub extern "C" fn hull_polygon_relations(vertices: &[Point], others: &[&[Point]], out: &mut [u8])
+    requires this { IsShortPolygon vertices.now }
+    requires that { All (λ o. IsShortPolygon o.now) others.now }
+    requires long { length out.old ≡ length others.now }
+    ensures { AreRelations vertices.now others.now out.new }
+{
+    many::relations(vertices, others, out)
+}
+
+/// Writes the vertices moved by (dx, dy) to another array for as many. Refuses, and leaves the array unchanged, if a
+/// coordinate would be out of range.
+#[unsafe(no_mangle)]
+pub extern "C" fn hull_polygon_translate(
+    vertices: &[Point],
+    dx: i64,
+    dy: i64,
+    out: &mut [HullPoint],
+) -> HullReply
+    requires { length out.old ≡ length vertices.now }
+    ensures { EncodesTranslated vertices.now dx dy out.old out.new result }
+{
+    polygon_arrays::translate(vertices, dx, dy, out)
+}
+
+/// Moves the vertices by (dx, dy). Refuses, and leaves them unchanged, if a coordinate would be out of range.
+#[unsafe(no_mangle)]
+pub extern "C" fn hull_polygon_translate_in_place(
+    vertices: &mut [Point],
+    dx: i64,
+    dy: i64,
+) -> HullReply
+    ensures { EncodesTranslated vertices.old dx dy vertices.old vertices.new result }
+{
+    polygon_arrays::translate_in_place(vertices, dx, dy)
+}
+
+/// Writes the vertices rotated about the origin by the angle of (a, b), and scaled by its length, to another array for
+/// as many, from the first one by x and then y. Refuses, and leaves the array unchanged, if (a, b) is no direction or a
+/// coordinate would be out of range.
+#[unsafe(no_mangle)]
+pub extern "C" fn hull_polygon_rotate(
+    vertices: &[Point],
+    a: i64,
+    b: i64,
+    out: &mut [HullPoint],
+) -> HullReply
+    requires { length out.old ≡ length vertices.now }
+    ensures { EncodesRotated vertices.now a b out.old out.new result }
+{
+    polygon_arrays::rotate(vertices, a, b, out)
 }
 
 /// Returns the size of the storage of a set, in bytes.

@@ -14,6 +14,7 @@ use hull_reply::{Code, HullPoint, HullReply, put_vertices};
 use hull_set::{HullSet, POINT_LIMIT};
 use lattice::{Point, before};
 use leaf_trees::{Listed, LoadFault};
+use outer_points::{are_many_inner, drop_inner};
 
 /// Returns the index of a point before which there is no other, by x and then y.
 fn first_place(points: &[Point]) -> usize
@@ -77,6 +78,16 @@ fn by_a_hull(alloc: Heap, points: &[Point], out: &mut [HullPoint]) -> HullReply
     put_vertices(&vertices, out)
 }
 
+/// Writes the vertices of points by building a set of those of them that may be vertices.
+fn by_outer_points(alloc: Heap, points: &mut Vec<Point, Heap>, out: &mut [HullPoint]) -> HullReply
+    requires { 0 < length points.old.items }
+    ensures { WritesVerticesOf points.old.items out.old out.new result
+        ⊎ AreTooManyOrRefused points.old.items out.old out.new result }
+{
+    drop_inner(points);
+    by_a_hull(alloc, points, out)
+}
+
 /// Writes the vertices if the points are a ring of a convex polygon; else returns `None`.
 fn by_their_ring(ring: &mut Vec<Point, Heap>, out: &mut [HullPoint]) -> Option<HullReply>
     requires { 0 < length ring.old.items }
@@ -90,8 +101,10 @@ fn by_their_ring(ring: &mut Vec<Point, Heap>, out: &mut [HullPoint]) -> Option<H
     }
 }
 
-/// Writes the vertices of the points to the front of the array, if all of them fit. If the points are a ring of a
-/// convex polygon, from any vertex on and in either direction, this takes a few passes; else it builds a set of them.
+/// Writes the vertices of the points to the front of the array, if all of them fit. If many points lie inside, which a
+/// sample of them shows, these are dropped by two passes and the others sorted: O(n + k log k) for k points that are left.
+/// Else, if the points are a ring of a convex polygon, from any vertex on and in either direction, this takes a few
+/// passes; and else it sorts all of them, in O(n log n).
 pub(crate) fn vertices_of(alloc: Heap, array: &[HullPoint], out: &mut [HullPoint]) -> HullReply
     ensures { EncodesVerticesOf array.now out.old out.new result }
 {
@@ -102,6 +115,9 @@ pub(crate) fn vertices_of(alloc: Heap, array: &[HullPoint], out: &mut [HullPoint
         Ok(points) => points,
         Err(fault) => return HullReply::bare(fault),
     };
+    if are_many_inner(&points) {
+        return by_outer_points(alloc, &mut points, out);
+    }
     if let Some(encoded) = by_their_ring(&mut points, out) {
         return encoded;
     }

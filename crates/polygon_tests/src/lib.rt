@@ -1,4 +1,5 @@
-//! Tests of polygons compared with the plain set, over the public surface of these crates.
+//! Tests of polygons compared with the plain set, of points that are dropped before a polygon is made, and of motions, over
+//! the public surface of these crates.
 #![tactic(auto)]
 
 #[cfg(test)]
@@ -10,8 +11,12 @@ mod distance_bounds;
 #[cfg(test)]
 mod distances;
 #[cfg(test)]
+mod dropped;
+#[cfg(test)]
 mod lists;
 #[cfg(test)]
 mod meetings;
+#[cfg(test)]
+mod moved;
 #[cfg(test)]
 mod stays;

@@ -177,8 +177,9 @@ impl Polygon {
     }
 
     /// Returns the convex polygon of any points. Fails with [`Fault::OutOfRange`], and [`Fault::TooMany`] as
-    /// [`Hull::load`](crate::Hull::load). If they are the vertices of a convex polygon in order, from any vertex on and in either
-    /// sense, it makes a few passes over them; else it sorts them.
+    /// [`Hull::load`](crate::Hull::load), but for points that are not sorted. If a sample shows that many points lie inside, two
+    /// passes drop these, and the others are sorted. Else, if the points are the vertices of a convex polygon in order, from any
+    /// vertex on and in either sense, it makes a few passes over them; else it sorts them.
     pub fn of_points(points: &[Point]) -> Result<Polygon, Fault> {
         let vertices = written_vertices(|out| {
             // SAFETY: both arrays are slices' own and were written.

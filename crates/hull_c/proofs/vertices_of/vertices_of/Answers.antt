@@ -11,6 +11,6 @@ returns-in-Ok-points_of c =
     ⊎ AreTooManyOrRefused points before c.by_a_hull.new.out c.by_a_hull.result in
     inr (
       c.in-Ok-points_of.ensures.all.1,
-      subst (λ (z : List Pair). Encoded z c.args.out.now) (c.deref.ensures.value ∙ c.in-Ok-points_of.ensures.all.0)
-          (subst (λ (z : List Pair). Encoded c.deref.result.now z) c.in_default.ensures.encoded c.by_a_hull.ensures),
+      subst (λ (z : List Pair). Encoded z c.args.out.now) (c.deref-in-Ok-points_of.ensures.value ∙ c.in-Ok-points_of.ensures.all.0)
+          (subst (λ (z : List Pair). Encoded c.deref-in-Ok-points_of.result.now z) c.in_default.ensures.encoded c.by_a_hull.ensures),
     )

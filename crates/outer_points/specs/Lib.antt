@@ -1,0 +1,4 @@
+pub mod Chains
+pub mod Extremes
+pub mod Octagons
+pub mod Sublists
