@@ -76,7 +76,7 @@ done
 
 # at the slots
 copy
-change '/^        announce\(call, number, to\);/{N;s/\n.*$/\n        reply.answer.code = HULL_NOT_YET;/}'
+change '/^        announce\(call, number, to\);/{N;s/\n.*$/\n        reply->answer.code = HULL_NOT_YET;/}'
 try 'a seat does not look once more after its announcement' hang 8
 
 copy
