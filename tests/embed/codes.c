@@ -712,6 +712,19 @@ static void check_many_polygons(void) {
         }
     }
     CHECK(same && grows && last == 32 * 31 / 2);
+    enum { LONG = 200 }; /* a long list, in which some polygons have no vertices and no array */
+    hull_polygon list[LONG];
+    uint8_t each[LONG], none[LONG];
+    for (int i = 0; i < LONG; i++) {
+        list[i] = i % 5 == 0 ? (hull_polygon){NULL, 0} : all[i % MANY];
+    }
+    hull_polygon_relations(all[1].vertices, all[1].count, list, LONG, each);
+    hull_polygon_relations(NULL, 0, list, LONG, none);
+    for (int i = 0; i < LONG; i++) {
+        same &= each[i] == hull_polygon_relation(all[1].vertices, all[1].count, list[i].vertices, list[i].count).number;
+        same &= none[i] == hull_polygon_relation(NULL, 0, list[i].vertices, list[i].count).number;
+    }
+    CHECK(same);
     CHECK(number(hull_pairs_within_distance(all, MANY, UINT64_MAX, 1, pairs, MANY), HULL_TOO_SMALL, 32 * 31 / 2));
     CHECK(number(hull_pairs_within_distance(all, MANY, 1, 0, NULL, 0), HULL_TOO_SMALL, 32 * 31 / 2));
     CHECK(number(hull_pairs_within_distance(NULL, 0, 1, 1, NULL, 0), HULL_NUMBER, 0));
