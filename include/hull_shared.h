@@ -188,8 +188,8 @@ hull_shared_reply hull_shared_take(hull_shared_seat *seat, uint32_t kind, int64_
  * NOT_YET. For vertices it returns how many there are. */
 hull_shared_reply hull_shared_look(hull_shared_seat *seat);
 
-/* Takes a number as hull_shared_take does, and if it did, looks once as hull_shared_look does: in one call, where no other seat
- * has a number. Returns the reply of the look; or of the take, if no number was taken: VACANT, WAITING, UNKNOWN_KIND,
+/* Takes a number as hull_shared_take does, and if it did, looks once as hull_shared_look does: in one call, if no other seat has a
+ * number before it. Returns the reply of the look; or of the take, if no number was taken: VACANT, WAITING, UNKNOWN_KIND,
  * OUT_OF_RANGE, ZERO_DIRECTION. */
 hull_shared_reply hull_shared_take_and_look(hull_shared_seat *seat, uint32_t kind, int64_t x, int64_t y);
 
