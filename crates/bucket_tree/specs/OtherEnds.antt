@@ -51,8 +51,9 @@ IsEndAt End side p v q = IsEndFrom side p v q
 abbrev pub IsEndWithin : BridgeEnd → Side → Pair → Tree → Pair → Pair → Type 0
 IsEndWithin end side p v first last = (q : Pair) → IsEndAt end side p v q → IsNotBeyond first last q
 
--- the end of the upper bridge is in the right one of the halves with this edge: the edge's line goes under the point
--- before it, or its start lies on or under the line from the point after it to its end
+-- the searched end of the upper bridge is in the right one of the two halves with this edge: if the start is searched,
+-- the point lies under the line of the edge; if the end is, the edge's second point lies on or over the line from the
+-- point through its first one
 abbrev pub IsToTheRight : BridgeEnd → Pair → Pair × Pair → Type 0
 IsToTheRight Start p e = orient e.0 e.1 p <ℤ pos 0
 IsToTheRight End p e = pos 0 ≤ℤ orient p e.0 e.1

@@ -128,8 +128,8 @@ gap_within low high count mask g =
     (omega (arith, g.is, a, b), omega (arith, g.is, a, b, p))
 
 -- and are after all of the lower one
-pub gap_behind : (low high count mask : ℕ) → IsGap low high count mask → AreApart low mask
-gap_behind low high count mask g =
+pub gap_after : (low high count mask : ℕ) → IsGap low high count mask → AreApart low mask
+gap_after low high count mask g =
     (g.start, g.behind, ap (λ (n : ℕ). n % 2 ^ g.start) g.is ∙ gap_apart g.start g.end g.order)
 
 -- the last vertex before the points between, by its index

@@ -1,11 +1,13 @@
 //! How many turns of bridge search the changes of the two trees take: the greatest number of one change, and the mean.
 //!
 //! `turn_counts N..` adds N random points of the whole range to each tree (`build`), and then N times removes a random one and adds another
-//! (`churn`), for each N from 1 to 1048576; 1000 if none is given. The points come from a fixed seed. The bound of one change is 10,000, by the
-//! contracts of `add_counted` and `remove_counted`.
+//! (`churn`), for each N from 1 to 1048576; 1000 if none is given. The points come from a fixed seed. Then it adds N points of a parabola from its
+//! middle outwards, removes the outermost again and again, adds them from the ends inwards, and adds and removes a point far above all of them
+//! (`outwards`, `outermost`, `inwards`, `spike`). The bound of one change is 10,000, by the contracts of `add_counted` and `remove_counted`.
 #![tactic(auto)]
 
 mod counted;
+mod orders;
 mod random;
 mod tally;
 
@@ -14,6 +16,7 @@ use counted::CountedSet;
 use hull_set::POINT_LIMIT;
 use hull_tree::HullTree;
 use lattice::Point;
+use orders::{add_inwards, add_outwards, change_spike, remove_outermost};
 use random::Random;
 use std::alloc::{AllocError, Global};
 use std::env;
@@ -77,12 +80,27 @@ fn measure<R: Print, S: CountedSet>(
     Ok(())
 }
 
+/// Counts the turns of this many points of a parabola in a set, and writes a line for each order of changes.
+fn measure_orders<R: Print, S: CountedSet>(rt: &R, mut set: S, count: u32) {
+    let outwards = add_outwards(&mut set, count);
+    let _ = println!(rt; "outwards {count}: {outwards}");
+    let outermost = remove_outermost(&mut set, count);
+    let _ = println!(rt; "outermost {count}: {outermost}");
+    let inwards = add_inwards(&mut set, count);
+    let _ = println!(rt; "inwards {count}: {inwards}");
+    let spike = change_spike(&mut set, count);
+    let _ = println!(rt; "spike {count}: {spike}");
+}
+
 /// Counts the turns of this many points in both trees.
 fn measure_both<R: Print>(rt: &R, alloc: Global, count: u32) -> Result<(), AllocError> {
     let _ = println!(rt; "each bridge searched");
     measure(rt, alloc, HullTree::new(alloc, POINT_LIMIT), count)?;
+    measure_orders(rt, HullTree::new(alloc, POINT_LIMIT), count);
     let _ = println!(rt; "buckets, with bridges kept that stand");
-    measure(rt, alloc, BucketTree::new(alloc, POINT_LIMIT), count)
+    measure(rt, alloc, BucketTree::new(alloc, POINT_LIMIT), count)?;
+    measure_orders(rt, BucketTree::new(alloc, POINT_LIMIT), count);
+    Ok(())
 }
 
 fn main(rt: HostRuntime) -> ExitCode {

@@ -1,11 +1,11 @@
 -- the points between are those that may be vertices
 use Rattle.std.proofs.Common.{length}
-use Rattle.hull_buckets.proofs.Outwards.{first_of_high, front_all, front_outwards, gap_behind, gap_within, last_of_low}
+use Rattle.hull_buckets.proofs.Outwards.{first_of_high, front_all, front_outwards, gap_after, gap_within, last_of_low}
 use Rattle.hull_buckets.proofs.Words.{top_before}
 use Rattle.hull_buckets.proofs.repairing.front_between.Goals as goal
 
 pub passed_over-requires-clause-apart : goal.passed_over-requires-clause-apart
-passed_over-requires-clause-apart c = gap_behind c.args.low c.args.high (length c.args.points.now)
+passed_over-requires-clause-apart c = gap_after c.args.low c.args.high (length c.args.points.now)
     c.between-middle.result
     c.between-middle.ensures
 
@@ -27,7 +27,7 @@ bounds-points-lowest c = top_before c.args.high c.lowest.result (length c.args.p
     c.requires.ends.high_within
 
 pub passed_outwards-requires-clause-apart : goal.passed_outwards-requires-clause-apart
-passed_outwards-requires-clause-apart c = gap_behind c.args.low c.args.high (length c.args.points.now)
+passed_outwards-requires-clause-apart c = gap_after c.args.low c.args.high (length c.args.points.now)
     c.between-middle.result c.between-middle.ensures
 
 pub passed_outwards-requires-clause-rest_within : goal.passed_outwards-requires-clause-rest_within
