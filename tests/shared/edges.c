@@ -556,7 +556,7 @@ static void cuts_only_what_a_crash_leaves(void) {
                                   "7 0 add 1 1 = added\nend 1\n", "6 0 add 1 1 = added ", "6 0 vertices = list 2 0 0\nend 1\n",
                                   "6 0 area = area 01\nend 1\n", "6 0 area = area 123456789012345678901234567\nend 1\n",
                                   "6 0 count = count 1048577\nend 1\n", "6 0 add 1 1 = again 65536\nend 1\n",
-                                  "6 0 vertices = list 1048577 0 0\nend 1\n"};
+                                  "6 0 vertices = list 1048577 0 0\nend 1\n", "6 0 extreme 0 0 = empty\nend 1\n"};
     for (size_t k = 0; k < sizeof wrong / sizeof *wrong; k++) {
         snprintf(bytes, sizeof bytes, "%s%s", SEGMENT NEXT, wrong[k]);
         check_damaged(bytes, strlen(bytes), 5);
@@ -564,6 +564,8 @@ static void cuts_only_what_a_crash_leaves(void) {
     check_damaged(SEGMENT NEXT "6 0 add 1 1 = added\nend 2\n", length + 26, 6);
     check_damaged(SEGMENT NEXT "6 0 add 1 1 = added\nend 10", length + 26, 6);
     check_damaged("hullbook journal 3 first 5 limit 0 capacity 9\nend 0\n", 52, 1);
+    check_damaged("hullbook journal 3 first 5 limit 3 capacity 0\nend 0\n", 52, 1);
+    check_damaged("hullbook journal 3 first 5 limit 3 capacity 16777217\nend 0\n", 59, 1);
     snprintf(bytes, sizeof bytes, "%s6 0 add 1 1 = added\nend 1\n", SEGMENT NEXT);
     bytes[length + 8] = 0; /* in the middle of a sector */
     check_damaged(bytes, length + 26, 5);
