@@ -540,6 +540,13 @@ class PolygonOfInstance extends Questions {
         return this._live().ask(name, this.#address, this.#length, ...words);
     }
 
+    /** Returns the vertices that a call of this polygon and two integers writes, one for each of its own. */
+    _moved(name, a, b) {
+        const instance = this._live(), out = instance.outOf(this.#count * POINT.size);
+        this.#found(name, BigInt(a), BigInt(b), BigInt(out), this.#length);
+        return Array.from({ length: this.#count }, (_, i) => instance.point(out + i * POINT.size));
+    }
+
     /** Makes such a call of this polygon and another one, or one that returns a witness. */
     #beside(call, name, other, ...words) {
         const instance = this._live();

@@ -1,5 +1,5 @@
 // Many convex polygons at once, and polygons that move: loops over the questions of hull.js about one or two.
-import { COORDINATE_LIMIT, OutOfRange, ZeroDirection } from "./hull.js";
+import { COORDINATE_LIMIT, OutOfRange } from "./hull.js";
 
 /** Returns the numbers, each of which must be an integer of at most `limit` in size; else throws OutOfRange. */
 function checked(numbers, limit = COORDINATE_LIMIT) {
@@ -84,28 +84,17 @@ export function firstMeeting(standing, moving, dx, dy) {
     return soonest(found, moving, standing.vertices(), -dx, -dy, false);
 }
 
-/** Returns the points, which must be in range; else throws OutOfRange. */
-function checkedPoints(points) {
-    checked(points.flat());
-    return points;
-}
-
 /** Returns the vertices of the polygon translated by (dx, dy), of which another one can be made. Throws OutOfRange. */
 export function translate(polygon, dx, dy) {
     checked([dx, dy], 2 * COORDINATE_LIMIT);
-    return checkedPoints(polygon.vertices().map(([x, y]) => [x + dx, y + dy]));
+    return polygon._moved("hull_polygon_translate", dx, dy);
 }
 
 /** Returns the vertices of the polygon rotated about (0, 0) by the angle of (a, b), and scaled by its length. Throws OutOfRange,
  * ZeroDirection. */
 export function rotate(polygon, a, b) {
     checked([a, b]);
-    if (a === 0 && b === 0) throw new ZeroDirection("a direction is zero");
-    const [c, s] = [BigInt(a), BigInt(b)];
-    const vertices = polygon.vertices().map(([x, y]) => [BigInt(x), BigInt(y)]).map(([x, y]) => [Number(c * x - s * y), Number(s * x + c * y)]);
-    const isBefore = ([x, y], [u, v]) => x < u || (x === u && y < v);
-    const from = vertices.reduce((least, vertex, at) => (isBefore(vertex, vertices[least]) ? at : least), 0);
-    return checkedPoints([...vertices.slice(from), ...vertices.slice(0, from)]);
+    return polygon._moved("hull_polygon_rotate", a, b);
 }
 
 /** Returns the point of the set that is nearest to (x, y), of several the first by x and then y, and the square of its distance; null
