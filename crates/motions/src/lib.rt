@@ -1,7 +1,7 @@
 //! Translations and rotations of points.
 //!
 //! A [`Motion`] moves points of integer coordinates to such points. A rotation scales, too: by the angle and the length of
-//! a vector, so that it needs no rounding. What moves out of range is reported, and not moved.
+//! a vector, so that it needs no rounding. A motion that leads out of range is reported, and not made.
 //!
 //! # A worked example
 //!

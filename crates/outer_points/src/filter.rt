@@ -47,7 +47,7 @@ pub fn are_many_inner(points: &[Point]) -> bool {
 }
 
 /// Drops points that lie in the octagon of the eight points that are farthest along the axes and the diagonals, and are no
-/// vertices of it (Akl and Toussaint, 1978). What is left are some of the points, in their order, which cover all others:
+/// vertices of it (Akl and Toussaint, 1978). The points that are left cover all others, in their order:
 /// they are a candidate list of the points for both chains, so they have the same hull and the same vertices.
 ///
 /// Two passes: O(n), about four comparisons and two orientations a point. Nothing is allocated.
