@@ -48,6 +48,14 @@ if ! printf '%s\n' '#include <boost/geometry.hpp>' '#include <geos_c.h>' | c++ -
     echo 'skipped: a set that stands, since there are no headers of GEOS and Boost'
     exit 0
 fi
+if printf '%s\n' '#include <ccd/ccd.h>' | c++ -fsyntax-only -x c++ - 2>/dev/null; then
+    c++ -std=c++17 -O2 -DNDEBUG -I"$room/include" "$here/two_polygons.cpp" -L"$room/lib" -lhull -lgeos_c -lccd -o "$room/two_polygons"
+    for vertices in 8 100 1000 10000 100000; do
+        "$room/two_polygons" "$vertices" "${1:-3}"
+    done
+else
+    echo 'skipped: two polygons of many vertices, since there are no headers of libccd'
+fi
 c++ -std=c++17 -O2 -DNDEBUG -frounding-math -I"$room/include" "$here/standing.cpp" -L"$room/lib" -lhull -lgmp -lmpfr -lgeos_c \
     -lpthread -o "$room/standing"
 for points in 1000 100000 1000000; do
