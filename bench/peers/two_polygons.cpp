@@ -52,7 +52,7 @@ GEOSGeometry *geometry_of(const Points &polygon) {
     return GEOSGeom_createPolygon(GEOSGeom_createLinearRing(sequence), nullptr, 0);
 }
 
-// what libccd asks of a shape: its farthest point in a direction
+// what libccd asks of a shape: its farthest point in a direction, which is made odd so that it is not (0, 0)
 void support(const void *shape, const ccd_vec3_t *direction, ccd_vec3_t *out) {
     const Points &polygon = *static_cast<const Points *>(shape);
     const double size = std::max(std::fabs(direction->v[0]), std::fabs(direction->v[1]));
