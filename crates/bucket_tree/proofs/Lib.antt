@@ -10,6 +10,7 @@ pub mod Gained
 pub mod Lost
 pub mod Recounted
 pub mod MostTurns
+pub mod NearestPoints
 pub mod NodeHeights
 pub mod Listed
 pub mod Rooted

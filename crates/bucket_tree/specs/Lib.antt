@@ -1,3 +1,4 @@
+pub mod NearestPoints
 pub mod Nodes
 pub mod OneWay
 pub mod Parts

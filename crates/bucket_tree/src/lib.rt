@@ -13,6 +13,7 @@ mod insertion;
 mod join;
 mod listing;
 mod load;
+mod nearest;
 mod node;
 mod other_end;
 mod part;

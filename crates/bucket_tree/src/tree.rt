@@ -1,14 +1,15 @@
 //! The set.
 mod few_vertices;
 
-ghost use Rattle.std.specs.Prelude.{◌≡◌, ◌≢◌, ◌≤◌, ◌<◌, ◌+◌, ◌↔◌, ℕ, None, IsTrue, true, false, length, IfOk, IfErr, MatchResult};
+ghost use Rattle.std.specs.Prelude.{◌≡◌, ◌≢◌, ◌≤◌, ◌<◌, ◌+◌, ◌↔◌, ℕ, pos, None, IsTrue, true, false, length, IfOk, IfErr, MatchOption, MatchResult};
 ghost use Rattle.std.proofs.Common.{arith};
-ghost use Rattle.lattice.specs.Plane.{Pair};
+ghost use Rattle.lattice.specs.Plane.{Pair, distance_squared};
 ghost use Rattle.hull_set.specs.Held.{with_new, with_none};
 ghost use Rattle.hull_set.specs.Replies.{Answers, after, reply_to_add, reply_to_remove};
 ghost use Rattle.leaf_trees.specs.Entries.{several, IsMultiplicity};
 ghost use Rattle.bucket_tree.specs.Levels.{bridges_at};
 ghost use Rattle.bucket_tree.specs.Lists.{entries_of_root};
+ghost use Rattle.bucket_tree.specs.NearestPoints.{IsNearestPoint};
 ghost use Rattle.bucket_tree.specs.Roots.{held_by, points_of_root, multiplicity_of_root};
 ghost use Rattle.bucket_tree.specs.Sets.{LimitedTree, IsSound};
 
@@ -17,6 +18,7 @@ use crate::in_place::{put_in_place, take_in_place};
 use crate::insertion::insert;
 use crate::listing::{push_entries, push_from, push_level};
 use crate::load::{first_leaf, from_entries};
+use crate::nearest::nearest_in;
 use crate::node::Node;
 use crate::questions::{area2, extreme, place, tangents, vertices};
 use crate::recounting::recount;
@@ -82,6 +84,22 @@ impl BucketTree {
             push_level(root, level, 0, &mut bridges)?;
         }
         Ok(bridges)
+    }
+
+    /// Returns the point that is nearest to `q`, of several the first by x and then y, with the square of its distance; or `None` if the set is
+    /// empty. Goes down to the bucket in which `q` would be, and on its way back looks into each half that is no farther along x than what was
+    /// found: of n random points in a square some root of n points. Allocates nothing.
+    pub fn nearest(&self, q: Point) -> Option<(Point, u128)>
+        ensures { MatchOption result (self.now.root ≡ None)
+            (λ found. IsNearestPoint q (points_of_root self.now.root) found.0 × (pos found.1 ≡ distance_squared q found.0)) }
+    {
+        match &self.root {
+            None => None,
+            Some(root) => {
+                let found = nearest_in(root, q);
+                Some((found.point, found.squared as u128))
+            }
+        }
     }
 
     /// Returns the multiplicity of a point.
