@@ -1,7 +1,7 @@
 -- The keys of a map between a chain and the rest of it.
 use Rattle.std.proofs.lemmas.Grind.{common_steps}
 use Rattle.std.proofs.Common.{◌≡◌, ℕ, inl, inr, refl, sym, ap, ◌∙◌, subst, List, arith, zero, suc, [], ◌∷◌, ◌++◌}
-use Rattle.std.proofs.Common.{◌-◌, ◌+◌, Bool, true, false, cond, not, ◌&&◌}
+use Rattle.std.proofs.Common.{Bool, true, false, cond, not, ◌&&◌}
 use Rattle.std.specs.BTreeMap.Range.{entries_between, range_contains, is_from_start, is_past_end, IsLeBy, IsLtBy}
 use Rattle.std.specs.Bound.{IsForward}
 use Rattle.std.specs.Ordering.{is_lt, is_le}

@@ -5,3 +5,4 @@ pub mod Touches
 pub mod Farthest
 pub mod Multiplicities
 pub mod PlainSets
+mod Growth

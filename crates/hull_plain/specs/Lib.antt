@@ -3,3 +3,4 @@ pub mod ChainPairs
 pub mod Drafts
 pub mod ChainLocations
 pub mod Bounds
+pub mod Growth

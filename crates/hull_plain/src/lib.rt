@@ -25,6 +25,7 @@ mod bisection;
 mod candidate_lists;
 mod candidates;
 mod extremes;
+mod growing_hull;
 mod hull_chains;
 mod locations;
 mod monotone;
@@ -33,8 +34,11 @@ mod positions;
 mod repairing;
 mod scratch_chain;
 mod tangents;
+#[cfg(test)]
+mod tests;
 mod vertices;
 
+pub use growing_hull::{GrowFault, GrowingHull};
 pub use hull_geometry::{
     doubled_area_is_unique, vertex_list_is_unique, with_point_adds_the_point,
     without_point_takes_the_point,

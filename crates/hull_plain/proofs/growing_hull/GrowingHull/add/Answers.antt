@@ -1,0 +1,39 @@
+-- both chains grow by the point, whatever the set
+use Rattle.std.proofs.Common.{sym, ap, subst, arith, length, List}
+use Rattle.lattice.specs.Covers.{with_point}
+use Rattle.lattice.specs.Plane.{Pair}
+use Rattle.lattice.specs.declared.side.Side.TheVariants.{Lower, Upper}
+use Rattle.hull_geometry.specs.Monotone.{AreChainsOf, IsChainOf}
+use Rattle.hull_geometry.proofs.SetLaws.{ordered_with}
+use Rattle.hull_plain.specs.Growth.{Chains, IsHullOf}
+use Rattle.hull_plain.proofs.growing_hull.GrowingHull.add.Goals as goal
+
+-- the chains of a set become those of the set with the point
+grown : (c : goal.After-grow-2) (S : List Pair) → AreChainsOf S c.self.inside.lower.items c.self.inside.upper.items
+    → AreChainsOf (with_point c.args.p S) c.grow.new.chain.items c.grow-2.new.chain.items
+grown c S k = record {
+  below = c.grow.ensures.chain S (subst (IsChainOf Lower S) (sym c.reserve.ensures.items) k.below);
+  above = c.grow-2.ensures.chain S (subst (IsChainOf Upper S) (sym c.reserve-else-is_err.ensures.items) k.above);
+}
+
+-- what contracts see are these chains
+seen : (c : goal.After-grow-2) (S : List Pair) → IsHullOf S c.args.self.now
+    → AreChainsOf S c.self.inside.lower.items c.self.inside.upper.items
+seen c S k = subst (λ (h : Chains). AreChainsOf S h.lower h.upper) (sym c.self.view_is) k.1
+
+pub invariant_of-self-2 : goal.invariant_of-self-2
+invariant_of-self-2 c = record {
+  some = (with_point c.args.p c.self.invariant.some.0, grown c c.self.invariant.some.0 c.self.invariant.some.1);
+  few_below = omega (arith, c.grow.ensures.few, ap length c.reserve.ensures.items, c.len.ensures, c.if-len.false);
+  few_above = omega (arith, c.grow-2.ensures.few, ap length c.reserve-else-is_err.ensures.items, c.len-else-len.ensures, c.if-len-2.false);
+}
+
+pub returns-clause-grown : goal.returns-clause-grown
+returns-clause-grown c = λ S k. (ordered_with c.args.p S k.0, grown c S (seen c S k))
+
+pub returns-clause-place : goal.returns-clause-place
+returns-clause-place c = λ S k.
+    c.place_of-place.ensures S (record {
+      below = subst (IsChainOf Lower S) (sym c.reserve.ensures.items) (seen c S k).below;
+      above = subst (IsChainOf Upper S) (sym c.reserve-else-is_err.ensures.items) (seen c S k).above;
+    })

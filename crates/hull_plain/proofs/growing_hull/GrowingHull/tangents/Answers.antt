@@ -1,0 +1,8 @@
+-- the two chains determine the tangents
+use Rattle.std.proofs.Common.{sym, subst}
+use Rattle.hull_geometry.specs.Monotone.{AreChainsOf}
+use Rattle.hull_plain.specs.Growth.{Chains}
+use Rattle.hull_plain.proofs.growing_hull.GrowingHull.tangents.Goals as goal
+
+pub returns : goal.returns
+returns c = λ S k. c.tangents_from.ensures S (subst (λ (h : Chains). AreChainsOf S h.lower h.upper) (sym c.self.view_is) k.1)
