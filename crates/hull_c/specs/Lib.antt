@@ -6,6 +6,7 @@ pub mod Left
 pub mod Loads
 pub mod Polygons
 pub mod Findings
+pub mod NearestHeld
 pub mod Pairs
 pub mod VerticesOf
 pub mod DistanceBounds

@@ -33,7 +33,10 @@ ghost use Rattle.hull_c.specs.Many.{AreRelations, AreSegmentsAnswered};
 ghost use Rattle.std.specs.List.{All};
 ghost use Rattle.hull_c.specs.Polygons.{ArePolygonAnswers, IsPolygonAnswer, EncodesPolygon};
 ghost use Rattle.hull_polygon.specs.Polygons.{IsShortPolygon};
+ghost use Rattle.polygon_arrays.specs.Indices.{AreIndices};
 ghost use Rattle.polygon_arrays.specs.Moved.{EncodesRotated, EncodesTranslated};
+ghost use Rattle.polygon_pairs.specs.Pairs.{EncodesPairs};
+ghost use Rattle.hull_c.specs.NearestHeld.{IsNearestHeld};
 ghost use Rattle.hull_c.specs.Requests.{AreServed};
 ghost use Rattle.hull_c.specs.Calls.{AreVertices, IsCleared, IsFresh, IsLimitOf, IsPrepared};
 
@@ -45,6 +48,7 @@ mod held;
 mod hull;
 mod load;
 mod many;
+mod nearest_held;
 mod pairs;
 mod polygon;
 mod raycasts;
@@ -64,6 +68,7 @@ use hull_reply::{HullReply, Kind};
 use lattice::Point;
 pub use many::HullSegment;
 pub use pairs::HullWitness;
+pub use polygon_pairs::HullPair;
 pub use raycasts::HullHit;
 pub use requests::HullRequest;
 pub use threads::hulls_go_to_any_thread;
@@ -229,6 +234,21 @@ pub unsafe extern "C" fn hull_held_from(
 {
     let hull = at as *mut Hull;
     held::list(unsafe { &mut *hull }, x, y, out)
+}
+
+/// Finds the point of the set that is nearest to (`x`, `y`), of several the first by x and then y, and the square of its distance.
+///
+/// # Safety
+///
+/// `at` points to a set, and no other call on it is under way.
+#[unsafe(no_mangle)]
+pub unsafe extern "C" fn hull_nearest_held(at: *mut u8, x: i64, y: i64) -> HullReply
+    ghost t: { the_row.Denot }
+    requires* { sem 𝓛 (lies_at the_row full_share at t) }
+    ensures* { sem 𝓛 (leaves the_row at (λ new. IsNearestHeld t new x y result)) }
+{
+    let hull = at as *mut Hull;
+    nearest_held::find(unsafe { &mut *hull }, x, y)
 }
 
 /// Writes the bridges that the forks of a level of the tree store to the front of the array, from left to right; the
@@ -634,6 +654,41 @@ pub extern "C" fn hull_polygon_relations(vertices: &[Point], others: &[&[Point]]
     ensures { AreRelations vertices.now others.now out.new }
 {
     many::relations(vertices, others, out)
+}
+
+/// Writes for each vertex the index of the first of the points that is equal to it, or the number of points if none is; returns how
+/// many vertices are among the points.
+#[unsafe(no_mangle)]
+pub extern "C" fn hull_polygon_indices(
+    vertices: &[Point],
+    points: &[HullPoint],
+    out: &mut [usize],
+) -> usize
+    requires polygon { IsShortPolygon vertices.now }
+    requires long { length out.old ≡ length vertices.now }
+    ensures { AreIndices vertices.now points.now out.new result }
+{
+    polygon_arrays::vertex_indices(vertices, points, out)
+}
+
+/// Writes the pairs of convex polygons whose distance is at most `numerator / denominator` to the front of the array, in order, and
+/// returns their number. With the denominator 0 the length is greater than any distance.
+#[unsafe(no_mangle)]
+pub extern "C" fn hull_pairs_within_distance(
+    alloc: Heap,
+    polygons: &[&[Point]],
+    numerator: u64,
+    denominator: u32,
+    out: &mut [HullPair],
+) -> HullReply
+    requires { All (λ o. IsShortPolygon o.now) polygons.now }
+    ensures { EncodesPairs (record { numerator = numerator; denominator = denominator }) polygons.now out.old out.new result }
+{
+    let reach = Length {
+        numerator,
+        denominator,
+    };
+    polygon_pairs::pairs_within_distance(alloc, polygons, reach, out)
 }
 
 /// Writes the vertices moved by (dx, dy) to another array for as many. Refuses, and leaves the array unchanged, if a
