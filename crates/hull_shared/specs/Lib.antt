@@ -17,3 +17,7 @@ pub mod Drains
 pub mod Left
 pub mod Responses
 pub mod JournalSnapshots
+pub mod LeftFiles
+pub mod JournalFiles
+pub mod Continuations
+pub mod SegmentNumbers

@@ -40,6 +40,14 @@ ghost use Rattle.hull_shared.specs.Readings.{HasSetReaders, HasAcquiredReader, H
 ghost use Rattle.hull_shared.specs.Readings.{HasReportedNewest, HasSnapshotTakenIn};
 ghost use Rattle.hull_shared.specs.Reopenings.{HasReopened};
 ghost use Rattle.hull_shared.specs.Segments.{HasEndedSegment, HasReserved, HasReportedSpace, HasWrittenSegment};
+ghost use Rattle.hull_shared.specs.contracts.stored_file.JournalFile.{the_row as file_row};
+ghost use Rattle.hull_shared.specs.Continuations.{HasContinued};
+ghost use Rattle.hull_shared.specs.JournalFiles.{HasBegunFile, HasEndedFile, HasFed, HasFinished, HasLeft, HasPutNumbers};
+ghost use Rattle.hull_shared.specs.JournalFiles.{HasWrittenFile};
+ghost use Rattle.hull_shared.specs.SegmentNumbers.{HasReportedFirst, HasReportedLast, PutsLine};
+ghost use Rattle.journal_lines.specs.Hex.{hex_digits};
+ghost use Rattle.journal_lines.specs.Lines.{first_line, sum_line};
+ghost use Rattle.hull_shared.specs.declared.stored_file.JournalFile.TheVariants.{Vacant as NoFile};
 ghost use Rattle.hull_shared.specs.declared.segment.Segment.TheVariants.{Bare};
 ghost use Rattle.hull_shared.specs.declared.reader.SharedReader.TheVariants.{Vacant as NoReader};
 ghost use Rattle.hull_shared.specs.declared.seat.SharedSeat.TheVariants.{Vacant};
@@ -48,8 +56,11 @@ mod acquiring;
 mod answer;
 mod book;
 mod closing;
+mod continuing;
 mod draining;
 mod gate;
+mod journal_files;
+mod journal_lines_in;
 mod law;
 mod limits;
 mod lock;
@@ -69,6 +80,7 @@ mod serving;
 mod setting_readers;
 mod setting_up;
 mod shared_hull;
+mod stored_file;
 mod threads;
 
 use hull_reply::{HullPoint, HullReply};
@@ -84,6 +96,7 @@ use seat::SharedSeat;
 use segment::Segment;
 use shared_hull::{FreshSharedHull, SharedHull};
 use std::alloc::Global;
+use stored_file::JournalFile;
 pub use threads::storages_go_to_any_thread;
 
 /// Returns the size of the storage of a shared hull, in bytes.
@@ -150,6 +163,22 @@ pub extern "C" fn hull_shared_reader_alignment() -> usize
     align_of::<SharedReader>()
 }
 
+/// Returns the size of the storage of a journal file that is read, in bytes.
+#[unsafe(no_mangle)]
+pub extern "C" fn hull_shared_file_size() -> usize
+    ensures { result ≡ storage_size file_row }
+{
+    size_of::<JournalFile>()
+}
+
+/// Returns the alignment of the storage of a journal file, in bytes.
+#[unsafe(no_mangle)]
+pub extern "C" fn hull_shared_file_alignment() -> usize
+    ensures { result ≡ storage_alignment file_row }
+{
+    align_of::<JournalFile>()
+}
+
 /// Makes a shared hull that is not open.
 fn fresh_shared_hull() -> SharedHull
     ensures { IsFreshForNone result }
@@ -176,6 +205,13 @@ fn bare_segment() -> Segment
     ensures { result ≡ Bare }
 {
     Segment::Bare
+}
+
+/// Makes storage for a journal file, which contains nothing.
+fn no_file() -> JournalFile
+    ensures { result ≡ NoFile }
+{
+    JournalFile::Vacant
 }
 
 /// Makes a shared hull in its storage, which is not open and contains nothing.
@@ -240,6 +276,22 @@ pub unsafe extern "C" fn hull_shared_make_segment(storage: *mut u8)
     let at = storage as *mut Segment;
     let segment = bare_segment();
     unsafe { at.write(segment) };
+}
+
+/// Makes storage for a journal file, which contains nothing.
+///
+/// # Safety
+///
+/// `storage` has [`hull_shared_file_size`] bytes at a multiple of [`hull_shared_file_alignment`], which nothing else
+/// uses.
+#[unsafe(no_mangle)]
+pub unsafe extern "C" fn hull_shared_make_file(storage: *mut u8)
+    requires* { sem 𝓛 (room_at file_row storage) }
+    ensures* { sem 𝓛 (leaves file_row storage (λ new. new ≡ NoFile)) }
+{
+    let at = storage as *mut JournalFile;
+    let file = no_file();
+    unsafe { at.write(file) };
 }
 
 /// Opens a shared hull round an empty set: for up to `limit` different points, `capacity` calls whose numbers begin
@@ -376,6 +428,192 @@ pub extern "C" fn hull_shared_add_to_sum(sum: u64, bytes: &[u8]) -> u64
     ensures { result ≡ sum_from sum bytes.now }
 {
     add_to_sum(sum, bytes)
+}
+
+/// Begins to read a journal file, none of whose bytes is taken yet.
+///
+/// # Safety
+///
+/// `at` points to storage for a journal file, and no other call on it is under way.
+#[unsafe(no_mangle)]
+pub unsafe extern "C" fn hull_shared_file_begin(at: *mut u8, alloc: Global) -> u32
+    ghost t: { file_row.Denot }
+    requires* { sem 𝓛 (lies_at file_row full_share at t) }
+    ensures* { sem 𝓛 (leaves file_row at (λ new. HasBegunFile t new result)) }
+{
+    let file = at as *mut JournalFile;
+    journal_files::begin(unsafe { &mut *file }, alloc)
+}
+
+/// Takes the next bytes of a journal file that was begun.
+///
+/// # Safety
+///
+/// `at` points to storage for a journal file, and no other call on it is under way.
+#[unsafe(no_mangle)]
+pub unsafe extern "C" fn hull_shared_file_feed(at: *mut u8, piece: &[u8]) -> u32
+    ghost t: { file_row.Denot }
+    requires* { sem 𝓛 (lies_at file_row full_share at t) }
+    ensures* { sem 𝓛 (leaves file_row at (λ new. HasFed piece.now t new result)) }
+{
+    let file = at as *mut JournalFile;
+    journal_files::feed(unsafe { &mut *file }, piece)
+}
+
+/// Ends the bytes of a journal file: all its whole segments are read then, and a crash may have left what follows them.
+///
+/// # Safety
+///
+/// `at` points to storage for a journal file, and no other call on it is under way.
+#[unsafe(no_mangle)]
+pub unsafe extern "C" fn hull_shared_file_finish(at: *mut u8) -> HullReply
+    ghost t: { file_row.Denot }
+    requires* { sem 𝓛 (lies_at file_row full_share at t) }
+    ensures* { sem 𝓛 (leaves file_row at (λ new. HasFinished t new result)) }
+{
+    let file = at as *mut JournalFile;
+    journal_files::finish(unsafe { &mut *file })
+}
+
+/// Writes what is known of a journal file that was read to the front of an array: the end and the
+/// beginning of its last whole segment, in bytes, its next number, its limit, and its checksum, with 1 if it has one.
+///
+/// # Safety
+///
+/// `at` points to storage for a journal file, and no other call on it is under way.
+#[unsafe(no_mangle)]
+pub unsafe extern "C" fn hull_shared_file_numbers(at: *mut u8, out: &mut [u64]) -> u32
+    ghost t: { file_row.Denot }
+    requires* { sem 𝓛 (lies_at file_row full_share at t) }
+    ensures* { sem 𝓛 (leaves file_row at (λ new. HasPutNumbers t new out.old out.new result)) }
+{
+    let file = at as *mut JournalFile;
+    journal_files::put_numbers(unsafe { &mut *file }, out)
+}
+
+/// Replaces a journal file that was read by what it leaves: the set after all its calls, and the additions that leave the
+/// same.
+///
+/// # Safety
+///
+/// `at` points to storage for a journal file, and no other call on it is under way.
+#[unsafe(no_mangle)]
+pub unsafe extern "C" fn hull_shared_file_leave(at: *mut u8) -> HullReply
+    ghost t: { file_row.Denot }
+    requires* { sem 𝓛 (lies_at file_row full_share at t) }
+    ensures* { sem 𝓛 (leaves file_row at (λ new. HasLeft t new result)) }
+{
+    let file = at as *mut JournalFile;
+    journal_files::leave(unsafe { &mut *file })
+}
+
+/// Writes whole lines of the text of the additions to the front of an array, from line `from` of the text on, counted
+/// from 0: as many as fit. Returns the number of bytes, and the number of the line after them.
+///
+/// # Safety
+///
+/// `at` points to storage for a journal file, and no other call on it is under way.
+#[unsafe(no_mangle)]
+pub unsafe extern "C" fn hull_shared_file_text_from(
+    at: *mut u8,
+    from: u64,
+    out: &mut [u8],
+) -> HullReply
+    ghost t: { file_row.Denot }
+    requires* { sem 𝓛 (lies_at file_row full_share at t) }
+    ensures* { sem 𝓛 (leaves file_row at (λ new. HasWrittenFile from t new out.old out.new result)) }
+{
+    let file = at as *mut JournalFile;
+    journal_files::text_from(unsafe { &mut *file }, from, out)
+}
+
+/// Frees the memory of a journal file: its storage contains nothing then, and may be used for anything.
+///
+/// # Safety
+///
+/// `at` points to storage for a journal file, and no other call on it is under way.
+#[unsafe(no_mangle)]
+pub unsafe extern "C" fn hull_shared_file_end(at: *mut u8) -> u32
+    ghost t: { file_row.Denot }
+    requires* { sem 𝓛 (lies_at file_row full_share at t) }
+    ensures* { sem 𝓛 (leaves file_row at (λ new. HasEndedFile t new result)) }
+{
+    let file = at as *mut JournalFile;
+    journal_files::end(unsafe { &mut *file })
+}
+
+/// Opens a shared hull with what a journal file leaves, which is taken out of its storage.
+///
+/// # Safety
+///
+/// `at` points to a shared hull and `storage` to storage for a journal file, and no other call on either is under way.
+#[unsafe(no_mangle)]
+pub unsafe extern "C" fn hull_shared_continue_file(
+    at: *mut u8,
+    storage: *mut u8,
+    capacity: u32,
+    seats: u32,
+) -> HullReply
+    ghost t: { shared_hull_row.Denot × file_row.Denot }
+    requires* shared_hull { sem 𝓛 (lies_at shared_hull_row full_share at t.0) }
+    requires* storage { sem 𝓛 (lies_at file_row full_share storage t.1) }
+    ensures* { sem 𝓛 (leaves_both shared_hull_row file_row at storage (λ new left. HasContinued capacity seats t.0 new t.1 left result)) }
+{
+    let shared_hull = at as *mut SharedHull;
+    let file = storage as *mut JournalFile;
+    continuing::continue_file(
+        unsafe { &mut *shared_hull },
+        unsafe { &mut *file },
+        capacity,
+        seats,
+    )
+}
+
+/// Writes the first line of a journal file that counts its checksums from this number to the front of an array. Returns its
+/// length, or 0 if the array is too small for it.
+#[unsafe(no_mangle)]
+pub extern "C" fn hull_shared_first_line(sum: u64, out: &mut [u8]) -> usize
+    ensures { PutsLine (first_line (hex_digits 16 sum)) out.old out.new result }
+{
+    journal_lines_in::put_first_line(sum, out)
+}
+
+/// Writes the line of a checksum to the front of an array. Returns its length, or 0 if the array is too small for it.
+#[unsafe(no_mangle)]
+pub extern "C" fn hull_shared_sum_line(sum: u64, out: &mut [u8]) -> usize
+    ensures { PutsLine (sum_line sum) out.old out.new result }
+{
+    journal_lines_in::put_sum_line(sum, out)
+}
+
+/// Returns the number of the first line of a segment's lines, and 0 if it has none.
+///
+/// # Safety
+///
+/// `at` points to a segment, and no other call on it is under way.
+#[unsafe(no_mangle)]
+pub unsafe extern "C" fn hull_shared_segment_first(at: *mut u8) -> u64
+    ghost t: { segment_row.Denot }
+    requires* { sem 𝓛 (lies_at segment_row full_share at t) }
+    ensures* { sem 𝓛 (leaves segment_row at (λ new. HasReportedFirst t new result)) }
+{
+    let segment = at as *mut Segment;
+    journal_lines_in::segment_first(unsafe { &mut *segment })
+}
+
+/// Returns the number of the first line of a closed shared hull's last segment, and 0 if it is not closed.
+///
+/// # Safety
+///
+/// `at` points to a shared hull, and no other call on it is under way.
+#[unsafe(no_mangle)]
+pub unsafe extern "C" fn hull_shared_last_first(at: *mut u8) -> u64
+    ghost t: { shared_hull_row.Denot }
+    requires* { sem 𝓛 (lies_at shared_hull_row full_share at t) }
+    ensures* { sem 𝓛 (leaves shared_hull_row at (λ new. HasReportedLast t new result)) }
+{
+    let shared_hull = at as *mut SharedHull;
+    journal_lines_in::last_first(unsafe { &mut *shared_hull })
 }
 
 /// Moves the seat of a number out of its shared hull, into storage.
