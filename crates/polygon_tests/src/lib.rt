@@ -1,4 +1,4 @@
-//! Tests of polygons compared with the plain set, of points that are dropped before a polygon is made, and of motions, over
+//! Tests of polygons compared with the plain set, of points that are dropped before a polygon is made, of motions, and of near pairs, over
 //! the public surface of these crates.
 #![tactic(auto)]
 
@@ -18,5 +18,7 @@ mod lists;
 mod meetings;
 #[cfg(test)]
 mod moved;
+#[cfg(test)]
+mod near_pairs;
 #[cfg(test)]
 mod stays;
