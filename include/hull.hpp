@@ -45,7 +45,7 @@ namespace hull {
 // A point, or a direction, by its coordinates; ordered by x and then y.
 struct Point : hull_point {
     constexpr Point() noexcept : hull_point{0, 0} {}
-    constexpr Point(std::int64_t x, std::int64_t y) noexcept : hull_point{x, y} {}
+    constexpr Point(std::int64_t first, std::int64_t second) noexcept : hull_point{first, second} {}
     constexpr Point(hull_point p) noexcept : hull_point(p) {}
 };
 static_assert(sizeof(Point) == sizeof(hull_point), "an array of the one is an array of the other");
@@ -375,6 +375,14 @@ inline Area number(const hull_reply &r) {
     return static_cast<Area>(r.high) << 64 | r.number;
 }
 
+inline bool whether(const hull_reply &r) { return number(r) == 1; }
+
+inline Relation relation(const hull_reply &r) { return static_cast<Relation>(number(r)); }
+
+inline std::optional<Area> number_or_none(const hull_reply &r) {
+    return r.code == HULL_EMPTY ? std::nullopt : std::optional<Area>(number(r));
+}
+
 inline std::optional<Separation> separation(const hull_reply &r) {
     switch (r.code) {
     case HULL_DISJOINT: return Separation{{r.x, r.y}, {r.other_x, r.other_y}};
@@ -411,10 +419,22 @@ inline std::optional<std::pair<Point, Point>> points(const hull_reply &r) {
 }
 
 inline std::optional<Witness> witness(const hull_witness &w) {
-    if (w.code == HULL_EMPTY) {
-        return std::nullopt;
+    switch (w.code) {
+    case HULL_COVERED:
+    case HULL_WITHIN:
+    case HULL_CROSSING:
+    case HULL_DISJOINT: return Witness{static_cast<Witness::Shows>(w.code), w.a, w.b, w.c, w.d};
+    case HULL_EMPTY: return std::nullopt;
+    default: fail(w.code);
     }
-    return Witness{static_cast<Witness::Shows>(w.code), w.a, w.b, w.c, w.d};
+}
+
+inline std::optional<Strip> strip(const hull_witness &w) {
+    switch (w.code) {
+    case HULL_EDGE: return Strip{w.a, w.b, w.c};
+    case HULL_EMPTY: return std::nullopt;
+    default: fail(w.code);
+    }
 }
 
 inline std::optional<DistanceBounds> distance_bounds(const hull_distance_bounds &b) {
@@ -438,11 +458,17 @@ inline std::optional<Hit> hit(const hull_hit &h) {
     }
 }
 
+inline Motion motion(const hull_motion &m) { return {hit(m.hit), m.vertex, m.moves == 1}; }
+
 inline std::optional<Distance> distance(const hull_witness &w) {
-    if (w.code == HULL_EMPTY) {
-        return std::nullopt;
+    switch (w.code) {
+    case HULL_INTERSECTING:
+    case HULL_POINTS:
+    case HULL_VERTEX:
+    case HULL_EDGE: return Distance{static_cast<Distance::Where>(w.code), w.a, w.b, w.c};
+    case HULL_EMPTY: return std::nullopt;
+    default: fail(w.code);
     }
-    return Distance{static_cast<Distance::Where>(w.code), w.a, w.b, w.c};
 }
 
 // Returns the vertices that `ask` writes, a call with an array and its length; asks again with space for all if there are more.
@@ -504,15 +530,158 @@ template <class Self> class PolygonQuestions {
     }
 
 public:
-    Place place(Point p) const { return detail::place(hull_polygon_place(data(), size(), p.x, p.y)); }
-
-    std::optional<Tangents> tangents(Point p) const {
-        return detail::tangents(hull_polygon_tangents(data(), size(), p.x, p.y));
+    // written by tools/table.py: questions
+    // Returns the location of `point`.
+    Place place(Point point) const {
+        return detail::place(hull_polygon_place(data(), size(), point.x, point.y));
     }
 
+    // Returns the left and the right tangent point seen from `point`; none if there is no vertex, or the polygon covers it.
+    std::optional<Tangents> tangents(Point point) const {
+        return detail::tangents(hull_polygon_tangents(data(), size(), point.x, point.y));
+    }
+
+    // Returns the farthest vertex in a direction, of several the first by x and then y; none if there is no vertex.
     std::optional<Point> extreme(Point direction) const {
         return detail::extreme(hull_polygon_extreme(data(), size(), direction.x, direction.y));
     }
+
+    // Returns twice the area, 0 for a point and a segment.
+    Area doubled_area() const {
+        return detail::number(hull_polygon_area(data(), size()));
+    }
+
+    // Returns whether the polygon intersects the segment from `a` to `b`, which may be one point. Ends and boundary are included.
+    bool intersects_segment(Point a, Point b) const {
+        return detail::whether(hull_polygon_intersects_segment(data(), size(), a.x, a.y, b.x, b.y));
+    }
+
+    // Returns a vertex and a direction that separate the polygon from the segment from `a` to `b`: no vertex has a greater product with the
+    // direction, and both ends have; none if they intersect, or there is no vertex.
+    std::optional<Separation> separation_from_segment(Point a, Point b) const {
+        return detail::separation(hull_polygon_separation(data(), size(), a.x, a.y, b.x, b.y));
+    }
+
+    // Returns the point of the polygon that is nearest to `point`; none if there is no vertex.
+    std::optional<Nearest> nearest(Point point) const {
+        return detail::nearest(hull_polygon_nearest(data(), size(), point.x, point.y), point);
+    }
+
+    // Returns the least and the greatest point of the bounding box; none if there is no vertex.
+    std::optional<Box> bounding_box() const {
+        return detail::box(hull_polygon_box(data(), size()));
+    }
+
+    // Returns the extent of the polygon in a direction: the greatest product of a vertex with it less the least; none if there is no
+    // vertex. Divide it by the length of the direction for the width along it.
+    std::optional<Area> width_along(Point direction) const {
+        return detail::number_or_none(hull_polygon_width(data(), size(), direction.x, direction.y));
+    }
+
+    // Returns the two vertices that are farthest from one another, equal if there is only one; none if there is no vertex.
+    std::optional<std::pair<Point, Point>> diameter() const {
+        return detail::points(hull_polygon_diameter(data(), size()));
+    }
+
+    // Returns the ends of an edge and a vertex farthest from it between which the polygon is least wide: no direction has a narrower strip;
+    // none if there are fewer than two vertices.
+    std::optional<Strip> least_width() const {
+        return detail::strip(hull_polygon_least_width(data(), size()));
+    }
+
+    // Returns whether the two polygons intersect, boundaries included.
+    template <class Other> bool intersects(const PolygonQuestions<Other> &other) const {
+        return detail::whether(hull_polygon_intersects(data(), size(), other.data(), other.size()));
+    }
+
+    // Returns whether this polygon contains the other one, boundaries included.
+    template <class Other> bool contains(const PolygonQuestions<Other> &other) const {
+        return detail::whether(hull_polygon_contains(data(), size(), other.data(), other.size()));
+    }
+
+    // Returns whether this polygon contains the other one with no point of it on the boundary.
+    template <class Other> bool contains_inside(const PolygonQuestions<Other> &other) const {
+        return detail::whether(hull_polygon_contains_inside(data(), size(), other.data(), other.size()));
+    }
+
+    // Returns how this polygon is related to the other one. A polygon without vertices is within any other.
+    template <class Other> Relation relation(const PolygonQuestions<Other> &other) const {
+        return detail::relation(hull_polygon_relation(data(), size(), other.data(), other.size()));
+    }
+
+    // Returns whether their distance is at most numerator / denominator, exactly; false if one of them has no vertex. A length with the
+    // denominator 0 is longer than any distance.
+    template <class Other> bool within_distance(const PolygonQuestions<Other> &other, std::uint64_t numerator,
+                                                std::uint32_t denominator = 1) const {
+        return detail::whether(hull_polygon_within_distance(data(), size(), other.data(), other.size(), numerator, denominator));
+    }
+
+    // Returns why the two polygons intersect, or what separates them; none if one of them has no vertex.
+    template <class Other> std::optional<Witness> witness(const PolygonQuestions<Other> &other) const {
+        return detail::witness(hull_polygon_witness(data(), size(), other.data(), other.size()));
+    }
+
+    // Returns the features at which the two polygons are nearest to one another, one of this and one of the other; none if one of them has
+    // no vertex.
+    template <class Other> std::optional<Distance> distance(const PolygonQuestions<Other> &other) const {
+        return detail::distance(hull_polygon_distance(data(), size(), other.data(), other.size()));
+    }
+
+    // Returns the distance of the two polygons, 0 if they intersect; none if one of them has no vertex.
+    template <class Other> std::optional<DistanceBounds> distance_bounds(const PolygonQuestions<Other> &other) const {
+        return detail::distance_bounds(hull_polygon_distance_bounds(data(), size(), other.data(), other.size()));
+    }
+
+    // Returns the distance of the polygon from the segment from `a` to `b`, which may be one point; none if there is no vertex.
+    std::optional<DistanceBounds> distance_bounds_to_segment(Point a, Point b) const {
+        return detail::distance_bounds(hull_polygon_distance_bounds_to_segment(data(), size(), a.x, a.y, b.x, b.y));
+    }
+
+    // Returns the distance of the polygon from `point`; none if there is no vertex.
+    std::optional<DistanceBounds> distance_bounds_to_point(Point point) const {
+        return detail::distance_bounds(hull_polygon_distance_bounds_to_point(data(), size(), point.x, point.y));
+    }
+
+    // Returns whether the distance of the polygon from the segment from `a` to `b`, which may be one point, is at most numerator /
+    // denominator, exactly. A length with the denominator 0 is longer than any distance.
+    bool within_distance_of_segment(Point a, Point b, std::uint64_t numerator, std::uint32_t denominator = 1) const {
+        return detail::whether(hull_polygon_within_distance_of_segment(data(), size(), a.x, a.y, b.x, b.y, numerator, denominator));
+    }
+
+    // Returns whether the distance of the polygon from `point` is at most numerator / denominator, exactly. A length with the denominator 0
+    // is longer than any distance.
+    bool within_distance_of_point(Point point, std::uint64_t numerator, std::uint32_t denominator = 1) const {
+        return detail::whether(hull_polygon_within_distance_of_point(data(), size(), point.x, point.y, numerator, denominator));
+    }
+
+    // Returns how the polygon is related to the segment from `a` to `b`, which may be one point: one that it contains gives
+    // Relation::covers, also along an edge; one that leaves it touching if it has no point inside, and else overlapping.
+    Relation relation_to_segment(Point a, Point b) const {
+        return detail::relation(hull_polygon_relation_to_segment(data(), size(), a.x, a.y, b.x, b.y));
+    }
+
+    // Returns the point at which the ray from `point` in a direction enters, the first of several that they share; none if it misses.
+    std::optional<Hit> raycast(Point point, Point direction) const {
+        return detail::hit(hull_polygon_raycast(data(), size(), point.x, point.y, direction.x, direction.y));
+    }
+
+    // Returns the last point of the ray from `point` in a direction in the polygon; none if it misses.
+    std::optional<Hit> raycast_exit(Point point, Point direction) const {
+        return detail::hit(hull_polygon_raycast_exit(data(), size(), point.x, point.y, direction.x, direction.y));
+    }
+
+    // Returns the point at which the segment from `a` to `b` enters; none if it misses. Its last point in the polygon is the one at which
+    // the reversed segment enters.
+    std::optional<Hit> raycast_segment(Point a, Point b) const {
+        return detail::hit(hull_polygon_raycast_segment(data(), size(), a.x, a.y, b.x, b.y));
+    }
+
+    // Returns when the other polygon, which moves straight by `way`, first intersects this one; none if they never do, or one of them has
+    // no vertex.
+    template <class Other> Motion first_meeting(const PolygonQuestions<Other> &other, Point way) const {
+        return detail::motion(hull_polygon_first_meeting(data(), size(), other.data(), other.size(), way.x, way.y));
+    }
+    // end of what tools/table.py writes
 
     // Returns the farthest point in a direction of two doubles, scaled to integers as hull_direction_from_doubles; for the direction (0,
     // 0) the first point. Fails with Refusal::out_of_range if one is not finite.
@@ -520,10 +689,7 @@ public:
         return detail::extreme(hull_polygon_extreme_d(data(), size(), dx, dy));
     }
 
-    // Returns twice the area, 0 for a point and a segment.
-    Area doubled_area() const { return detail::number(hull_polygon_area(data(), size())); }
-
-    // The same for each of many points, or directions, in order.
+    // Return what place, tangents and extreme do for each of many points, or directions, in order.
     std::vector<Place> place_all(const std::vector<Point> &points) const {
         return detail::answers<Place>(HULL_KIND_PLACE, points, serve(), detail::place);
     }
@@ -532,113 +698,6 @@ public:
     }
     std::vector<std::optional<Point>> extreme_all(const std::vector<Point> &directions) const {
         return detail::answers<std::optional<Point>>(HULL_KIND_EXTREME, directions, serve(), detail::extreme);
-    }
-
-    // Returns whether the polygon intersects the segment from `a` to `b`, which may be one point.
-    bool intersects_segment(Point a, Point b) const {
-        return detail::number(hull_polygon_intersects_segment(data(), size(), a.x, a.y, b.x, b.y)) == 1;
-    }
-
-    // Returns what separates the polygon from the segment; none if they intersect, and for a polygon without vertices.
-    std::optional<Separation> separation_from_segment(Point a, Point b) const {
-        return detail::separation(hull_polygon_separation(data(), size(), a.x, a.y, b.x, b.y));
-    }
-
-    // Returns where the nearest point is; none for a polygon without vertices.
-    std::optional<Nearest> nearest(Point p) const {
-        return detail::nearest(hull_polygon_nearest(data(), size(), p.x, p.y), p);
-    }
-
-    // Returns the bounding box; none for a polygon without vertices.
-    std::optional<Box> bounding_box() const { return detail::box(hull_polygon_box(data(), size())); }
-
-    // Returns the extent of the polygon in a direction: the greatest product of a vertex with it less the least; none for a polygon
-    // without vertices. Divide it by the length of the direction for the width along it.
-    std::optional<Area> width_along(Point direction) const {
-        const hull_reply r = hull_polygon_width(data(), size(), direction.x, direction.y);
-        return r.code == HULL_EMPTY ? std::nullopt : std::optional<Area>(detail::number(r));
-    }
-
-    // Returns the two vertices that are farthest from one another; none for a polygon without vertices.
-    std::optional<std::pair<Point, Point>> diameter() const {
-        return detail::points(hull_polygon_diameter(data(), size()));
-    }
-
-    // Returns where the polygon is least wide: no direction has a narrower strip; none if there are fewer than two vertices.
-    std::optional<Strip> least_width() const {
-        const hull_witness w = hull_polygon_least_width(data(), size());
-        return w.code == HULL_EDGE ? std::optional<Strip>(Strip{w.a, w.b, w.c}) : std::nullopt;
-    }
-
-    // Returns whether the two polygons intersect, boundaries included.
-    template <class Other> bool intersects(const PolygonQuestions<Other> &other) const {
-        return detail::number(hull_polygon_intersects(data(), size(), other.data(), other.size())) == 1;
-    }
-
-    // Returns whether this polygon contains the other one.
-    template <class Other> bool contains(const PolygonQuestions<Other> &other) const {
-        return detail::number(hull_polygon_contains(data(), size(), other.data(), other.size())) == 1;
-    }
-
-    // Returns how this polygon is related to the other one.
-    template <class Other> Relation relation(const PolygonQuestions<Other> &other) const {
-        return static_cast<Relation>(detail::number(hull_polygon_relation(data(), size(), other.data(), other.size())));
-    }
-
-    // Returns whether this polygon contains the other one with no point of it on the boundary.
-    template <class Other> bool contains_inside(const PolygonQuestions<Other> &other) const {
-        return detail::number(hull_polygon_contains_inside(data(), size(), other.data(), other.size())) == 1;
-    }
-
-    // Returns whether their distance is at most numerator / denominator, exactly; false if one of them has no vertices.
-    template <class Other>
-    bool within_distance(const PolygonQuestions<Other> &other, std::uint64_t numerator, std::uint32_t denominator = 1) const {
-        return detail::number(hull_polygon_within_distance(data(), size(), other.data(), other.size(), numerator, denominator)) == 1;
-    }
-
-    // The same for the segment from `a` to `b`, which may be one point, and for a point.
-    bool within_distance_of_segment(Point a, Point b, std::uint64_t numerator, std::uint32_t denominator = 1) const {
-        return detail::number(hull_polygon_within_distance_of_segment(data(), size(), a.x, a.y, b.x, b.y, numerator, denominator)) == 1;
-    }
-    bool within_distance_of_point(Point p, std::uint64_t numerator, std::uint32_t denominator = 1) const {
-        return within_distance_of_segment(p, p, numerator, denominator);
-    }
-
-    // Returns how this polygon is related to the segment from `a` to `b`, which may be one point.
-    Relation relation_to_segment(Point a, Point b) const {
-        return static_cast<Relation>(detail::number(hull_polygon_relation_to_segment(data(), size(), a.x, a.y, b.x, b.y)));
-    }
-
-    // Returns the distance of the other polygon, the segment from `a` to `b`, or a point; none if there are no vertices.
-    template <class Other> std::optional<DistanceBounds> distance_bounds(const PolygonQuestions<Other> &other) const {
-        return detail::distance_bounds(hull_polygon_distance_bounds(data(), size(), other.data(), other.size()));
-    }
-    std::optional<DistanceBounds> distance_bounds_to_segment(Point a, Point b) const {
-        return detail::distance_bounds(hull_polygon_distance_bounds_to_segment(data(), size(), a.x, a.y, b.x, b.y));
-    }
-    std::optional<DistanceBounds> distance_bounds_to_point(Point p) const { return distance_bounds_to_segment(p, p); }
-
-    // Returns where the ray from a point in a direction enters; none if it misses.
-    std::optional<Hit> raycast(Point from, Point direction) const {
-        return detail::hit(hull_polygon_raycast(data(), size(), from.x, from.y, direction.x, direction.y));
-    }
-
-    // Returns the last point of that ray in the polygon; none if it misses.
-    std::optional<Hit> raycast_exit(Point from, Point direction) const {
-        return detail::hit(hull_polygon_raycast_exit(data(), size(), from.x, from.y, direction.x, direction.y));
-    }
-
-    // Returns where the segment from `a` to `b` enters; none if it misses. Its last point in the polygon is where that from `b` to `a`
-    // enters.
-    std::optional<Hit> raycast_segment(Point a, Point b) const {
-        return detail::hit(hull_polygon_raycast_segment(data(), size(), a.x, a.y, b.x, b.y));
-    }
-
-    // Returns when the other polygon, which moves straight by `way`, each component at most HULL_COORDINATE_MAX in size, first
-    // intersects this one.
-    template <class Other> Motion first_meeting(const PolygonQuestions<Other> &other, Point way) const {
-        const auto [hit, vertex, moves] = hull_polygon_first_meeting(data(), size(), other.data(), other.size(), way.x, way.y);
-        return {detail::hit(hit), vertex, moves == 1};
     }
 
     // Returns whether the polygon intersects each of many segments, and how it is related to each of many polygons, in order.
@@ -659,16 +718,6 @@ public:
         detail::with_memory([&] { places.resize(size()); });
         hull_polygon_indices(data(), size(), points.data(), points.size(), places.data());
         return places;
-    }
-
-    // Returns where the two intersect, or what separates them; none if one of them has no vertices.
-    template <class Other> std::optional<Witness> witness(const PolygonQuestions<Other> &other) const {
-        return detail::witness(hull_polygon_witness(data(), size(), other.data(), other.size()));
-    }
-
-    // Returns the points at which the two are nearest to one another; none if one of them has no vertices.
-    template <class Other> std::optional<Distance> distance(const PolygonQuestions<Other> &other) const {
-        return detail::distance(hull_polygon_distance(data(), size(), other.data(), other.size()));
     }
 
 protected:
@@ -903,7 +952,7 @@ public:
         return there;
     }
 
-    // The same for each of many points, or directions, in order.
+    // Return what place, tangents and extreme do for each of many points, or directions, in order.
     std::vector<Place> place_all(const std::vector<Point> &points) const {
         return detail::answers<Place>(HULL_KIND_PLACE, points, serve(), detail::place);
     }
@@ -914,18 +963,30 @@ public:
         return detail::answers<std::optional<Point>>(HULL_KIND_EXTREME, directions, serve(), detail::extreme);
     }
 
-    Place place(Point p) const { return detail::place(hull_place(prepared(), p.x, p.y)); }
+    // written by tools/table.py: sets
+    // Returns the location of `point`.
+    Place place(Point point) const {
+        return detail::place(hull_place(prepared(), point.x, point.y));
+    }
 
-    // Returns the tangent points seen from a point, of several on one line the farthest; none if there is no point, or the hull covers
-    // the one asked about.
-    std::optional<Tangents> tangents(Point p) const { return detail::tangents(hull_tangents(prepared(), p.x, p.y)); }
+    // Returns the left and the right tangent point seen from `point`, of several on one line the farthest; none if there is no point, or
+    // the hull covers the one asked about.
+    std::optional<Tangents> tangents(Point point) const {
+        return detail::tangents(hull_tangents(prepared(), point.x, point.y));
+    }
 
-    // Returns the farthest point in a direction, of several the first by x and then by y; none if there is none.
+    // Returns the farthest point in a direction, of several the first by x and then y; none if there is none.
     std::optional<Point> extreme(Point direction) const {
         return detail::extreme(hull_extreme(prepared(), direction.x, direction.y));
     }
 
-    // The same for a direction of two doubles, as Polygon::extreme_d.
+    // Returns twice the area, 0 for a point and a segment.
+    Area doubled_area() const {
+        return detail::number(hull_area(prepared()));
+    }
+    // end of what tools/table.py writes
+
+    // Returns the farthest point in a direction of two doubles, as Polygon::extreme_d.
     std::optional<Point> extreme_d(double dx, double dy) const { return detail::extreme(hull_extreme_d(prepared(), dx, dy)); }
 
     // Returns the multiplicity of a point: 0 if it is not there.
@@ -940,9 +1001,6 @@ public:
 
     // Returns the vertices of the hull now as a convex polygon.
     Polygon polygon() const { return Polygon(vertices()); }
-
-    // Returns twice the area, 0 for a point and a segment.
-    Area doubled_area() const { return detail::number(hull_area(prepared())); }
 
     // Returns how many different points there are.
     std::size_t size() const { return static_cast<std::size_t>(hull_count(alive()).number); }
@@ -1120,10 +1178,31 @@ public:
 
     std::uint32_t add(Point p) { return detail::multiplicity_after_add(call(HULL_KIND_ADD, p)); }
     std::optional<std::uint32_t> remove(Point p) { return detail::multiplicity_after_remove(call(HULL_KIND_REMOVE, p)); }
-    Place place(Point p) { return detail::place(call(HULL_KIND_PLACE, p)); }
-    std::optional<Tangents> tangents(Point p) { return detail::tangents(call(HULL_KIND_TANGENTS, p)); }
-    std::optional<Point> extreme(Point direction) { return detail::extreme(call(HULL_KIND_EXTREME, direction)); }
-    Area doubled_area() { return detail::number(call(HULL_KIND_AREA, {0, 0})); }
+
+    // written by tools/table.py: seats
+    // Returns the location of `point`.
+    Place place(Point point) {
+        return detail::place(call(HULL_KIND_PLACE, point));
+    }
+
+    // Returns the left and the right tangent point seen from `point`, of several on one line the farthest; none if there is no point, or
+    // the hull covers the one asked about.
+    std::optional<Tangents> tangents(Point point) {
+        return detail::tangents(call(HULL_KIND_TANGENTS, point));
+    }
+
+    // Returns the farthest point in a direction, of several the first by x and then y; none if there is none.
+    std::optional<Point> extreme(Point direction) {
+        return detail::extreme(call(HULL_KIND_EXTREME, direction));
+    }
+
+    // Returns twice the area, 0 for a point and a segment.
+    Area doubled_area() {
+        return detail::number(call(HULL_KIND_AREA, {}));
+    }
+    // end of what tools/table.py writes
+
+    // Returns how many different points there are.
     std::size_t count() { return static_cast<std::size_t>(detail::number(call(HULL_KIND_COUNT, {0, 0}))); }
 
     // Asks how many points there are, and drains all lines of the journal: that of this call is the last. Space for them is allocated

@@ -11,8 +11,15 @@
 #error "The hull libraries need a machine with 64-bit pointers"
 #endif
 
+/* A value as another type, in C and in C++ without a warning of casts. */
+#ifdef __cplusplus
+#define HULL_CAST(type, value) static_cast<type>(value)
+#else
+#define HULL_CAST(type, value) ((type)(value))
+#endif
+
 /* The version of these headers, and of the archives that are installed with them. */
-#define HULL_VERSION "3.2.0"
+#define HULL_VERSION "3.3.0"
 
 /* The greatest size of a coordinate, of a point and of a direction: 2^40. */
 #define HULL_COORDINATE_MAX INT64_C(1099511627776)
@@ -127,6 +134,7 @@ typedef enum hull_code {
     /* end of what tools/table.py writes */
 } hull_code;
 
+/* written by tools/table.py: replies */
 /* The result of a call: a code (hull_code), and the fields that it names above; all others are 0. */
 typedef struct hull_reply {
     uint32_t code;
@@ -138,6 +146,7 @@ typedef struct hull_reply {
     uint64_t high;
 } hull_reply;
 
+/* A point, or a direction. */
 typedef struct hull_point {
     int64_t x;
     int64_t y;
@@ -149,8 +158,9 @@ typedef struct hull_held {
     int64_t y;
     uint32_t multiplicity;
 } hull_held;
+/* end of what tools/table.py writes */
 
-/* Returns the same, for a library that was built with these headers and is loaded at run time. */
+/* Returns HULL_VERSION, for a library that was built with these headers and is loaded at run time. */
 static inline const char *hull_version(void) {
     return HULL_VERSION;
 }

@@ -27,12 +27,12 @@ static inline hull_rounding hull_from_double(double v, int power, int64_t *coord
     int shift;
     memcpy(&bits, &v, sizeof bits);
     /* |v| is size * 2^shift */
-    size = bits & (((uint64_t)1 << 52) - 1);
-    shift = (int)(bits >> 52 & 2047);
+    size = bits & ((UINT64_C(1) << 52) - 1);
+    shift = HULL_CAST(int, bits >> 52 & 2047);
     if (shift == 2047) {
         return HULL_NO_COORDINATE;
     }
-    size |= shift == 0 ? 0 : (uint64_t)1 << 52;
+    size |= shift == 0 ? 0 : UINT64_C(1) << 52;
     shift = (shift == 0 ? 1 : shift) - 1075;
     if (size == 0) {
         *coordinate = 0;
@@ -44,12 +44,12 @@ static inline hull_rounding hull_from_double(double v, int power, int64_t *coord
     if (shift > 40) {
         return HULL_NO_COORDINATE;
     } else if (shift >= 0) {
-        if (size > (uint64_t)HULL_COORDINATE_MAX >> shift) {
+        if (size > HULL_CAST(uint64_t, HULL_COORDINATE_MAX) >> shift) {
             return HULL_NO_COORDINATE;
         }
         size <<= shift;
     } else if (shift > -55) {
-        half = (uint64_t)1 << (-shift - 1);
+        half = UINT64_C(1) << (-shift - 1);
         rest = size & (2 * half - 1);
         size >>= -shift;
         size += rest > half || (rest == half && size % 2 == 1);
@@ -57,10 +57,10 @@ static inline hull_rounding hull_from_double(double v, int power, int64_t *coord
         rest = 1;
         size = 0;
     }
-    if (size > (uint64_t)HULL_COORDINATE_MAX) {
+    if (size > HULL_CAST(uint64_t, HULL_COORDINATE_MAX)) {
         return HULL_NO_COORDINATE;
     }
-    *coordinate = bits >> 63 ? -(int64_t)size : (int64_t)size;
+    *coordinate = bits >> 63 ? -HULL_CAST(int64_t, size) : HULL_CAST(int64_t, size);
     return rest == 0 ? HULL_EXACT : HULL_ROUNDED;
 }
 
@@ -79,7 +79,7 @@ static inline hull_rounding hull_direction_from_doubles(double dx, double dy, in
     second &= INT64_MAX;
     /* the sizes of doubles are in order as their bits are */
     greatest = first > second ? first : second;
-    power = 1023 + 39 - (int)(greatest >> 52);
+    power = 1023 + 39 - HULL_CAST(int, greatest >> 52);
     if (greatest >> 52 == 0) {
         uint64_t size = greatest;
         power = 1022 + 39 + 52;
@@ -105,7 +105,7 @@ static inline int hull_is_equal_double(double a, double b) {
 
 /* Returns coordinate / 2^power, exact for powers from -960 to 1000. */
 static inline double hull_to_double(int64_t coordinate, int power) {
-    double v = (double)coordinate;
+    double v = HULL_CAST(double, coordinate);
     int i;
     for (i = 0; i < power && !hull_is_equal_double(v, 0); i++) {
         v /= 2;
@@ -121,13 +121,13 @@ static inline size_t hull_number_text(int64_t coordinate, int power, char text[3
     double v = hull_to_double(coordinate, power);
     int digits, length;
     if (power == 0) {
-        return (size_t)snprintf(text, 32, "%lld", (long long)coordinate);
+        return HULL_CAST(size_t, snprintf(text, 32, "%lld", HULL_CAST(long long, coordinate)));
     }
     digits = 15;
     do {
         length = snprintf(text, 32, "%.*g", digits, v);
     } while (!hull_is_equal_double(strtod(text, NULL), v) && digits++ < 17);
-    return (size_t)length;
+    return HULL_CAST(size_t, length);
 }
 
 /* Writes vertices as well-known text (OGC 06-103r4), which GEOS, PostGIS and QGIS read: POLYGON EMPTY, a POINT, a LINESTRING,
@@ -143,7 +143,7 @@ static inline size_t hull_wkt(const hull_point *vertices, size_t count, int powe
         const char *piece = i == 0 ? begin : i == points + 1 ? end : text;
         if (piece == text) {
             hull_point p = vertices[i - 1 < count ? i - 1 : 0];
-            j = i == 1 ? 0 : (memcpy(text, ", ", 2), (size_t)2);
+            j = i == 1 ? 0 : (memcpy(text, ", ", 2), HULL_CAST(size_t, 2));
             j += hull_number_text(p.x, power, text + j);
             text[j++] = ' ';
             j += hull_number_text(p.y, power, text + j);

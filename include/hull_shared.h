@@ -9,6 +9,8 @@
  * seats are released, the shared hull is closed (hull_shared_close), its journal is written (hull_shared_text), and the shared
  * hull is ended (hull_shared_end). Calls wait at an admission *gate* (hull_shared_gate), one for each shared hull.
  *
+ * hull_service.h has one object for all of these.
+ *
  * The calls on shared hulls, seats and segments are proved. Those on gates and on journal files (hull_shared_journal) are C
  * over them, tested and not proved: c/gate.c and c/journal.c, compiled into the archive.
  *
@@ -61,11 +63,12 @@ extern "C" {
 /* The greatest number of readers of a shared hull. */
 #define HULL_SHARED_READERS_MAX 64
 
+/* written by tools/table.py: replies of seats */
 /* The result of a take or a look: a reply, and the number that the seat took, its turn. The turn is set with each reply of a
- * call, with HULL_FULL, HULL_TAKEN, HULL_WAITING and HULL_NOT_YET, and is 0 if the seat has none. After a reply or HULL_FULL
- * the next turn is served. A line of the journal has its own number, the one after that of the line before: it is in `line` if
- * `has_line` is 1; after HULL_FULL, and after a question that was answered with no line (hull_shared_open_answering), both are
- * 0. `held` is how many lines the journal has after the call: none after a drain. */
+ * call, with HULL_FULL, HULL_TAKEN, HULL_WAITING and HULL_NOT_YET, and is 0 if the seat has none. After a reply or HULL_FULL the
+ * next turn is served. A line of the journal has its own number, the one after that of the line before: it is in `line` if
+ * `has_line` is 1; after HULL_FULL, and after a question that was answered with no line (hull_shared_open_answering), both are 0.
+ * `held` is how many lines the journal has after the call: none after a drain. */
 typedef struct hull_shared_reply {
     hull_reply answer;
     uint64_t turn;
@@ -73,6 +76,7 @@ typedef struct hull_shared_reply {
     uint32_t held;
     uint32_t has_line;
 } hull_shared_reply;
+/* end of what tools/table.py writes */
 
 /* A shared hull, the storage of a seat, and a segment of a journal. */
 typedef struct hull_shared hull_shared;
@@ -87,26 +91,41 @@ typedef struct hull_shared_gate {
     uint64_t words[HULL_SHARED_GATE_WORDS];
 } hull_shared_gate;
 
+/* written by tools/table.py: shared storage */
 /* Returns the version of the library, to compare with HULL_VERSION of the headers that a program was compiled with. */
 const char *hull_shared_library_version(void);
 
-/* Return the size in bytes of the storage of a shared hull, a seat and a segment, and their alignments. */
+/* Returns the size in bytes of the storage of a shared hull. */
 size_t hull_shared_size(void);
+
+/* Returns the alignment of that storage. */
 size_t hull_shared_alignment(void);
+
+/* Returns the size in bytes of the storage of a seat. */
 size_t hull_shared_seat_size(void);
+
+/* Returns the alignment of that storage. */
 size_t hull_shared_seat_alignment(void);
+
+/* Returns the size in bytes of the storage of a segment. */
 size_t hull_shared_segment_size(void);
+
+/* Returns the alignment of that storage. */
 size_t hull_shared_segment_alignment(void);
 
-/* Make a shared hull that is not open, storage with no seat, and an empty segment. What was there is overwritten. They
- * allocate nothing. */
+/* Makes a shared hull that is not open. What was there is overwritten. It allocates nothing. */
 void hull_shared_make(hull_shared *storage);
-void hull_shared_make_seat(hull_shared_seat *storage);
-void hull_shared_make_segment(hull_shared_segment *storage);
 
-/* The same in memory from malloc; null if it refuses. */
+/* Makes storage with no seat, in the same way. */
+void hull_shared_make_seat(hull_shared_seat *storage);
+
+/* Makes an empty segment, in the same way. */
+void hull_shared_make_segment(hull_shared_segment *storage);
+/* end of what tools/table.py writes */
+
+/* Return what these make, in memory from malloc; null if it refuses. */
 static inline hull_shared *hull_shared_new(void) {
-    hull_shared *shared = (hull_shared *)hull_storage_new(hull_shared_size(), hull_shared_alignment());
+    hull_shared *shared = HULL_CAST(hull_shared *, hull_storage_new(hull_shared_size(), hull_shared_alignment()));
     if (shared != NULL) {
         hull_shared_make(shared);
     }
@@ -115,7 +134,7 @@ static inline hull_shared *hull_shared_new(void) {
 
 static inline hull_shared_seat *hull_shared_seat_new(void) {
     hull_shared_seat *seat =
-        (hull_shared_seat *)hull_storage_new(hull_shared_seat_size(), hull_shared_seat_alignment());
+        HULL_CAST(hull_shared_seat *, hull_storage_new(hull_shared_seat_size(), hull_shared_seat_alignment()));
     if (seat != NULL) {
         hull_shared_make_seat(seat);
     }
@@ -124,7 +143,7 @@ static inline hull_shared_seat *hull_shared_seat_new(void) {
 
 static inline hull_shared_segment *hull_shared_segment_new(void) {
     hull_shared_segment *segment =
-        (hull_shared_segment *)hull_storage_new(hull_shared_segment_size(), hull_shared_segment_alignment());
+        HULL_CAST(hull_shared_segment *, hull_storage_new(hull_shared_segment_size(), hull_shared_segment_alignment()));
     if (segment != NULL) {
         hull_shared_make_segment(segment);
     }
@@ -145,57 +164,58 @@ static inline void hull_shared_segment_free(hull_shared_segment *segment) {
     hull_storage_free(segment);
 }
 
+/* written by tools/table.py: shared hulls */
 /* Opens a shared hull with an empty set of up to `limit` points, whose calls are numbered from `first` on, with space for the
  * lines of `capacity` calls until they are drained, and with seats 0 to `seats` - 1. Returns OPEN; WAS_OPENED, OUT_OF_LIMITS,
  * NO_MEMORY. Everything is allocated here, except points, and the vertices that a call lists. */
 uint32_t hull_shared_open(hull_shared *shared, uint32_t limit, uint64_t first, uint32_t capacity, uint32_t seats);
 
-/* The same, but the shared hull answers questions also when the journal is full: such a question has no line. Only calls that
- * add or remove points fail with FULL. */
+/* Opens a shared hull as hull_shared_open does, which answers questions also when the journal is full: such a question has no
+ * line. Only calls that add or remove points fail with FULL. */
 uint32_t hull_shared_open_answering(hull_shared *shared, uint32_t limit, uint64_t first, uint32_t capacity, uint32_t seats);
 
-/* The same, but each line is discarded after its reply is returned, so no call fails with FULL before 2^64 - 1 calls. What is
- * proved of the journal holds of the discarded lines too; the text of the closed shared hull has none. */
+/* Opens a shared hull as hull_shared_open does, but each line is discarded after its reply is returned, so no call fails with
+ * FULL before 2^64 - 1 calls. What is proved of the journal holds of the discarded lines too; the text of the closed shared hull
+ * has none. */
 uint32_t hull_shared_open_without_journal(hull_shared *shared, uint32_t limit, uint64_t first, uint32_t seats);
 
 /* Opens a shared hull that continues a journal, with the points that it left: `text` is the whole text of the journal, of
  * `length` bytes, as hull_shared_text or `hullbook` (run --journal, compact) wrote it, or the first segment; it is read and
  * replayed here. The limit is the journal's, and the next call takes the number after its last line. The lines of the journal
  * count as drained: the shared hull has space for `capacity` others, its segments and its text have only those, and `hullbook
- * check OLD NEW..` judges all in order. Returns OPEN; WAS_OPENED, OUT_OF_LIMITS, NO_JOURNAL, OLD_RULES, TOO_FEW_SEATS,
- * ILLEGAL; NO_MEMORY, at any of these. If the shared hull is not open then, it is unchanged. */
+ * check OLD NEW..` judges all in order. Returns OPEN; WAS_OPENED, OUT_OF_LIMITS, NO_JOURNAL, OLD_RULES, TOO_FEW_SEATS, ILLEGAL;
+ * NO_MEMORY, at any of these. If the shared hull is not open then, it is unchanged. */
 hull_reply hull_shared_reopen(hull_shared *shared, const uint8_t *text, size_t length, uint32_t capacity, uint32_t seats);
 
-/* The same, and the shared hull answers questions as hull_shared_open_answering. */
-hull_reply hull_shared_reopen_answering(hull_shared *shared, const uint8_t *text, size_t length, uint32_t capacity,
-                                        uint32_t seats);
+/* Opens a shared hull that continues a journal, as hull_shared_reopen, and answers questions as hull_shared_open_answering. */
+hull_reply hull_shared_reopen_answering(hull_shared *shared, const uint8_t *text, size_t length, uint32_t capacity, uint32_t seats);
 
-/* Acquires seat `number` into the storage, for calls that wait at this gate: returns ACQUIRED; OTHER_GATE if a seat of
- * another shared hull is acquired with this gate, NOT_OPEN, STORAGE_IN_USE, NO_SEAT, NO_MEMORY. The gate is this shared hull's
- * until the last seat that was acquired with it is released. Pass null for the gate if only you look for the seat's number
+/* Acquires seat `number` into the storage, for calls that wait at this gate: returns ACQUIRED; OTHER_GATE if a seat of another
+ * shared hull is acquired with this gate, NOT_OPEN, STORAGE_IN_USE, NO_SEAT, NO_MEMORY. The gate is this shared hull's until the
+ * last seat that was acquired with it is released. Pass null for the gate if only you look for the seat's number
  * (hull_shared_take). */
 uint32_t hull_shared_acquire_seat(hull_shared *shared, hull_shared_gate *gate, hull_shared_seat *storage, uint32_t number);
 
 /* Releases the seat in the storage: returns RELEASED; NOT_OPEN, VACANT, WAITING, SLOT_IN_USE. */
 uint32_t hull_shared_release_seat(hull_shared *shared, hull_shared_seat *storage);
 
-/* Takes a number for a call of a kind (hull_kind, except HULL_KIND_MULTIPLICITY, for which a journal has no line): returns
- * TAKEN; VACANT, WAITING, UNKNOWN_KIND, OUT_OF_RANGE, ZERO_DIRECTION. After a number is taken, the seat has to look until it is
- * served: all calls with later numbers wait for that. */
+/* Takes a number for a call of a kind (hull_kind, except HULL_KIND_MULTIPLICITY, for which a journal has no line): returns TAKEN;
+ * VACANT, WAITING, UNKNOWN_KIND, OUT_OF_RANGE, ZERO_DIRECTION. After a number is taken, the seat has to look until it is served:
+ * all calls with later numbers wait for that. */
 hull_shared_reply hull_shared_take(hull_shared_seat *seat, uint32_t kind, int64_t x, int64_t y);
 
 /* Looks once whether the seat's number is served, and then makes the call: returns its reply, or FULL; VACANT, NO_NUMBER,
  * NOT_YET. For vertices it returns how many there are. */
 hull_shared_reply hull_shared_look(hull_shared_seat *seat);
 
-/* Takes a number as hull_shared_take does, and if it did, looks once as hull_shared_look does: in one call, if no other seat has a
- * number before it. Returns the reply of the look; or of the take, if no number was taken: VACANT, WAITING, UNKNOWN_KIND,
+/* Takes a number as hull_shared_take does, and if it did, looks once as hull_shared_look does: in one call, if no other seat has
+ * a number before it. Returns the reply of the look; or of the take, if no number was taken: VACANT, WAITING, UNKNOWN_KIND,
  * OUT_OF_RANGE, ZERO_DIRECTION. */
 hull_shared_reply hull_shared_take_and_look(hull_shared_seat *seat, uint32_t kind, int64_t x, int64_t y);
 
-/* As hull_shared_look; if the call asked for vertices, they are written to the front of the array of `capacity` points, as hull_vertices
- * writes them. TOO_SMALL if they do not fit: the call was made nevertheless, and has its line, and the array is unchanged. For
- * all other calls and replies the array is unchanged. */
+/* Looks as hull_shared_look does; if the call asked for vertices, they are written to the front of the array of `capacity`
+ * points, as hull_vertices writes them. TOO_SMALL if they do not fit: the call was made nevertheless, and has its line, and the
+ * array is unchanged. For all other calls and replies the array is unchanged. */
 hull_shared_reply hull_shared_look_into(hull_shared_seat *seat, hull_point *out, size_t capacity);
 
 /* Returns how many lines the shared hull of the seat keeps at most; 0 if the storage has no seat. */
@@ -210,8 +230,8 @@ uint32_t hull_shared_segment_space(const hull_shared_segment *segment);
 /* Looks as hull_shared_look does. If the call is made, all lines of the journal then go into the segment, which had space for
  * them, the call's own as the last; the shared hull gets the space. Nothing is copied, and nothing allocated but what the call
  * allocates. VACANT, NO_NUMBER; NO_SPACE if the segment has space for fewer lines than hull_shared_capacity: no look was made,
- * and the seat still waits; NOT_YET. One line is reserved for it, so that it fails with FULL only if the whole journal has
- * 2^64 - 1 lines, and then nothing is drained. The segment may have one line more than hull_shared_capacity. */
+ * and the seat still waits; NOT_YET. One line is reserved for it, so that it fails with FULL only if the whole journal has 2^64 -
+ * 1 lines, and then nothing is drained. The segment may have one line more than hull_shared_capacity. */
 hull_shared_reply hull_shared_look_and_drain(hull_shared_seat *seat, hull_shared_segment *segment);
 
 /* Writes the text of the segment's lines, with the number of the first of them as its first number, to the front of the array:
@@ -219,30 +239,32 @@ hull_shared_reply hull_shared_look_and_drain(hull_shared_seat *seat, hull_shared
  * order. */
 hull_reply hull_shared_segment_text(const hull_shared_segment *segment, uint8_t *out, size_t length);
 
-/* Writes that text in blocks, for which an array of some kilobytes is enough: whole lines, from line `line` on, counted from 0
- * (the header), as many as fit. Returns TEXT with the `number` of bytes, and in `high` the line after them, with which the next
- * block begins: `number` is 0 after the end line was written. NO_LINES, NO_MEMORY (for no more than a block and a line);
- * TOO_SMALL with the `number` of bytes of that one line. All blocks in a row are the text of hull_shared_segment_text. */
+/* Writes the text of the segment's lines in blocks, for which an array of some kilobytes is enough: whole lines, from line `line`
+ * on, counted from 0 (the header), as many as fit. Returns TEXT with the `number` of bytes, and in `high` the line after them,
+ * with which the next block begins: `number` is 0 after the end line was written. NO_LINES, NO_MEMORY (for no more than a block
+ * and a line); TOO_SMALL with the `number` of bytes of that one line. All blocks in a row are the text of
+ * hull_shared_segment_text. */
 hull_reply hull_shared_segment_text_from(const hull_shared_segment *segment, uint64_t line, uint8_t *out, size_t length);
 
 /* Frees the space or the lines of the segment, so that it is empty: returns ENDED. */
 uint32_t hull_shared_segment_end(hull_shared_segment *segment);
 
-/* Closes the shared hull: returns CLOSED; NOT_OPEN, SEATS_OUT if a seat or a reader is acquired, and IN_USE only if another
- * call on the shared hull or its seats is under way. */
+/* Closes the shared hull: returns CLOSED; NOT_OPEN, SEATS_OUT if a seat or a reader is acquired, and IN_USE only if another call
+ * on the shared hull or its seats is under way. */
 uint32_t hull_shared_close(hull_shared *shared);
 
 /* Writes the text of a closed shared hull's journal, the lines that were not drained, to the front of the array: returns TEXT;
  * NOT_CLOSED, NO_MEMORY, TOO_SMALL with the `number` of bytes. `hullbook check` judges it. */
 hull_reply hull_shared_text(const hull_shared *shared, uint8_t *out, size_t length);
 
-/* Writes that text in blocks, as hull_shared_segment_text_from: returns TEXT; NOT_CLOSED, NO_MEMORY, TOO_SMALL with the
- * `number` of bytes of one line. The text is whole only if the last block returned TEXT with `number` 0. */
+/* Writes the text of a closed shared hull's journal in blocks, as hull_shared_segment_text_from: returns TEXT; NOT_CLOSED,
+ * NO_MEMORY, TOO_SMALL with the `number` of bytes of one line. The text is whole only if the last block returned TEXT with
+ * `number` 0. */
 hull_reply hull_shared_text_from(const hull_shared *shared, uint64_t line, uint8_t *out, size_t length);
 
-/* Ends a shared hull that is not open, and frees what it has: returns ENDED; NOT_CLOSED if it is open. It may be opened
- * again. */
+/* Ends a shared hull that is not open, and frees what it has: returns ENDED; NOT_CLOSED if it is open. It may be opened again. */
 uint32_t hull_shared_end(hull_shared *shared);
+/* end of what tools/table.py writes */
 
 /* Return the size of the text of a closed shared hull, or of a segment, as the `number` of TOO_SMALL; else fail as those
  * calls. */
@@ -276,9 +298,10 @@ static inline hull_reply hull_shared_segment_text_size(const hull_shared_segment
 /* The storage of a reader. One call at a time may use it. */
 typedef struct hull_shared_reader hull_shared_reader;
 
-/* A reader's snapshot: `code` is HULL_SNAPSHOT_TAKEN, or HULL_OLD if it is the one before, since other threads were in the way
- * a thousand times. It has `count` vertices, as of `lines` lines of the whole journal; `line` is the number of the last of
- * these, if `has_line` is 1. HULL_VACANT, and no vertices, if the storage has no reader. */
+/* written by tools/table.py: readers */
+/* A reader's snapshot: `code` is HULL_SNAPSHOT_TAKEN, or HULL_OLD if it is the one before, since other threads were in the way a
+ * thousand times. It has `count` vertices, as of `lines` lines of the whole journal; `line` is the number of the last of these,
+ * if `has_line` is 1. HULL_VACANT, and no vertices, if the storage has no reader. */
 typedef struct hull_shared_snapshot {
     size_t count;
     uint64_t lines;
@@ -287,24 +310,14 @@ typedef struct hull_shared_snapshot {
     uint32_t code;
 } hull_shared_snapshot;
 
-/* Return the size and the alignment of the storage of a reader; and make it, with no reader. */
+/* Returns the size in bytes of the storage of a reader. */
 size_t hull_shared_reader_size(void);
+
+/* Returns the alignment of that storage. */
 size_t hull_shared_reader_alignment(void);
+
+/* Makes storage with no reader. What was there is overwritten. It allocates nothing. */
 void hull_shared_make_reader(hull_shared_reader *storage);
-
-static inline hull_shared_reader *hull_shared_reader_new(void) {
-    hull_shared_reader *reader =
-        (hull_shared_reader *)hull_storage_new(hull_shared_reader_size(), hull_shared_reader_alignment());
-    if (reader != NULL) {
-        hull_shared_make_reader(reader);
-    }
-    return reader;
-}
-
-/* Frees storage with no reader; does nothing for null. */
-static inline void hull_shared_reader_free(hull_shared_reader *reader) {
-    hull_storage_free(reader);
-}
 
 /* Sets how many readers a shared hull may have, 1 to HULL_SHARED_READERS_MAX, before it is opened, in whichever way: returns
  * READERS_SET; WAS_OPENED, OUT_OF_LIMITS. It allocates nothing; opening allocates everything except snapshots. */
@@ -314,8 +327,8 @@ uint32_t hull_shared_set_max_readers(hull_shared *shared, uint32_t readers);
  * NO_MEMORY. It has no vertices until it reads. */
 uint32_t hull_shared_acquire_reader(hull_shared *shared, hull_shared_reader *storage);
 
-/* Releases a reader to the shared hull that it was acquired from, and drops its snapshot: returns RELEASED; NOT_OPEN, VACANT.
- * The shared hull closes after all readers are released. */
+/* Releases a reader to the shared hull that it was acquired from, and drops its snapshot: returns RELEASED; NOT_OPEN, VACANT. The
+ * shared hull closes after all readers are released. */
 uint32_t hull_shared_release_reader(hull_shared *shared, hull_shared_reader *storage);
 
 /* Takes the newest snapshot, if the reader does not have it, and drops the one before. */
@@ -327,6 +340,22 @@ hull_reply hull_shared_snapshot_vertices(hull_shared_reader *reader, hull_point 
 
 /* Returns 1 if the reader has the newest snapshot, else 0, by one load. */
 uint32_t hull_shared_is_newest(hull_shared_reader *reader);
+/* end of what tools/table.py writes */
+
+/* Returns storage with no reader, in memory from malloc; null if it refuses. */
+static inline hull_shared_reader *hull_shared_reader_new(void) {
+    hull_shared_reader *reader =
+        HULL_CAST(hull_shared_reader *, hull_storage_new(hull_shared_reader_size(), hull_shared_reader_alignment()));
+    if (reader != NULL) {
+        hull_shared_make_reader(reader);
+    }
+    return reader;
+}
+
+/* Frees storage with no reader; does nothing for null. */
+static inline void hull_shared_reader_free(hull_shared_reader *reader) {
+    hull_storage_free(reader);
+}
 
 /* ---- waiting
  *
@@ -355,6 +384,13 @@ uint32_t hull_shared_is_newest(hull_shared_reader *reader);
 /* How long new calls may pass those that sleep, in nanoseconds. */
 #define HULL_SHARED_TURN 500000
 
+/* What a shared hull that drains itself calls with the segment (hull_shared_gate_on_half_full). */
+typedef void hull_shared_hook(void *context, const hull_shared_segment *segment);
+
+/* The deadline of a call that waits for ever. */
+#define HULL_SHARED_NEVER UINT64_MAX
+
+/* written by tools/table.py: gates */
 /* Sets how many calls the gate admits at once: returns 1; or 0 if `inside` is not 1 to 64, and the gate is unchanged. With 1,
  * which all zero means, calls enter as described above. With as many as there are seats (strict order) no call waits for
  * admission, and each is served in the order in which the calls took their numbers: none passes one that waits. A thread whose
@@ -367,37 +403,35 @@ int hull_shared_gate_init(hull_shared_gate *gate, uint32_t inside);
  * with FULL. It has no number meanwhile, and is not admitted. Some thread has to drain, or the gate has a hook. */
 void hull_shared_gate_wait_for_space(hull_shared_gate *gate, int waits);
 
-/* Has the shared hull drain itself: the thread whose call finds half of the lines used, or no space, drains by its seat,
- * asking how many points there are, and then calls `hook` with `context` and the segment, beside the calls of others. One
- * thread does so at a time, so that the segments come in order; the segment has its space again after that. The hook may read
- * the segment (hull_shared_segment_text, hull_shared_segment_text_from) and no more, returns to its caller (no longjmp, no
- * exception), and makes no call by the seat of its thread. If calls outrun it, they fail with FULL, or wait
- * (hull_shared_gate_wait_for_space). Returns 1, or 0 if memory for the segment is refused; end a gate that has a hook by
- * hull_shared_gate_end. Call it before a seat is acquired with the gate. If memory is refused to a drain, calls that wait for
- * space try it again each ten milliseconds. */
-typedef void hull_shared_hook(void *context, const hull_shared_segment *segment);
+/* Has the shared hull drain itself: the thread whose call finds half of the lines used, or no space, drains by its seat, asking
+ * how many points there are, and then calls `hook` with `context` and the segment, beside the calls of others. One thread does so
+ * at a time, so that the segments come in order; the segment has its space again after that. The hook may read the segment
+ * (hull_shared_segment_text, hull_shared_segment_text_from) and no more, returns to its caller (no longjmp, no exception), and
+ * makes no call by the seat of its thread. If calls outrun it, they fail with FULL, or wait (hull_shared_gate_wait_for_space).
+ * Returns 1, or 0 if memory for the segment is refused; end a gate that has a hook by hull_shared_gate_end. Call it before a seat
+ * is acquired with the gate. If memory is refused to a drain, calls that wait for space try it again each ten milliseconds. */
 int hull_shared_gate_on_half_full(hull_shared_gate *gate, hull_shared_hook *hook, void *context);
 
-/* Drains for the hook by this seat now, after a drain that is under way, however few lines there are: returns 1, or 0 if the
- * gate has no hook or is not the seat's, or memory is refused. */
+/* Drains for the hook by this seat now, after a drain that is under way, however few lines there are: returns 1, or 0 if the gate
+ * has no hook or is not the seat's, or memory is refused. */
 int hull_shared_gate_drain(hull_shared_gate *gate, hull_shared_seat *seat);
 
 /* Frees what a gate with a hook has, when no seat is acquired with it. */
 void hull_shared_gate_end(hull_shared_gate *gate);
 
-/* Makes a call of a kind (hull_kind) by a seat that was acquired with this gate, and waits for its reply, which is the kind's,
- * or FULL, unless the gate waits for space. If no number was taken: OTHER_GATE if the seat was acquired with another gate or
- * with none, else the code of hull_shared_take: VACANT, WAITING, UNKNOWN_KIND, OUT_OF_RANGE, ZERO_DIRECTION. For vertices it
- * returns how many there are. If the gate has a hook, the call may drain for it after its reply. */
+/* Makes a call of a kind (hull_kind) by a seat that was acquired with this gate, and waits for its reply, which is the kind's, or
+ * FULL, unless the gate waits for space. If no number was taken: OTHER_GATE if the seat was acquired with another gate or with
+ * none, else the code of hull_shared_take: VACANT, WAITING, UNKNOWN_KIND, OUT_OF_RANGE, ZERO_DIRECTION. For vertices it returns
+ * how many there are. If the gate has a hook, the call may drain for it after its reply. */
 hull_shared_reply hull_shared_call(hull_shared_gate *gate, hull_shared_seat *seat, uint32_t kind, int64_t x, int64_t y);
 
-/* The same, but it does not wait: BUSY if another call is admitted, or the gate is closed for a sleeper; no number was taken
- * then, and no call made. FULL at once, also if the gate waits for space. */
+/* Makes a call as hull_shared_call does, but does not wait: BUSY if another call is admitted, or the gate is closed for a
+ * sleeper; no number was taken then, and no call made. FULL at once, also if the gate waits for space. */
 hull_shared_reply hull_shared_try_call(hull_shared_gate *gate, hull_shared_seat *seat, uint32_t kind, int64_t x, int64_t y);
 
-/* The same, but it waits for admission and for space only until hull_shared_now() is `until`: BUSY if it was not admitted by
- * then, FULL if there was no space by then; no call was made then. A number once taken is waited for, and a hook runs to its
- * end. */
+/* Makes a call as hull_shared_call does, but waits for admission and for space only until hull_shared_now() is `until`: BUSY if
+ * it was not admitted by then, FULL if there was no space by then; no call was made then. A number once taken is waited for, and
+ * a hook runs to its end. */
 hull_shared_reply hull_shared_call_until(hull_shared_gate *gate, hull_shared_seat *seat, uint32_t kind, int64_t x, int64_t y,
                                          uint64_t until);
 
@@ -411,18 +445,17 @@ typedef struct hull_shared_target {
     hull_shared_segment *segment;
 } hull_shared_target;
 
-/* The call that all others here are made of: waits until `until`, HULL_SHARED_NEVER for no end, and not at all with 0. NO_SPACE
- * if the segment has space for fewer lines than the shared hull of the seat keeps at most: no number was taken, and no call
- * made. */
-#define HULL_SHARED_NEVER UINT64_MAX
+/* Makes the call that all others here are made of: waits until `until`, HULL_SHARED_NEVER for no end, and not at all with 0.
+ * NO_SPACE if the segment has space for fewer lines than the shared hull of the seat keeps at most: no number was taken, and no
+ * call made. */
 hull_shared_reply hull_shared_call_into(hull_shared_gate *gate, hull_shared_seat *seat, uint32_t kind, int64_t x, int64_t y,
                                         hull_shared_target to, uint64_t until);
 
 /* Makes a call as hull_shared_call, and drains all lines of the journal then into the segment: the call's own is the last of
  * them. NO_SPACE if the segment has space for fewer lines than the shared hull of the seat keeps at most: no number was taken,
  * and no call made. */
-hull_shared_reply hull_shared_drain(hull_shared_gate *gate, hull_shared_seat *seat, hull_shared_segment *segment, uint32_t kind,
-                                    int64_t x, int64_t y);
+hull_shared_reply hull_shared_drain(hull_shared_gate *gate, hull_shared_seat *seat, hull_shared_segment *segment, uint32_t kind, int64_t x,
+                                    int64_t y);
 
 /* Asks for the vertices, which are written to the front of the array as hull_vertices writes them: returns VERTICES; TOO_SMALL
  * with their `number` if they do not fit, and the array is unchanged; NO_MEMORY, FULL, VACANT, WAITING, OTHER_GATE. With each
@@ -441,7 +474,8 @@ typedef struct hull_shared_state {
     uint32_t for_space;  /* how many sleep and wait for space */
     uint32_t held;       /* how many lines the journal had after the last call at this gate */
     uint64_t turn;       /* the number that is served now, the one after that call's; 0 before the first, and if no seat is acquired */
-    uint32_t seat;       /* the seat that has that number, serves it for another, or is to take it; HULL_SHARED_SEATS_MAX if there is none */
+    uint32_t seat;       /* the seat that has that number, serves it for another, or is to take it; HULL_SHARED_SEATS_MAX if there is
+                          * none */
     uint32_t designated; /* the seat that is designated to enter next; HULL_SHARED_SEATS_MAX if there is none */
     uint32_t drainer;    /* the seat that drains for the hook; HULL_SHARED_SEATS_MAX if none does */
     uint64_t seat_for;   /* how many nanoseconds that seat's call has been admitted, to some milliseconds */
@@ -451,6 +485,60 @@ typedef struct hull_shared_state {
 
 /* Returns the state of the gate. It takes no number and waits for nothing; any thread may call it, with or without a seat. */
 hull_shared_state hull_shared_stats(const hull_shared_gate *gate);
+/* end of what tools/table.py writes */
+
+/* ---- calls that need only a seat
+ *
+ * A seat knows the gate with which it was acquired: these calls wait there. */
+
+/* written by tools/table.py: calls of seats */
+/* Makes a call as hull_shared_call_into, at the gate with which the seat was acquired: waits until `until`, HULL_SHARED_NEVER for
+ * no end, and not at all with 0. VACANT, also if the seat is null; OTHER_GATE if it was acquired with no gate. */
+hull_shared_reply hull_seat_call_into(hull_shared_seat *seat, uint32_t kind, int64_t x, int64_t y, hull_shared_target to, uint64_t until);
+
+/* Makes a call of a kind as hull_shared_call_until, at the gate of the seat; with `until` 0 as hull_shared_try_call, and with
+ * HULL_SHARED_NEVER as hull_shared_call. VACANT, also if the seat is null; OTHER_GATE. */
+hull_shared_reply hull_seat_call_until(hull_shared_seat *seat, uint32_t kind, int64_t x, int64_t y, uint64_t until);
+
+/* Asks for the vertices as hull_shared_vertices, at the gate of the seat. VACANT, also if the seat is null; OTHER_GATE. */
+hull_shared_reply hull_seat_vertices(hull_shared_seat *seat, hull_point *out, size_t capacity);
+
+/* Adds the point (x, y), or 1 to its multiplicity: ADDED, AGAIN, TOO_MANY, NO_MEMORY; OUT_OF_RANGE. These calls wait as
+ * hull_shared_call does, and fail as hull_seat_call_until. */
+static inline hull_shared_reply hull_seat_add(hull_shared_seat *seat, int64_t x, int64_t y) {
+    return hull_seat_call_until(seat, HULL_KIND_ADD, x, y, HULL_SHARED_NEVER);
+}
+
+/* Takes 1 from the multiplicity of the point: REMOVED, LEFT, ABSENT; OUT_OF_RANGE. */
+static inline hull_shared_reply hull_seat_remove(hull_shared_seat *seat, int64_t x, int64_t y) {
+    return hull_seat_call_until(seat, HULL_KIND_REMOVE, x, y, HULL_SHARED_NEVER);
+}
+
+/* Asks where the point is: INSIDE, ON, OUTSIDE; OUT_OF_RANGE. */
+static inline hull_shared_reply hull_seat_place(hull_shared_seat *seat, int64_t x, int64_t y) {
+    return hull_seat_call_until(seat, HULL_KIND_PLACE, x, y, HULL_SHARED_NEVER);
+}
+
+/* Asks for the two tangent points that are seen from the point: TANGENTS, NO_TANGENT; OUT_OF_RANGE. */
+static inline hull_shared_reply hull_seat_tangents(hull_shared_seat *seat, int64_t x, int64_t y) {
+    return hull_seat_call_until(seat, HULL_KIND_TANGENTS, x, y, HULL_SHARED_NEVER);
+}
+
+/* Asks for the first of the farthest points in the direction (x, y): POINT, EMPTY; OUT_OF_RANGE, ZERO_DIRECTION. */
+static inline hull_shared_reply hull_seat_extreme(hull_shared_seat *seat, int64_t x, int64_t y) {
+    return hull_seat_call_until(seat, HULL_KIND_EXTREME, x, y, HULL_SHARED_NEVER);
+}
+
+/* Asks for twice the area: NUMBER. */
+static inline hull_shared_reply hull_seat_area(hull_shared_seat *seat) {
+    return hull_seat_call_until(seat, HULL_KIND_AREA, 0, 0, HULL_SHARED_NEVER);
+}
+
+/* Asks how many different points there are: NUMBER. */
+static inline hull_shared_reply hull_seat_count(hull_shared_seat *seat) {
+    return hull_seat_call_until(seat, HULL_KIND_COUNT, 0, 0, HULL_SHARED_NEVER);
+}
+/* end of what tools/table.py writes */
 
 /* ---- a journal in a file
  *
@@ -464,9 +552,9 @@ hull_shared_state hull_shared_stats(const hull_shared_gate *gate);
  *     hull_shared_journal_close(journal);
  *
  * The file is a row of segments, each a text as hull_shared_segment_text writes it, which continues the one before it, and a
- * line with its checksum, counted on from that of the segment before. A segment is appended, followed by one fsync, and only then its lines are reported durable. So however the process ends, or the
- * machine, the file has all that was reported durable, and after it at most one segment more, which may be torn. Calls not yet
- * reported durable may be lost, but only as a suffix, never from the middle. (docs/SHARED.md says how to separate the segments
+ * line with its checksum, counted on from that of the segment before. A segment is appended, followed by one fsync, and only then
+ * its lines are reported durable. So however the process ends, or the machine, the file has all that was reported durable, and
+ * after it at most one segment more, which may be torn. Calls not yet reported durable may be lost, but only as a suffix, never from the middle. (docs/SHARED.md says how to separate the segments
  * for `hullbook check`.) Files of versions before 3.1 have no checksums until they are compacted.
  *
  * The calls of this section need a POSIX file system and a library of threads. One process has a file at a time (flock), and
@@ -474,60 +562,59 @@ hull_shared_state hull_shared_stats(const hull_shared_gate *gate);
  * resolved once, when it is opened: a symbolic link names the file that it leads to, and one that leads to none is refused. */
 typedef struct hull_shared_journal hull_shared_journal;
 
-/* Opens the file, or makes one with no segment: returns OPEN, with the number of the next line (0 if the file has no segment)
- * as `number`, and how many bytes of a torn segment were cut off its end as `high`. Torn is what a crash can leave of the
- * segment that was being appended: its first bytes, of which whole sectors of 512 bytes may be zeros; it is kept in the file
- * PATH.torn (PATH.torn.1 and so on if there is one), except zeros at its end. The last whole segment is written again, and the
- * file and its folder are synced, before the call returns: the lines before line `number` are durable then. It takes time
- * proportional to the file.
- *
- * NO_FILE, with errno as `number`, if the system refuses a call on it (EWOULDBLOCK: another process has it; EINVAL: it is not
- * a regular file); DAMAGED, with the line `number` of the file, from 1, if a line has not the form of a journal's or a
+/* written by tools/table.py: journal files */
+/* Opens the file, or makes one with no segment: returns OPEN, with the number of the next line (0 if the file has no segment) as
+ * `number`, and how many bytes of a torn segment were cut off its end as `high`. Torn is what a crash can leave of the segment
+ * that was being appended: its first bytes, of which whole sectors of 512 bytes may be zeros; it is kept in the file PATH.torn
+ * (PATH.torn.1 and so on if there is one), except zeros at its end. The last whole segment is written again, and the file and its
+ * folder are synced, before the call returns: the lines before line `number` are durable then. It takes time proportional to the
+ * file. NO_FILE, with errno as `number`, if the system refuses a call on it (EWOULDBLOCK: another process has it; EINVAL: it is
+ * not a regular file); DAMAGED, with the line `number` of the file, from 1, if a line has not the form of a journal's or a
  * checksum is wrong, and no crash can have left it so: the file is unchanged; NO_MEMORY. The journal is null except with OPEN. */
 hull_reply hull_shared_journal_open(const char *path, hull_shared_journal **journal);
 
 /* Compacts the file of a journal that no process has open: one segment, of additions that leave the same points with the same
  * multiplicities, and end with the same number, so that the next line is the one that it would have been. Returns DURABLE with
- * that number; else as hull_shared_journal_open and hull_shared_journal_start refuse the file, which is unchanged then; so is
- * one with several names (hard links): NO_FILE with EMLINK. Another file, PATH.new (PATH.new.1 and so on if there is one), of
- * the same owner and mode, is written and synced, and takes its name: however the process ends, one of the two is there,
- * whole. NO_FILE with `high` 1 if it has the name, but its folder could not be synced: either of the two may be there after a
- * loss of power, and both leave the same points. A process that is killed meanwhile may leave PATH.new, which nothing needs.
- * The compacted file does not have the old calls and replies. */
+ * that number; else as hull_shared_journal_open and hull_shared_journal_start refuse the file, which is unchanged then; so is one
+ * with several names (hard links): NO_FILE with EMLINK. Another file, PATH.new (PATH.new.1 and so on if there is one), of the
+ * same owner and mode, is written and synced, and takes its name: however the process ends, one of the two is there, whole.
+ * NO_FILE with `high` 1 if it has the name, but its folder could not be synced: either of the two may be there after a loss of
+ * power, and both leave the same points. A process that is killed meanwhile may leave PATH.new, which nothing needs. The
+ * compacted file does not have the old calls and replies. */
 hull_reply hull_shared_journal_compact(const char *path);
 
-/* Opens the shared hull with what the file has, and keeps its journal there from then on. If the file has no segment the
- * shared hull is a new one for `limit` points; else it has the points that the segments left, their limit, and its next line
- * has the number after theirs. It has seats 0 to `seats` - 1 for you, and seat `seats` for the journal, whose thread drains it
- * when a thread waits for a line, and if there are lines each `every` nanoseconds, unless that is 0. The gate drains when the
- * journal is half full, waits for space, and has no hook but this one. No other thread may drain it.
- *
- * Returns OPEN; NO_FILE, DAMAGED or ILLEGAL with the line `number` of the file, from 1, if a change in it can't have had its
- * reply; OUT_OF_LIMITS, also if the multiplicities sum to more than HULL_SHARED_CAPACITY_MAX; WAS_OPENED; OTHER_GATE;
- * NO_MEMORY. The shared hull and the journal are unchanged then. The gate must not have a hook. */
+/* Opens the shared hull with what the file has, and keeps its journal there from then on. If the file has no segment the shared
+ * hull is a new one for `limit` points; else it has the points that the segments left, their limit, and its next line has the
+ * number after theirs. It has seats 0 to `seats` - 1 for you, and seat `seats` for the journal, whose thread drains it when a
+ * thread waits for a line, and if there are lines each `every` nanoseconds, unless that is 0. The gate drains when the journal is
+ * half full, waits for space, and has no hook but this one. No other thread may drain it. Returns OPEN; NO_FILE, DAMAGED or
+ * ILLEGAL with the line `number` of the file, from 1, if a call in it can't have had its reply; OUT_OF_LIMITS, also if the
+ * multiplicities sum to more than HULL_SHARED_CAPACITY_MAX; WAS_OPENED; OTHER_GATE; NO_MEMORY. The shared hull and the journal
+ * are unchanged then. The gate must not have a hook. */
 hull_reply hull_shared_journal_start(hull_shared_journal *journal, hull_shared *shared, hull_shared_gate *gate, uint32_t limit,
                                      uint32_t capacity, uint32_t seats, uint64_t every);
 
-/* Returns which lines are durable: DURABLE, with the number of the first that is not as `number`. NO_FILE if a write or an
- * fsync failed, with errno as `high` (ENOMEM: memory was refused for ten seconds; ESTALE: another program has cut, extended,
- * replaced, renamed or removed the file, which is noticed at the next drain), or ILLEGAL if another thread drained the shared
- * hull: no later line will be durable, and the file stays unchanged. Calls still return. */
+/* Returns which lines are durable: DURABLE, with the number of the first that is not as `number`. NO_FILE if a write or an fsync
+ * failed, with errno as `high` (ENOMEM: memory was refused for ten seconds; ESTALE: another program has cut, extended, replaced,
+ * renamed or removed the file, which is noticed at the next drain), or ILLEGAL if another thread drained the shared hull: no
+ * later line will be durable, and the file stays unchanged. Calls still return. */
 hull_reply hull_shared_journal_durable(hull_shared_journal *journal);
 
-/* Waits until the line of this number, whose call has returned, is durable: returns DURABLE, as above, NO_FILE or ILLEGAL; BUSY
- * if it is not yet when hull_shared_now() is `until`. Many waiting threads share one fsync. Numbers continue with 0 after 2^64
- * - 1: of two that are at most 2^63 apart the later one is known. */
+/* Waits until the line of this number, whose call has returned, is durable: returns DURABLE, NO_FILE or ILLEGAL, as
+ * hull_shared_journal_durable; BUSY if it is not yet when hull_shared_now() is `until`. Many waiting threads share one fsync.
+ * Numbers continue with 0 after 2^64 - 1: of two that are at most 2^63 apart the later one is known. */
 hull_reply hull_shared_journal_wait(hull_shared_journal *journal, uint64_t line, uint64_t until);
 
-/* Waits until the lines of all calls that have returned are durable: as above. */
+/* Waits until the lines of all calls that have returned are durable: returns what hull_shared_journal_wait returns. */
 hull_reply hull_shared_journal_sync(hull_shared_journal *journal, uint64_t until);
 
-/* Ends the journal: closes its shared hull, after all your seats and readers are released, appends the last lines, and closes
- * the file. Returns CLOSED with the number of the next line; NO_FILE or ILLEGAL as above, and everything is closed, but not
- * all is in the file; SEATS_OUT or IN_USE, as hull_shared_close, and nothing is closed: the journal continues, and may be
- * closed later. Then end the shared hull. Calls of other threads on the journal that began before (durable, wait, sync) return
- * first; none may begin meanwhile. A journal that was not started is only closed. */
+/* Ends the journal: closes its shared hull, after all your seats and readers are released, appends the last lines, and closes the
+ * file. Returns CLOSED with the number of the next line; NO_FILE or ILLEGAL as hull_shared_journal_durable, and everything is
+ * closed, but not all is in the file; SEATS_OUT or IN_USE, as hull_shared_close, and nothing is closed: the journal continues,
+ * and may be closed later. Then end the shared hull. Calls of other threads on the journal that began before (durable, wait,
+ * sync) return first; none may begin meanwhile. A journal that was not started is only closed. */
 hull_reply hull_shared_journal_close(hull_shared_journal *journal);
+/* end of what tools/table.py writes */
 
 #ifdef __cplusplus
 }

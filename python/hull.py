@@ -51,7 +51,7 @@ from typing import SupportsIndex, Tuple, Union, overload
 if sys.version_info < (3, 8):
     raise ImportError("the module hull needs Python 3.8 or later")
 
-__version__ = "3.2.0"
+__version__ = "3.3.0"
 __all__ = [
     "CAPACITY_LIMIT", "COORDINATE_LIMIT", "MULTIPLICITY_LIMIT", "POINT_LIMIT", "READER_LIMIT", "SEAT_LIMIT", "Busy", "Ended",
     "FloatHull", "Hull", "JournalFault", "JournalFull", "JournalSegment", "Lattice", "Motion", "NoSeat", "OutOfRange", "Place", "Polygon",
@@ -230,9 +230,21 @@ class _Kind(enum.IntEnum):
     # end of what tools/table.py writes
 
 
+_int64, _uint32, _uint64 = ctypes.c_int64, ctypes.c_uint32, ctypes.c_uint64
+_size, _address = ctypes.c_size_t, ctypes.c_void_p
+
+
+# written by tools/table.py: structs
 class _Reply(ctypes.Structure):
-    _fields_ = [("code", ctypes.c_uint32), ("x", ctypes.c_int64), ("y", ctypes.c_int64), ("other_x", ctypes.c_int64),
-                ("other_y", ctypes.c_int64), ("number", ctypes.c_uint64), ("high", ctypes.c_uint64)]
+    _fields_ = [
+        ("code", _uint32),
+        ("x", _int64),
+        ("y", _int64),
+        ("other_x", _int64),
+        ("other_y", _int64),
+        ("number", _uint64),
+        ("high", _uint64),
+    ]
     code: int
     x: int
     y: int
@@ -243,41 +255,67 @@ class _Reply(ctypes.Structure):
 
 
 class _Held(ctypes.Structure):
-    _fields_ = [("x", ctypes.c_int64), ("y", ctypes.c_int64), ("multiplicity", ctypes.c_uint32)]
+    _fields_ = [
+        ("x", _int64),
+        ("y", _int64),
+        ("multiplicity", _uint32),
+    ]
     x: int
     y: int
     multiplicity: int
 
 
 class _Witness(ctypes.Structure):
-    _fields_ = [("code", ctypes.c_uint32), ("a", ctypes.c_int64 * 2), ("b", ctypes.c_int64 * 2), ("c", ctypes.c_int64 * 2),
-                ("d", ctypes.c_int64 * 2)]
+    _fields_ = [
+        ("code", _uint32),
+        ("a", _int64 * 2),
+        ("b", _int64 * 2),
+        ("c", _int64 * 2),
+        ("d", _int64 * 2),
+    ]
     code: int
-
-    def point(self, name: str) -> Pair:
-        """Returns the point of this name."""
-        x, y = getattr(self, name)
-        return x, y
+    a: Any
+    b: Any
+    c: Any
+    d: Any
 
 
 class _DistanceBounds(ctypes.Structure):
-    _fields_ = [("code", ctypes.c_uint32), ("shift", ctypes.c_uint32), ("lower", ctypes.c_uint64), ("upper", ctypes.c_uint64),
-                ("numerator", ctypes.c_uint64 * 3), ("denominator", ctypes.c_uint64 * 2)]
+    _fields_ = [
+        ("code", _uint32),
+        ("shift", _uint32),
+        ("lower", _uint64),
+        ("upper", _uint64),
+        ("high", _uint64),
+        ("middle", _uint64),
+        ("low", _uint64),
+        ("divisor_high", _uint64),
+        ("divisor_low", _uint64),
+    ]
     code: int
     shift: int
     lower: int
     upper: int
-
-    def number(self, name: str) -> int:
-        """Returns the integer of these words, the highest first."""
-        words: List[int] = list(getattr(self, name))
-        return functools.reduce(lambda above, word: above << 64 | word, words, 0)
+    high: int
+    middle: int
+    low: int
+    divisor_high: int
+    divisor_low: int
 
 
 class _Hit(ctypes.Structure):
-    _fields_ = [("code", ctypes.c_uint32), ("a", ctypes.c_int64 * 2), ("b", ctypes.c_int64 * 2), ("high", ctypes.c_uint64),
-                ("low", ctypes.c_uint64), ("divisor_high", ctypes.c_uint64), ("divisor_low", ctypes.c_uint64)]
+    _fields_ = [
+        ("code", _uint32),
+        ("a", _int64 * 2),
+        ("b", _int64 * 2),
+        ("high", _uint64),
+        ("low", _uint64),
+        ("divisor_high", _uint64),
+        ("divisor_low", _uint64),
+    ]
     code: int
+    a: Any
+    b: Any
     high: int
     low: int
     divisor_high: int
@@ -285,11 +323,15 @@ class _Hit(ctypes.Structure):
 
 
 class _Motion(ctypes.Structure):
-    _fields_ = [("hit", _Hit), ("vertex", ctypes.c_int64 * 2), ("moves", ctypes.c_uint32)]
-    hit: _Hit
+    _fields_ = [
+        ("hit", _Hit),
+        ("vertex", _int64 * 2),
+        ("moves", _uint32),
+    ]
+    hit: Any
     vertex: Any
     moves: int
-
+# end of what tools/table.py writes
 
 _FAULTS: Dict[int, Callable[[], Exception]] = {
     _Code.OUT_OF_RANGE: lambda: OutOfRange("a coordinate is out of range"),
@@ -337,36 +379,42 @@ def _load(file: str, variable: str, functions: Sequence[Tuple[str, List[Any], An
 
 
 def _library() -> ctypes.CDLL:
-    at, whole, size, number, long = ctypes.c_void_p, ctypes.c_int64, ctypes.c_size_t, ctypes.c_uint32, ctypes.c_uint64
     return _load("libhull.so", "HULL_LIBRARY", [
-        ("python_new", [number], at), ("python_free", [at], None), ("python_call", [at, number, whole, whole], _Reply),
-        ("python_calls", [at, at, at, size], size), ("python_vertices", [at, at, size], _Reply),
-        ("python_load", [at, at, size], _Reply), ("python_load_held", [at, at, size], _Reply),
-        ("python_held_from", [at, whole, whole, at, size], _Reply), ("python_nearest_held", [at, whole, whole], _Reply),
-        ("python_copy", [at, at], _Reply), ("python_limit", [at], _Reply), ("python_clear", [at], _Reply),
-        ("is_polygon", [at, size], _Reply), ("polygon_of", [at, size, at, size], _Reply),
-        ("polygon_call", [at, size, number, whole, whole], _Reply),
-        ("polygon_intersects_segment", [at, size, whole, whole, whole, whole], _Reply),
-        ("polygon_separation", [at, size, whole, whole, whole, whole], _Reply),
-        ("polygon_nearest", [at, size, whole, whole], _Reply), ("polygon_box", [at, size], _Reply),
-        ("polygon_width", [at, size, whole, whole], _Reply), ("polygon_diameter", [at, size], _Reply),
-        ("polygon_intersects", [at, size, at, size], _Reply), ("polygon_contains", [at, size, at, size], _Reply),
-        ("polygon_relation", [at, size, at, size], _Reply), ("polygon_contains_inside", [at, size, at, size], _Reply),
-        ("polygon_within_distance", [at, size, at, size, long, number], _Reply),
-        ("polygon_within_distance_of_segment", [at, size, whole, whole, whole, whole, long, number], _Reply),
-        ("polygon_relation_to_segment", [at, size, whole, whole, whole, whole], _Reply),
-        ("polygon_distance_bounds", [at, size, at, size], _DistanceBounds),
-        ("polygon_distance_bounds_to_segment", [at, size, whole, whole, whole, whole], _DistanceBounds),
-        ("polygon_raycast", [at, size, whole, whole, whole, whole], _Hit),
-        ("polygon_raycast_exit", [at, size, whole, whole, whole, whole], _Hit),
-        ("polygon_raycast_segment", [at, size, whole, whole, whole, whole], _Hit),
-        ("polygon_least_width", [at, size], _Witness), ("polygon_witness", [at, size, at, size], _Witness),
-        ("polygon_distance", [at, size, at, size], _Witness),
-        ("polygon_calls", [at, size, at, size, at, size], size),
-        ("polygon_first_meeting", [at, size, at, size, whole, whole], _Motion), ("polygon_translate", [at, size, whole, whole, at], _Reply),
-        ("polygon_rotate", [at, size, whole, whole, at], _Reply),
-        ("pairs_within_distance", [at, size, long, number, at, size], _Reply), ("polygon_relations", [at, size, at, size, at], None),
-        ("polygon_intersects_segments", [at, size, at, size, at], size), ("polygon_indices", [at, size, at, size, at], size),
+        ("python_new", [_uint32], _address), ("python_free", [_address], None), ("python_call", [_address, _uint32, _int64, _int64], _Reply),
+        ("python_calls", [_address, _address, _address, _size], _size), ("python_vertices", [_address, _address, _size], _Reply),
+        ("python_load", [_address, _address, _size], _Reply), ("python_load_held", [_address, _address, _size], _Reply),
+        ("python_held_from", [_address, _int64, _int64, _address, _size], _Reply), ("python_nearest_held", [_address, _int64, _int64], _Reply),
+        ("python_copy", [_address, _address], _Reply), ("python_limit", [_address], _Reply), ("python_clear", [_address], _Reply),
+        # written by tools/table.py: signatures
+        ("is_polygon", [_address, _size], _Reply), ("polygon_of", [_address, _size, _address, _size], _Reply),
+        ("polygon_call", [_address, _size, _uint32, _int64, _int64], _Reply),
+        ("polygon_calls", [_address, _size, _address, _size, _address, _size], _size),
+        ("polygon_intersects_segment", [_address, _size, _int64, _int64, _int64, _int64], _Reply),
+        ("polygon_separation", [_address, _size, _int64, _int64, _int64, _int64], _Reply),
+        ("polygon_nearest", [_address, _size, _int64, _int64], _Reply), ("polygon_box", [_address, _size], _Reply),
+        ("polygon_width", [_address, _size, _int64, _int64], _Reply), ("polygon_diameter", [_address, _size], _Reply),
+        ("polygon_least_width", [_address, _size], _Witness), ("polygon_intersects", [_address, _size, _address, _size], _Reply),
+        ("polygon_contains", [_address, _size, _address, _size], _Reply),
+        ("polygon_contains_inside", [_address, _size, _address, _size], _Reply),
+        ("polygon_relation", [_address, _size, _address, _size], _Reply),
+        ("polygon_within_distance", [_address, _size, _address, _size, _uint64, _uint32], _Reply),
+        ("polygon_witness", [_address, _size, _address, _size], _Witness),
+        ("polygon_distance", [_address, _size, _address, _size], _Witness),
+        ("polygon_distance_bounds", [_address, _size, _address, _size], _DistanceBounds),
+        ("polygon_distance_bounds_to_segment", [_address, _size, _int64, _int64, _int64, _int64], _DistanceBounds),
+        ("polygon_within_distance_of_segment", [_address, _size, _int64, _int64, _int64, _int64, _uint64, _uint32], _Reply),
+        ("polygon_relation_to_segment", [_address, _size, _int64, _int64, _int64, _int64], _Reply),
+        ("polygon_raycast", [_address, _size, _int64, _int64, _int64, _int64], _Hit),
+        ("polygon_raycast_exit", [_address, _size, _int64, _int64, _int64, _int64], _Hit),
+        ("polygon_raycast_segment", [_address, _size, _int64, _int64, _int64, _int64], _Hit),
+        ("polygon_first_meeting", [_address, _size, _address, _size, _int64, _int64], _Motion),
+        ("polygon_translate", [_address, _size, _int64, _int64, _address], _Reply),
+        ("polygon_rotate", [_address, _size, _int64, _int64, _address], _Reply),
+        ("pairs_within_distance", [_address, _size, _uint64, _uint32, _address, _size], _Reply),
+        ("polygon_relations", [_address, _size, _address, _size, _address], None),
+        ("polygon_intersects_segments", [_address, _size, _address, _size, _address], _size),
+        ("polygon_indices", [_address, _size, _address, _size, _address], _size),
+        # end of what tools/table.py writes
     ])
 
 
@@ -706,6 +754,11 @@ def _two_pairs(reply: _Reply) -> Tuple[Pair, Pair]:
     return (reply.x, reply.y), (reply.other_x, reply.other_y)
 
 
+def _place(reply: _Reply) -> Place:
+    """Returns the location of a point."""
+    return Place(reply.code)
+
+
 def _tangents(reply: _Reply) -> Optional[Tuple[Pair, Pair]]:
     """Returns the left and the right tangent point; None if there are none."""
     return None if reply.code == _Code.NO_TANGENT else _two_pairs(reply)
@@ -721,17 +774,87 @@ def _area(reply: _Reply) -> int:
     return reply.high << 64 | reply.number
 
 
-def _squared_distance(places: Sequence[Tuple[Pair, ...]]) -> Fraction:
-    """Returns the squared distance of two features, each a point or an edge with the foot of the other on it; 0 if both are none."""
-    if not places[0]:
-        return Fraction(0)
-    (point,), ends = sorted(places, key=len)
-    ax, ay = point
-    if len(ends) == 1:
-        return Fraction((ends[0][0] - ax) ** 2 + (ends[0][1] - ay) ** 2)
-    (bx, by), (cx, cy) = ends
-    doubled_area = (cx - bx) * (ay - by) - (cy - by) * (ax - bx)
-    return Fraction(doubled_area * doubled_area, (cx - bx) ** 2 + (cy - by) ** 2)
+def _pair(point: Any) -> Pair:
+    """Returns a point of a struct."""
+    return point[0], point[1]
+
+
+def _whether(reply: _Reply) -> bool:
+    """Returns the truth of a reply."""
+    return reply.number == 1
+
+
+def _relation(reply: _Reply) -> Relation:
+    """Returns the relation of a reply."""
+    return Relation(reply.number)
+
+
+def _number_or_none(reply: _Reply) -> Optional[int]:
+    """Returns a number of two words; None if there is none."""
+    return None if reply.code == _Code.EMPTY else _area(reply)
+
+
+def _two_pairs_or_none(reply: _Reply) -> Optional[Tuple[Pair, Pair]]:
+    """Returns the two points of a box, a diameter or a separation; None if there are none."""
+    return None if reply.code in (_Code.EMPTY, _Code.INTERSECTING) else _two_pairs(reply)
+
+
+def _nearest(reply: _Reply) -> Optional[Tuple[Pair, ...]]:
+    """Returns the nearest feature: no point, a vertex, or the ends of an edge; None if there is none."""
+    if reply.code == _Code.EMPTY:
+        return None
+    return _two_pairs(reply)[:{int(_Code.EDGE): 2, int(_Code.VERTEX): 1}.get(reply.code, 0)]
+
+
+def _strip(witness: _Witness) -> Optional[Tuple[Pair, Pair, Pair]]:
+    """Returns the ends of an edge and a vertex; None if there is no edge."""
+    return None if witness.code == _Code.EMPTY else (_pair(witness.a), _pair(witness.b), _pair(witness.c))
+
+
+def _witness(witness: _Witness) -> Optional[Witness]:
+    """Returns what a witness shows, with the points that belong to it; None if there is none."""
+    if witness.code == _Code.EMPTY:
+        return None
+    shows = Shows(witness.code)
+    points = witness.a, witness.b, witness.c, witness.d
+    return Witness(shows, tuple(map(_pair, points[:{Shows.DISJOINT: 2, Shows.CROSSING: 4}.get(shows, 1)])))
+
+
+def _distance(witness: _Witness) -> Optional[Tuple[Tuple[Pair, ...], Tuple[Pair, ...]]]:
+    """Returns the feature of the one polygon and that of the other; None if one has no vertex."""
+    if witness.code == _Code.EMPTY:
+        return None
+    ours, theirs = {int(_Code.POINTS): (1, 1), int(_Code.VERTEX): (1, 2), int(_Code.EDGE): (2, 1)}.get(witness.code, (0, 0))
+    points = tuple(map(_pair, (witness.a, witness.b, witness.c)))
+    return points[:ours], points[ours:ours + theirs]
+
+
+def _bounds(bounds: _DistanceBounds) -> Optional[Floats]:
+    """Returns the floats below and above a distance; None if there is none."""
+    if bounds.code == _Code.EMPTY:
+        return None
+    return math.ldexp(bounds.lower, -bounds.shift), math.ldexp(bounds.upper, -bounds.shift)
+
+
+def _squared(bounds: _DistanceBounds) -> Optional[Fraction]:
+    """Returns the square of a distance; None if there is none."""
+    if bounds.code == _Code.EMPTY:
+        return None
+    return Fraction(bounds.high << 128 | bounds.middle << 64 | bounds.low, bounds.divisor_high << 64 | bounds.divisor_low)
+
+
+def _hit(hit: _Hit) -> Optional[Tuple[Fraction, Tuple[Pair, ...]]]:
+    """Returns how far along a segment or a ray enters, and the vertices of the feature; None if it misses."""
+    if hit.code in (_Code.DISJOINT, _Code.EMPTY):
+        return None
+    part = Fraction(hit.high << 64 | hit.low, hit.divisor_high << 64 | hit.divisor_low)
+    return part, (_pair(hit.a), _pair(hit.b))[:{int(_Code.EDGE): 2, int(_Code.VERTEX): 1}.get(hit.code, 0)]
+
+
+def _motion(motion: _Motion) -> Optional[Motion]:
+    """Returns when a polygon that moves arrives; None if it never does."""
+    hit = _hit(motion.hit)
+    return None if hit is None else Motion(hit[0], hit[1], _pair(motion.vertex) if hit[1] else None, motion.moves == 1)
 
 
 class _Questions:
@@ -751,17 +874,24 @@ class _Questions:
         """Returns the coordinates of the vertices, those of each vertex as neighbours."""
         raise NotImplementedError
 
+    # written by tools/table.py: sets
     def place(self, x: SupportsIndex, y: SupportsIndex) -> Place:
-        """Returns the location of the point: one of Place."""
-        return Place(self._call(_Kind.PLACE, _whole(x), _whole(y)).code)
+        """Returns the location of (x, y). It is one of Place."""
+        return _place(self._call(_Kind.PLACE, _whole(x), _whole(y)))
 
     def tangents(self, x: SupportsIndex, y: SupportsIndex) -> Optional[Tuple[Pair, Pair]]:
-        """Returns the left and the right tangent point seen from (x, y); None if there are none."""
+        """Returns the left and the right tangent point seen from (x, y), of several on one line the farthest; None if there is no point, or
+        the hull covers the one asked about."""
         return _tangents(self._call(_Kind.TANGENTS, _whole(x), _whole(y)))
 
     def extreme(self, x: SupportsIndex, y: SupportsIndex) -> Optional[Pair]:
-        """Returns the farthest point in the direction (x, y), of several the first by x and then by y; None if there is none."""
+        """Returns the farthest point in a direction, of several the first by x and then y; None if there is none."""
         return _farthest(self._call(_Kind.EXTREME, _whole(x), _whole(y)))
+
+    def doubled_area(self) -> int:
+        """Returns twice the area, 0 for a point and a segment."""
+        return _area(self._call(_Kind.AREA))
+    # end of what tools/table.py writes
 
     def extreme_d(self, dx: float, dy: float) -> Optional[Pair]:
         """Returns the farthest point in a direction of two floats, scaled to integers by `direction_of`.
@@ -770,10 +900,6 @@ class _Questions:
         """
         (x, y), _ = direction_of(dx, dy)
         return self.extreme(-1, 0) if x == 0 == y else self.extreme(x, y)
-
-    def doubled_area(self) -> int:
-        """Returns twice the area, 0 for a point and a segment."""
-        return _area(self._call(_Kind.AREA))
 
     def vertices(self) -> List[Pair]:
         """Returns the vertices as pairs, counterclockwise from the first by x and then y, each once and none inside an edge."""
@@ -1060,6 +1186,13 @@ def _span_of(vertices: "array[int]") -> Tuple[_Vertices, int]:
     return at, len(vertices) // 2
 
 
+def _span_of_other(other: Polygon) -> Tuple[_Vertices, int]:
+    """Returns the address of the vertices of another polygon, and their number."""
+    if not isinstance(other, Polygon):
+        raise TypeError(f"the other one is a Polygon, and not {type(other).__name__}")
+    return other._span()
+
+
 class Polygon(_Questions):
     """A convex polygon: the vertices of a hull, as `vertices` returns them, which answers as that hull did then.
 
@@ -1129,94 +1262,140 @@ class Polygon(_Questions):
     def _flat_vertices(self) -> "array[int]":
         return self._vertices[0].array
 
-    def _found(self, ask: Callable[..., Any], *words: int) -> _Reply:
+    def _found(self, ask: Callable[..., Any], *words: Any) -> Any:
         """Returns the reply of a call, or raises its exception."""
-        reply: _Reply = ask(*self._span(), *words)
-        _check_code(reply.code)
+        reply = ask(*self._span(), *words)
+        _check_code(getattr(reply, "hit", reply).code)
         return reply
 
     def _call(self, kind: int, x: int = 0, y: int = 0) -> _Reply:
-        return self._found(_LIBRARY.hull_polygon_call, kind, x, y)
+        reply: _Reply = self._found(_LIBRARY.hull_polygon_call, kind, x, y)
+        return reply
 
     def _serve(self, requests: int, replies: int, count: int) -> None:
         _LIBRARY.hull_polygon_calls(*self._span(), requests, count, replies, count)
 
+    # written by tools/table.py: questions
     def intersects_segment(self, ax: SupportsIndex, ay: SupportsIndex, bx: SupportsIndex, by: SupportsIndex) -> bool:
-        """Returns whether the polygon intersects the segment from (ax, ay) to (bx, by), which may be one point."""
-        return self._found(_LIBRARY.hull_polygon_intersects_segment, _whole(ax), _whole(ay), _whole(bx), _whole(by)).number == 1
+        """Returns whether the polygon intersects the segment from (ax, ay) to (bx, by), which may be one point. Ends and boundary are
+        included."""
+        return _whether(self._found(_LIBRARY.hull_polygon_intersects_segment, _whole(ax), _whole(ay), _whole(bx), _whole(by)))
 
     def separation_from_segment(self, ax: SupportsIndex, ay: SupportsIndex, bx: SupportsIndex,
                                 by: SupportsIndex) -> Optional[Tuple[Pair, Pair]]:
-        """Returns a vertex and a direction that separates the polygon from the segment; None if they intersect, or there is no vertex.
-
-        No vertex has a greater product with the direction than that one, and both ends of the segment have.
-        """
-        reply = self._found(_LIBRARY.hull_polygon_separation, _whole(ax), _whole(ay), _whole(bx), _whole(by))
-        return _two_pairs(reply) if reply.code == _Code.DISJOINT else None
+        """Returns a vertex and a direction that separate the polygon from the segment from (ax, ay) to (bx, by): no vertex has a greater
+        product with the direction, and both ends have; None if they intersect, or there is no vertex."""
+        return _two_pairs_or_none(self._found(_LIBRARY.hull_polygon_separation, _whole(ax), _whole(ay), _whole(bx), _whole(by)))
 
     def nearest(self, x: SupportsIndex, y: SupportsIndex) -> Optional[Tuple[Pair, ...]]:
-        """Returns where the point is that is nearest to (x, y): None if there is no vertex.
-
-        Of one pair it is at that vertex; of two, at the foot on the edge between them; of none the polygon covers (x, y).
-        """
-        reply = self._found(_LIBRARY.hull_polygon_nearest, _whole(x), _whole(y))
-        if reply.code == _Code.EMPTY:
-            return None
-        if reply.code == _Code.EDGE:
-            return _two_pairs(reply)
-        return ((reply.x, reply.y),) if reply.code == _Code.VERTEX else ()
-
-    def squared_distance_to_point(self, x: SupportsIndex, y: SupportsIndex) -> Optional[Fraction]:
-        """Returns the squared distance to (x, y), 0 if the polygon covers it; None if there is no vertex."""
-        place = self.nearest(x, y)
-        return None if place is None else _squared_distance((place, ((_whole(x), _whole(y)),) if place else ()))
+        """Returns the point of the polygon that is nearest to (x, y); None if there is no vertex. Of one pair it is that vertex; of two,
+        the foot on the edge between them; of none the polygon covers the point."""
+        return _nearest(self._found(_LIBRARY.hull_polygon_nearest, _whole(x), _whole(y)))
 
     def bounding_box(self) -> Optional[Tuple[Pair, Pair]]:
         """Returns the least and the greatest point of the bounding box; None if there is no vertex."""
-        reply = self._found(_LIBRARY.hull_polygon_box)
-        return _two_pairs(reply) if reply.code == _Code.BOX else None
+        return _two_pairs_or_none(self._found(_LIBRARY.hull_polygon_box))
 
     def width_along(self, dx: SupportsIndex, dy: SupportsIndex) -> Optional[int]:
-        """Returns the greatest product of a vertex with the direction (dx, dy) less the least; None if there is no vertex.
-
-        Divide it by the length of the direction for the width along it.
-        """
-        reply = self._found(_LIBRARY.hull_polygon_width, _whole(dx), _whole(dy))
-        return None if reply.code == _Code.EMPTY else _area(reply)
+        """Returns the extent of the polygon in a direction: the greatest product of a vertex with it less the least; None if there is no
+        vertex. Divide it by the length of the direction for the width along it."""
+        return _number_or_none(self._found(_LIBRARY.hull_polygon_width, _whole(dx), _whole(dy)))
 
     def diameter(self) -> Optional[Tuple[Pair, Pair]]:
-        """Returns the two vertices that are farthest from one another; None if there is no vertex."""
-        reply = self._found(_LIBRARY.hull_polygon_diameter)
-        return _two_pairs(reply) if reply.code == _Code.POINTS else None
+        """Returns the two vertices that are farthest from one another, equal if there is only one; None if there is no vertex."""
+        return _two_pairs_or_none(self._found(_LIBRARY.hull_polygon_diameter))
 
     def least_width(self) -> Optional[Tuple[Pair, Pair, Pair]]:
-        """Returns where the polygon is least wide: the ends of an edge and a vertex farthest from it; None if there is no edge.
-
-        No direction has a narrower strip. The width is twice the area of the triangle of the three points, divided by the length of the edge.
-        """
-        witness: _Witness = _LIBRARY.hull_polygon_least_width(*self._span())
-        return (witness.point("a"), witness.point("b"), witness.point("c")) if witness.code == _Code.EDGE else None
-
-    def _beside(self, ask: Callable[..., Any], other: Polygon) -> Any:
-        """Returns what a call with another polygon returns."""
-        if not isinstance(other, Polygon):
-            raise TypeError(f"the other one is a Polygon, and not {type(other).__name__}")
-        return ask(*self._span(), *other._span())
+        """Returns the ends of an edge and a vertex farthest from it between which the polygon is least wide: no direction has a narrower
+        strip; None if there are fewer than two vertices. The width is twice the area of the triangle of the three points, divided by the
+        length of the edge."""
+        return _strip(self._found(_LIBRARY.hull_polygon_least_width))
 
     def intersects(self, other: Polygon) -> bool:
         """Returns whether the two polygons intersect, boundaries included."""
-        reply: _Reply = self._beside(_LIBRARY.hull_polygon_intersects, other)
-        return reply.number == 1
+        return _whether(self._found(_LIBRARY.hull_polygon_intersects, *_span_of_other(other)))
 
     def contains(self, other: Polygon) -> bool:
-        """Returns whether this polygon contains the other one."""
-        reply: _Reply = self._beside(_LIBRARY.hull_polygon_contains, other)
-        return reply.number == 1
+        """Returns whether this polygon contains the other one, boundaries included."""
+        return _whether(self._found(_LIBRARY.hull_polygon_contains, *_span_of_other(other)))
+
+    def contains_inside(self, other: Polygon) -> bool:
+        """Returns whether this polygon contains the other one with no point of it on the boundary."""
+        return _whether(self._found(_LIBRARY.hull_polygon_contains_inside, *_span_of_other(other)))
 
     def relation(self, other: Polygon) -> Relation:
-        """Returns how this polygon is related to the other one."""
-        reply: _Reply = self._beside(_LIBRARY.hull_polygon_relation, other)
-        return Relation(reply.number)
+        """Returns how this polygon is related to the other one. A polygon without vertices is within any other."""
+        return _relation(self._found(_LIBRARY.hull_polygon_relation, *_span_of_other(other)))
+
+    def witness(self, other: Polygon) -> Optional[Witness]:
+        """Returns why the two polygons intersect, or what separates them; None if one of them has no vertex."""
+        return _witness(self._found(_LIBRARY.hull_polygon_witness, *_span_of_other(other)))
+
+    def distance(self, other: Polygon) -> Optional[Tuple[Tuple[Pair, ...], Tuple[Pair, ...]]]:
+        """Returns the features at which the two polygons are nearest to one another, one of this and one of the other; None if one of them
+        has no vertex. Of one pair a feature is that vertex; of two, the foot on the edge between them; of none the polygons intersect."""
+        return _distance(self._found(_LIBRARY.hull_polygon_distance, *_span_of_other(other)))
+
+    def distance_bounds(self, other: Polygon) -> Optional[Floats]:
+        """Returns the distance of the two polygons, 0 if they intersect; None if one of them has no vertex. The result is the greatest
+        float that is not above it, and the least that is not below it: equal if the distance is a float, else neighbours."""
+        return _bounds(self._found(_LIBRARY.hull_polygon_distance_bounds, *_span_of_other(other)))
+
+    def squared_distance(self, other: Polygon) -> Optional[Fraction]:
+        """Returns the squared distance of the two polygons, 0 if they intersect; None if one of them has no vertex."""
+        return _squared(self._found(_LIBRARY.hull_polygon_distance_bounds, *_span_of_other(other)))
+
+    def distance_bounds_to_segment(self, ax: SupportsIndex, ay: SupportsIndex, bx: SupportsIndex, by: SupportsIndex) -> Optional[Floats]:
+        """Returns the distance of the polygon from the segment from (ax, ay) to (bx, by), which may be one point; None if there is no
+        vertex. The result is the greatest float that is not above it, and the least that is not below it: equal if the distance is a float,
+        else neighbours."""
+        return _bounds(self._found(_LIBRARY.hull_polygon_distance_bounds_to_segment, _whole(ax), _whole(ay), _whole(bx), _whole(by)))
+
+    def distance_bounds_to_point(self, x: SupportsIndex, y: SupportsIndex) -> Optional[Floats]:
+        """Returns the distance of the polygon from (x, y); None if there is no vertex. The result is the greatest float that is not above
+        it, and the least that is not below it: equal if the distance is a float, else neighbours."""
+        return _bounds(self._found(_LIBRARY.hull_polygon_distance_bounds_to_segment, _whole(x), _whole(y), _whole(x), _whole(y)))
+
+    def squared_distance_to_segment(self, ax: SupportsIndex, ay: SupportsIndex, bx: SupportsIndex, by: SupportsIndex) -> Optional[Fraction]:
+        """Returns the squared distance of the polygon from the segment from (ax, ay) to (bx, by), which may be one point; None if there is
+        no vertex."""
+        return _squared(self._found(_LIBRARY.hull_polygon_distance_bounds_to_segment, _whole(ax), _whole(ay), _whole(bx), _whole(by)))
+
+    def squared_distance_to_point(self, x: SupportsIndex, y: SupportsIndex) -> Optional[Fraction]:
+        """Returns the squared distance of the polygon from (x, y), 0 if it covers that; None if there is no vertex."""
+        return _squared(self._found(_LIBRARY.hull_polygon_distance_bounds_to_segment, _whole(x), _whole(y), _whole(x), _whole(y)))
+
+    def relation_to_segment(self, ax: SupportsIndex, ay: SupportsIndex, bx: SupportsIndex, by: SupportsIndex) -> Relation:
+        """Returns how the polygon is related to the segment from (ax, ay) to (bx, by), which may be one point: one that it contains gives
+        COVERS, also along an edge; one that leaves it TOUCHING if it has no point inside, and else OVERLAPPING."""
+        return _relation(self._found(_LIBRARY.hull_polygon_relation_to_segment, _whole(ax), _whole(ay), _whole(bx), _whole(by)))
+
+    def raycast(self, x: SupportsIndex, y: SupportsIndex, dx: SupportsIndex,
+                dy: SupportsIndex) -> Optional[Tuple[Fraction, Tuple[Pair, ...]]]:
+        """Returns the point at which the ray from (x, y) in a direction enters, the first of several that they share; None if it misses.
+        The result is how far along that is, and pairs: two, the edge that it crosses or comes to an end of; one, the vertex of a polygon on
+        its line; or none, if the polygon covers its start."""
+        return _hit(self._found(_LIBRARY.hull_polygon_raycast, _whole(x), _whole(y), _whole(dx), _whole(dy)))
+
+    def raycast_exit(self, x: SupportsIndex, y: SupportsIndex, dx: SupportsIndex,
+                     dy: SupportsIndex) -> Optional[Tuple[Fraction, Tuple[Pair, ...]]]:
+        """Returns the last point of the ray from (x, y) in a direction in the polygon; None if it misses. The result is how far along that
+        is, and pairs: two, the edge that it crosses or comes to an end of; one, the vertex of a polygon on its line; or none, if the
+        polygon covers its start."""
+        return _hit(self._found(_LIBRARY.hull_polygon_raycast_exit, _whole(x), _whole(y), _whole(dx), _whole(dy)))
+
+    def raycast_segment(self, ax: SupportsIndex, ay: SupportsIndex, bx: SupportsIndex,
+                        by: SupportsIndex) -> Optional[Tuple[Fraction, Tuple[Pair, ...]]]:
+        """Returns the point at which the segment from (ax, ay) to (bx, by) enters; None if it misses. Its last point in the polygon is the
+        one at which the reversed segment enters. The result is how far along that is, and pairs: two, the edge that it crosses or comes to
+        an end of; one, the vertex of a polygon on its line; or none, if the polygon covers its start."""
+        return _hit(self._found(_LIBRARY.hull_polygon_raycast_segment, _whole(ax), _whole(ay), _whole(bx), _whole(by)))
+
+    def first_meeting(self, other: Polygon, dx: SupportsIndex, dy: SupportsIndex) -> Optional[Motion]:
+        """Returns when the other polygon, which moves straight by (dx, dy), first intersects this one; None if they never do, or one of
+        them has no vertex."""
+        return _motion(self._found(_LIBRARY.hull_polygon_first_meeting, *_span_of_other(other), _whole(dx), _whole(dy)))
+    # end of what tools/table.py writes
 
     def rotate(self, a: SupportsIndex, b: SupportsIndex) -> Polygon:
         """Returns the polygon rotated about (0, 0) by the angle of (a, b), and scaled by its length; OutOfRange if a coordinate would be.
@@ -1240,14 +1419,6 @@ class Polygon(_Questions):
         _check_code(_LIBRARY.hull_polygon_translate(at, count, x, y, vertices.buffer_info()[0] if vertices else 0).code)
         made._set_vertices(vertices)
         return made
-
-    def first_meeting(self, other: Polygon, dx: SupportsIndex, dy: SupportsIndex) -> Optional[Motion]:
-        """Returns when the other polygon, which moves straight by (dx, dy), first intersects this one; None if it never does."""
-        motion: _Motion = self._beside(lambda *there: _LIBRARY.hull_polygon_first_meeting(*there, _whole(dx), _whole(dy)), other)
-        hit = self._hit_of(motion.hit)
-        if hit is None:
-            return None
-        return Motion(hit[0], hit[1], (motion.vertex[0], motion.vertex[1]) if hit[1] else None, motion.moves == 1)
 
     def relations(self, others: Sequence[Polygon]) -> List[Relation]:
         """Returns how this polygon is related to each of the others, in order."""
@@ -1282,11 +1453,6 @@ class Polygon(_Questions):
         _LIBRARY.hull_polygon_indices(at, size, flat.buffer_info()[0], count, places.buffer_info()[0])
         return [place if place < count else None for place in places[:size]]
 
-    def contains_inside(self, other: Polygon) -> bool:
-        """Returns whether this polygon contains the other one with no point of it on the boundary."""
-        reply: _Reply = self._beside(_LIBRARY.hull_polygon_contains_inside, other)
-        return reply.number == 1
-
     def within_distance(self, other: Polygon, distance: Union[int, float, Fraction]) -> bool:
         """Returns whether their distance is at most that, exactly; False if one of them has no vertex.
 
@@ -1296,8 +1462,8 @@ class Polygon(_Questions):
         if not short:
             squared = self.squared_distance(other)
             return squared is not None and squared <= length * length
-        reply: _Reply = self._beside(lambda *there: _LIBRARY.hull_polygon_within_distance(*there, length.numerator, length.denominator), other)
-        return reply.number == 1
+        words = *_span_of_other(other), length.numerator, length.denominator
+        return _whether(self._found(_LIBRARY.hull_polygon_within_distance, *words))
 
     def within_distance_of_segment(self, ax: SupportsIndex, ay: SupportsIndex, bx: SupportsIndex, by: SupportsIndex,
                                    distance: Union[int, float, Fraction]) -> bool:
@@ -1308,106 +1474,11 @@ class Polygon(_Questions):
             squared = self.squared_distance_to_segment(ax, ay, bx, by)
             return squared is not None and squared <= length * length
         ends = _whole(ax), _whole(ay), _whole(bx), _whole(by)
-        return self._found(_LIBRARY.hull_polygon_within_distance_of_segment, *ends, length.numerator, length.denominator).number == 1
+        return _whether(self._found(_LIBRARY.hull_polygon_within_distance_of_segment, *ends, length.numerator, length.denominator))
 
     def within_distance_of_point(self, x: SupportsIndex, y: SupportsIndex, distance: Union[int, float, Fraction]) -> bool:
         """Returns whether the distance of the point (x, y) is at most that, exactly, as `within_distance`."""
         return self.within_distance_of_segment(x, y, x, y, distance)
-
-    def relation_to_segment(self, ax: SupportsIndex, ay: SupportsIndex, bx: SupportsIndex, by: SupportsIndex) -> Relation:
-        """Returns how this polygon is related to the segment from (ax, ay) to (bx, by), which may be one point.
-
-        A segment that the polygon contains gives COVERS, also along an edge; one that leaves the polygon touches if it has no point inside,
-        and else overlaps.
-        """
-        ends = _whole(ax), _whole(ay), _whole(bx), _whole(by)
-        return Relation(self._found(_LIBRARY.hull_polygon_relation_to_segment, *ends).number)
-
-    def raycast(self, x: SupportsIndex, y: SupportsIndex, dx: SupportsIndex, dy: SupportsIndex) -> Optional[Tuple[Fraction, Tuple[Pair, ...]]]:
-        """Returns where the ray from (x, y) in the direction (dx, dy) enters; None if it misses.
-
-        That is how far along, in lengths of the direction, and where: of two pairs across the edge between them, or at one of them; of one
-        at that vertex of a polygon on its line; of none at its start, which the polygon covers.
-        """
-        return self._hit(_LIBRARY.hull_polygon_raycast, x, y, dx, dy)
-
-    def raycast_exit(self, x: SupportsIndex, y: SupportsIndex, dx: SupportsIndex, dy: SupportsIndex) -> Optional[Tuple[Fraction, Tuple[Pair, ...]]]:
-        """Returns the last point of that ray in the polygon, in the same way; None if it misses."""
-        return self._hit(_LIBRARY.hull_polygon_raycast_exit, x, y, dx, dy)
-
-    def raycast_segment(self, ax: SupportsIndex, ay: SupportsIndex, bx: SupportsIndex,
-                        by: SupportsIndex) -> Optional[Tuple[Fraction, Tuple[Pair, ...]]]:
-        """The same for the segment from (ax, ay) to (bx, by), in its lengths; its last point is where that from (bx, by) enters."""
-        return self._hit(_LIBRARY.hull_polygon_raycast_segment, ax, ay, bx, by)
-
-    def _hit(self, ask: Callable[..., Any], *numbers: SupportsIndex) -> Optional[Tuple[Fraction, Tuple[Pair, ...]]]:
-        """Returns where and how far along a segment or a ray enters."""
-        return self._hit_of(ask(*self._span(), *map(_whole, numbers)))
-
-    @staticmethod
-    def _hit_of(hit: _Hit) -> Optional[Tuple[Fraction, Tuple[Pair, ...]]]:
-        """The same, of a reply."""
-        _check_code(hit.code)
-        if hit.code in (_Code.DISJOINT, _Code.EMPTY):
-            return None
-        part = Fraction(hit.high << 64 | hit.low, hit.divisor_high << 64 | hit.divisor_low)
-        points: Tuple[Pair, ...] = ((hit.a[0], hit.a[1]), (hit.b[0], hit.b[1]))
-        return part, points[:{int(_Code.EDGE): 2, int(_Code.VERTEX): 1}.get(hit.code, 0)]
-
-    def witness(self, other: Polygon) -> Optional[Witness]:
-        """Returns where the two polygons intersect, or what separates them: a `Witness`; None if one of them has no vertex."""
-        witness: _Witness = self._beside(_LIBRARY.hull_polygon_witness, other)
-        if witness.code == _Code.EMPTY:
-            return None
-        shows = Shows(witness.code)
-        count = {Shows.DISJOINT: 2, Shows.CROSSING: 4}.get(shows, 1)
-        return Witness(shows, tuple(map(witness.point, "abcd"[:count])))
-
-    def distance(self, other: Polygon) -> Optional[Tuple[Tuple[Pair, ...], Tuple[Pair, ...]]]:
-        """Returns where the two polygons are nearest to one another: a feature of this one and one of the other; None if one has no vertex.
-
-        Of one pair a feature is that vertex; of two it is a foot on the edge between them; of none the polygons intersect.
-        `squared_distance` has the number.
-        """
-        witness: _Witness = self._beside(_LIBRARY.hull_polygon_distance, other)
-        if witness.code == _Code.EMPTY:
-            return None
-        ours, theirs = {int(_Code.POINTS): (1, 1), int(_Code.VERTEX): (1, 2), int(_Code.EDGE): (2, 1)}.get(witness.code, (0, 0))
-        points = tuple(map(witness.point, "abc"))
-        return points[:ours], points[ours:ours + theirs]
-
-    def squared_distance(self, other: Polygon) -> Optional[Fraction]:
-        """Returns the squared distance of the two polygons, 0 if they intersect; None if one has no vertex."""
-        places = self.distance(other)
-        return None if places is None else _squared_distance(places)
-
-    def distance_bounds(self, other: Polygon) -> Optional[Floats]:
-        """Returns the greatest float that is not above the distance of the two polygons, and the least that is not below it.
-
-        They are equal if the distance is a float, else neighbours. None if one has no vertex.
-        """
-        return _bounds(self._beside(_LIBRARY.hull_polygon_distance_bounds, other))
-
-    def squared_distance_to_segment(self, ax: SupportsIndex, ay: SupportsIndex, bx: SupportsIndex,
-                                    by: SupportsIndex) -> Optional[Fraction]:
-        """Returns the squared distance of the segment from (ax, ay) to (bx, by), which may be one point; None if there is no vertex."""
-        bounds = self._distance_bounds_of_segment(ax, ay, bx, by)
-        return None if bounds.code == _Code.EMPTY else Fraction(bounds.number("numerator"), bounds.number("denominator"))
-
-    def distance_bounds_to_segment(self, ax: SupportsIndex, ay: SupportsIndex, bx: SupportsIndex, by: SupportsIndex) -> Optional[Floats]:
-        """Returns the same two floats for a segment, which may be one point."""
-        return _bounds(self._distance_bounds_of_segment(ax, ay, bx, by))
-
-    def distance_bounds_to_point(self, x: SupportsIndex, y: SupportsIndex) -> Optional[Floats]:
-        """Returns the same two floats for the point (x, y)."""
-        return self.distance_bounds_to_segment(x, y, x, y)
-
-    def _distance_bounds_of_segment(self, ax: SupportsIndex, ay: SupportsIndex, bx: SupportsIndex, by: SupportsIndex) -> _DistanceBounds:
-        """Returns the distance of a segment."""
-        ends = _whole(ax), _whole(ay), _whole(bx), _whole(by)
-        bounds: _DistanceBounds = _LIBRARY.hull_polygon_distance_bounds_to_segment(*self._span(), *ends)
-        _check_code(bounds.code)
-        return bounds
 
 
 def _length(distance: Union[int, float, Fraction]) -> Tuple[Fraction, bool]:
@@ -1421,13 +1492,6 @@ def _length(distance: Union[int, float, Fraction]) -> Tuple[Fraction, bool]:
     if length < 0:
         raise OutOfRange(f"a distance is 0 or more, and not {distance}")
     return length, length.numerator < 2 ** 64 and length.denominator < 2 ** 32
-
-
-def _bounds(bounds: _DistanceBounds) -> Optional[Floats]:
-    """Returns the floats below and above a distance; None if there is none."""
-    if bounds.code == _Code.EMPTY:
-        return None
-    return math.ldexp(bounds.lower, -bounds.shift), math.ldexp(bounds.upper, -bounds.shift)
 
 
 def _polygon_again(vertices: "array[int]") -> Polygon:
@@ -2048,17 +2112,24 @@ class Seat:
         """Removes the point once, and returns the multiplicity that is left; None if it was not there."""
         return _multiplicity_after_remove(self._ask(_Kind.REMOVE, _whole(x), _whole(y)))
 
+    # written by tools/table.py: seats
     def place(self, x: SupportsIndex, y: SupportsIndex) -> Place:
-        """Returns the location of the point: one of Place."""
-        return Place(self._ask(_Kind.PLACE, _whole(x), _whole(y)).code)
+        """Returns the location of (x, y). It is one of Place."""
+        return _place(self._ask(_Kind.PLACE, _whole(x), _whole(y)))
 
     def tangents(self, x: SupportsIndex, y: SupportsIndex) -> Optional[Tuple[Pair, Pair]]:
-        """Returns the left and the right tangent point seen from (x, y); None if there are none."""
+        """Returns the left and the right tangent point seen from (x, y), of several on one line the farthest; None if there is no point, or
+        the hull covers the one asked about."""
         return _tangents(self._ask(_Kind.TANGENTS, _whole(x), _whole(y)))
 
     def extreme(self, x: SupportsIndex, y: SupportsIndex) -> Optional[Pair]:
-        """Returns the farthest point in the direction (x, y), of several the first by x and then by y; None if there is none."""
+        """Returns the farthest point in a direction, of several the first by x and then y; None if there is none."""
         return _farthest(self._ask(_Kind.EXTREME, _whole(x), _whole(y)))
+
+    def doubled_area(self) -> int:
+        """Returns twice the area, 0 for a point and a segment."""
+        return _area(self._ask(_Kind.AREA))
+    # end of what tools/table.py writes
 
     def drain(self) -> JournalSegment:
         """Asks how many points there are, and drains all lines of the journal, as a JournalSegment.
@@ -2097,10 +2168,6 @@ class Seat:
             if reply.code != _Code.TOO_SMALL:
                 return _pairs(space[:2 * reply.number])
             self._space = reply.number + reply.number // 8
-
-    def doubled_area(self) -> int:
-        """Returns twice the area, 0 for a point and a segment."""
-        return _area(self._ask(_Kind.AREA))
 
     def count(self) -> int:
         """Returns how many different points there are."""

@@ -1,22 +1,21 @@
 #!/usr/bin/env python3
-"""Writes the numbers, names and words of tables/calls.txt, and the version of the file VERSION, into each place that repeats them.
+"""Writes the numbers, names and words of tables/calls.txt, what repeats the calls of tables/interface.txt, and the version of the file VERSION.
 
     tools/table.py [--write]
 
-Such a place is a marked stretch of a file, between the comments 'written by tools/table.py: WHAT' and 'end of what tools/table.py
-writes'; or a line with the version. In a stretch 'a case for each call' (or kind, or reply) of a file of Rattle, calls with the same
-operands have cases that differ only by their names: each is written like the case of the first of them, if that has one. Without --write
-it prints what would change. Each file is counted, and the table too, whose numbers must be consecutive; the last line is
-'N passed, M failed'.
+Each place is a marked stretch of a file, between the comments 'written by tools/table.py: WHAT' and 'end of what tools/table.py writes'; or a
+line with the version. In a stretch 'a case for each call' (or kind, or reply) of a file of Rattle, calls with the same operands have cases that
+differ only by their names: each is written like the case of the first of them, if that has one. Without --write it prints what would change.
+Each file is counted, and the tables too; the numbers of a list must be consecutive; the last line is 'N passed, M failed'.
 """
 import os
 import re
 import sys
-import textwrap
 from collections import namedtuple
 
 sys.path.insert(0, os.path.dirname(os.path.abspath(__file__)))
-import kit  # noqa: E402 (the path comes first)
+import interface  # noqa: E402 (the path comes first)
+import kit  # noqa: E402
 
 TABLE = "tables/calls.txt"
 LINE = re.compile(r"(\w+) (?:(\d+) )?(\w+)(?: \((.*?)\))?: (.*)")
@@ -45,10 +44,6 @@ class Row(Row):
     def small(self):
         """Returns the name in the form tooMany."""
         return self.camel()[0].lower() + self.camel()[1:]
-
-    def is_in_c(self):
-        """Returns whether only C returns it, and no proved function."""
-        return "in C" in (self.mark, self.group.mark)
 
     def words(self):
         """Returns the word of a call or reply, as texts spell it, and its operands."""
@@ -90,49 +85,22 @@ def answers(row):
     return row.said.rpartition(": ")[2].partition(";")[0].split(", ")
 
 
-def wrapped(text, width, first, others):
-    """Returns a text in lines of at most that width, with these indents. A field stays with its number, and the end of a comment with its text."""
-    text = re.sub(r"(?<=\w:) (?=\d+,)| (?=\*/$)", "\u00a0", text)
-    lines = textwrap.fill(text, width, initial_indent=first, subsequent_indent=others, break_long_words=False, break_on_hyphens=False)
-    return lines.replace("\u00a0", " ") + "\n"
-
-
 def header(rows, prefix):
     """Returns the rows of an enum of C, each with its comment."""
-    heads = [f"    HULL_{prefix}{it.name} = {it.number}{',' if it is not rows[-1] else ''}" for it in rows]
-    wide, text, group = max(map(len, heads)) + 1, "", rows[0].group
-    for row, head in zip(rows, heads):
-        text += "" if row.group == group else f"\n    /* {row.group.said} */\n"
-        text += wrapped(f"{row.said} */", 140, f"{head:{wide}}/* ", " " * wide + " * ")
-        group = row.group
-    return text
+    lines = interface.aligned([(f"    HULL_{prefix}{it.name} = {it.number}{',' if it is not rows[-1] else ''}", it.said) for it in rows])
+    heads = ["" if row.group == before.group else f"\n    /* {row.group.said} */\n" for before, row in zip([rows[0], *rows], rows)]
+    return "".join(map(str.__add__, heads, lines))
 
 
 def documented(rows, mark, width, variant):
     """Returns the variants of an enum, each below its sentence as a comment with that mark."""
-    return "".join(f"{wrapped(f'{it.said[0].upper()}{it.said[1:]}.', width, mark, mark)}    {variant(it)}\n" for it in rows)
-
-
-def numbered(it):
-    """Returns a variant of Rattle with its number."""
-    return f"{it.camel()} = {it.number},"
-
-
-def object_of(fields):
-    """Returns the fields of an object of JavaScript."""
-    return wrapped(", ".join(fields) + ",", 140, "    ", "    ")
+    return "".join(f"{interface.wrapped(f'{it.said[0].upper()}{it.said[1:]}.', width, mark, mark)}    {variant(it)}\n" for it in rows)
 
 
 def manual(rows):
     """Returns a list of codes for a manual page."""
-    said = [re.sub("`(.*?)`", r"\\fI\1\\fR", it.said) for it in rows]
-    ends = [";\n"] * (len(rows) - 1) + [".\n"]
-    return "".join(f".TP\n.B HULL_{it.name}\n{wrapped(text, 130, '', '')[:-1]}{end}" for it, text, end in zip(rows, said, ends))
-
-
-def spelled(rows, kind):
-    """Returns how words are spelled, as rows of a `match` of Rattle."""
-    return "".join(f'            {kind}::{it.camel()} => b"{it.words()[0]}",\n' for it in rows)
+    said = (interface.wrapped(re.sub("`(.*?)`", r"\\fI\1\\fR", it.said), 130, "", "") for it in rows)
+    return ";\n".join(f".TP\n.B HULL_{it.name}\n{text[:-1]}" for it, text in zip(rows, said)) + ".\n"
 
 
 def chosen(rows, kind, depth, otherwise):
@@ -149,7 +117,7 @@ def equations(rows, function, value, module):
 
 def list_of(name, rows, module, end="[]"):
     """Returns a list of a definition."""
-    text = wrapped(f"{name} = {' ∷ '.join([*(f'{module}.{it.camel()}' for it in rows), end])}", 121, "", "    ")
+    text = interface.wrapped(f"{name} = {' ∷ '.join([*(f'{module}.{it.camel()}' for it in rows), end])}", 121, "", "    ")
     return text.replace(" ∷\n    ", "\n    ∷ ")
 
 
@@ -188,8 +156,9 @@ def words_table(lists):
 def stretches(lists):
     """Yields each marked stretch: its file, its mark, and its text."""
     kinds, codes, relations, calls, replies = (lists[it] for it in ("kind", "code", "relation", "call", "reply"))
-    proved = [it for it in codes if not it.is_in_c()]
+    proved, numbered = [it for it in codes if "in C" not in (it.mark, it.group.mark)], lambda it: f"{it.camel()} = {it.number},"
     quoted = [f'"{it.small()}"' for it in relations]
+    object_of = lambda fields: interface.wrapped(", ".join(fields) + ",", 140, "    ", "    ")
     asked = [it._replace(said=it.said.partition(":")[0]) for it in kinds]
     yield "include/hull_common.h", "kinds", header(kinds, "KIND_")
     yield "include/hull_common.h", "codes", header(codes, "")
@@ -222,7 +191,8 @@ def stretches(lists):
     changes, answered = ([it for it in replies if it.group.name == name] for name in ("changes", "answers"))
     for kind, rows in (("CallWord", calls), ("ReplyWord", replies)):
         yield "crates/hull_text/src/words.rt", f"each {kind}", "".join(f"    {it.camel()},\n" for it in rows)
-        yield "crates/hull_text/src/words.rt", f"text of {kind}", spelled(rows, kind)
+        spelled = (f'            {kind}::{it.camel()} => b"{it.words()[0]}",\n' for it in rows)
+        yield "crates/hull_text/src/words.rt", f"text of {kind}", "".join(spelled)
     yield "crates/hull_text/src/words.rt", "call of a field", chosen(calls, "CallWord", 8, "None")
     yield "crates/hull_text/src/words.rt", "answer of a field", chosen(answered, "ReplyWord", 4, "None")
     yield "crates/hull_text/src/words.rt", "reply of a field", chosen(changes, "ReplyWord", 8, "answer_word(field)")
@@ -269,7 +239,7 @@ def places(lists):
     """Yields each place: its file, the pattern whose group it is, its mark, and the text that it must have."""
     version = kit.text_of(f"{kit.TOP}/VERSION").strip()
     yield from ((path, pattern, "the version", version) for path, pattern in VERSIONS.items())
-    yield from ((path, STRETCH % re.escape(what), what, text) for path, what, text in [*stretches(lists), *stretches_of_cases(lists)])
+    yield from ((it[0], STRETCH % re.escape(it[1]), *it[1:]) for it in [*stretches(lists), *stretches_of_cases(lists), *interface.stretches()])
 
 
 def main(words):
@@ -277,7 +247,8 @@ def main(words):
         print(__doc__, file=sys.stderr)
         return 2
     lists = table()
-    files, faults = {TABLE: None}, {TABLE: [*faults_in(lists)]}
+    files, faults, codes = {}, {TABLE: [*faults_in(lists)]}, {it.name for it in lists["code"]}
+    faults[interface.TABLES[-1]] = [f"{it.name}: {no} is no code" for it in interface.description().values() for no in {*it.words("codes")} - codes]
     for path, pattern, what, wanted in places(lists):
         text = files.setdefault(path, kit.text_of(f"{kit.TOP}/{path}"))
         found = [*re.finditer(pattern, text)]
@@ -294,7 +265,7 @@ def main(words):
     for path, said in faults.items():
         print(*(f"{path}: FAILED, {it}" for it in said), sep="\n", end="\n" if said else "")
     failed = sum(bool(it) for it in faults.values())
-    print(f"{len(files) - failed} passed, {failed} failed")
+    print(f"{len(files) + 2 - failed} passed, {failed} failed")
     return 1 if failed else 0
 
 

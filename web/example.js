@@ -18,6 +18,18 @@ function nearestOf(features) {
     return features.map((it, i) => (it.length === 2 ? foot(it, features[1 - i][0]) : it[0]));
 }
 
+/** Returns the squared distance of two features, each a point or an edge; 0 if both are none. (The library's own would add 4 KB to the page's
+ * module.) */
+function squareOf(features) {
+    if (features[0].length === 0) return { numerator: 0n, denominator: 1n };
+    const [[point], [from, to]] = [...features].sort((a, b) => a.length - b.length);
+    const way = (a, b) => [BigInt(b[0]) - BigInt(a[0]), BigInt(b[1]) - BigInt(a[1])], square = ([x, y]) => x * x + y * y;
+    const far = way(from, point);
+    if (!to) return { numerator: square(far), denominator: 1n };
+    const edge = way(from, to), doubledArea = edge[0] * far[1] - edge[1] * far[0];
+    return { numerator: doubledArea * doubledArea, denominator: square(edge) };
+}
+
 export class Example {
     constructor({ Hull }, random = Math.random) {
         this.random = random;
@@ -72,10 +84,11 @@ export class Example {
         this.beside?.free();
         [this.polygon, this.beside] = [this.hull.polygon(), this.other.polygon()];
         const ends = this.segment.flat();
+        const features = this.polygon.distance(this.beside);
         Object.assign(this, {
             witness: this.polygon.witness(this.beside),
-            features: this.polygon.distance(this.beside),
-            square: this.polygon.squaredDistance(this.beside),
+            features,
+            square: squareOf(features),
             hits: [this.polygon, this.beside].map((it) => it.intersectsSegment(...ends)),
         });
     }

@@ -56,24 +56,27 @@ export interface Bridges {
 
 /** The questions of a hull and of a polygon: each call may throw OutOfRange and Ended. */
 export interface Questions {
-    /** Returns the location of the point. */
+    // written by tools/table.py: sets
+    /** Returns the location of (x, y). */
     place(x: number, y: number): Place;
+    /** Returns the left and the right tangent point seen from (x, y), of several on one line the farthest; null if there is no point, or
+     * the hull covers the one asked about. */
+    tangents(x: number, y: number): Tangents | null;
+    /** Returns the farthest point in a direction, of several the first by x and then y; null if there is none. ZeroDirection. */
+    extreme(x: number, y: number): Point | null;
+    /** Returns twice the area, 0 for a point and a segment. */
+    doubledArea(): bigint;
+    // end of what tools/table.py writes
     /** Returns the location of each of the points. */
     placeAll(points: Points): Place[];
-    /** Returns the tangent points seen from (x, y), of several on a line the farthest; null if there are none. */
-    tangents(x: number, y: number): Tangents | null;
-    /** The same for each of the points. */
+    /** Returns the tangent points seen from each of the points. */
     tangentsAll(points: Points): (Tangents | null)[];
     /** Returns the first of the farthest points in each of the directions; null if there is no point. ZeroDirection. */
     extremeAll(directions: Points): (Point | null)[];
-    /** Returns the farthest point in the direction, of several the first by x and then y; null if there is none. ZeroDirection. */
-    extreme(x: number, y: number): Point | null;
     /** Returns the vertices, counterclockwise from the first by x and then y, none inside an edge. NoMemory. */
     vertices(): Point[];
     /** The same as [x0, y0, x1, y1, ..]. */
     vertexArray(): Float64Array;
-    /** Returns twice the area, exact; 0 for a point and a segment. */
-    doubledArea(): bigint;
     /** Frees all its memory; every call fails afterwards. What nothing refers to any more is freed sooner or later. */
     free(): void;
 }
@@ -114,60 +117,78 @@ export interface Hull extends Questions {
 export interface Polygon extends Questions {
     /** Returns how many vertices there are. */
     count(): number;
-    /** Returns whether the polygon intersects a segment, boundaries included. */
+    // written by tools/table.py: questions
+    /** Returns whether the polygon intersects the segment from (ax, ay) to (bx, by), which may be one point. Ends and boundary are
+     * included. */
     intersectsSegment(ax: number, ay: number, bx: number, by: number): boolean;
-    /** Returns a vertex and a direction that separates the polygon from a segment: no vertex has a greater product with it, and both
-     * ends have. Null if they intersect, or there is no vertex. */
+    /** Returns a vertex and a direction that separate the polygon from the segment from (ax, ay) to (bx, by): no vertex has a greater
+     * product with the direction, and both ends have; null if they intersect, or there is no vertex. */
     separationFromSegment(ax: number, ay: number, bx: number, by: number): { vertex: Point; direction: Point } | null;
-    /** Returns where the nearest point is: of one point at that vertex, of two at the foot on the edge between them, of none the
-     * polygon covers the one asked about. Null if there is no vertex. */
+    /** Returns the point of the polygon that is nearest to (x, y); null if there is no vertex. Of one point it is that vertex; of two, the
+     * foot on the edge between them; of none the polygon covers the one asked about. */
     nearest(x: number, y: number): Point[] | null;
-    /** Returns the squared distance to a point, 0 if the polygon covers it. Null if there is no vertex. */
-    squaredDistanceToPoint(x: number, y: number): Fraction | null;
-    /** Returns the least and the greatest point of the bounding box. */
+    /** Returns the least and the greatest point of the bounding box; null if there is no vertex. */
     boundingBox(): [least: Point, greatest: Point] | null;
-    /** Returns the greatest product of a vertex with the direction less the least. */
+    /** Returns the extent of the polygon in a direction: the greatest product of a vertex with it less the least; null if there is no
+     * vertex. Divide it by the length of the direction for the width along it. ZeroDirection. */
     widthAlong(dx: number, dy: number): bigint | null;
-    /** Returns the two vertices that are farthest from one another. */
+    /** Returns the two vertices that are farthest from one another, equal if there is only one; null if there is no vertex. */
     diameter(): [Point, Point] | null;
-    /** Returns where the polygon is least wide: the ends of an edge, and a vertex farthest from it. */
+    /** Returns the ends of an edge and a vertex farthest from it between which the polygon is least wide: no direction has a narrower
+     * strip; null if there are fewer than two vertices. */
     leastWidth(): [Point, Point, Point] | null;
     /** Returns whether the two polygons intersect, boundaries included. */
     intersects(other: Polygon): boolean;
-    /** Returns whether this polygon contains the other one. */
+    /** Returns whether this polygon contains the other one, boundaries included. */
     contains(other: Polygon): boolean;
-    /** Returns how this polygon is related to the other one. */
-    relation(other: Polygon): Relation;
     /** Returns whether this polygon contains the other one with no point of it on the boundary. */
     containsInside(other: Polygon): boolean;
-    /** Returns whether their distance is at most numerator / denominator (default 1), exactly; false if one has no vertex. OutOfRange
-     * if the numerator is not an integer Number from 0 to 2^53 - 1, or the denominator not one from 1 to 2^32 - 1. */
+    /** Returns how this polygon is related to the other one. A polygon without vertices is within any other. */
+    relation(other: Polygon): Relation;
+    /** Returns whether their distance is at most numerator / denominator, exactly; false if one of them has no vertex. OutOfRange if the
+     * numerator is not an integer Number from 0 to 2^53 - 1, or the denominator not one from 1 to 2^32 - 1. */
     withinDistance(other: Polygon, numerator: number, denominator?: number): boolean;
-    /** The same for the segment from (ax, ay) to (bx, by), which may be one point. */
-    withinDistanceOfSegment(ax: number, ay: number, bx: number, by: number, numerator: number, denominator?: number): boolean;
-    /** Returns how this polygon is related to the segment from (ax, ay) to (bx, by), which may be one point: one that it contains gives
-     * "covers", also along an edge; one that leaves it touches if it has no point inside, and else overlaps. */
-    relationToSegment(ax: number, ay: number, bx: number, by: number): Relation;
-    /** Returns where the ray from (x, y) in a direction enters; null if it misses. ZeroDirection. */
-    raycast(x: number, y: number, dx: number, dy: number): Hit | null;
-    /** Returns the last point of that ray in the polygon; null if it misses. ZeroDirection. */
-    raycastExit(x: number, y: number, dx: number, dy: number): Hit | null;
-    /** The same for the segment from (ax, ay) to (bx, by); its last point is where that from (bx, by) to (ax, ay) enters. */
-    raycastSegment(ax: number, ay: number, bx: number, by: number): Hit | null;
-    /** Returns where the two polygons intersect, or what separates them. Null if one has no vertex. */
+    /** Returns why the two polygons intersect, or what separates them; null if one of them has no vertex. */
     witness(other: Polygon): Witness | null;
-    /** Returns where the two polygons are nearest: a feature of this one and one of the other, as `nearest`; two of none if they
-     * intersect. */
+    /** Returns the features at which the two polygons are nearest to one another, one of this and one of the other; null if one of them has
+     * no vertex. Each as `nearest` returns it; two of none if they intersect. */
     distance(other: Polygon): [ours: Point[], theirs: Point[]] | null;
-    /** Returns the squared distance of the two polygons, 0 if they intersect. */
-    squaredDistance(other: Polygon): Fraction | null;
-    /** Returns the squared distance of a segment, which may be one point. Null if there is no vertex. */
-    squaredDistanceToSegment(ax: number, ay: number, bx: number, by: number): Fraction | null;
-    /** Returns the greatest Number that is not above the distance of the two polygons, and the least that is not below it: equal if the
-     * distance is a Number, else neighbours. Null if one has no vertex. */
+    /** Returns the distance of the two polygons, 0 if they intersect; null if one of them has no vertex. The result is the greatest Number
+     * that is not above it, and the least that is not below it: equal if the distance is a Number, else neighbours. */
     distanceBounds(other: Polygon): [down: number, up: number] | null;
-    /** The same for a segment, which may be one point. */
+    /** Returns the squared distance of the two polygons, 0 if they intersect; null if one of them has no vertex. */
+    squaredDistance(other: Polygon): Fraction | null;
+    /** Returns the distance of the polygon from the segment from (ax, ay) to (bx, by), which may be one point; null if there is no vertex.
+     * The result is the greatest Number that is not above it, and the least that is not below it: equal if the distance is a Number, else
+     * neighbours. */
     distanceBoundsToSegment(ax: number, ay: number, bx: number, by: number): [down: number, up: number] | null;
+    /** Returns the distance of the polygon from (x, y); null if there is no vertex. The result is the greatest Number that is not above it,
+     * and the least that is not below it: equal if the distance is a Number, else neighbours. */
+    distanceBoundsToPoint(x: number, y: number): [down: number, up: number] | null;
+    /** Returns the squared distance of the polygon from the segment from (ax, ay) to (bx, by), which may be one point; null if there is no
+     * vertex. */
+    squaredDistanceToSegment(ax: number, ay: number, bx: number, by: number): Fraction | null;
+    /** Returns the squared distance of the polygon from (x, y), 0 if it covers that; null if there is no vertex. */
+    squaredDistanceToPoint(x: number, y: number): Fraction | null;
+    /** Returns whether the distance of the polygon from the segment from (ax, ay) to (bx, by), which may be one point, is at most numerator
+     * / denominator, exactly. OutOfRange if the numerator is not an integer Number from 0 to 2^53 - 1, or the denominator not one from 1 to
+     * 2^32 - 1. */
+    withinDistanceOfSegment(ax: number, ay: number, bx: number, by: number, numerator: number, denominator?: number): boolean;
+    /** Returns whether the distance of the polygon from (x, y) is at most numerator / denominator, exactly. OutOfRange if the numerator is
+     * not an integer Number from 0 to 2^53 - 1, or the denominator not one from 1 to 2^32 - 1. */
+    withinDistanceOfPoint(x: number, y: number, numerator: number, denominator?: number): boolean;
+    /** Returns how the polygon is related to the segment from (ax, ay) to (bx, by), which may be one point: one that it contains gives
+     * "covers", also along an edge; one that leaves it "touching" if it has no point inside, and else "overlapping". */
+    relationToSegment(ax: number, ay: number, bx: number, by: number): Relation;
+    /** Returns the point at which the ray from (x, y) in a direction enters, the first of several that they share; null if it misses.
+     * ZeroDirection. */
+    raycast(x: number, y: number, dx: number, dy: number): Hit | null;
+    /** Returns the last point of the ray from (x, y) in a direction in the polygon; null if it misses. ZeroDirection. */
+    raycastExit(x: number, y: number, dx: number, dy: number): Hit | null;
+    /** Returns the point at which the segment from (ax, ay) to (bx, by) enters; null if it misses. Its last point in the polygon is the one
+     * at which the reversed segment enters. */
+    raycastSegment(ax: number, ay: number, bx: number, by: number): Hit | null;
+    // end of what tools/table.py writes
 }
 
 /** How one polygon is related to another: `within` if the other one covers all of it and more, `covers` the other way, `equal` if each

@@ -41,15 +41,18 @@ const FAULTS = {
     [CODE.outOfOrder]: () => new NoPoints("the points are not in order, each once"),
 };
 const PLACES = { [CODE.inside]: "inside", [CODE.on]: "on", [CODE.outside]: "outside" };
-// the structs of hull.h, in bytes
-const REPLY = { size: 56, x: 8, y: 16, otherX: 24, otherY: 32, number: 40, high: 48 };
-const REQUEST = { size: 24, x: 8, y: 16 };
-const POINT = { size: 16, y: 8 };
-const HELD = { size: 24, y: 8, multiplicity: 16 };
-const BRIDGE = { size: 72, upper: 8, lower: 40 };
-const WITNESS = { size: 72, first: 8 };
-const DISTANCE_BOUNDS = { shift: 4, lower: 8, upper: 16, numerator: 24, denominator: 48 };
-const HIT = { first: 8, numerator: 40, denominator: 56 };
+// the structs of hull.h: their sizes, and the offsets of their fields, in bytes
+// written by tools/table.py: structs
+const REPLY = { size: 56, code: 0, x: 8, y: 16, otherX: 24, otherY: 32, number: 40, high: 48 };
+const POINT = { size: 16, x: 0, y: 8 };
+const HELD = { size: 24, x: 0, y: 8, multiplicity: 16 };
+const REQUEST = { size: 24, kind: 0, x: 8, y: 16 };
+const BRIDGE = { size: 72, level: 0, upperLeft: 8, upperRight: 24, lowerLeft: 40, lowerRight: 56 };
+const WITNESS = { size: 72, code: 0, a: 8, b: 24, c: 40, d: 56 };
+const DISTANCE_BOUNDS = { size: 64, code: 0, shift: 4, lower: 8, upper: 16, high: 24, middle: 32, low: 40, divisorHigh: 48,
+                         divisorLow: 56 };
+const HIT = { size: 72, code: 0, a: 8, b: 24, high: 40, low: 48, divisorHigh: 56, divisorLow: 64 };
+// end of what tools/table.py writes
 // the kinds of witnesses, each with how many of its points belong to it
 const SHOWN = {
     [CODE.disjoint]: ["disjoint", 2], [CODE.covered]: ["covered", 1], [CODE.within]: ["within", 1], [CODE.crossing]: ["crossing", 4],
@@ -60,7 +63,8 @@ const RELATIONS = [
     "disjoint", "touching", "overlapping", "within", "covers", "equal",
     // end of what tools/table.py writes
 ];
-// how many points of a distance are the feature of this polygon, and of the other
+// how many points are a feature of a polygon; and of a distance, one of this and one of the other
+const FEATURE = { [CODE.covered]: 0, [CODE.vertex]: 1, [CODE.edge]: 2 };
 const FEATURES = { [CODE.points]: [1, 1], [CODE.vertex]: [1, 2], [CODE.edge]: [2, 1] };
 const REQUESTS_AT_ONCE = 1024;
 const HALF = 2 ** 32;
@@ -121,11 +125,10 @@ class Instance {
         this.wasm = exports;
         this.heap = heap;
         this.requests = this.take(REQUESTS_AT_ONCE * REQUEST.size);
-        // (its first reply is also that of a single call)
+        // (its front is also for the result of a single call, whatever struct that is)
         this.reply = this.take(REQUESTS_AT_ONCE * REPLY.size);
         this.requestsAt = BigInt(this.requests);
         this.replyAt = BigInt(this.reply);
-        this.witness = this.take(WITNESS.size); // and a distance
         this.out = { at: this.take(BRIDGE.size), bytes: BRIDGE.size };
     }
 
@@ -207,38 +210,20 @@ class Instance {
         return [this.point(this.reply + REPLY.x), this.point(this.reply + REPLY.otherX)];
     }
 
-    /** Makes a call that returns a witness; returns its code and its four points. */
-    witnessed(name, ...words) {
-        this.call(name, BigInt(this.witness), ...words);
-        const at = this.witness + WITNESS.first;
-        return [this.heap.view.getUint32(this.witness, true), [0, 1, 2, 3].map((i) => this.point(at + i * POINT.size))];
+    /** Returns the first points of the last result, one after the other. */
+    pointsOf(count) {
+        return Array.from({ length: count }, (_, i) => this.point(this.reply + WITNESS.a + i * POINT.size));
     }
 
-    /** Makes a call that returns a distance: its square as a fraction, and the doubles next to it; null if there is none. */
-    measured(name, ...words) {
-        this.call(name, BigInt(this.witness), ...words);
-        const { view } = this.heap, at = this.witness, fault = FAULTS[view.getUint32(at, true)];
-        if (fault !== undefined) throw fault();
-        if (view.getUint32(at, true) === CODE.empty) return null;
-        const scale = 2 ** view.getUint32(at + DISTANCE_BOUNDS.shift, true);
-        const words64 = (from, count) => Array.from({ length: count }, (_, i) => view.getBigUint64(at + from + 8 * i, true));
-        const inOne = (from, count) => words64(from, count).reduce((above, word) => (above << 64n) + word, 0n);
-        return {
-            bounds: [readWhole(view, at + DISTANCE_BOUNDS.lower) / scale, readWhole(view, at + DISTANCE_BOUNDS.upper) / scale],
-            squared: { numerator: inOne(DISTANCE_BOUNDS.numerator, 3), denominator: inOne(DISTANCE_BOUNDS.denominator, 2) },
-        };
+    /** Returns the integer of so many words of the last result, the highest first. */
+    words(from, count) {
+        const { view } = this.heap, words = Array.from({ length: count }, (_, i) => view.getBigUint64(this.reply + from + 8 * i, true));
+        return words.reduce((above, word) => (above << 64n) + word, 0n);
     }
 
-    /** Makes a call that returns where a ray or a segment enters; null if it does not. */
-    hit(name, ...words) {
-        this.call(name, BigInt(this.witness), ...words);
-        const { view } = this.heap, at = this.witness, code = view.getUint32(at, true);
-        if (FAULTS[code] !== undefined) throw FAULTS[code]();
-        const count = { [CODE.covered]: 0, [CODE.vertex]: 1, [CODE.edge]: 2 }[code];
-        if (count === undefined) return null;
-        const number = (from) => (view.getBigUint64(at + from, true) << 64n) + view.getBigUint64(at + from + 8, true);
-        const points = [0, 1].slice(0, count).map((i) => this.point(at + HIT.first + i * POINT.size));
-        return { part: { numerator: number(HIT.numerator), denominator: number(HIT.denominator) }, points };
+    /** Returns the Number of a bound of a distance. */
+    bound(offset) {
+        return this.whole(offset) / 2 ** this.heap.view.getUint32(this.reply + DISTANCE_BOUNDS.shift, true);
     }
 
     whole(offset) {
@@ -301,20 +286,29 @@ class Questions {
         return instance.code();
     }
 
+    /** Returns what a call with a point, or with nothing, returns, as a value. */
+    _answered(answer, kind, x, y) {
+        const code = arguments.length > 2 ? this._ask(kind, checked(x), checked(y)) : this._ask(kind, 0, 0);
+        return Answers[answer](this.#instance, code);
+    }
+
+    // written by tools/table.py: sets
     place(x, y) {
-        return PLACES[this._ask(KIND.place, checked(x), checked(y))];
+        return this._answered("asPlace", KIND.place, x, y);
     }
 
     tangents(x, y) {
-        if (this._ask(KIND.tangents, checked(x), checked(y)) !== CODE.tangents) return null;
-        const [left, right] = this.#instance.pair();
-        return { left, right };
+        return this._answered("asTangents", KIND.tangents, x, y);
     }
 
     extreme(x, y) {
-        if (this._ask(KIND.extreme, checked(x), checked(y)) !== CODE.point) return null;
-        return [this.#instance.whole(REPLY.x), this.#instance.whole(REPLY.y)];
+        return this._answered("asPoint", KIND.extreme, x, y);
     }
+
+    doubledArea() {
+        return this._answered("asNumber", KIND.area);
+    }
+    // end of what tools/table.py writes
 
     placeAll(points) {
         const places = [];
@@ -358,11 +352,6 @@ class Questions {
             const points = kind === KIND.tangents || kind === KIND.extreme ? [instance.point(at + REPLY.x), instance.point(at + REPLY.otherX)] : [];
             read(from + i, view.getUint32(at, true), view.getUint32(at + REPLY.number, true), points);
         }
-    }
-
-    doubledArea() {
-        this._ask(KIND.area, 0, 0);
-        return this.#instance.wide();
     }
 
     vertices() {
@@ -477,7 +466,7 @@ class HullOfInstance extends Questions {
         return Array.from({ length: count }, (_, i) => {
             const at = instance.out.at + i * BRIDGE.size;
             const ends = (from) => [instance.point(at + from), instance.point(at + from + POINT.size)];
-            return { upper: ends(BRIDGE.upper), lower: ends(BRIDGE.lower) };
+            return { upper: ends(BRIDGE.upperLeft), lower: ends(BRIDGE.lowerLeft) };
         });
     }
 
@@ -547,133 +536,125 @@ class PolygonOfInstance extends Questions {
         return Array.from({ length: this.#count }, (_, i) => instance.point(out + i * POINT.size));
     }
 
-    /** Makes such a call of this polygon and another one, or one that returns a witness. */
-    #beside(call, name, other, ...words) {
-        const instance = this._live();
-        if (!(other instanceof PolygonOfInstance) || other._live() !== instance) throw new NoPolygon("the other one is no polygon of the same module");
-        return instance[call](name, this.#address, this.#length, other.#address, other.#length, ...words);
+    /** Returns what a call of this polygon returns, as a value. */
+    #asked(answer, name, ...words) {
+        const code = this.#found(name, ...words);
+        return Answers[answer](this._live(), code);
     }
 
-    /** Returns the number of a call with another polygon. */
-    #numberBeside(name, other, ...words) {
-        this.#beside("ask", name, other, ...words);
-        return this._live().number();
+    /** Returns the address and the length of another polygon, which must be of the same module. */
+    #wordsOf(other) {
+        if (!(other instanceof PolygonOfInstance) || other._live() !== this._live()) throw new NoPolygon("the other one is no polygon of the same module");
+        return [other.#address, other.#length];
     }
 
+    // written by tools/table.py: questions
     intersectsSegment(ax, ay, bx, by) {
-        this.#found("hull_polygon_intersects_segment", whole(ax), whole(ay), whole(bx), whole(by));
-        return this._live().number() === 1;
+        return this.#asked("asWhether", "hull_polygon_intersects_segment", whole(ax), whole(ay), whole(bx), whole(by));
     }
 
     separationFromSegment(ax, ay, bx, by) {
-        if (this.#found("hull_polygon_separation", whole(ax), whole(ay), whole(bx), whole(by)) !== CODE.disjoint) return null;
-        const [vertex, direction] = this._live().pair();
-        return { vertex, direction };
+        return this.#asked("asSeparation", "hull_polygon_separation", whole(ax), whole(ay), whole(bx), whole(by));
     }
 
     nearest(x, y) {
-        const code = this.#found("hull_polygon_nearest", whole(x), whole(y)), points = this._live().pair();
-        return { [CODE.covered]: [], [CODE.vertex]: points.slice(0, 1), [CODE.edge]: points }[code] ?? null;
+        return this.#asked("asNearest", "hull_polygon_nearest", whole(x), whole(y));
     }
 
     boundingBox() {
-        return this.#found("hull_polygon_box") === CODE.box ? this._live().pair() : null;
+        return this.#asked("asTwoPoints", "hull_polygon_box");
     }
 
     widthAlong(dx, dy) {
-        return this.#found("hull_polygon_width", whole(dx), whole(dy)) === CODE.empty ? null : this._live().wide();
+        return this.#asked("asNumberOrNull", "hull_polygon_width", whole(dx), whole(dy));
     }
 
     diameter() {
-        return this.#found("hull_polygon_diameter") === CODE.points ? this._live().pair() : null;
+        return this.#asked("asTwoPoints", "hull_polygon_diameter");
     }
 
     leastWidth() {
-        const [code, points] = this._live().witnessed("hull_polygon_least_width", this.#address, this.#length);
-        return code === CODE.edge ? points.slice(0, 3) : null;
+        return this.#asked("asStrip", "hull_polygon_least_width");
     }
 
     intersects(other) {
-        return this.#numberBeside("hull_polygon_intersects", other) === 1;
+        return this.#asked("asWhether", "hull_polygon_intersects", ...this.#wordsOf(other));
     }
 
     contains(other) {
-        return this.#numberBeside("hull_polygon_contains", other) === 1;
-    }
-
-    relation(other) {
-        return RELATIONS[this.#numberBeside("hull_polygon_relation", other)];
+        return this.#asked("asWhether", "hull_polygon_contains", ...this.#wordsOf(other));
     }
 
     containsInside(other) {
-        return this.#numberBeside("hull_polygon_contains_inside", other) === 1;
+        return this.#asked("asWhether", "hull_polygon_contains_inside", ...this.#wordsOf(other));
+    }
+
+    relation(other) {
+        return this.#asked("asRelation", "hull_polygon_relation", ...this.#wordsOf(other));
     }
 
     withinDistance(other, numerator, denominator = 1) {
-        return this.#numberBeside("hull_polygon_within_distance", other, ...lengthOf(numerator, denominator)) === 1;
-    }
-
-    withinDistanceOfSegment(ax, ay, bx, by, numerator, denominator = 1) {
-        this.#found("hull_polygon_within_distance_of_segment", whole(ax), whole(ay), whole(bx), whole(by), ...lengthOf(numerator, denominator));
-        return this._live().number() === 1;
-    }
-
-    relationToSegment(ax, ay, bx, by) {
-        this.#found("hull_polygon_relation_to_segment", whole(ax), whole(ay), whole(bx), whole(by));
-        return RELATIONS[this._live().number()];
-    }
-
-    raycast(x, y, dx, dy) {
-        return this._live().hit("hull_polygon_raycast", this.#address, this.#length, whole(x), whole(y), whole(dx), whole(dy));
-    }
-
-    raycastExit(x, y, dx, dy) {
-        return this._live().hit("hull_polygon_raycast_exit", this.#address, this.#length, whole(x), whole(y), whole(dx), whole(dy));
-    }
-
-    raycastSegment(ax, ay, bx, by) {
-        return this._live().hit("hull_polygon_raycast_segment", this.#address, this.#length, whole(ax), whole(ay), whole(bx), whole(by));
+        return this.#asked("asWhether", "hull_polygon_within_distance", ...this.#wordsOf(other), ...lengthOf(numerator, denominator));
     }
 
     witness(other) {
-        const [code, points] = this.#beside("witnessed", "hull_polygon_witness", other), shown = SHOWN[code];
-        return shown ? { shows: shown[0], points: points.slice(0, shown[1]) } : null;
+        return this.#asked("asWitness", "hull_polygon_witness", ...this.#wordsOf(other));
     }
 
     distance(other) {
-        const [code, points] = this.#beside("witnessed", "hull_polygon_distance", other);
-        if (code === CODE.empty) return null;
-        const [ours, theirs] = FEATURES[code] ?? [0, 0];
-        return [points.slice(0, ours), points.slice(ours, ours + theirs)];
-    }
-
-    squaredDistance(other) {
-        const features = this.distance(other);
-        return features && squaredDistanceOf(features);
-    }
-
-    squaredDistanceToPoint(x, y) {
-        const feature = this.nearest(x, y);
-        return feature && squaredDistanceOf([feature, feature.length ? [[x, y]] : []]);
-    }
-
-    squaredDistanceToSegment(ax, ay, bx, by) {
-        return this.#measuredTo(ax, ay, bx, by)?.squared ?? null;
+        return this.#asked("asDistance", "hull_polygon_distance", ...this.#wordsOf(other));
     }
 
     distanceBounds(other) {
-        return this.#beside("measured", "hull_polygon_distance_bounds", other)?.bounds ?? null;
+        return this.#asked("asBounds", "hull_polygon_distance_bounds", ...this.#wordsOf(other));
+    }
+
+    squaredDistance(other) {
+        return this.#asked("asSquared", "hull_polygon_distance_bounds", ...this.#wordsOf(other));
     }
 
     distanceBoundsToSegment(ax, ay, bx, by) {
-        return this.#measuredTo(ax, ay, bx, by)?.bounds ?? null;
+        return this.#asked("asBounds", "hull_polygon_distance_bounds_to_segment", whole(ax), whole(ay), whole(bx), whole(by));
     }
 
-    /** Returns the distance of a segment. */
-    #measuredTo(ax, ay, bx, by) {
-        const ends = [whole(ax), whole(ay), whole(bx), whole(by)];
-        return this._live().measured("hull_polygon_distance_bounds_to_segment", this.#address, this.#length, ...ends);
+    distanceBoundsToPoint(x, y) {
+        return this.#asked("asBounds", "hull_polygon_distance_bounds_to_segment", whole(x), whole(y), whole(x), whole(y));
     }
+
+    squaredDistanceToSegment(ax, ay, bx, by) {
+        return this.#asked("asSquared", "hull_polygon_distance_bounds_to_segment", whole(ax), whole(ay), whole(bx), whole(by));
+    }
+
+    squaredDistanceToPoint(x, y) {
+        return this.#asked("asSquared", "hull_polygon_distance_bounds_to_segment", whole(x), whole(y), whole(x), whole(y));
+    }
+
+    withinDistanceOfSegment(ax, ay, bx, by, numerator, denominator = 1) {
+        return this.#asked("asWhether", "hull_polygon_within_distance_of_segment", whole(ax), whole(ay), whole(bx), whole(by),
+                           ...lengthOf(numerator, denominator));
+    }
+
+    withinDistanceOfPoint(x, y, numerator, denominator = 1) {
+        return this.#asked("asWhether", "hull_polygon_within_distance_of_segment", whole(x), whole(y), whole(x), whole(y),
+                           ...lengthOf(numerator, denominator));
+    }
+
+    relationToSegment(ax, ay, bx, by) {
+        return this.#asked("asRelation", "hull_polygon_relation_to_segment", whole(ax), whole(ay), whole(bx), whole(by));
+    }
+
+    raycast(x, y, dx, dy) {
+        return this.#asked("asHit", "hull_polygon_raycast", whole(x), whole(y), whole(dx), whole(dy));
+    }
+
+    raycastExit(x, y, dx, dy) {
+        return this.#asked("asHit", "hull_polygon_raycast_exit", whole(x), whole(y), whole(dx), whole(dy));
+    }
+
+    raycastSegment(ax, ay, bx, by) {
+        return this.#asked("asHit", "hull_polygon_raycast_segment", whole(ax), whole(ay), whole(bx), whole(by));
+    }
+    // end of what tools/table.py writes
 }
 
 /** Returns the two numbers of a length, as the module takes them. */
@@ -685,15 +666,78 @@ function lengthOf(numerator, denominator) {
     return [BigInt(numerator), denominator];
 }
 
-/** Returns the squared distance of two features, each a point or an edge; 0 if both are none. */
-function squaredDistanceOf(features) {
-    if (features[0].length === 0) return { numerator: 0n, denominator: 1n };
-    const [[point], [from, to]] = features.toSorted?.((a, b) => a.length - b.length) ?? [...features].sort((a, b) => a.length - b.length);
-    const less = (a, b) => [BigInt(a[0]) - BigInt(b[0]), BigInt(a[1]) - BigInt(b[1])], square = ([x, y]) => x * x + y * y;
-    const way = less(point, from);
-    if (!to) return { numerator: square(way), denominator: 1n };
-    const edge = less(to, from), doubledArea = edge[0] * way[1] - edge[1] * way[0];
-    return { numerator: doubledArea * doubledArea, denominator: square(edge) };
+/** Returns what `make` makes, or null if there is nothing. */
+const unless = (code, make) => (code === CODE.empty ? null : make());
+
+/** What is made of the result of a call, by what is in the instance and its code. */
+class Answers {
+    static asPlace(it, code) {
+        return PLACES[code];
+    }
+
+    static asNumber(it) {
+        return it.wide();
+    }
+
+    static asNumberOrNull(it, code) {
+        return unless(code, () => it.wide());
+    }
+
+    static asPoint(it, code) {
+        return unless(code, () => it.point(it.reply + REPLY.x));
+    }
+
+    static asTwoPoints(it, code) {
+        return unless(code, () => it.pair());
+    }
+
+    static asTangents(it, code) {
+        const [left, right] = it.pair();
+        return code === CODE.tangents ? { left, right } : null;
+    }
+
+    static asWhether(it) {
+        return it.number() === 1;
+    }
+
+    static asRelation(it) {
+        return RELATIONS[it.number()];
+    }
+
+    static asSeparation(it, code) {
+        const [vertex, direction] = it.pair();
+        return code === CODE.disjoint ? { vertex, direction } : null;
+    }
+
+    static asNearest(it, code) {
+        return unless(code, () => it.pair().slice(0, FEATURE[code]));
+    }
+
+    static asStrip(it, code) {
+        return unless(code, () => it.pointsOf(3));
+    }
+
+    static asWitness(it, code) {
+        return unless(code, () => ({ shows: SHOWN[code][0], points: it.pointsOf(SHOWN[code][1]) }));
+    }
+
+    static asDistance(it, code) {
+        const [ours, theirs] = FEATURES[code] ?? [0, 0], points = it.pointsOf(ours + theirs);
+        return unless(code, () => [points.slice(0, ours), points.slice(ours)]);
+    }
+
+    static asBounds(it, code) {
+        return unless(code, () => [it.bound(DISTANCE_BOUNDS.lower), it.bound(DISTANCE_BOUNDS.upper)]);
+    }
+
+    static asSquared(it, code) {
+        return unless(code, () => ({ numerator: it.words(DISTANCE_BOUNDS.high, 3), denominator: it.words(DISTANCE_BOUNDS.divisorHigh, 2) }));
+    }
+
+    static asHit(it, code) {
+        if (!(code in FEATURE)) return null;
+        return { part: { numerator: it.words(HIT.high, 2), denominator: it.words(HIT.divisorHigh, 2) }, points: it.pointsOf(FEATURE[code]) };
+    }
 }
 
 /** Whether the engine has 64-bit memories, tested by a module with nothing else. */

@@ -1,6 +1,6 @@
 //! Replies in numbers, as types of Rust. Both libraries use the same numbers.
-use crate::raw::{code, DistanceBoundsReply, HitReply, Reply, WitnessReply};
-use crate::{Distance, DistanceBounds, Entry, Fault, Hit, Nearest, Place, Point, Relation, Separation, Strip, Witness};
+use crate::raw::{code, DistanceBoundsReply, HitReply, MotionReply, Reply, WitnessReply};
+use crate::{Distance, DistanceBounds, Entry, Fault, Hit, Motion, Nearest, Place, Point, Relation, Separation, Strip, Witness};
 
 /// The multiplicity of a point that was added.
 pub(crate) fn multiplicity_added(reply: Reply) -> Result<u32, Fault> {
@@ -64,41 +64,46 @@ pub(crate) fn nearest(reply: Reply) -> Result<Option<Nearest>, Fault> {
     }
 }
 
-/// The least and the greatest point of a box.
-pub(crate) fn bounds(reply: Reply) -> Option<(Point, Point)> {
-    (reply.code == code::BOX).then(|| (reply.point(), reply.other_point()))
+/// Two points: of a box, or two vertices.
+pub(crate) fn two_points(reply: Reply) -> Result<Option<(Point, Point)>, Fault> {
+    match reply.code {
+        code::BOX | code::POINTS => Ok(Some((reply.point(), reply.other_point()))),
+        code::EMPTY => Ok(None),
+        other => Err(fault_of(other)),
+    }
 }
 
-/// Two vertices.
-pub(crate) fn points(reply: Reply) -> Option<(Point, Point)> {
-    (reply.code == code::POINTS).then(|| (reply.point(), reply.other_point()))
-}
-
-pub(crate) fn width(reply: Reply) -> Result<Option<u128>, Fault> {
+pub(crate) fn number_or_none(reply: Reply) -> Result<Option<u128>, Fault> {
     match reply.code {
         code::EMPTY => Ok(None),
         _ => number(reply).map(Some),
     }
 }
 
-pub(crate) fn witness(reply: WitnessReply) -> Option<Witness> {
-    match reply.code {
-        code::COVERED => Some(Witness::Covered(reply.a)),
-        code::WITHIN => Some(Witness::Within(reply.a)),
-        code::CROSSING => Some(Witness::Crossing([reply.a, reply.b], [reply.c, reply.d])),
-        code::DISJOINT => Some(Witness::Disjoint(Separation { farthest: reply.a, direction: reply.b })),
-        _ => None,
-    }
+pub(crate) fn whether(reply: Reply) -> Result<bool, Fault> {
+    number(reply).map(|number| number == 1)
 }
 
-pub(crate) fn distance(reply: WitnessReply) -> Option<Distance> {
-    match reply.code {
-        code::INTERSECTING => Some(Distance::Zero),
-        code::POINTS => Some(Distance::Vertices(reply.a, reply.b)),
-        code::VERTEX => Some(Distance::VertexAndEdge(reply.a, [reply.b, reply.c])),
-        code::EDGE => Some(Distance::EdgeAndVertex([reply.a, reply.b], reply.c)),
-        _ => None,
-    }
+pub(crate) fn witness(reply: WitnessReply) -> Result<Option<Witness>, Fault> {
+    Ok(Some(match reply.code {
+        code::COVERED => Witness::Covered(reply.a),
+        code::WITHIN => Witness::Within(reply.a),
+        code::CROSSING => Witness::Crossing([reply.a, reply.b], [reply.c, reply.d]),
+        code::DISJOINT => Witness::Disjoint(Separation { farthest: reply.a, direction: reply.b }),
+        code::EMPTY => return Ok(None),
+        other => return Err(fault_of(other)),
+    }))
+}
+
+pub(crate) fn distance(reply: WitnessReply) -> Result<Option<Distance>, Fault> {
+    Ok(Some(match reply.code {
+        code::INTERSECTING => Distance::Zero,
+        code::POINTS => Distance::Vertices(reply.a, reply.b),
+        code::VERTEX => Distance::VertexAndEdge(reply.a, [reply.b, reply.c]),
+        code::EDGE => Distance::EdgeAndVertex([reply.a, reply.b], reply.c),
+        code::EMPTY => return Ok(None),
+        other => return Err(fault_of(other)),
+    }))
 }
 
 pub(crate) fn distance_bounds(reply: DistanceBoundsReply) -> Result<Option<DistanceBounds>, Fault> {
@@ -109,7 +114,12 @@ pub(crate) fn distance_bounds(reply: DistanceBoundsReply) -> Result<Option<Dista
     }
 }
 
-pub(crate) fn relation(number: u64) -> Relation {
+pub(crate) fn relation(reply: Reply) -> Result<Relation, Fault> {
+    number(reply).map(|number| relation_of(number as u64))
+}
+
+/// The relation of this number.
+pub(crate) fn relation_of(number: u64) -> Relation {
     match number {
         // written by tools/table.py: relations
         0 => Relation::Disjoint,
@@ -135,8 +145,21 @@ pub(crate) fn hit(reply: HitReply) -> Result<Option<Hit>, Fault> {
     Ok(Some(Hit { place, part: number(reply.high, reply.low), whole: number(reply.divisor_high, reply.divisor_low) }))
 }
 
-pub(crate) fn strip(reply: WitnessReply) -> Option<Strip> {
-    (reply.code == code::EDGE).then_some(Strip { from: reply.a, to: reply.b, farthest: reply.c })
+pub(crate) fn motion(reply: MotionReply) -> Result<Option<Motion>, Fault> {
+    Ok(hit(reply.hit)?.map(|hit| Motion { hit, vertex: reply.vertex, moves: reply.moves == 1 }))
+}
+
+pub(crate) fn strip(reply: WitnessReply) -> Result<Option<Strip>, Fault> {
+    match reply.code {
+        code::EDGE => Ok(Some(Strip { from: reply.a, to: reply.b, farthest: reply.c })),
+        code::EMPTY => Ok(None),
+        other => Err(fault_of(other)),
+    }
+}
+
+/// The value of a call that can fail only if arrays are checked, or if the library is not ours.
+pub(crate) fn certain<T>(answer: Result<T, Fault>) -> T {
+    answer.unwrap_or_else(|fault| panic!("the library failed: {fault}"))
 }
 
 /// A number in a reply: of points, of vertices, also if those do not fit, or twice the area.
@@ -161,6 +184,7 @@ pub(crate) fn fault_of(code: u32) -> Fault {
         code::SEATS_OUT => Fault::SeatsOut,
         code::FULL => Fault::Full,
         code::BUSY => Fault::Busy,
+        code::NO_POLYGON => Fault::NoPolygon,
         other => unreachable!("the library answered {other}"),
     }
 }

@@ -27,7 +27,8 @@ impl DistanceBounds {
     /// Returns the square of the distance: the words of its numerator and of its denominator, the highest first. It is not in
     /// lowest terms.
     pub fn squared(&self) -> ([u64; 3], [u64; 2]) {
-        (self.reply.numerator, self.reply.denominator)
+        let it = &self.reply;
+        ([it.high, it.middle, it.low], [it.divisor_high, it.divisor_low])
     }
 
     /// A number of 53 bits, divided by a power of two: that is exact.

@@ -243,26 +243,38 @@ impl Hull {
         answer::multiplicity_left(self.call(kind::REMOVE, point))
     }
 
-    /// Returns the location of a point.
+    // written by tools/table.py: sets
+    /// Returns the location of `point`.
     pub fn place(&self, point: Point) -> Result<Place, Fault> {
         // SAFETY: as in `call`.
-        answer::place(unsafe { raw::hull_place(self.prepared(), point.x, point.y) })
+        let reply = unsafe { raw::hull_place(self.prepared(), point.x, point.y) };
+        answer::place(reply)
     }
 
-    /// Returns the left and the right tangent point seen from `point`, of several on one line the farthest; `None` if there is no
-    /// point, or the hull covers the one asked about.
+    /// Returns the left and the right tangent point seen from `point`, of several on one line the farthest; `None` if there is no point, or
+    /// the hull covers the one asked about.
     pub fn tangents(&self, point: Point) -> Result<Option<(Point, Point)>, Fault> {
         // SAFETY: as in `call`.
-        answer::tangents(unsafe { raw::hull_tangents(self.prepared(), point.x, point.y) })
+        let reply = unsafe { raw::hull_tangents(self.prepared(), point.x, point.y) };
+        answer::tangents(reply)
     }
 
-    /// Returns the farthest point in a direction, of several the first by x and then by y; `None` if there is none.
+    /// Returns the farthest point in a direction, of several the first by x and then y; `None` if there is none.
     pub fn extreme(&self, direction: Point) -> Result<Option<Point>, Fault> {
         // SAFETY: as in `call`.
-        answer::extreme(unsafe { raw::hull_extreme(self.prepared(), direction.x, direction.y) })
+        let reply = unsafe { raw::hull_extreme(self.prepared(), direction.x, direction.y) };
+        answer::extreme(reply)
     }
 
-    /// The same for a direction of two floats, scaled to integers by [`direction_of`]; for the direction (0, 0) the first point by
+    /// Returns twice the area, 0 for a point and a segment.
+    pub fn doubled_area(&self) -> u128 {
+        // SAFETY: as in `call`.
+        let reply = unsafe { raw::hull_ask(self.prepared(), kind::AREA, 0, 0) };
+        answer::certain(answer::number(reply))
+    }
+    // end of what tools/table.py writes
+
+    /// Returns the farthest point in a direction of two floats, scaled to integers by [`direction_of`]; for the direction (0, 0) the first point by
     /// x and then by y.
     pub fn extreme_d(&self, dx: f64, dy: f64) -> Result<Option<Point>, Fault> {
         self.extreme(exchange::asked_along(dx, dy)?)
@@ -271,13 +283,6 @@ impl Hull {
     /// Returns the multiplicity of a point: 0 if it is not there.
     pub fn multiplicity(&self, point: Point) -> Result<u32, Fault> {
         answer::number(self.call(kind::MULTIPLICITY, point)).map(|times| times as u32)
-    }
-
-    /// Returns twice the area, 0 for a point and a segment.
-    pub fn doubled_area(&self) -> u128 {
-        // SAFETY: as in `call`.
-        let reply = unsafe { raw::hull_call(self.prepared(), kind::AREA, NOWHERE.x, NOWHERE.y) };
-        u128::from(reply.high) << 64 | u128::from(reply.number)
     }
 
     /// Returns how many different points there are.

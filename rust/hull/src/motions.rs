@@ -1,11 +1,11 @@
 //! Polygons that move straight.
 use crate::answer;
 use crate::counted::Counted;
-use crate::polygon::{Polygon, PolygonQuestions};
+use crate::polygon::Polygon;
 use crate::raw::{self, code, Reply};
 use crate::{Fault, Hit, Point};
 
-/// When a polygon that moves straight first intersects one that does not move ([`PolygonQuestions::first_meeting`]).
+/// When a polygon that moves straight first intersects one that does not move ([`first_meeting`](crate::PolygonQuestions::first_meeting)).
 #[derive(Clone, Copy, Debug, PartialEq, Eq)]
 pub struct Motion {
     /// Where the vertex arrives, and how far along; [`Entry::Start`](crate::Entry::Start) if they intersect before it moves.
@@ -14,21 +14,6 @@ pub struct Motion {
     pub vertex: Point,
     /// of the polygon that moves; else of the other, at the moving one as it was before.
     pub moves: bool,
-}
-
-impl PolygonQuestions {
-    /// Returns when the other polygon, which moves straight by `way`, each component at most
-    /// [`COORDINATE_LIMIT`](crate::COORDINATE_LIMIT) in size, first intersects this one; `None` if they never do, and if one of
-    /// them has no vertices.
-    pub fn first_meeting(&self, other: &PolygonQuestions, way: Point) -> Result<Option<Motion>, Fault> {
-        let (these, those) = (self.vertices(), other.vertices());
-        // SAFETY: both are convex polygons, which nobody writes.
-        let reply = unsafe {
-            raw::hull_polygon_first_meeting(these.as_ptr(), these.len(), those.as_ptr(), those.len(), way.x, way.y)
-        };
-        let (vertex, moves) = (reply.vertex, reply.moves == 1);
-        Ok(answer::hit(reply.hit)?.map(|hit| Motion { hit, vertex, moves }))
-    }
 }
 
 impl Polygon {

@@ -46,7 +46,7 @@ impl PolygonQuestions {
         let mut numbers = many(0, all.len())?;
         // SAFETY: all are convex polygons, which nobody writes; the array was written, and has an element for each.
         unsafe { raw::hull_polygon_relations(these.as_ptr(), these.len(), all.as_ptr(), all.len(), numbers.as_mut_ptr()) };
-        Ok(numbers.iter().map(|&number| answer::relation(number.into())).collect())
+        Ok(numbers.iter().map(|&number| answer::relation_of(number.into())).collect())
     }
 
     /// Returns whether the polygon intersects each of the segments, in order.

@@ -3,7 +3,7 @@ use crate::counted::Counted;
 use crate::exchange::asked_along;
 use crate::raw::{self, code, kind, Reply, Request};
 use crate::{answer, many};
-use crate::{DistanceBounds, Fault, Place, Point, NOWHERE};
+use crate::{DistanceBounds, Fault, Motion, Place, Point, NOWHERE};
 use std::fmt;
 use std::hash::{Hash, Hasher};
 use std::ops::Deref;
@@ -223,25 +223,225 @@ impl PolygonQuestions {
         &self.vertices
     }
 
-    fn ask(&self, kind: u32, at: Point) -> Reply {
-        // SAFETY: the vertices are a convex polygon, as `Polygon::new` saw, and nobody writes them.
-        unsafe { raw::hull_polygon_call(self.vertices.as_ptr(), self.vertices.len(), kind, at.x, at.y) }
+    /// Where the vertices are, and how many.
+    fn at(&self) -> *const Point {
+        self.vertices.as_ptr()
     }
 
-    /// Returns the location of a point.
+    fn count(&self) -> usize {
+        self.vertices.len()
+    }
+
+    // written by tools/table.py: questions
+    /// Returns the location of `point`.
     pub fn place(&self, point: Point) -> Result<Place, Fault> {
-        answer::place(self.ask(kind::PLACE, point))
+        // SAFETY: the vertices are a convex polygon, as `Polygon::new` saw, and nobody writes them.
+        let reply = unsafe { raw::hull_polygon_call(self.at(), self.count(), kind::PLACE, point.x, point.y) };
+        answer::place(reply)
     }
 
-    /// Returns the left and the right tangent point seen from `point`; `None` if there is no point, or the polygon covers it.
+    /// Returns the left and the right tangent point seen from `point`; `None` if there is no vertex, or the polygon covers it.
     pub fn tangents(&self, point: Point) -> Result<Option<(Point, Point)>, Fault> {
-        answer::tangents(self.ask(kind::TANGENTS, point))
+        // SAFETY: the vertices are a convex polygon, as `Polygon::new` saw, and nobody writes them.
+        let reply = unsafe { raw::hull_polygon_call(self.at(), self.count(), kind::TANGENTS, point.x, point.y) };
+        answer::tangents(reply)
     }
 
-    /// Returns the farthest point in a direction, of several the first by x and then by y; `None` if there is none.
+    /// Returns the farthest vertex in a direction, of several the first by x and then y; `None` if there is no vertex.
     pub fn extreme(&self, direction: Point) -> Result<Option<Point>, Fault> {
-        answer::extreme(self.ask(kind::EXTREME, direction))
+        // SAFETY: the vertices are a convex polygon, as `Polygon::new` saw, and nobody writes them.
+        let reply = unsafe { raw::hull_polygon_call(self.at(), self.count(), kind::EXTREME, direction.x, direction.y) };
+        answer::extreme(reply)
     }
+
+    /// Returns twice the area, 0 for a point and a segment.
+    pub fn doubled_area(&self) -> u128 {
+        // SAFETY: the vertices are a convex polygon, as `Polygon::new` saw, and nobody writes them.
+        let reply = unsafe { raw::hull_polygon_call(self.at(), self.count(), kind::AREA, 0, 0) };
+        answer::certain(answer::number(reply))
+    }
+
+    /// Returns whether the polygon intersects the segment from `a` to `b`, which may be one point. Ends and boundary are included.
+    pub fn intersects_segment(&self, a: Point, b: Point) -> Result<bool, Fault> {
+        // SAFETY: the vertices are a convex polygon, as `Polygon::new` saw, and nobody writes them.
+        let reply = unsafe { raw::hull_polygon_intersects_segment(self.at(), self.count(), a.x, a.y, b.x, b.y) };
+        answer::whether(reply)
+    }
+
+    /// Returns a vertex and a direction that separate the polygon from the segment from `a` to `b`: no vertex has a greater product with
+    /// the direction, and both ends have; `None` if they intersect, or there is no vertex.
+    pub fn separation_from_segment(&self, a: Point, b: Point) -> Result<Option<Separation>, Fault> {
+        // SAFETY: the vertices are a convex polygon, as `Polygon::new` saw, and nobody writes them.
+        let reply = unsafe { raw::hull_polygon_separation(self.at(), self.count(), a.x, a.y, b.x, b.y) };
+        answer::separation(reply)
+    }
+
+    /// Returns the point of the polygon that is nearest to `point`; `None` if there is no vertex.
+    pub fn nearest(&self, point: Point) -> Result<Option<Nearest>, Fault> {
+        // SAFETY: the vertices are a convex polygon, as `Polygon::new` saw, and nobody writes them.
+        let reply = unsafe { raw::hull_polygon_nearest(self.at(), self.count(), point.x, point.y) };
+        answer::nearest(reply)
+    }
+
+    /// Returns the least and the greatest point of the bounding box; `None` if there is no vertex.
+    pub fn bounding_box(&self) -> Option<(Point, Point)> {
+        // SAFETY: the vertices are a convex polygon, as `Polygon::new` saw, and nobody writes them.
+        let reply = unsafe { raw::hull_polygon_box(self.at(), self.count()) };
+        answer::certain(answer::two_points(reply))
+    }
+
+    /// Returns the extent of the polygon in a direction: the greatest product of a vertex with it less the least; `None` if there is no
+    /// vertex. Divide it by the length of the direction for the width along it.
+    pub fn width_along(&self, direction: Point) -> Result<Option<u128>, Fault> {
+        // SAFETY: the vertices are a convex polygon, as `Polygon::new` saw, and nobody writes them.
+        let reply = unsafe { raw::hull_polygon_width(self.at(), self.count(), direction.x, direction.y) };
+        answer::number_or_none(reply)
+    }
+
+    /// Returns the two vertices that are farthest from one another, equal if there is only one; `None` if there is no vertex.
+    pub fn diameter(&self) -> Option<(Point, Point)> {
+        // SAFETY: the vertices are a convex polygon, as `Polygon::new` saw, and nobody writes them.
+        let reply = unsafe { raw::hull_polygon_diameter(self.at(), self.count()) };
+        answer::certain(answer::two_points(reply))
+    }
+
+    /// Returns the ends of an edge and a vertex farthest from it between which the polygon is least wide: no direction has a narrower
+    /// strip; `None` if there are fewer than two vertices.
+    pub fn least_width(&self) -> Option<Strip> {
+        // SAFETY: the vertices are a convex polygon, as `Polygon::new` saw, and nobody writes them.
+        let reply = unsafe { raw::hull_polygon_least_width(self.at(), self.count()) };
+        answer::certain(answer::strip(reply))
+    }
+
+    /// Returns whether the two polygons intersect, boundaries included.
+    pub fn intersects(&self, other: &PolygonQuestions) -> bool {
+        // SAFETY: the vertices are a convex polygon, as `Polygon::new` saw, and nobody writes them.
+        let reply = unsafe { raw::hull_polygon_intersects(self.at(), self.count(), other.at(), other.count()) };
+        answer::certain(answer::whether(reply))
+    }
+
+    /// Returns whether this polygon contains the other one, boundaries included.
+    pub fn contains(&self, other: &PolygonQuestions) -> bool {
+        // SAFETY: the vertices are a convex polygon, as `Polygon::new` saw, and nobody writes them.
+        let reply = unsafe { raw::hull_polygon_contains(self.at(), self.count(), other.at(), other.count()) };
+        answer::certain(answer::whether(reply))
+    }
+
+    /// Returns whether this polygon contains the other one with no point of it on the boundary.
+    pub fn contains_inside(&self, other: &PolygonQuestions) -> bool {
+        // SAFETY: the vertices are a convex polygon, as `Polygon::new` saw, and nobody writes them.
+        let reply = unsafe { raw::hull_polygon_contains_inside(self.at(), self.count(), other.at(), other.count()) };
+        answer::certain(answer::whether(reply))
+    }
+
+    /// Returns how this polygon is related to the other one. A polygon without vertices is within any other.
+    pub fn relation(&self, other: &PolygonQuestions) -> Relation {
+        // SAFETY: the vertices are a convex polygon, as `Polygon::new` saw, and nobody writes them.
+        let reply = unsafe { raw::hull_polygon_relation(self.at(), self.count(), other.at(), other.count()) };
+        answer::certain(answer::relation(reply))
+    }
+
+    /// Returns whether their distance is at most `numerator / denominator`, exactly; false if one of them has no vertex. A length with the
+    /// denominator 0 is longer than any distance.
+    pub fn within_distance(&self, other: &PolygonQuestions, numerator: u64, denominator: u32) -> bool {
+        // SAFETY: the vertices are a convex polygon, as `Polygon::new` saw, and nobody writes them.
+        let reply = unsafe { raw::hull_polygon_within_distance(self.at(), self.count(), other.at(), other.count(), numerator,
+                                                               denominator) };
+        answer::certain(answer::whether(reply))
+    }
+
+    /// Returns why the two polygons intersect, or what separates them; `None` if one of them has no vertex.
+    pub fn witness(&self, other: &PolygonQuestions) -> Option<Witness> {
+        // SAFETY: the vertices are a convex polygon, as `Polygon::new` saw, and nobody writes them.
+        let reply = unsafe { raw::hull_polygon_witness(self.at(), self.count(), other.at(), other.count()) };
+        answer::certain(answer::witness(reply))
+    }
+
+    /// Returns the features at which the two polygons are nearest to one another, one of this and one of the other; `None` if one of them
+    /// has no vertex.
+    pub fn distance(&self, other: &PolygonQuestions) -> Option<Distance> {
+        // SAFETY: the vertices are a convex polygon, as `Polygon::new` saw, and nobody writes them.
+        let reply = unsafe { raw::hull_polygon_distance(self.at(), self.count(), other.at(), other.count()) };
+        answer::certain(answer::distance(reply))
+    }
+
+    /// Returns the distance of the two polygons, 0 if they intersect; `None` if one of them has no vertex.
+    pub fn distance_bounds(&self, other: &PolygonQuestions) -> Option<DistanceBounds> {
+        // SAFETY: the vertices are a convex polygon, as `Polygon::new` saw, and nobody writes them.
+        let reply = unsafe { raw::hull_polygon_distance_bounds(self.at(), self.count(), other.at(), other.count()) };
+        answer::certain(answer::distance_bounds(reply))
+    }
+
+    /// Returns the distance of the polygon from the segment from `a` to `b`, which may be one point; `None` if there is no vertex.
+    pub fn distance_bounds_to_segment(&self, a: Point, b: Point) -> Result<Option<DistanceBounds>, Fault> {
+        // SAFETY: the vertices are a convex polygon, as `Polygon::new` saw, and nobody writes them.
+        let reply = unsafe { raw::hull_polygon_distance_bounds_to_segment(self.at(), self.count(), a.x, a.y, b.x, b.y) };
+        answer::distance_bounds(reply)
+    }
+
+    /// Returns the distance of the polygon from `point`; `None` if there is no vertex.
+    pub fn distance_bounds_to_point(&self, point: Point) -> Result<Option<DistanceBounds>, Fault> {
+        // SAFETY: the vertices are a convex polygon, as `Polygon::new` saw, and nobody writes them.
+        let reply = unsafe { raw::hull_polygon_distance_bounds_to_segment(self.at(), self.count(), point.x, point.y, point.x, point.y) };
+        answer::distance_bounds(reply)
+    }
+
+    /// Returns whether the distance of the polygon from the segment from `a` to `b`, which may be one point, is at most `numerator /
+    /// denominator`, exactly. A length with the denominator 0 is longer than any distance.
+    pub fn within_distance_of_segment(&self, a: Point, b: Point, numerator: u64, denominator: u32) -> Result<bool, Fault> {
+        // SAFETY: the vertices are a convex polygon, as `Polygon::new` saw, and nobody writes them.
+        let reply = unsafe { raw::hull_polygon_within_distance_of_segment(self.at(), self.count(), a.x, a.y, b.x, b.y, numerator,
+                                                                          denominator) };
+        answer::whether(reply)
+    }
+
+    /// Returns whether the distance of the polygon from `point` is at most `numerator / denominator`, exactly. A length with the
+    /// denominator 0 is longer than any distance.
+    pub fn within_distance_of_point(&self, point: Point, numerator: u64, denominator: u32) -> Result<bool, Fault> {
+        // SAFETY: the vertices are a convex polygon, as `Polygon::new` saw, and nobody writes them.
+        let reply = unsafe { raw::hull_polygon_within_distance_of_segment(self.at(), self.count(), point.x, point.y, point.x, point.y,
+                                                                          numerator, denominator) };
+        answer::whether(reply)
+    }
+
+    /// Returns how the polygon is related to the segment from `a` to `b`, which may be one point: one that it contains gives
+    /// [`Relation::Covers`], also along an edge; one that leaves it touching if it has no point inside, and else overlapping.
+    pub fn relation_to_segment(&self, a: Point, b: Point) -> Result<Relation, Fault> {
+        // SAFETY: the vertices are a convex polygon, as `Polygon::new` saw, and nobody writes them.
+        let reply = unsafe { raw::hull_polygon_relation_to_segment(self.at(), self.count(), a.x, a.y, b.x, b.y) };
+        answer::relation(reply)
+    }
+
+    /// Returns the point at which the ray from `point` in a direction enters, the first of several that they share; `None` if it misses.
+    pub fn raycast(&self, point: Point, direction: Point) -> Result<Option<Hit>, Fault> {
+        // SAFETY: the vertices are a convex polygon, as `Polygon::new` saw, and nobody writes them.
+        let reply = unsafe { raw::hull_polygon_raycast(self.at(), self.count(), point.x, point.y, direction.x, direction.y) };
+        answer::hit(reply)
+    }
+
+    /// Returns the last point of the ray from `point` in a direction in the polygon; `None` if it misses.
+    pub fn raycast_exit(&self, point: Point, direction: Point) -> Result<Option<Hit>, Fault> {
+        // SAFETY: the vertices are a convex polygon, as `Polygon::new` saw, and nobody writes them.
+        let reply = unsafe { raw::hull_polygon_raycast_exit(self.at(), self.count(), point.x, point.y, direction.x, direction.y) };
+        answer::hit(reply)
+    }
+
+    /// Returns the point at which the segment from `a` to `b` enters; `None` if it misses. Its last point in the polygon is the one at
+    /// which the reversed segment enters.
+    pub fn raycast_segment(&self, a: Point, b: Point) -> Result<Option<Hit>, Fault> {
+        // SAFETY: the vertices are a convex polygon, as `Polygon::new` saw, and nobody writes them.
+        let reply = unsafe { raw::hull_polygon_raycast_segment(self.at(), self.count(), a.x, a.y, b.x, b.y) };
+        answer::hit(reply)
+    }
+
+    /// Returns when the other polygon, which moves straight by `way`, first intersects this one; `None` if they never do, or one of them
+    /// has no vertex.
+    pub fn first_meeting(&self, other: &PolygonQuestions, way: Point) -> Result<Option<Motion>, Fault> {
+        // SAFETY: the vertices are a convex polygon, as `Polygon::new` saw, and nobody writes them.
+        let reply = unsafe { raw::hull_polygon_first_meeting(self.at(), self.count(), other.at(), other.count(), way.x, way.y) };
+        answer::motion(reply)
+    }
+    // end of what tools/table.py writes
 
     /// The same for a direction of two floats, scaled to integers by [`direction_of`](crate::direction_of); for the direction (0,
     /// 0) the first point by x and then by y.
@@ -285,176 +485,5 @@ impl PolygonQuestions {
     /// Returns the farthest point in each of the directions, as [`extreme`](PolygonQuestions::extreme).
     pub fn extreme_all(&self, directions: &[Point]) -> Result<Vec<Option<Point>>, Fault> {
         self.ask_all(kind::EXTREME, directions, answer::extreme)
-    }
-
-    /// Returns twice the area, 0 for a point and a segment.
-    pub fn doubled_area(&self) -> u128 {
-        let reply = self.ask(kind::AREA, NOWHERE);
-        u128::from(reply.high) << 64 | u128::from(reply.number)
-    }
-
-    /// Returns whether the polygon intersects the segment from `a` to `b`, which may be one point.
-    pub fn intersects_segment(&self, a: Point, b: Point) -> Result<bool, Fault> {
-        let vertices = &self.vertices;
-        // SAFETY: the vertices are a convex polygon, as `Polygon::new` saw, and nobody writes them.
-        let reply = unsafe { raw::hull_polygon_intersects_segment(vertices.as_ptr(), vertices.len(), a.x, a.y, b.x, b.y) };
-        answer::number(reply).map(|number| number == 1)
-    }
-
-    /// Returns what separates the polygon from the segment from `a` to `b`; `None` if they intersect, and for a polygon without
-    /// vertices.
-    pub fn separation_from_segment(&self, a: Point, b: Point) -> Result<Option<Separation>, Fault> {
-        let vertices = &self.vertices;
-        // SAFETY: the same.
-        let reply = unsafe { raw::hull_polygon_separation(vertices.as_ptr(), vertices.len(), a.x, a.y, b.x, b.y) };
-        answer::separation(reply)
-    }
-
-    /// Returns where the point is that is nearest to `point`; `None` for a polygon without vertices.
-    pub fn nearest(&self, point: Point) -> Result<Option<Nearest>, Fault> {
-        // SAFETY: the same.
-        let reply = unsafe { raw::hull_polygon_nearest(self.vertices.as_ptr(), self.vertices.len(), point.x, point.y) };
-        answer::nearest(reply)
-    }
-
-    /// Returns the least and the greatest point of the bounding box; `None` for a polygon without vertices.
-    pub fn bounding_box(&self) -> Option<(Point, Point)> {
-        // SAFETY: the same.
-        answer::bounds(unsafe { raw::hull_polygon_box(self.vertices.as_ptr(), self.vertices.len()) })
-    }
-
-    /// Returns the extent of the polygon in a direction: the greatest product of a vertex with it less the least; `None` for a
-    /// polygon without vertices. Divide it by the length of the direction for the width along it.
-    pub fn width_along(&self, direction: Point) -> Result<Option<u128>, Fault> {
-        // SAFETY: the same.
-        let reply = unsafe { raw::hull_polygon_width(self.vertices.as_ptr(), self.vertices.len(), direction.x, direction.y) };
-        answer::width(reply)
-    }
-
-    /// Returns the two vertices that are farthest from one another; `None` for a polygon without vertices.
-    pub fn diameter(&self) -> Option<(Point, Point)> {
-        // SAFETY: the same.
-        answer::points(unsafe { raw::hull_polygon_diameter(self.vertices.as_ptr(), self.vertices.len()) })
-    }
-
-    /// Returns where the polygon is least wide: no direction has a narrower strip; `None` if there are fewer than two vertices.
-    pub fn least_width(&self) -> Option<Strip> {
-        // SAFETY: the same.
-        answer::strip(unsafe { raw::hull_polygon_least_width(self.vertices.as_ptr(), self.vertices.len()) })
-    }
-
-    /// Returns whether the two polygons intersect, boundaries included.
-    pub fn intersects(&self, other: &PolygonQuestions) -> bool {
-        let (these, those) = (&self.vertices, &other.vertices);
-        // SAFETY: the same, of both.
-        unsafe { raw::hull_polygon_intersects(these.as_ptr(), these.len(), those.as_ptr(), those.len()) }.number == 1
-    }
-
-    /// Returns whether this polygon contains the other one.
-    pub fn contains(&self, other: &PolygonQuestions) -> bool {
-        let (these, those) = (&self.vertices, &other.vertices);
-        // SAFETY: the same.
-        unsafe { raw::hull_polygon_contains(these.as_ptr(), these.len(), those.as_ptr(), those.len()) }.number == 1
-    }
-
-    /// Returns how this polygon is related to the other one.
-    pub fn relation(&self, other: &PolygonQuestions) -> Relation {
-        let (these, those) = (&self.vertices, &other.vertices);
-        // SAFETY: the same.
-        answer::relation(unsafe { raw::hull_polygon_relation(these.as_ptr(), these.len(), those.as_ptr(), those.len()) }.number)
-    }
-
-    /// Returns whether this polygon contains the other one with no point of it on the boundary.
-    pub fn contains_inside(&self, other: &PolygonQuestions) -> bool {
-        let (these, those) = (&self.vertices, &other.vertices);
-        // SAFETY: the same.
-        unsafe { raw::hull_polygon_contains_inside(these.as_ptr(), these.len(), those.as_ptr(), those.len()) }.number == 1
-    }
-
-    /// Returns whether their distance is at most `numerator / denominator`, exactly; false if one of them has no vertices. A
-    /// length with the denominator 0 is longer than any distance.
-    pub fn within_distance(&self, other: &PolygonQuestions, numerator: u64, denominator: u32) -> bool {
-        let (these, those) = (&self.vertices, &other.vertices);
-        // SAFETY: the same.
-        unsafe { raw::hull_polygon_within_distance(these.as_ptr(), these.len(), those.as_ptr(), those.len(), numerator, denominator) }.number == 1
-    }
-
-    /// The same for the segment from `a` to `b`, which may be one point.
-    pub fn within_distance_of_segment(&self, a: Point, b: Point, numerator: u64, denominator: u32) -> Result<bool, Fault> {
-        let vertices = &self.vertices;
-        // SAFETY: the same.
-        let reply = unsafe {
-            raw::hull_polygon_within_distance_of_segment(vertices.as_ptr(), vertices.len(), a.x, a.y, b.x, b.y, numerator, denominator)
-        };
-        answer::number(reply).map(|number| number == 1)
-    }
-
-    /// The same for a point.
-    pub fn within_distance_of_point(&self, point: Point, numerator: u64, denominator: u32) -> Result<bool, Fault> {
-        self.within_distance_of_segment(point, point, numerator, denominator)
-    }
-
-    /// Returns how this polygon is related to the segment from `a` to `b`, which may be one point.
-    pub fn relation_to_segment(&self, a: Point, b: Point) -> Result<Relation, Fault> {
-        let vertices = &self.vertices;
-        // SAFETY: the same.
-        let reply = unsafe { raw::hull_polygon_relation_to_segment(vertices.as_ptr(), vertices.len(), a.x, a.y, b.x, b.y) };
-        answer::number(reply).map(|number| answer::relation(number as u64))
-    }
-
-    /// Returns the distance of the two polygons, as bounds that compare exactly; `None` if one of them has no vertices.
-    pub fn distance_bounds(&self, other: &PolygonQuestions) -> Option<DistanceBounds> {
-        let (these, those) = (&self.vertices, &other.vertices);
-        // SAFETY: the same.
-        let reply = unsafe { raw::hull_polygon_distance_bounds(these.as_ptr(), these.len(), those.as_ptr(), those.len()) };
-        answer::distance_bounds(reply).ok().flatten()
-    }
-
-    /// The same of the polygon and the segment from `a` to `b`, which may be one point; `None` for a polygon without vertices.
-    pub fn distance_bounds_to_segment(&self, a: Point, b: Point) -> Result<Option<DistanceBounds>, Fault> {
-        let vertices = &self.vertices;
-        // SAFETY: the same.
-        answer::distance_bounds(unsafe { raw::hull_polygon_distance_bounds_to_segment(vertices.as_ptr(), vertices.len(), a.x, a.y, b.x, b.y) })
-    }
-
-    /// The same of the polygon and a point; `None` for a polygon without vertices.
-    pub fn distance_bounds_to_point(&self, point: Point) -> Result<Option<DistanceBounds>, Fault> {
-        self.distance_bounds_to_segment(point, point)
-    }
-
-    /// Returns where the ray from `from` in a direction enters; `None` if it misses.
-    pub fn raycast(&self, from: Point, direction: Point) -> Result<Option<Hit>, Fault> {
-        let vertices = &self.vertices;
-        // SAFETY: the same.
-        answer::hit(unsafe { raw::hull_polygon_raycast(vertices.as_ptr(), vertices.len(), from.x, from.y, direction.x, direction.y) })
-    }
-
-    /// Returns the last point of that ray in the polygon; `None` if it misses.
-    pub fn raycast_exit(&self, from: Point, direction: Point) -> Result<Option<Hit>, Fault> {
-        let vertices = &self.vertices;
-        // SAFETY: the same.
-        answer::hit(unsafe { raw::hull_polygon_raycast_exit(vertices.as_ptr(), vertices.len(), from.x, from.y, direction.x, direction.y) })
-    }
-
-    /// Returns where the segment from `a` to `b` enters; `None` if it misses. Its last point in the polygon is where that from `b`
-    /// to `a` enters.
-    pub fn raycast_segment(&self, a: Point, b: Point) -> Result<Option<Hit>, Fault> {
-        let vertices = &self.vertices;
-        // SAFETY: the same.
-        answer::hit(unsafe { raw::hull_polygon_raycast_segment(vertices.as_ptr(), vertices.len(), a.x, a.y, b.x, b.y) })
-    }
-
-    /// Returns where the two polygons intersect, or what separates them; `None` if one of them has no vertices.
-    pub fn witness(&self, other: &PolygonQuestions) -> Option<Witness> {
-        let (these, those) = (&self.vertices, &other.vertices);
-        // SAFETY: the same.
-        answer::witness(unsafe { raw::hull_polygon_witness(these.as_ptr(), these.len(), those.as_ptr(), those.len()) })
-    }
-
-    /// Returns where the two polygons are nearest to one another; `None` if one of them has no vertices.
-    pub fn distance(&self, other: &PolygonQuestions) -> Option<Distance> {
-        let (these, those) = (&self.vertices, &other.vertices);
-        // SAFETY: the same.
-        answer::distance(unsafe { raw::hull_polygon_distance(these.as_ptr(), these.len(), those.as_ptr(), those.len()) })
     }
 }

@@ -689,20 +689,28 @@ impl Seat {
         self.call(kind::REMOVE, point).and_then(answer::multiplicity_left)
     }
 
-    /// Returns the location of a point.
+    // written by tools/table.py: seats
+    /// Returns the location of `point`.
     pub fn place(&mut self, point: Point) -> Result<Place, Fault> {
         self.call(kind::PLACE, point).and_then(answer::place)
     }
 
-    /// Returns the left and the right tangent point seen from `point`, as [`Hull::tangents`](crate::Hull::tangents).
+    /// Returns the left and the right tangent point seen from `point`, of several on one line the farthest; `None` if there is no point, or
+    /// the hull covers the one asked about.
     pub fn tangents(&mut self, point: Point) -> Result<Option<(Point, Point)>, Fault> {
         self.call(kind::TANGENTS, point).and_then(answer::tangents)
     }
 
-    /// Returns the farthest point in a direction, as [`Hull::extreme`](crate::Hull::extreme).
+    /// Returns the farthest point in a direction, of several the first by x and then y; `None` if there is none.
     pub fn extreme(&mut self, direction: Point) -> Result<Option<Point>, Fault> {
         self.call(kind::EXTREME, direction).and_then(answer::extreme)
     }
+
+    /// Returns twice the area, 0 for a point and a segment.
+    pub fn doubled_area(&mut self) -> Result<u128, Fault> {
+        self.call(kind::AREA, NOWHERE).and_then(answer::number)
+    }
+    // end of what tools/table.py writes
 
     /// Returns the vertices, as [`Hull::vertices`](crate::Hull::vertices). It asks with space for as many as there were before,
     /// and again if there are more: each question has its line in the journal.
@@ -727,11 +735,6 @@ impl Seat {
     /// Returns how many vertices there are.
     pub fn vertex_count(&mut self) -> Result<usize, Fault> {
         self.call(kind::VERTICES, NOWHERE).and_then(answer::number).map(|vertices| vertices as usize)
-    }
-
-    /// Returns twice the area, 0 for a point and a segment.
-    pub fn doubled_area(&mut self) -> Result<u128, Fault> {
-        self.call(kind::AREA, NOWHERE).and_then(answer::number)
     }
 
     /// Returns how many different points there are.
@@ -768,9 +771,9 @@ impl Seat {
         if let Some(fault) = PANIC.with(Cell::take) {
             resume_unwind(fault);
         }
-        match reply.reply.code {
-            code::OUT_OF_RANGE | code::ZERO_DIRECTION | code::FULL | code::BUSY => Err(answer::fault_of(reply.reply.code)),
-            _ => Ok(reply.reply),
+        match reply.answer.code {
+            code::OUT_OF_RANGE | code::ZERO_DIRECTION | code::FULL | code::BUSY => Err(answer::fault_of(reply.answer.code)),
+            _ => Ok(reply.answer),
         }
     }
 }
