@@ -3,18 +3,19 @@
  * functions as hull_proved_NAME, a name that tools/product.sh gives them, so that each public function has one name everywhere. */
 #include "hull.h"
 
+/* written by tools/table.py: proved functions */
 hull_reply hull_proved_vertices(const hull_set *h, hull_point *out, size_t capacity);
-size_t hull_proved_calls(hull_set *h, const hull_request *requests, size_t request_count, hull_reply *replies,
-                         size_t reply_capacity);
+size_t hull_proved_calls(hull_set *h, const hull_request *requests, size_t request_count, hull_reply *replies, size_t reply_capacity);
 hull_reply hull_proved_load(hull_set *h, const hull_point *points, size_t count);
 hull_reply hull_proved_held_from(const hull_set *h, int64_t x, int64_t y, hull_held *out, size_t capacity);
 hull_reply hull_proved_load_held(hull_set *h, const hull_held *held, size_t count);
 hull_reply hull_proved_bridges(const hull_set *h, uint32_t level, hull_bridge *out, size_t capacity);
+hull_reply hull_proved_is_polygon(const hull_point *points, size_t count);
+hull_reply hull_proved_polygon_of(const hull_point *points, size_t count, hull_point *out, size_t capacity);
 hull_reply hull_proved_polygon_call(const hull_point *vertices, size_t count, uint32_t kind, int64_t x, int64_t y);
 size_t hull_proved_polygon_calls(const hull_point *vertices, size_t count, const hull_request *requests, size_t request_count,
                                  hull_reply *replies, size_t reply_capacity);
-hull_reply hull_proved_polygon_intersects_segment(const hull_point *vertices, size_t count, int64_t ax, int64_t ay, int64_t bx,
-                                                  int64_t by);
+hull_reply hull_proved_polygon_intersects_segment(const hull_point *vertices, size_t count, int64_t ax, int64_t ay, int64_t bx, int64_t by);
 hull_reply hull_proved_polygon_separation(const hull_point *vertices, size_t count, int64_t ax, int64_t ay, int64_t bx, int64_t by);
 hull_reply hull_proved_polygon_nearest(const hull_point *vertices, size_t count, int64_t x, int64_t y);
 hull_reply hull_proved_polygon_box(const hull_point *vertices, size_t count);
@@ -23,34 +24,36 @@ hull_reply hull_proved_polygon_diameter(const hull_point *vertices, size_t count
 hull_witness hull_proved_polygon_least_width(const hull_point *vertices, size_t count);
 hull_reply hull_proved_polygon_intersects(const hull_point *vertices, size_t count, const hull_point *others, size_t other_count);
 hull_reply hull_proved_polygon_contains(const hull_point *vertices, size_t count, const hull_point *others, size_t other_count);
+hull_reply hull_proved_polygon_contains_inside(const hull_point *vertices, size_t count, const hull_point *others, size_t other_count);
 hull_reply hull_proved_polygon_relation(const hull_point *vertices, size_t count, const hull_point *others, size_t other_count);
-hull_reply hull_proved_polygon_contains_inside(const hull_point *vertices, size_t count, const hull_point *others,
-                                               size_t other_count);
-hull_reply hull_proved_polygon_within_distance(const hull_point *vertices, size_t count, const hull_point *others,
-                                               size_t other_count, uint64_t numerator, uint32_t denominator);
+hull_reply hull_proved_polygon_within_distance(const hull_point *vertices, size_t count, const hull_point *others, size_t other_count,
+                                               uint64_t numerator, uint32_t denominator);
 hull_witness hull_proved_polygon_witness(const hull_point *vertices, size_t count, const hull_point *others, size_t other_count);
 hull_witness hull_proved_polygon_distance(const hull_point *vertices, size_t count, const hull_point *others, size_t other_count);
 hull_distance_bounds hull_proved_polygon_distance_bounds(const hull_point *vertices, size_t count, const hull_point *others,
                                                          size_t other_count);
-hull_distance_bounds hull_proved_polygon_distance_bounds_to_segment(const hull_point *vertices, size_t count, int64_t ax,
-                                                                    int64_t ay, int64_t bx, int64_t by);
-hull_reply hull_proved_polygon_within_distance_of_segment(const hull_point *vertices, size_t count, int64_t ax, int64_t ay,
-                                                          int64_t bx, int64_t by, uint64_t numerator, uint32_t denominator);
+hull_distance_bounds hull_proved_polygon_distance_bounds_to_segment(const hull_point *vertices, size_t count, int64_t ax, int64_t ay,
+                                                                    int64_t bx, int64_t by);
+hull_reply hull_proved_polygon_within_distance_of_segment(const hull_point *vertices, size_t count, int64_t ax, int64_t ay, int64_t bx,
+                                                          int64_t by, uint64_t numerator, uint32_t denominator);
 hull_reply hull_proved_polygon_relation_to_segment(const hull_point *vertices, size_t count, int64_t ax, int64_t ay, int64_t bx,
                                                    int64_t by);
 hull_hit hull_proved_polygon_raycast(const hull_point *vertices, size_t count, int64_t x, int64_t y, int64_t dx, int64_t dy);
 hull_hit hull_proved_polygon_raycast_exit(const hull_point *vertices, size_t count, int64_t x, int64_t y, int64_t dx, int64_t dy);
-hull_hit hull_proved_polygon_raycast_segment(const hull_point *vertices, size_t count, int64_t ax, int64_t ay, int64_t bx,
-                                             int64_t by);
-hull_reply hull_proved_is_polygon(const hull_point *points, size_t count);
-hull_reply hull_proved_polygon_of(const hull_point *points, size_t count, hull_point *out, size_t capacity);
-size_t hull_proved_polygon_intersects_segments(const hull_point *vertices, size_t count, const hull_segment *segments,
-                                               size_t segment_count, uint8_t *out, size_t capacity);
+hull_hit hull_proved_polygon_raycast_segment(const hull_point *vertices, size_t count, int64_t ax, int64_t ay, int64_t bx, int64_t by);
+hull_reply hull_proved_polygon_translate(const hull_point *vertices, size_t count, int64_t dx, int64_t dy, hull_point *out,
+                                         size_t capacity);
+hull_reply hull_proved_polygon_rotate(const hull_point *vertices, size_t count, int64_t a, int64_t b, hull_point *out, size_t capacity);
+hull_reply hull_proved_pairs_within_distance(const hull_polygon *polygons, size_t count, uint64_t numerator, uint32_t denominator,
+                                             hull_pair *out, size_t capacity);
 void hull_proved_polygon_relations(const hull_point *vertices, size_t count, const hull_polygon *others, size_t other_count, uint8_t *out,
                                    size_t capacity);
-hull_reply hull_proved_polygon_translate(const hull_point *vertices, size_t count, int64_t dx, int64_t dy, hull_point *out, size_t capacity);
+size_t hull_proved_polygon_intersects_segments(const hull_point *vertices, size_t count, const hull_segment *segments, size_t segment_count,
+                                               uint8_t *out, size_t capacity);
+size_t hull_proved_polygon_indices(const hull_point *vertices, size_t count, const hull_point *points, size_t point_count, size_t *out,
+                                   size_t capacity);
+/* end of what tools/table.py writes */
 hull_reply hull_proved_polygon_translate_in_place(hull_point *vertices, size_t count, int64_t dx, int64_t dy);
-hull_reply hull_proved_polygon_rotate(const hull_point *vertices, size_t count, int64_t a, int64_t b, hull_point *out, size_t capacity);
 
 /* whether arrays of vertices are tested, as hull_check_arrays decides */
 static int is_checked;
@@ -59,23 +62,13 @@ void hull_check_arrays(int is_on) {
     __atomic_store_n(&is_checked, is_on, __ATOMIC_RELAXED);
 }
 
-/* returns the address of an array of so many elements, or one that is not null if it has none, which the proved functions require */
-static void *array(const void *elements, size_t count) {
-    static const uint64_t none = 0;
-    return (void *)(count == 0 ? (const void *)&none : elements);
-}
-
-static const hull_point *vertices_at(const hull_point *vertices, size_t count) {
-    return (const hull_point *)array(vertices, count);
-}
-
 /* returns why an array may not be asked, if arrays are tested, else HULL_OK */
 static uint32_t fault_of(const hull_point *vertices, size_t count) {
     hull_reply r;
     if (!__atomic_load_n(&is_checked, __ATOMIC_RELAXED)) {
         return HULL_OK;
     }
-    r = hull_proved_is_polygon(vertices_at(vertices, count), count);
+    r = hull_proved_is_polygon(hull_array(vertices, count), count);
     return r.code == HULL_NO_MEMORY ? HULL_NO_MEMORY : r.code == HULL_NUMBER && r.number == 1 ? HULL_OK : HULL_NO_POLYGON;
 }
 
@@ -89,7 +82,7 @@ static hull_witness witness_refusal(uint32_t code) {
     return w;
 }
 
-static hull_distance_bounds bounds_refusal(uint32_t code) {
+static hull_distance_bounds distance_bounds_refusal(uint32_t code) {
     const hull_distance_bounds c = {.code = code};
     return c;
 }
@@ -110,34 +103,219 @@ hull_reply hull_ask(const hull_set *h, uint32_t kind, int64_t x, int64_t y) {
     return hull_call(set, kind, x, y);
 }
 
+/* written by tools/table.py: functions */
 hull_reply hull_vertices(const hull_set *h, hull_point *out, size_t capacity) {
-    return hull_proved_vertices(h, array(out, capacity), capacity);
+    return hull_proved_vertices(h, hull_array(out, capacity), capacity);
 }
 
 size_t hull_calls(hull_set *h, const hull_request *requests, size_t request_count, hull_reply *replies, size_t reply_capacity) {
-    return hull_proved_calls(h, array(requests, request_count), request_count, array(replies, reply_capacity), reply_capacity);
+    return hull_proved_calls(h, hull_array(requests, request_count), request_count, hull_array(replies, reply_capacity), reply_capacity);
 }
 
 hull_reply hull_load(hull_set *h, const hull_point *points, size_t count) {
-    return hull_proved_load(h, vertices_at(points, count), count);
+    return hull_proved_load(h, hull_array(points, count), count);
 }
 
 hull_reply hull_held_from(const hull_set *h, int64_t x, int64_t y, hull_held *out, size_t capacity) {
-    return hull_proved_held_from(h, x, y, array(out, capacity), capacity);
+    return hull_proved_held_from(h, x, y, hull_array(out, capacity), capacity);
 }
 
 hull_reply hull_load_held(hull_set *h, const hull_held *held, size_t count) {
-    return hull_proved_load_held(h, array(held, count), count);
+    return hull_proved_load_held(h, hull_array(held, count), count);
 }
 
 hull_reply hull_bridges(const hull_set *h, uint32_t level, hull_bridge *out, size_t capacity) {
-    return hull_proved_bridges(h, level, array(out, capacity), capacity);
+    return hull_proved_bridges(h, level, hull_array(out, capacity), capacity);
+}
+
+hull_reply hull_is_polygon(const hull_point *points, size_t count) {
+    return hull_proved_is_polygon(hull_array(points, count), count);
+}
+
+hull_reply hull_polygon_of(const hull_point *points, size_t count, hull_point *out, size_t capacity) {
+    return hull_proved_polygon_of(hull_array(points, count), count, hull_array(out, capacity), capacity);
 }
 
 hull_reply hull_polygon_call(const hull_point *vertices, size_t count, uint32_t kind, int64_t x, int64_t y) {
     const uint32_t fault = fault_of(vertices, count);
-    return fault != HULL_OK ? hull_refusal(fault) : hull_proved_polygon_call(vertices_at(vertices, count), count, kind, x, y);
+    if (fault != HULL_OK) {
+        return hull_refusal(fault);
+    }
+    return hull_proved_polygon_call(hull_array(vertices, count), count, kind, x, y);
 }
+
+hull_reply hull_polygon_intersects_segment(const hull_point *vertices, size_t count, int64_t ax, int64_t ay, int64_t bx, int64_t by) {
+    const uint32_t fault = fault_of(vertices, count);
+    if (fault != HULL_OK) {
+        return hull_refusal(fault);
+    }
+    return hull_proved_polygon_intersects_segment(hull_array(vertices, count), count, ax, ay, bx, by);
+}
+
+hull_reply hull_polygon_separation(const hull_point *vertices, size_t count, int64_t ax, int64_t ay, int64_t bx, int64_t by) {
+    const uint32_t fault = fault_of(vertices, count);
+    if (fault != HULL_OK) {
+        return hull_refusal(fault);
+    }
+    return hull_proved_polygon_separation(hull_array(vertices, count), count, ax, ay, bx, by);
+}
+
+hull_reply hull_polygon_nearest(const hull_point *vertices, size_t count, int64_t x, int64_t y) {
+    const uint32_t fault = fault_of(vertices, count);
+    if (fault != HULL_OK) {
+        return hull_refusal(fault);
+    }
+    return hull_proved_polygon_nearest(hull_array(vertices, count), count, x, y);
+}
+
+hull_reply hull_polygon_box(const hull_point *vertices, size_t count) {
+    const uint32_t fault = fault_of(vertices, count);
+    if (fault != HULL_OK) {
+        return hull_refusal(fault);
+    }
+    return hull_proved_polygon_box(hull_array(vertices, count), count);
+}
+
+hull_reply hull_polygon_width(const hull_point *vertices, size_t count, int64_t dx, int64_t dy) {
+    const uint32_t fault = fault_of(vertices, count);
+    if (fault != HULL_OK) {
+        return hull_refusal(fault);
+    }
+    return hull_proved_polygon_width(hull_array(vertices, count), count, dx, dy);
+}
+
+hull_reply hull_polygon_diameter(const hull_point *vertices, size_t count) {
+    const uint32_t fault = fault_of(vertices, count);
+    if (fault != HULL_OK) {
+        return hull_refusal(fault);
+    }
+    return hull_proved_polygon_diameter(hull_array(vertices, count), count);
+}
+
+hull_witness hull_polygon_least_width(const hull_point *vertices, size_t count) {
+    const uint32_t fault = fault_of(vertices, count);
+    if (fault != HULL_OK) {
+        return witness_refusal(fault);
+    }
+    return hull_proved_polygon_least_width(hull_array(vertices, count), count);
+}
+
+hull_reply hull_polygon_intersects(const hull_point *vertices, size_t count, const hull_point *others, size_t other_count) {
+    const uint32_t fault = fault_of_both(vertices, count, others, other_count);
+    if (fault != HULL_OK) {
+        return hull_refusal(fault);
+    }
+    return hull_proved_polygon_intersects(hull_array(vertices, count), count, hull_array(others, other_count), other_count);
+}
+
+hull_reply hull_polygon_contains(const hull_point *vertices, size_t count, const hull_point *others, size_t other_count) {
+    const uint32_t fault = fault_of_both(vertices, count, others, other_count);
+    if (fault != HULL_OK) {
+        return hull_refusal(fault);
+    }
+    return hull_proved_polygon_contains(hull_array(vertices, count), count, hull_array(others, other_count), other_count);
+}
+
+hull_reply hull_polygon_contains_inside(const hull_point *vertices, size_t count, const hull_point *others, size_t other_count) {
+    const uint32_t fault = fault_of_both(vertices, count, others, other_count);
+    if (fault != HULL_OK) {
+        return hull_refusal(fault);
+    }
+    return hull_proved_polygon_contains_inside(hull_array(vertices, count), count, hull_array(others, other_count), other_count);
+}
+
+hull_reply hull_polygon_relation(const hull_point *vertices, size_t count, const hull_point *others, size_t other_count) {
+    const uint32_t fault = fault_of_both(vertices, count, others, other_count);
+    if (fault != HULL_OK) {
+        return hull_refusal(fault);
+    }
+    return hull_proved_polygon_relation(hull_array(vertices, count), count, hull_array(others, other_count), other_count);
+}
+
+hull_reply hull_polygon_within_distance(const hull_point *vertices, size_t count, const hull_point *others, size_t other_count,
+                                        uint64_t numerator, uint32_t denominator) {
+    const uint32_t fault = fault_of_both(vertices, count, others, other_count);
+    if (fault != HULL_OK) {
+        return hull_refusal(fault);
+    }
+    return hull_proved_polygon_within_distance(hull_array(vertices, count), count, hull_array(others, other_count), other_count, numerator,
+                                               denominator);
+}
+
+hull_witness hull_polygon_witness(const hull_point *vertices, size_t count, const hull_point *others, size_t other_count) {
+    const uint32_t fault = fault_of_both(vertices, count, others, other_count);
+    if (fault != HULL_OK) {
+        return witness_refusal(fault);
+    }
+    return hull_proved_polygon_witness(hull_array(vertices, count), count, hull_array(others, other_count), other_count);
+}
+
+hull_witness hull_polygon_distance(const hull_point *vertices, size_t count, const hull_point *others, size_t other_count) {
+    const uint32_t fault = fault_of_both(vertices, count, others, other_count);
+    if (fault != HULL_OK) {
+        return witness_refusal(fault);
+    }
+    return hull_proved_polygon_distance(hull_array(vertices, count), count, hull_array(others, other_count), other_count);
+}
+
+hull_distance_bounds hull_polygon_distance_bounds(const hull_point *vertices, size_t count, const hull_point *others, size_t other_count) {
+    const uint32_t fault = fault_of_both(vertices, count, others, other_count);
+    if (fault != HULL_OK) {
+        return distance_bounds_refusal(fault);
+    }
+    return hull_proved_polygon_distance_bounds(hull_array(vertices, count), count, hull_array(others, other_count), other_count);
+}
+
+hull_distance_bounds hull_polygon_distance_bounds_to_segment(const hull_point *vertices, size_t count, int64_t ax, int64_t ay, int64_t bx,
+                                                             int64_t by) {
+    const uint32_t fault = fault_of(vertices, count);
+    if (fault != HULL_OK) {
+        return distance_bounds_refusal(fault);
+    }
+    return hull_proved_polygon_distance_bounds_to_segment(hull_array(vertices, count), count, ax, ay, bx, by);
+}
+
+hull_reply hull_polygon_within_distance_of_segment(const hull_point *vertices, size_t count, int64_t ax, int64_t ay, int64_t bx, int64_t by,
+                                                   uint64_t numerator, uint32_t denominator) {
+    const uint32_t fault = fault_of(vertices, count);
+    if (fault != HULL_OK) {
+        return hull_refusal(fault);
+    }
+    return hull_proved_polygon_within_distance_of_segment(hull_array(vertices, count), count, ax, ay, bx, by, numerator, denominator);
+}
+
+hull_reply hull_polygon_relation_to_segment(const hull_point *vertices, size_t count, int64_t ax, int64_t ay, int64_t bx, int64_t by) {
+    const uint32_t fault = fault_of(vertices, count);
+    if (fault != HULL_OK) {
+        return hull_refusal(fault);
+    }
+    return hull_proved_polygon_relation_to_segment(hull_array(vertices, count), count, ax, ay, bx, by);
+}
+
+hull_hit hull_polygon_raycast(const hull_point *vertices, size_t count, int64_t x, int64_t y, int64_t dx, int64_t dy) {
+    const uint32_t fault = fault_of(vertices, count);
+    if (fault != HULL_OK) {
+        return hit_refusal(fault);
+    }
+    return hull_proved_polygon_raycast(hull_array(vertices, count), count, x, y, dx, dy);
+}
+
+hull_hit hull_polygon_raycast_exit(const hull_point *vertices, size_t count, int64_t x, int64_t y, int64_t dx, int64_t dy) {
+    const uint32_t fault = fault_of(vertices, count);
+    if (fault != HULL_OK) {
+        return hit_refusal(fault);
+    }
+    return hull_proved_polygon_raycast_exit(hull_array(vertices, count), count, x, y, dx, dy);
+}
+
+hull_hit hull_polygon_raycast_segment(const hull_point *vertices, size_t count, int64_t ax, int64_t ay, int64_t bx, int64_t by) {
+    const uint32_t fault = fault_of(vertices, count);
+    if (fault != HULL_OK) {
+        return hit_refusal(fault);
+    }
+    return hull_proved_polygon_raycast_segment(hull_array(vertices, count), count, ax, ay, bx, by);
+}
+/* end of what tools/table.py writes */
 
 size_t hull_polygon_calls(const hull_point *vertices, size_t count, const hull_request *requests, size_t request_count,
                           hull_reply *replies, size_t reply_capacity) {
@@ -149,155 +327,24 @@ size_t hull_polygon_calls(const hull_point *vertices, size_t count, const hull_r
         }
         return made;
     }
-    return hull_proved_polygon_calls(vertices_at(vertices, count), count,
-                              array(requests, request_count), request_count,
-                              array(replies, reply_capacity), reply_capacity);
-}
-
-hull_reply hull_polygon_intersects_segment(const hull_point *vertices, size_t count, int64_t ax, int64_t ay, int64_t bx,
-                                           int64_t by) {
-    const uint32_t fault = fault_of(vertices, count);
-    return fault != HULL_OK ? hull_refusal(fault) : hull_proved_polygon_intersects_segment(vertices_at(vertices, count), count, ax, ay, bx, by);
-}
-
-hull_reply hull_polygon_separation(const hull_point *vertices, size_t count, int64_t ax, int64_t ay, int64_t bx, int64_t by) {
-    const uint32_t fault = fault_of(vertices, count);
-    return fault != HULL_OK ? hull_refusal(fault) : hull_proved_polygon_separation(vertices_at(vertices, count), count, ax, ay, bx, by);
-}
-
-hull_reply hull_polygon_nearest(const hull_point *vertices, size_t count, int64_t x, int64_t y) {
-    const uint32_t fault = fault_of(vertices, count);
-    return fault != HULL_OK ? hull_refusal(fault) : hull_proved_polygon_nearest(vertices_at(vertices, count), count, x, y);
-}
-
-hull_reply hull_polygon_box(const hull_point *vertices, size_t count) {
-    const uint32_t fault = fault_of(vertices, count);
-    return fault != HULL_OK ? hull_refusal(fault) : hull_proved_polygon_box(vertices_at(vertices, count), count);
-}
-
-hull_reply hull_polygon_width(const hull_point *vertices, size_t count, int64_t dx, int64_t dy) {
-    const uint32_t fault = fault_of(vertices, count);
-    return fault != HULL_OK ? hull_refusal(fault) : hull_proved_polygon_width(vertices_at(vertices, count), count, dx, dy);
-}
-
-hull_reply hull_polygon_diameter(const hull_point *vertices, size_t count) {
-    const uint32_t fault = fault_of(vertices, count);
-    return fault != HULL_OK ? hull_refusal(fault) : hull_proved_polygon_diameter(vertices_at(vertices, count), count);
-}
-
-hull_witness hull_polygon_least_width(const hull_point *vertices, size_t count) {
-    const uint32_t fault = fault_of(vertices, count);
-    return fault != HULL_OK ? witness_refusal(fault) : hull_proved_polygon_least_width(vertices_at(vertices, count), count);
-}
-
-hull_reply hull_polygon_intersects(const hull_point *vertices, size_t count, const hull_point *others, size_t other_count) {
-    const uint32_t fault = fault_of_both(vertices, count, others, other_count);
-    return fault != HULL_OK ? hull_refusal(fault)
-                            : hull_proved_polygon_intersects(vertices_at(vertices, count), count, vertices_at(others, other_count), other_count);
-}
-
-hull_reply hull_polygon_contains(const hull_point *vertices, size_t count, const hull_point *others, size_t other_count) {
-    const uint32_t fault = fault_of_both(vertices, count, others, other_count);
-    return fault != HULL_OK ? hull_refusal(fault)
-                            : hull_proved_polygon_contains(vertices_at(vertices, count), count, vertices_at(others, other_count), other_count);
-}
-
-hull_reply hull_polygon_relation(const hull_point *vertices, size_t count, const hull_point *others, size_t other_count) {
-    const uint32_t fault = fault_of_both(vertices, count, others, other_count);
-    return fault != HULL_OK ? hull_refusal(fault)
-                            : hull_proved_polygon_relation(vertices_at(vertices, count), count, vertices_at(others, other_count), other_count);
-}
-
-hull_reply hull_polygon_contains_inside(const hull_point *vertices, size_t count, const hull_point *others, size_t other_count) {
-    const uint32_t fault = fault_of_both(vertices, count, others, other_count);
-    return fault != HULL_OK ? hull_refusal(fault)
-                            : hull_proved_polygon_contains_inside(vertices_at(vertices, count), count, vertices_at(others, other_count), other_count);
-}
-
-hull_reply hull_polygon_within_distance(const hull_point *vertices, size_t count, const hull_point *others, size_t other_count,
-                                        uint64_t numerator, uint32_t denominator) {
-    const uint32_t fault = fault_of_both(vertices, count, others, other_count);
-    return fault != HULL_OK ? hull_refusal(fault)
-                            : hull_proved_polygon_within_distance(vertices_at(vertices, count), count, vertices_at(others, other_count),
-                                                                  other_count, numerator, denominator);
-}
-
-hull_witness hull_polygon_witness(const hull_point *vertices, size_t count, const hull_point *others, size_t other_count) {
-    const uint32_t fault = fault_of_both(vertices, count, others, other_count);
-    return fault != HULL_OK ? witness_refusal(fault)
-                            : hull_proved_polygon_witness(vertices_at(vertices, count), count, vertices_at(others, other_count), other_count);
-}
-
-hull_witness hull_polygon_distance(const hull_point *vertices, size_t count, const hull_point *others, size_t other_count) {
-    const uint32_t fault = fault_of_both(vertices, count, others, other_count);
-    return fault != HULL_OK ? witness_refusal(fault)
-                            : hull_proved_polygon_distance(vertices_at(vertices, count), count, vertices_at(others, other_count), other_count);
-}
-
-hull_distance_bounds hull_polygon_distance_bounds(const hull_point *vertices, size_t count, const hull_point *others,
-                                                  size_t other_count) {
-    const uint32_t fault = fault_of_both(vertices, count, others, other_count);
-    return fault != HULL_OK ? bounds_refusal(fault)
-                            : hull_proved_polygon_distance_bounds(vertices_at(vertices, count), count, vertices_at(others, other_count), other_count);
-}
-
-hull_distance_bounds hull_polygon_distance_bounds_to_segment(const hull_point *vertices, size_t count, int64_t ax, int64_t ay,
-                                                             int64_t bx, int64_t by) {
-    const uint32_t fault = fault_of(vertices, count);
-    return fault != HULL_OK ? bounds_refusal(fault)
-                            : hull_proved_polygon_distance_bounds_to_segment(vertices_at(vertices, count), count, ax, ay, bx, by);
-}
-
-hull_reply hull_polygon_within_distance_of_segment(const hull_point *vertices, size_t count, int64_t ax, int64_t ay, int64_t bx,
-                                                   int64_t by, uint64_t numerator, uint32_t denominator) {
-    const uint32_t fault = fault_of(vertices, count);
-    return fault != HULL_OK ? hull_refusal(fault)
-                            : hull_proved_polygon_within_distance_of_segment(vertices_at(vertices, count), count, ax, ay, bx, by, numerator,
-                                                                             denominator);
-}
-
-hull_reply hull_polygon_relation_to_segment(const hull_point *vertices, size_t count, int64_t ax, int64_t ay, int64_t bx,
-                                            int64_t by) {
-    const uint32_t fault = fault_of(vertices, count);
-    return fault != HULL_OK ? hull_refusal(fault) : hull_proved_polygon_relation_to_segment(vertices_at(vertices, count), count, ax, ay, bx, by);
-}
-
-hull_hit hull_polygon_raycast(const hull_point *vertices, size_t count, int64_t x, int64_t y, int64_t dx, int64_t dy) {
-    const uint32_t fault = fault_of(vertices, count);
-    return fault != HULL_OK ? hit_refusal(fault) : hull_proved_polygon_raycast(vertices_at(vertices, count), count, x, y, dx, dy);
-}
-
-hull_hit hull_polygon_raycast_exit(const hull_point *vertices, size_t count, int64_t x, int64_t y, int64_t dx, int64_t dy) {
-    const uint32_t fault = fault_of(vertices, count);
-    return fault != HULL_OK ? hit_refusal(fault) : hull_proved_polygon_raycast_exit(vertices_at(vertices, count), count, x, y, dx, dy);
-}
-
-hull_hit hull_polygon_raycast_segment(const hull_point *vertices, size_t count, int64_t ax, int64_t ay, int64_t bx, int64_t by) {
-    const uint32_t fault = fault_of(vertices, count);
-    return fault != HULL_OK ? hit_refusal(fault) : hull_proved_polygon_raycast_segment(vertices_at(vertices, count), count, ax, ay, bx, by);
-}
-
-hull_reply hull_is_polygon(const hull_point *points, size_t count) {
-    return hull_proved_is_polygon(vertices_at(points, count), count);
-}
-
-hull_reply hull_polygon_of(const hull_point *points, size_t count, hull_point *out, size_t capacity) {
-    return hull_proved_polygon_of(vertices_at(points, count), count, array(out, capacity), capacity);
+    return hull_proved_polygon_calls(hull_array(vertices, count), count,
+                              hull_array(requests, request_count), request_count,
+                              hull_array(replies, reply_capacity), reply_capacity);
 }
 
 hull_reply hull_polygon_translate(const hull_point *vertices, size_t count, int64_t dx, int64_t dy, hull_point *out) {
-    return out == vertices ? hull_proved_polygon_translate_in_place(array(out, count), count, dx, dy)
-                           : hull_proved_polygon_translate(vertices_at(vertices, count), count, dx, dy, array(out, count), count);
+    return out == vertices ? hull_proved_polygon_translate_in_place(hull_array(out, count), count, dx, dy)
+                           : hull_proved_polygon_translate(hull_array(vertices, count), count, dx, dy, hull_array(out, count), count);
 }
 
 hull_reply hull_polygon_rotate(const hull_point *vertices, size_t count, int64_t a, int64_t b, hull_point *out) {
-    return hull_proved_polygon_rotate(vertices_at(vertices, count), count, a, b, array(out, count), count);
+    return hull_proved_polygon_rotate(hull_array(vertices, count), count, a, b, hull_array(out, count), count);
 }
 
 size_t hull_polygon_intersects_segments(const hull_point *vertices, size_t count, const hull_segment *segments, size_t segment_count,
                                         uint8_t *out) {
-    return hull_proved_polygon_intersects_segments(vertices_at(vertices, count), count, (const hull_segment *)array(segments, segment_count),
-                                                   segment_count, (uint8_t *)array(out, segment_count), segment_count);
+    return hull_proved_polygon_intersects_segments(hull_array(vertices, count), count, hull_array(segments, segment_count),
+                                                   segment_count, hull_array(out, segment_count), segment_count);
 }
 
 /* (a list of polygons is passed in parts, so that an array of a polygon without vertices may be null) */
@@ -306,8 +353,37 @@ void hull_polygon_relations(const hull_point *vertices, size_t count, const hull
     size_t made;
     for (size_t at = 0; at < other_count; at += made) {
         for (made = 0; made < 64 && made < other_count - at; made++) {
-            part[made] = (hull_polygon){vertices_at(others[at + made].vertices, others[at + made].count), others[at + made].count};
+            part[made] = (hull_polygon){hull_array(others[at + made].vertices, others[at + made].count), others[at + made].count};
         }
-        hull_proved_polygon_relations(vertices_at(vertices, count), count, part, made, out + at, made);
+        hull_proved_polygon_relations(hull_array(vertices, count), count, part, made, out + at, made);
     }
+}
+
+size_t hull_polygon_indices(const hull_point *vertices, size_t count, const hull_point *points, size_t point_count, size_t *out) {
+    return hull_proved_polygon_indices(hull_array(vertices, count), count, hull_array(points, point_count), point_count,
+                                       hull_array(out, count), count);
+}
+
+/* (if an array of a polygon without vertices is null, the list is copied) */
+hull_reply hull_pairs_within_distance(const hull_polygon *polygons, size_t count, uint64_t numerator, uint32_t denominator,
+                                      hull_pair *out, size_t capacity) {
+    hull_polygon *copy = NULL;
+    hull_reply reply;
+    size_t first = 0, i;
+    while (first < count && polygons[first].vertices != NULL) {
+        first++;
+    }
+    if (first < count) {
+        copy = (hull_polygon *)malloc(count * sizeof *copy);
+        if (copy == NULL) {
+            return hull_refusal(HULL_NO_MEMORY);
+        }
+        for (i = 0; i < count; i++) {
+            copy[i] = (hull_polygon){hull_array(polygons[i].vertices, polygons[i].count), polygons[i].count};
+        }
+    }
+    reply = hull_proved_pairs_within_distance(hull_array(copy != NULL ? copy : polygons, count), count, numerator,
+                                              denominator, hull_array(out, capacity), capacity);
+    free(copy);
+    return reply;
 }

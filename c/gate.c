@@ -1,8 +1,8 @@
 /* The admission gate of a shared hull (include/hull_shared.h, "waiting"): it bounds how many calls compete for the hull's ticket
  * lock, and callers sleep in front of it, or at the slot of their number, or until the journal has space. It is in the archive of
  * the proved calls, which neither sleep nor wake; their contracts hold however their callers wait. That no caller sleeps for ever,
- * and that none is overtaken for long, rests on the argument below, which tests/shared/gate_model.c and
- * tests/shared/combining_model.c try step by step and tests/shared tests.
+ * and that none is overtaken for long, rests on the argument below; tests/shared/gate_orders.c tries this file in every order of its
+ * steps by a few threads.
  *
  * The state of the gate is one word (`state`), so that its changes have one order: how many calls are inside, how many callers are
  * parked (sleep outside), whether one of them is designated to enter next (DESIGNATED), and whether the gate is closed to all but
@@ -36,7 +36,7 @@
  *    announcement: the thread that hands it on finds the announcement and marks it, or finds the post. Claiming and marking are
  *    changes of one word, so that a post is claimed once. A seat takes its next number only after its word was changed, so that one
  *    seat is never posted twice, and the slot is used again only 64 numbers later: after this number was handed on, and so after its
- *    claim. (tests/shared/combining_model.c tries this step by step.)
+ *    claim.
  * 6. A call that found no space in the journal, if the gate waits for space, sleeps outside the gate and with no number, on a word
  *    that each drain changes after its look. It read that word before it took its number: a drain after its call changes the word
  *    after that reading. The thread that drained for the hook changes the word once more when the hook has ended, since another
@@ -62,12 +62,20 @@ enum {
     DESIGNATED = 256,      /* a caller that was parked is awake and designated to enter next */
     CLOSED = 512,          /* only the designated caller may enter */
     PARKED = 1024,         /* the unit in which the parked callers are counted: those that sleep outside */
-    LOOKS = 20,            /* so often a caller looks outside before it sleeps */
-    DESIGNATED_LOOKS = 200, /* the same of the designated caller, which a leaving call has to wake again if it sleeps */
-    POSTED_LOOKS = 9,      /* so often a caller that is posted looks at its word, */
-    POSTED_YIELDS = 3,     /* and so often after it gave its processor to another thread, before it sleeps */
     SERVES_MOST = 64       /* so many calls of others a thread serves after its own */
 };
+
+/* How often a thread looks before it sleeps; tests that try every order of steps define less. */
+#ifndef HULL_SHARED_LOOKS
+enum {
+    LOOKS = 20,             /* a caller outside */
+    DESIGNATED_LOOKS = 200, /* the designated caller, which a leaving call has to wake again if it sleeps */
+    POSTED_LOOKS = 9,       /* a caller that is posted, at its word, */
+    POSTED_YIELDS = 3       /* and again so often after it gave its processor to another thread */
+};
+#else
+enum { LOOKS = HULL_SHARED_LOOKS, DESIGNATED_LOOKS = HULL_SHARED_LOOKS, POSTED_LOOKS = HULL_SHARED_LOOKS, POSTED_YIELDS = 0 };
+#endif
 
 /* How many calls of others a thread serves after its own, and for how long, in nanoseconds; tests define less. */
 #ifndef HULL_SHARED_SERVES
@@ -946,6 +954,25 @@ hull_shared_reply hull_shared_vertices(hull_shared_gate *opaque, hull_shared_sea
     hull_point none = {0, 0};
     hull_shared_target to = {capacity == 0 ? &none : out, capacity, NULL};
     return hull_shared_call_into(opaque, seat, HULL_KIND_VERTICES, 0, 0, to, HULL_NEVER);
+}
+
+/* ---- calls that need only a seat */
+
+hull_shared_reply hull_seat_call_into(hull_shared_seat *seat, uint32_t kind, int64_t x, int64_t y, hull_shared_target to, uint64_t until) {
+    if (seat == NULL) {
+        return refusal(HULL_VACANT);
+    }
+    return hull_shared_call_into((hull_shared_gate *)binding_of(seat)->gate, seat, kind, x, y, to, until);
+}
+
+hull_shared_reply hull_seat_call_until(hull_shared_seat *seat, uint32_t kind, int64_t x, int64_t y, uint64_t until) {
+    return hull_seat_call_into(seat, kind, x, y, no_target, until);
+}
+
+hull_shared_reply hull_seat_vertices(hull_shared_seat *seat, hull_point *out, size_t capacity) {
+    hull_point none = {0, 0};
+    hull_shared_target to = {capacity == 0 ? &none : out, capacity, NULL};
+    return hull_seat_call_into(seat, HULL_KIND_VERTICES, 0, 0, to, HULL_SHARED_NEVER);
 }
 
 /* ---- the state */

@@ -3,15 +3,16 @@
  * tools/product.sh gives them. */
 #include "hull_shared.h"
 
+/* written by tools/table.py: proved functions */
 hull_reply hull_proved_shared_reopen(hull_shared *shared, const uint8_t *text, size_t length, uint32_t capacity, uint32_t seats);
-hull_reply hull_proved_shared_reopen_answering(hull_shared *shared, const uint8_t *text, size_t length, uint32_t capacity,
-                                               uint32_t seats);
+hull_reply hull_proved_shared_reopen_answering(hull_shared *shared, const uint8_t *text, size_t length, uint32_t capacity, uint32_t seats);
 hull_shared_reply hull_proved_shared_look_into(hull_shared_seat *seat, hull_point *out, size_t capacity);
 hull_reply hull_proved_shared_segment_text(const hull_shared_segment *segment, uint8_t *out, size_t length);
 hull_reply hull_proved_shared_segment_text_from(const hull_shared_segment *segment, uint64_t line, uint8_t *out, size_t length);
 hull_reply hull_proved_shared_text(const hull_shared *shared, uint8_t *out, size_t length);
 hull_reply hull_proved_shared_text_from(const hull_shared *shared, uint64_t line, uint8_t *out, size_t length);
 hull_reply hull_proved_shared_snapshot_vertices(hull_shared_reader *reader, hull_point *out, size_t capacity);
+/* end of what tools/table.py writes */
 
 static void clear(uint8_t *text, size_t length) {
     if (length > 0) {
@@ -23,12 +24,12 @@ const char *hull_shared_library_version(void) {
     return HULL_VERSION;
 }
 
+/* written by tools/table.py: functions */
 hull_reply hull_shared_reopen(hull_shared *shared, const uint8_t *text, size_t length, uint32_t capacity, uint32_t seats) {
     return hull_proved_shared_reopen(shared, hull_array(text, length), length, capacity, seats);
 }
 
-hull_reply hull_shared_reopen_answering(hull_shared *shared, const uint8_t *text, size_t length, uint32_t capacity,
-                                        uint32_t seats) {
+hull_reply hull_shared_reopen_answering(hull_shared *shared, const uint8_t *text, size_t length, uint32_t capacity, uint32_t seats) {
     return hull_proved_shared_reopen_answering(shared, hull_array(text, length), length, capacity, seats);
 }
 
@@ -59,3 +60,4 @@ hull_reply hull_shared_text_from(const hull_shared *shared, uint64_t line, uint8
 hull_reply hull_shared_snapshot_vertices(hull_shared_reader *reader, hull_point *out, size_t capacity) {
     return hull_proved_shared_snapshot_vertices(reader, hull_array(out, capacity), capacity);
 }
+/* end of what tools/table.py writes */

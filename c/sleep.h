@@ -22,6 +22,11 @@
 
 #define HULL_NEVER UINT64_MAX
 
+/* A test that schedules threads itself names a header of its own for the clock, sleeping, waking and pausing. */
+#if defined(HULL_SHARED_SCHEDULER)
+#include HULL_SHARED_SCHEDULER
+#else
+
 static inline uint64_t hull_clock(clockid_t clock) {
     struct timespec t;
     clock_gettime(clock, &t);
@@ -139,12 +144,21 @@ static inline void hull_pause(unsigned looks) {
     }
 }
 
+#endif
+
+/* How often a thread looks at a lock before it sleeps; tests that try every order of steps define less. */
+#ifndef HULL_SHARED_LOOKS
+enum { LOCK_LOOKS = 20 };
+#else
+enum { LOCK_LOOKS = HULL_SHARED_LOOKS };
+#endif
+
 /* Acquires a lock for a few instructions. It is 0 if it is free, 1 if a thread has it, 2 if others may sleep too (Drepper, 2004, the
  * second of his mutexes). */
 static inline void hull_lock(uint32_t *lock) {
     uint32_t free = 0;
     unsigned looks;
-    for (looks = 0; looks < 20; looks++) {
+    for (looks = 0; looks < LOCK_LOOKS; looks++) {
         free = 0;
         if (__atomic_compare_exchange_n(lock, &free, 1, 0, __ATOMIC_SEQ_CST, __ATOMIC_RELAXED)) {
             return;
