@@ -96,41 +96,9 @@ static void polygons() {
     CHECK(hull::Polygon().place({0, 0}) == Place::outside && hull::Polygon() == hull::Polygon(std::vector<Point>()) && polygon != hull::Polygon());
 }
 
-static void encounters() {
-    const hull::Polygon polygon(square), none;
-    CHECK(polygon.intersects_segment({-5, 5}, {5, 15}) && !polygon.intersects_segment({-5, 6}, {5, 16}));
-    CHECK(polygon.intersects_segment({10, 10}, {11, 11}));
-    CHECK(!polygon.separation_from_segment({-5, 5}, {5, 15}));
-    const auto found = polygon.separation_from_segment({-5, 6}, {5, 16});
-    CHECK(found && found->farthest == (Point{0, 10}) && found->direction == (Point{-10, 10}));
-    const auto vertex = polygon.nearest({12, -3}), edge = polygon.nearest({3, -3}), inside = polygon.nearest({3, 10});
-    CHECK(vertex && vertex->where == hull::Nearest::Where::vertex && vertex->from == (Point{10, 0}) && vertex->to == vertex->from);
-    CHECK(edge && edge->where == hull::Nearest::Where::edge && edge->from == (Point{0, 0}) && edge->to == (Point{10, 0}));
-    CHECK(inside && inside->where == hull::Nearest::Where::covered && inside->from == (Point{3, 10}));
-    const auto box = polygon.bounding_box();
-    CHECK(box && box->least == (Point{0, 0}) && box->greatest == (Point{10, 10}));
-    CHECK(!none.intersects_segment({0, 0}, {1, 1}) && !none.separation_from_segment({0, 0}, {1, 1}) && !none.nearest({0, 0}) && !none.bounding_box());
-    CHECK(refuses(Refusal::out_of_range, [&] { polygon.intersects_segment({0, 0}, {0, far + 1}); }));
-    CHECK(refuses(Refusal::out_of_range, [&] { polygon.separation_from_segment({far + 1, 0}, {0, 0}); }));
-    CHECK(refuses(Refusal::out_of_range, [&] { polygon.nearest({far + 1, 0}); }));
-}
-
 static void two_polygons() {
-    using Shows = hull::Witness::Shows;
-    const hull::Polygon polygon(square), none, small({{2, 2}, {4, 2}, {3, 4}}), beside({{12, 0}, {15, 3}, {12, 6}}), across({{-5, 5}, {15, 6}});
-    CHECK(polygon.intersects(small) && polygon.contains(small) && !small.contains(polygon) && !polygon.intersects(beside));
-    const auto covered = polygon.witness(small), within = small.witness(polygon), disjoint = polygon.witness(beside), crossing = polygon.witness(across);
-    CHECK(covered && covered->shows == Shows::within ? small.contains(hull::Polygon({covered->a})) : covered->a.x >= 2);
-    CHECK(within && within->shows == Shows::within && polygon.contains(hull::Polygon({within->a})));
-    CHECK(disjoint && disjoint->shows == Shows::disjoint && disjoint->a == (Point{10, 10}) && disjoint->b == (Point{10, 0}));
-    CHECK(crossing && crossing->shows == Shows::crossing && crossing->c == (Point{-5, 5}) && crossing->d == (Point{15, 6}));
-    const hull::Polygon flush({{10, 3}, {14, 3}, {14, 5}});
     using hull::Relation;
-    CHECK(polygon.relation(small) == Relation::covers && small.relation(polygon) == Relation::within && polygon.relation(polygon) == Relation::equal);
-    CHECK(polygon.relation(beside) == Relation::disjoint && polygon.relation(flush) == Relation::touching);
-    CHECK(polygon.relation(across) == Relation::overlapping);
-    CHECK(polygon.contains_inside(small) && !polygon.contains_inside(polygon) && !polygon.contains_inside(flush));
-    CHECK(polygon.within_distance(beside, 2) && !polygon.within_distance(beside, 1999, 1000) && !polygon.within_distance(none, 1, 0));
+    const hull::Polygon polygon(square), none, small({{2, 2}, {4, 2}, {3, 4}}), beside({{12, 0}, {15, 3}, {12, 6}}), across({{-5, 5}, {15, 6}});
     CHECK(polygon.relations({small, beside, none, polygon}) ==
           (std::vector<Relation>{Relation::covers, Relation::disjoint, Relation::covers, Relation::equal}));
     using Pairs = std::vector<std::pair<std::size_t, std::size_t>>;
@@ -141,11 +109,6 @@ static void two_polygons() {
     CHECK(polygon.intersects_segments({{{-1, 1}, {20, 1}}, {{11, 0}, {11, 9}}}) == (std::vector<bool>{true, false}));
     CHECK(polygon.intersects_segments({}).empty());
     CHECK(refuses(Refusal::out_of_range, [&] { polygon.intersects_segments({{{0, 0}, {far + 1, 0}}}); }));
-    const hull::Motion slides = polygon.first_meeting(beside, {-8, 4}), falls = polygon.first_meeting(beside, {0, 9});
-    const hull::Motion stays = polygon.first_meeting(small, {1, 1});
-    CHECK(slides.hit && slides.moves && slides.vertex == Point(12, 0) && slides.hit->part * 4 == slides.hit->whole && slides.hit->from == Point(10, 0));
-    CHECK(!falls.hit && stays.hit && stays.hit->where == hull::Hit::Where::start && !polygon.first_meeting(none, {1, 1}).hit);
-    CHECK(refuses(Refusal::out_of_range, [&] { polygon.first_meeting(beside, {far + 1, 0}); }));
     CHECK(beside.translate({-8, 4}).vertices() == (std::vector<Point>{{4, 4}, {7, 7}, {4, 10}}));
     CHECK(refuses(Refusal::out_of_range, [&] { beside.translate({far, 0}); }));
     CHECK(small.rotate({0, 1}).vertices() == (std::vector<Point>{{-4, 3}, {-2, 2}, {-2, 4}}));
@@ -162,38 +125,6 @@ static void two_polygons() {
     CHECK(*gap < *to_vertex && *gap != *to_vertex && *gap == *polygon.distance_bounds_to_point({12, 5}) && *gap >= *gap);
     CHECK(to_vertex->words().low == 25 && polygon.distance_bounds(small)->up() == 0);
     CHECK(!none.distance_bounds(polygon) && !none.distance_bounds_to_point({0, 0}));
-    CHECK(polygon.within_distance_of_segment({13, 14}, {13, 20}, 5));
-    CHECK(!polygon.within_distance_of_point({13, 14}, 4999, 1000) && polygon.within_distance_of_point({13, 14}, 5));
-    CHECK(polygon.relation_to_segment({10, 3}, {10, 12}) == Relation::touching && polygon.relation_to_segment({2, 2}, {9, 9}) == Relation::covers);
-    CHECK(refuses(Refusal::out_of_range, [&] { polygon.distance_bounds_to_point({far + 1, 0}); }));
-    CHECK(refuses(Refusal::out_of_range, [&] { polygon.relation_to_segment({0, 0}, {0, far + 1}); }));
-    CHECK(refuses(Refusal::out_of_range, [&] { polygon.within_distance_of_point({0, -far - 1}, 1); }));
-    using Met = hull::Hit::Where;
-    const auto ray = polygon.raycast({-2, 1}, {3, 1}), way = polygon.raycast_segment({14, 3}, {-6, 3});
-    CHECK(ray && ray->where == Met::edge && ray->from == (Point{0, 10}) && ray->to == (Point{0, 0}) && ray->part * 3 == ray->whole * 2);
-    CHECK(way && way->where == Met::edge && way->from == (Point{10, 0}) && way->part * 5 == way->whole);
-    CHECK(polygon.raycast({3, 3}, {1, 0})->where == Met::start && across.raycast({35, 7}, {-20, -1})->where == Met::vertex);
-    const auto out = polygon.raycast_exit({-2, 1}, {3, 1});
-    CHECK(out && out->where == Met::edge && out->from == (Point{10, 0}) && out->part == 4 * out->whole && !polygon.raycast_exit({-2, 1}, {-3, 1}));
-    CHECK(!polygon.raycast({-2, 1}, {-3, 1}) && !polygon.raycast_segment({14, 3}, {11, 3}) && !none.raycast({0, 0}, {1, 0}));
-    CHECK(refuses(Refusal::zero_direction, [&] { polygon.raycast({0, 0}, {0, 0}); }));
-    CHECK(refuses(Refusal::out_of_range, [&] { polygon.raycast_segment({0, 0}, {0, far + 1}); }));
-    CHECK(!none.witness(polygon) && !polygon.witness(none) && !none.intersects(polygon) && polygon.contains(none));
-    using Where = hull::Distance::Where;
-    const hull::Polygon aside({{13, 5}});
-    const auto zero = polygon.distance(small), vertices = polygon.distance(beside), edge = polygon.distance(aside), vertex = aside.distance(polygon);
-    CHECK(zero && zero->where == Where::zero && !polygon.distance(none) && !none.distance(polygon));
-    CHECK(vertices && vertices->where == Where::vertices && vertices->a == (Point{10, 0}) && vertices->b == (Point{12, 0}));
-    CHECK(edge && edge->where == Where::edge_and_vertex && edge->a == (Point{10, 0}) && edge->b == (Point{10, 10}) && edge->c == (Point{13, 5}));
-    CHECK(vertex && vertex->where == Where::vertex_and_edge && vertex->a == (Point{13, 5}) && vertex->b == edge->a && vertex->c == edge->b);
-    const auto strip = beside.least_width();
-    CHECK(strip && strip->from == (Point{12, 6}) && strip->to == (Point{12, 0}) && strip->farthest == (Point{15, 3}));
-    CHECK(!none.least_width() && !hull::Polygon({{3, 4}}).least_width());
-    const auto ends = polygon.diameter();
-    CHECK(ends && (ends->first.x - ends->second.x) * (ends->first.y - ends->second.y) != 0 && !none.diameter());
-    CHECK(polygon.width_along({3, 4}) == hull::Area(70) && !none.width_along({1, 0}));
-    CHECK(refuses(Refusal::zero_direction, [&] { polygon.width_along({0, 0}); }));
-    CHECK(refuses(Refusal::out_of_range, [&] { polygon.width_along({far + 1, 0}); }));
     bool rounded = false;
     CHECK(hull::direction_of(1, -0.5, &rounded) == (Point{1LL << 39, -(1LL << 38)}) && !rounded);
     CHECK(hull::direction_of(1, 0x1p-40, &rounded) == (Point{1LL << 39, 0}) && rounded);
@@ -727,7 +658,6 @@ int main(int words, char **word) {
     refusals();
     lattice(words > 1 ? word[1] : "lattice.txt");
     polygons();
-    encounters();
     two_polygons();
     exchange();
     shared();

@@ -1,6 +1,5 @@
-//! Each function of `rust/hull`, each of its answers and each of its faults.
-use hull::{direction_of, pairs_within_distance, wkt, Distance, Entry, Fault, Held, Hit, Hull, Lattice, Nearest, Place, Point, Polygon, Relation};
-use hull::{Separation, Strip, Witness};
+//! Functions of `rust/hull`, answers and faults; `answers/ask.py` asks the questions of polygons.
+use hull::{direction_of, pairs_within_distance, wkt, Fault, Held, Hull, Lattice, Place, Point, Polygon, Relation};
 use hull::{Limits, SharedHull, COORDINATE_LIMIT, MULTIPLICITY_LIMIT, POINT_LIMIT};
 use std::alloc::{GlobalAlloc, Layout, System};
 use std::cell::Cell;
@@ -118,28 +117,6 @@ fn polygons() {
 }
 
 #[test]
-fn intersections() {
-    let polygon = Polygon::new(&[point(0, 0), point(10, 0), point(10, 10), point(0, 10)]).unwrap();
-    assert_eq!(polygon.intersects_segment(point(-5, 5), point(5, 15)), Ok(true));
-    assert_eq!(polygon.intersects_segment(point(-5, 6), point(5, 16)), Ok(false));
-    assert_eq!(polygon.separation_from_segment(point(-5, 5), point(5, 15)), Ok(None));
-    let separation = Separation { farthest: point(0, 10), direction: point(-10, 10) };
-    assert_eq!(polygon.separation_from_segment(point(-5, 6), point(5, 16)), Ok(Some(separation)));
-    assert_eq!(polygon.nearest(point(12, -3)), Ok(Some(Nearest::Vertex(point(10, 0)))));
-    assert_eq!(polygon.nearest(point(3, -3)), Ok(Some(Nearest::Edge(point(0, 0), point(10, 0)))));
-    assert_eq!(polygon.nearest(point(3, 10)), Ok(Some(Nearest::Covered)));
-    assert_eq!(polygon.bounding_box(), Some((point(0, 0), point(10, 10))));
-    let none = Polygon::new(&[]).unwrap();
-    assert_eq!(none.intersects_segment(point(0, 0), point(1, 1)), Ok(false));
-    assert_eq!(none.separation_from_segment(point(0, 0), point(1, 1)), Ok(None));
-    assert_eq!((none.nearest(point(0, 0)), none.bounding_box()), (Ok(None), None));
-    let far = point(0, COORDINATE_LIMIT + 1);
-    assert_eq!(polygon.intersects_segment(far, point(0, 0)), Err(Fault::OutOfRange));
-    assert_eq!(polygon.separation_from_segment(point(0, 0), far), Err(Fault::OutOfRange));
-    assert_eq!(polygon.nearest(far), Err(Fault::OutOfRange));
-}
-
-#[test]
 fn distance_bounds() {
     let polygon = Polygon::new(&[point(0, 0), point(10, 0), point(10, 10), point(0, 10)]).unwrap();
     let beside = Polygon::new(&[point(12, 0), point(15, 3), point(12, 6)]).unwrap();
@@ -153,34 +130,6 @@ fn distance_bounds() {
     let way = polygon.distance_bounds_to_segment(point(13, 14), point(16, 10)).unwrap().unwrap();
     assert!(way < to(point(13, 14)) && way.squared().0[2] * 25 == way.squared().1[1] * 576);
     assert!(none.distance_bounds(&polygon).is_none() && none.distance_bounds_to_point(point(0, 0)).unwrap().is_none());
-    assert_eq!(polygon.within_distance_of_segment(point(13, 14), point(13, 20), 5, 1), Ok(true));
-    assert_eq!(polygon.within_distance_of_point(point(13, 14), 4999, 1000), Ok(false));
-    assert_eq!(polygon.relation_to_segment(point(10, 12), point(10, 3)), Ok(Relation::Touching));
-    assert_eq!(polygon.relation_to_segment(point(9, 9), point(2, 2)), Ok(Relation::Covers));
-    let far = point(0, COORDINATE_LIMIT + 1);
-    assert_eq!(polygon.distance_bounds_to_point(far).err(), Some(Fault::OutOfRange));
-    assert_eq!(polygon.within_distance_of_point(far, 1, 1), Err(Fault::OutOfRange));
-    assert_eq!(polygon.relation_to_segment(point(0, 0), far), Err(Fault::OutOfRange));
-}
-
-#[test]
-fn raycasts() {
-    let polygon = Polygon::new(&[point(0, 0), point(10, 0), point(10, 10), point(0, 10)]).unwrap();
-    let line = Polygon::new(&[point(0, 0), point(4, 4)]).unwrap();
-    let none = Polygon::new(&[]).unwrap();
-    let ray = polygon.raycast(point(-2, 1), point(3, 1)).unwrap().unwrap();
-    assert_eq!((ray.place, ray.part * 3), (Entry::Edge(point(0, 10), point(0, 0)), ray.whole * 2));
-    let way = polygon.raycast_segment(point(14, 3), point(-6, 3)).unwrap().unwrap();
-    assert_eq!((way.place, way.part * 5), (Entry::Edge(point(10, 0), point(10, 10)), way.whole));
-    let out = polygon.raycast_exit(point(-2, 1), point(3, 1)).unwrap().unwrap();
-    assert_eq!((out.place, out.part), (Entry::Edge(point(10, 0), point(10, 10)), out.whole * 4));
-    assert_eq!(polygon.raycast_exit(point(-2, 1), point(-3, 1)), Ok(None));
-    assert_eq!(polygon.raycast(point(3, 3), point(1, 0)), Ok(Some(Hit { place: Entry::Start, part: 0, whole: 1 })));
-    assert_eq!(line.raycast(point(7, 7), point(-1, -1)).unwrap().unwrap().place, Entry::Vertex(point(4, 4)));
-    assert_eq!((polygon.raycast(point(-2, 1), point(-3, 1)), none.raycast(point(0, 0), point(1, 0))), (Ok(None), Ok(None)));
-    assert_eq!(polygon.raycast_segment(point(14, 3), point(11, 3)), Ok(None));
-    assert_eq!(polygon.raycast(point(0, 0), point(0, 0)), Err(Fault::ZeroDirection));
-    assert_eq!(polygon.raycast_segment(point(0, 0), point(0, COORDINATE_LIMIT + 1)), Err(Fault::OutOfRange));
 }
 
 #[test]
@@ -190,33 +139,12 @@ fn two_polygons() {
     let beside = Polygon::new(&[point(12, 0), point(15, 3), point(12, 6)]).unwrap();
     let across = Polygon::new(&[point(-5, 5), point(15, 6)]).unwrap();
     let none = Polygon::new(&[]).unwrap();
-    assert!(polygon.intersects(&small) && polygon.contains(&small) && !small.contains(&polygon) && !polygon.intersects(&beside));
-    assert!(matches!(polygon.witness(&small), Some(Witness::Covered(p)) if small.vertices().contains(&p)));
-    assert!(matches!(small.witness(&polygon), Some(Witness::Within(p)) if small.vertices().contains(&p)));
-    let separation = Separation { farthest: point(10, 10), direction: point(10, 0) };
-    assert_eq!(polygon.witness(&beside), Some(Witness::Disjoint(separation)));
-    assert!(matches!(polygon.witness(&across), Some(Witness::Crossing(_, [p, q])) if across.vertices() == [p, q]));
-    assert_eq!((polygon.witness(&none), none.witness(&polygon), none.diameter()), (None, None, None));
-    assert!(!none.intersects(&polygon) && polygon.contains(&none) && !none.contains(&polygon));
-    let flush = Polygon::new(&[point(10, 3), point(14, 3), point(14, 5)]).unwrap();
-    let relate = |other: &Polygon| (polygon.relation(other), other.relation(&polygon));
-    assert_eq!(relate(&small), (Relation::Covers, Relation::Within));
-    assert_eq!((relate(&beside), relate(&flush)), ((Relation::Disjoint, Relation::Disjoint), (Relation::Touching, Relation::Touching)));
-    assert_eq!((relate(&across), polygon.relation(&polygon)), ((Relation::Overlapping, Relation::Overlapping), Relation::Equal));
-    assert!(polygon.contains_inside(&small) && !polygon.contains_inside(&polygon) && !polygon.contains_inside(&flush));
-    assert!(polygon.within_distance(&beside, 2, 1) && !polygon.within_distance(&beside, 1999, 1000) && !polygon.within_distance(&none, 1, 0));
     let all = [beside.clone(), polygon.clone(), none.clone(), small.clone(), across.clone()];
     let wanted = [Relation::Disjoint, Relation::Equal, Relation::Covers, Relation::Covers, Relation::Overlapping];
     assert_eq!((polygon.relations(&all).unwrap(), polygon.relations(&[])), (wanted.to_vec(), Ok(vec![])));
     assert_eq!(pairs_within_distance(&all, 0, 1), Ok(vec![(0, 4), (1, 3), (1, 4)]));
     assert_eq!((pairs_within_distance(&all[..2], 2, 1), pairs_within_distance(&all[..2], 1999, 1000)), (Ok(vec![(0, 1)]), Ok(vec![])));
     assert_eq!(pairs_within_distance(&vec![small.clone(); 9], 0, 1).unwrap().len(), 36);
-    let slides = polygon.first_meeting(&beside, point(-8, 4)).unwrap().unwrap();
-    assert_eq!((slides.vertex, slides.moves, slides.hit.part * 4), (point(12, 0), true, slides.hit.whole));
-    assert_eq!(slides.hit.place, Entry::Edge(point(10, 0), point(10, 10)));
-    assert_eq!((polygon.first_meeting(&beside, point(0, 9)), polygon.first_meeting(&none, point(1, 1))), (Ok(None), Ok(None)));
-    assert_eq!(polygon.first_meeting(&small, point(1, 1)).unwrap().unwrap().hit.place, Entry::Start);
-    assert_eq!(polygon.first_meeting(&beside, point(COORDINATE_LIMIT + 1, 0)), Err(Fault::OutOfRange));
     assert_eq!(beside.translate(point(-8, 4)).unwrap().vertices(), [point(4, 4), point(7, 7), point(4, 10)]);
     assert_eq!(beside.translate(point(COORDINATE_LIMIT, 0)), Err(Fault::OutOfRange));
     assert_eq!(small.rotate(point(0, 1)).unwrap().vertices(), [point(-4, 3), point(-2, 2), point(-2, 4)]);
@@ -230,21 +158,6 @@ fn two_polygons() {
     assert_eq!((polygon.intersects_segments(&ways), polygon.intersects_segments(&[])), (Ok(vec![true, false]), Ok(vec![])));
     assert_eq!(polygon.intersects_segments(&[[point(0, 0), point(0, COORDINATE_LIMIT + 1)]]), Err(Fault::OutOfRange));
     assert_eq!(small.indices(&[point(3, 4), point(9, 9), point(2, 2), point(3, 4)]), Ok(vec![Some(2), None, Some(0)]));
-    let far = Polygon::new(&[point(13, 5)]).unwrap();
-    let edge = [point(10, 0), point(10, 10)];
-    assert_eq!((polygon.distance(&small), polygon.distance(&none)), (Some(Distance::Zero), None));
-    assert_eq!(polygon.distance(&beside), Some(Distance::Vertices(point(10, 0), point(12, 0))));
-    assert_eq!(polygon.distance(&far), Some(Distance::EdgeAndVertex(edge, point(13, 5))));
-    assert_eq!(far.distance(&polygon), Some(Distance::VertexAndEdge(point(13, 5), edge)));
-    let strip = Strip { from: point(12, 6), to: point(12, 0), farthest: point(15, 3) };
-    assert_eq!((beside.least_width(), none.least_width()), (Some(strip), None));
-    let (p, q) = polygon.diameter().unwrap();
-    assert_eq!((p.x - q.x).pow(2) + (p.y - q.y).pow(2), 200);
-    assert_eq!((polygon.width_along(point(3, 4)), none.width_along(point(1, 0))), (Ok(Some(70)), Ok(None)));
-    let wide = Polygon::new(&[point(-COORDINATE_LIMIT, -COORDINATE_LIMIT), point(COORDINATE_LIMIT, COORDINATE_LIMIT)]).unwrap();
-    assert_eq!(wide.width_along(point(COORDINATE_LIMIT, COORDINATE_LIMIT)), Ok(Some(1 << 82))); // in two words
-    assert_eq!(polygon.width_along(point(0, 0)), Err(Fault::ZeroDirection));
-    assert_eq!(polygon.width_along(point(0, COORDINATE_LIMIT + 1)), Err(Fault::OutOfRange));
 }
 
 #[test]

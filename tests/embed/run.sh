@@ -58,7 +58,7 @@ replays() {
 
 in_c() {
     attempt "hull(3) has every call" page_has_calls hull "$prefix/include/hull.h" "$prefix/include/hull_exchange.h" "$prefix/include/hull_common.h"
-    attempt "hull_shared(3) has every call" page_has_calls hull_shared "$prefix/include/hull_shared.h"
+    attempt "hull_shared(3) has every call" page_has_calls hull_shared "$prefix/include/hull_shared.h" "$prefix/include/hull_service.h"
     for name in first placement motions; do
         attempt "examples/embed/$name.c compiles by what is installed" compile "$name"
         attempt "examples/embed/$name.c writes examples/embed/$name.txt" writes "$examples/$name.txt" "$room/$name"
@@ -87,11 +87,13 @@ in_c() {
     else
         skip "a support function for libccd" libccd-dev
     fi
-    for header in hull hull_shared hull_exchange; do
-        for standard in c99 c11; do
-            attempt "$header.h is $standard, checked or not" header_is "$header" "$standard"
+    for header in hull hull_shared hull_service hull_exchange; do
+        for compiler in gcc clang; do
+            if ! is_there $compiler; then skip "$header.h by $compiler" $compiler; continue; fi
+            attempt "$header.h is C99 to C23 by $compiler, checked or not" header_is $compiler "$header.h" c c99 c11 c17 c2x
         done
     done
+    attempt "a build for 32 bits stops at one error" is_stopped
     sed -n '/^```c$/,/^```$/{/^```/!p;}' "$top/README.md" >"$room/readme.c"
     for standard in c99 c11; do
         # shellcheck disable=SC2046 # the flags are separated by spaces
@@ -101,11 +103,23 @@ in_c() {
     done
 }
 
-# whether a header is C of a standard: HEADER STANDARD
+# whether a file that includes a header has no warning, in C checked or not: COMPILER HEADER LANGUAGE STANDARD..
 header_is() {
-    for checked in -UHULL_CHECKED -DHULL_CHECKED; do
-        cc -x c "-std=$2" $checked -pedantic -Wall -Wextra -Werror -fsyntax-only "$prefix/include/$1.h" || return 1
+    compiler=$1 included=$2 language=$3 variants='-UHULL_CHECKED -DHULL_CHECKED'
+    shift 3
+    [ "$language" = c ] || variants=-Wold-style-cast
+    for standard in "$@"; do
+        for variant in $variants; do
+            echo "#include \"$included\"" | "$compiler" -x "$language" "-std=$standard" $variant -I"$prefix/include" -pedantic -Wall -Wextra -Werror \
+                -Wpedantic -Wconversion -Wshadow -Wcast-qual -Wfloat-equal -fsyntax-only - || return 1
+        done
     done
+}
+
+# whether the header says in one error that it needs 64 bits
+is_stopped() {
+    printf '#include <stdint.h>\n#undef UINTPTR_MAX\n#define UINTPTR_MAX UINT32_MAX\n#include "hull.h"\n' >"$room/narrow.c"
+    ! cc -I"$prefix/include" -fsyntax-only "$room/narrow.c" 2>"$room/said" && [ "$(grep -c 'error:' "$room/said")" -eq 1 ] && grep -q '64-bit pointers' "$room/said"
 }
 
 # a header by a compiler of C++: HEADER FLAGS..
@@ -130,21 +144,24 @@ aborts() {
 }
 
 in_cplusplus() {
-    for header in hull.h hull_shared.h hull_exchange.h hull.hpp; do
-        attempt "$header is C++17" is_cplusplus $header -std=c++17
-        attempt "$header is C++20" is_cplusplus $header -std=c++20
-        attempt "$header is C++17 without exceptions" is_cplusplus $header -std=c++17 -fno-exceptions
+    for compiler in g++ clang++; do
+        if ! is_there $compiler; then skip "the headers by $compiler" $compiler; continue; fi
+        for header in hull.h hull_shared.h hull_service.h hull_exchange.h; do
+            attempt "$header is C++11 to C++23 by $compiler" header_is $compiler $header c++ c++11 c++14 c++17 c++20 c++2b
+        done
+        attempt "hull.hpp is C++17 to C++23 by $compiler" header_is $compiler hull.hpp c++ c++17 c++20 c++2b
     done
+    attempt "hull.hpp is C++17 without exceptions" is_cplusplus hull.hpp -std=c++17 -fno-exceptions
     attempt "hull.hpp says that it needs C++17" wants_17
     # shellcheck disable=SC2046 # the flags are separated by spaces
     attempt "the README's program is C++17" \
         c++ -x c++ -std=c++17 -pedantic -Wall -Wextra -Werror "$room/readme.c" -x none $(flags) -o "$room/readme"
     # shellcheck disable=SC2046
-    attempt "the tests of hull.hpp compile" c++ -std=c++17 -pedantic -Wall -Wextra -Werror -O2 -g "$here/hull_tests.cpp" \
+    attempt "the tests of hull.hpp compile" c++ -std=c++17 -pedantic -Wall -Wextra -Werror -g "$here/hull_tests.cpp" \
         $(flags) -lhull_shared -lpthread -o "$room/hull_tests_cpp"
     attempt "the tests of hull.hpp" "$room/hull_tests_cpp" "$here/lattice.txt"
     # shellcheck disable=SC2046
-    attempt "hull_answers.cpp compiles" c++ -std=c++17 -pedantic -Wall -Wextra -Werror -O1 -g "$here/hull_answers.cpp" \
+    attempt "hull_answers.cpp compiles" c++ -std=c++17 -pedantic -Wall -Wextra -Werror -g "$here/hull_answers.cpp" \
         $(flags) -Wl,--wrap=fsync -lhull_shared -lpthread -o "$room/hull_answers"
     attempt "each answer of hull.hpp beside that of hull.h" "$room/hull_answers"
     attempt "without exceptions a failure ends the program, and says why" aborts
@@ -248,11 +265,16 @@ python() {
     PYTHONDONTWRITEBYTECODE=1 PYTHONPATH=$prefix/lib/hull ${interpreter:-python3} "$@"
 }
 
-# the interpreters from 3.8 on that are here: python3, that of the system, and those of pyenv
+# the version of an interpreter, as 3.11
+version_of() {
+    "$1" -c 'import sys; print("%d.%d" % sys.version_info[:2])'
+}
+
+# the interpreters from 3.8 on that are here, one of each version, the oldest first: python3, that of the system, and those of pyenv
 pythons() {
     for interpreter in python3 /usr/bin/python3 "$HOME"/.pyenv/versions/3.*/bin/python3; do
-        ! "$interpreter" -c 'import sys; sys.exit(sys.version_info < (3, 8))' 2>/dev/null || echo "$interpreter"
-    done
+        ! "$interpreter" -c 'import sys; sys.exit(sys.version_info < (3, 8))' 2>/dev/null || echo "$(version_of "$interpreter") $interpreter"
+    done | sort -s -t . -k 1,1n -k 2,2n -u | cut -d ' ' -f 2
 }
 
 # a shared object that is slowed down, counts overlaps and refuses memory: NAME FLAGS..
@@ -281,17 +303,22 @@ with() {
 }
 
 in_python() {
-    for interpreter in $(pythons); do
-        numbered=$("$interpreter" -c 'import sys; print("%d.%d" % sys.version_info[:2])')
+    all=$(pythons)
+    oldest=$(echo "$all" | head -n 1)
+    newest=$(echo "$all" | tail -n 1)
+    for interpreter in $all; do
+        numbered=$(version_of "$interpreter")
         attempt "the tests of python/hull.py by $interpreter ($numbered)" python "$here/hull_tests.py"
-        attempt "hulls end after their last user by $interpreter ($numbered)" python -W ignore "$here/lives_tests.py"
         attempt "limits of python/hull.py by $interpreter ($numbered)" python "$here/limits_tests.py"
+        case $interpreter in python3 | "$oldest" | "$newest")
+            attempt "hulls end after their last user by $interpreter ($numbered)" python -W ignore "$here/lives_tests.py" ;;
+        esac
     done
     interpreter=python3
     replays Python python "$here/replay.py"
-    attempt "2000 pairs of polygons by chance, by all vertices and edges" python "$here/random_polygons.py" 2000 1
-    attempt "2000 rays and segments by chance, by all edges" python "$here/random_raycasts.py" 2000 1
-    attempt "2000 motions by chance, by all differences of vertices" python "$here/random_motions.py" 2000 1
+    attempt "each question of polygons in each language, by all vertices and edges" python "$here/answers/ask.py" "$top" "$prefix" "$room"
+    tail -n 1 "$room/told"
+    attempt "the pairs of 100 lists of polygons that are near, by a question for each" python "$here/random_pairs.py" 100 1
     attempt "libhull.so slowed down compiles" slowed hull
     attempt "libhull_shared.so slowed down compiles" slowed hull_shared -DSHARED
     attempt "calls on one hull from several threads wait for each other" python_slowed "$here/hull_tests.py" Locks

@@ -552,10 +552,10 @@ static void cuts_only_what_a_crash_leaves(void) {
     size_t length = strlen(SEGMENT NEXT);
     static const char *wrong[] = {"6 0 Add 1 1 = added\nend 1\n", "6 0 ad 1 1 = added\nend 1\n", "6 0 add 1 1 = addedX\nend 1\n",
                                   "6 0 add 1 1 = adde\nend 1\n",  "6 64 count = count 1\nend 1\n", "6 0 count = count 01\nend 1\n",
-                                  "6 0 add 1 1 = left 1\nend 1\n", "6 0 add 1 -0 = added\nend 1\n", "6 0 add 1 1099511627777 = added\nend 1\n",
-                                  "7 0 add 1 1 = added\nend 1\n", "6 0 add 1 1 = added ", "6 0 vertices = list 2 0 0\nend 1\n",
-                                  "6 0 area = area 01\nend 1\n", "6 0 area = area 123456789012345678901234567\nend 1\n",
-                                  "6 0 count = count 1048577\nend 1\n", "6 0 add 1 1 = again 65536\nend 1\n",
+                                  "6 0 add 1 -0 = added\nend 1\n", "6 0 add 1 1099511627777 = added\nend 1\n",
+                                  "7 0 add 1 1 = added\nend 1\n", "6 0 add 1 1 = added \n", "6 0 vertices = list 2 0 0\nend 1\n",
+                                  "6 0 area = area 01\nend 1\n", "6 0 area = area 9999999999999999999999999999999999999999999\nend 1\n",
+                                  "6 0 add 1 1 = again 65536\nend 1\n",
                                   "6 0 vertices = list 1048577 0 0\nend 1\n", "6 0 extreme 0 0 = empty\nend 1\n"};
     for (size_t k = 0; k < sizeof wrong / sizeof *wrong; k++) {
         snprintf(bytes, sizeof bytes, "%s%s", SEGMENT NEXT, wrong[k]);
@@ -604,6 +604,11 @@ static void reports_the_line_of_the_file(void) {
     } wrong[] = {
         {HEAD "5 0 add 0 0 = added\n6 0 add 1 0 = added\n7 0 add 2 0 = added\n8 0 add 3 0 = added\nend 4\n", 5},
         {HEAD "5 0 add 0 0 = toomany\nend 1\n", 2},
+        {HEAD "5 0 add 0 0 = left 1\nend 1\n", 2},
+        {HEAD "5 0 count = count 1048577\nend 1\n", 2},
+        {HEAD "5 0 area = area 0\n6 0 area = area 123456789012345678901234567\nend 2\n", 3},
+        {HEAD "5 0 count = count 1048576\n6 0 area = area 19342813113834066795298816\nend 2\n", 2},
+        {HEAD "5 0 add 0 0 = added\n6 0 place 0 0 = inside\nend 2\n", 3},
         {HEAD "5 0 add 0 0 = added\n6 0 count = count 1\n7 0 remove 1 1 = removed\nend 3\n" "hullbook journal 3 first 8 limit 3 capacity 9\n"
               "8 0 add 0 0 = added\nend 1\n", 4},
         {HEAD "5 0 add 0 0 = added\n6 0 add 0 0 = again 3\n7 0 add 1 1 = again 2\nend 3\n", 3},
@@ -635,11 +640,11 @@ static void continues_at_each_limit(void) {
         uint64_t count;
     } right[] = {
         {HEAD "5 0 add 0 0 = added\n6 0 add 1 0 = added\n7 0 add 2 0 = added\n8 0 add 3 0 = toomany\nend 4\n", 9, 3},
-        {HEAD "5 0 add 0 0 = nomemory\n6 0 vertices = nomemory\nend 2\n", 7, 0},
+        {HEAD "5 0 add 0 0 = nomemory\n6 0 add 0 0 = added\n7 0 vertices = nomemory\nend 3\n", 8, 1},
         {HEAD "5 0 add 0 0 = added\n6 0 remove 0 0 = removed\nend 2\n", 7, 0},
         {HEAD "5 0 add 1099511627776 -1099511627776 = added\n6 0 remove 0 0 = absent\n7 0 area = area 0\nend 3\n", 8, 1},
         {HEAD "end 0\n", 5, 0},
-        {HEAD "5 0 count = count 1048576\n6 0 area = area 19342813113834066795298816\nend 2\n", 7, 0},
+        {HEAD "5 0 count = count 0\n6 0 area = area 0\nend 2\n", 7, 0},
         {HEAD "5 0 add 0 0 = added\n6 0 add 1 0 = added\n7 0 add 2 0 = added\n8 0 remove 1 0 = removed\n9 0 add 3 0 = added\n"
               "10 0 add 3 0 = again 2\n11 0 remove 3 0 = left 1\nend 7\n", 12, 3},
     };

@@ -435,9 +435,22 @@ class Locks(unittest.TestCase):
         self.race(self.hull.close, self.hull.close, segment.text, lambda: list(segment), segment.text)
 
     def test_a_seat_released_while_it_is_asked(self):
-        calls = iter([self.seat.release])
-        with self.assertRaises(AssertionError):
-            self.race(self.seat.count, lambda: next(calls, int)())
+        is_asked, faults = threading.Event(), []
+
+        def ask():
+            try:
+                while True:
+                    self.seat.count()
+                    is_asked.set()
+            except ValueError as fault:
+                faults.append(str(fault))
+
+        thread = threading.Thread(target=ask)
+        thread.start()
+        self.assertTrue(is_asked.wait(60))
+        self.seat.release()
+        thread.join(60)
+        self.assertEqual((thread.is_alive(), faults), (False, ["the seat was released"]))
         self.assertEqual(hull_module._shared_library().hull_overlaps(), 0)
 
 

@@ -25,7 +25,7 @@ esac
 PROGRAMS = ("hullbook", "hulldraw")
 # each installed file that is copied: where it is installed, and what it is a copy of
 COPIES = {
-    **{f"include/{it}": f"include/{it}" for it in ("hull.h", "hull_shared.h", "hull_common.h", "hull_exchange.h", "hull.hpp")},
+    **{f"include/{it}": f"include/{it}" for it in ("hull.h", "hull_shared.h", "hull_common.h", "hull_exchange.h", "hull_service.h", "hull.hpp")},
     **{f"share/man/man3/{it}.3": f"man/{it}.3" for it in ("hull", "hull_shared")},
     "lib/cmake/hull/hull-config.cmake": "c/hull-config.cmake", "lib/hull/hull/__init__.py": "python/hull.py",
     "share/doc/hullbook/LICENSE": "LICENSE", "share/doc/hullbook/CHANGELOG.md": "CHANGELOG.md", "share/doc/hullbook/README.md": "docs/INSTALLED.md",

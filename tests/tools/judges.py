@@ -308,7 +308,7 @@ def test_each_place(tests):
         if not marked:
             print("skipped: the places of the table: this is no checkout of git")
             return
-        for path in {"VERSION", "tables/calls.txt", "crates.txt", *table.VERSIONS, *marked}:
+        for path in {"VERSION", *(f"tables/{it}.txt" for it in ("calls", "interface", "languages")), "crates.txt", *table.VERSIONS, *marked}:
             write(f"{top}/{path}", kit.text_of(f"{TOP}/{path}"))
         tests.accepts("all places are as the table says", top, "tools/table.py")
         number = 0

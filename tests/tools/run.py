@@ -65,6 +65,10 @@ PLACES = (
      "hull_reply/src/request.rt: FAILED, a case for each kind: it says 'Kind::Place"),
     ("a case that is missing", "crates/hull_reply/specs/Encoded.antt", "Encodes r reply.Absent = IsBare code.Absent r\n", "",
      "hull_reply/specs/Encoded.antt: FAILED, a case for each reply: it says"),
+    ("a declaration changed by hand", "include/hull.h", "size_t hull_size(void);", "size_t hull_size(int a);", "include/hull.h: FAILED, storage: it says"),
+    ("a method that is gone", "web/hull.d.ts", "    diameter(): [Point, Point] | null;\n", "", "web/hull.d.ts: FAILED, questions: it says"),
+    ("a code that there is not", "tables/interface.txt", "codes = BOX,", "codes = BOXES,", "tables/interface.txt: FAILED, hull_polygon_box: BOXES is no code"),
+    ("an argument that there is not", "tables/interface.txt", "takes = polygon, segment\n", "takes = polygon, line\n", "argument line has no C++"),
     ("a number left out", "tables/calls.txt", "code 9 ABSENT", "code 90 ABSENT", "tables/calls.txt: FAILED, the numbers of each code"),
 )
 # what a check can tell of a function whose proof names what a change took away, and of one with an open goal
@@ -122,7 +126,9 @@ def test_mutants(tests):
         tests.see("a run with two bad mutants fails", status == 1 and said.endswith("1 passed, 2 failed\n"), said)
         for name, wanted in WANTED.items():
             tests.see(f"{name}, in a group with the others: {wanted}", f"mutant small/{name}.edit: {wanted}" in said, said)
-        tests.refuses("a crate with bad mutants is not recorded", "1 passed, 2 failed", top, "tools/mutants.py", "--changed")
+        record = f"{top}/.ci/mutants.txt"
+        with open(record, encoding="utf-8") if os.path.exists(record) else open(os.devnull, encoding="utf-8") as file:
+            tests.see("a crate with bad mutants is not recorded", "small" not in file.read())
         for name in ("a-comment", "no-such-name"):
             os.remove(f"{top}/crates/small/mutants/{name}.edit")
         tests.accepts("a crate whose mutants are refused", top, "tools/mutants.py", "--record", "small")
@@ -225,7 +231,7 @@ def test_tables(tests):
         if not marked:
             print("skipped: the table's places: this is no checkout of git")
             return
-        for path in ("VERSION", "CHANGELOG.md", "tables/calls.txt", "rust/hull/Cargo.toml", "web/package.json", "crates.txt", *marked.split()):
+        for path in ("VERSION", "CHANGELOG.md", *(f"tables/{it}.txt" for it in ("calls", "interface", "languages")), "rust/hull/Cargo.toml", "web/package.json", "crates.txt", *marked.split()):
             os.makedirs(os.path.dirname(f"{top}/{path}"), exist_ok=True)
             shutil.copy(f"{TOP}/{path}", f"{top}/{path}")
         tests.accepts("places that are as the table says", top, "tools/table.py")
