@@ -440,7 +440,10 @@ class Locks(unittest.TestCase):
         def ask():
             try:
                 while True:
-                    self.seat.count()
+                    try:
+                        self.seat.count()
+                    except JournalFull:  # a busy machine may let it fill the journal before the seat is released
+                        pass
                     is_asked.set()
             except ValueError as fault:
                 faults.append(str(fault))
