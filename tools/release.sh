@@ -4,14 +4,18 @@
 #     tools/release.sh             proves what is not proved, and writes dist/ anew
 #     tools/release.sh --compare   makes each file again that can be made here, and compares it to the byte; the last line is
 #                                  'N passed, M failed'
+#     tools/release.sh --record    the same, and notes in .ci/compared.txt which are the same
+#     tools/release.sh --changed   the same as --compare, without the files that the record has with these checksums, sources and tools
 #
 # It needs the toolchain, gcc, gcc-aarch64-linux-gnu, and for the page what web/build.py and web/page.mjs left in web/out. dist/SUMS has for
 # each file its checksum and size and the checksums of the sources that it was made of. `--compare` passes over files whose sources have
-# changed since, that another toolchain or compiler made, or that cannot be made here, and names them.
+# changed since, that another toolchain or compiler made, or that cannot be made here, and names them. The checksum of each file is compared
+# in any case.
 set -u
 top=$(cd "$(dirname "$(readlink -f "$0")")/.." && pwd)
 cd "$top" || exit 1
 files=$(sed -n 's/^\([a-z0-9_]*\/[^ ]*\) .*/\1/p' tools/products.txt)
+record=.ci/compared.txt
 work=$(mktemp -d)
 trap 'rm -rf "$work"' EXIT
 
@@ -67,11 +71,23 @@ obstacle() {
     fi
 }
 
+# prints what the record has of a file that is the same: its line of dist/SUMS, with the tools that made it
+noted() {
+    echo "$(grep "^file $1 " dist/SUMS) toolchain=$(sed -n 's/^toolchain //p' dist/SUMS)" \
+        "compiler=$(sed -n "s#^compiler-${1%%/*} ##p" dist/SUMS)"
+}
+
+# compares the files, without those of the record if $1 is --changed, and writes the record anew if it is --record
 compare() {
     tools/product.sh check
     failed=$?
     passed=0
     for file in $files; do
+        if [ "$1" = --changed ] && grep -qxF "$(noted "$file")" $record 2>/dev/null; then
+            passed=$((passed + 1))
+            echo "dist/$file: was the same to the byte when the record was made"
+            continue
+        fi
         why=$(obstacle "$file")
         if [ "$why" ]; then
             echo "dist/$file: not compared, $why"
@@ -81,20 +97,25 @@ compare() {
         if tools/product.sh make "$file" "$work/$file" && cmp "$work/$file" "dist/$file"; then
             passed=$((passed + 1))
             echo "dist/$file: the same to the byte"
+            noted "$file" >>"$work/record"
         else
             failed=$((failed + 1))
             echo "dist/$file: FAILED, made again it has other bytes"
         fi
     done
+    if [ "$1" = --record ] && [ "$failed" -eq 0 ]; then
+        { echo '# the released files that were made again and were the same to the byte; tools/release.sh --record writes this file'
+          cat "$work/record"; } >$record
+    fi
     echo "$passed passed, $failed failed"
     [ "$failed" -eq 0 ]
 }
 
 case ${1:-} in
 '') write ;;
---compare) compare ;;
+--compare | --record | --changed) compare "$1" ;;
 *)
-    sed -n '2,11s/^# \{0,1\}//p' "$0" >&2
+    sed -n '2,14s/^# \{0,1\}//p' "$0" >&2
     [ "$1" = --help ]
     ;;
 esac

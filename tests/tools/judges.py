@@ -476,6 +476,21 @@ def test_release(tests):
                                    ("another compiler", {"COMPILER": "2"}, names[:2])):
             said = run(top, "tools/release.sh", "--compare", env={**env, **more})[1]
             tests.same(f"not compared with {what}", re.findall("dist/(\\S+): not compared", said), [*wanted])
+        tests.refuses("files without a record", f"dist/{names[0]}: FAILED, made again", top, "tools/release.sh", "--changed", env={**env,
+                "OTHER": names[0]})
+        tests.refuses("a record of a file with other bytes", "2 passed, 1 failed", top, "tools/release.sh", "--record", env={**env,
+                "OTHER": names[0]})
+        tests.see("it leaves no record", not os.path.exists(f"{top}/.ci/compared.txt"))
+        os.makedirs(f"{top}/.ci", exist_ok=True)
+        tests.accepts("a record", top, "tools/release.sh", "--record", env=env)
+        tests.same("its lines", len(kit.text_of(f"{top}/.ci/compared.txt").splitlines()), 1 + len(names))
+        tests.accepts("files of the record are not made again", top, "tools/release.sh", "--changed", env={**env, "OTHER": names[0]})
+        tests.refuses("but they are by --compare", f"dist/{names[0]}: FAILED, made again", top, "tools/release.sh", "--compare", env={**env,
+                "OTHER": names[0]})
+        write(f"{top}/dist/SUMS", kit.text_of(f"{top}/dist/SUMS").replace("compiler-x86_64 gcc 1", "compiler-x86_64 gcc 2"))
+        said = run(top, "tools/release.sh", "--changed", env=env)[1]
+        tests.same("the record is of one compiler", re.findall("dist/(\\S+): was the same", said), [names[2]])
+        write(f"{top}/dist/SUMS", sums)
         os.remove(f"{top}/web/out/made-of")
         tests.see("the page that was not built", "dist/web/hull.wasm: not compared, web/build.py" in run(top, "tools/release.sh", "--compare",
                 env=env)[1])
