@@ -1,9 +1,11 @@
 -- The hull of points that are only added, by its two chains.
-use Rattle.std.specs.Prelude.{◌≤◌, List, length}
+use Rattle.std.specs.Prelude.{◌≤◌, ◌⊎◌, ⊤, List, length}
 use Rattle.lattice.specs.Plane.{Pair}
 use Rattle.lattice.specs.Covers.{IsPointSet, with_point}
 use Rattle.hull_geometry.specs.Monotone.{AreChainsOf}
 use Rattle.hull_set.specs.declared.TheConstants.{POINT_LIMIT}
+use Rattle.hull_plain.specs.declared.growing_hull.GrowFault.{GrowFault}
+use Rattle.hull_plain.specs.declared.growing_hull.GrowFault.TheVariants.{TooMany, NoMemory}
 
 -- the vertices in order, of the lower chain and of the upper one
 pub record Chains : Type 0 where
@@ -23,3 +25,8 @@ pub record IsGrowingHull (h : Chains) : Type 0 where
   pub some : (S : List Pair) × AreChainsOf S h.lower h.upper
   pub few_below : length h.lower ≤ POINT_LIMIT
   pub few_above : length h.upper ≤ POINT_LIMIT
+
+-- why a point is refused: a chain has as many vertices as a set may have points, or memory was refused
+abbrev pub IsWhyNotGrown : GrowFault → Chains → Type 0
+IsWhyNotGrown TooMany h = (POINT_LIMIT ≤ length h.lower) ⊎ (POINT_LIMIT ≤ length h.upper)
+IsWhyNotGrown NoMemory h = ⊤

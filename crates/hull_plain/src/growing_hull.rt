@@ -1,11 +1,11 @@
 //! The hull of points that are only added.
-ghost use Rattle.std.specs.Prelude.{◌≡◌, ◌+◌, ◌≤◌, [], List, IfOk, OnOk, OnErr, length, pos};
+ghost use Rattle.std.specs.Prelude.{◌≡◌, ◌+◌, ◌≤◌, [], List, IfErr, IfOk, OnOk, OnErr, length, pos};
 ghost use Rattle.lattice.specs.Plane.{Pair};
 ghost use Rattle.lattice.specs.Vertices.{IsVertexList, IsDoubledArea};
 ghost use Rattle.hull_geometry.specs.Monotone.{IsStrict, IsChainOf};
 ghost use Rattle.lattice.specs.Covers.{with_point};
 ghost use Rattle.hull_plain.specs.Drafts.{ScratchChainHasSpace, IsAsRoomy};
-ghost use Rattle.hull_plain.specs.Growth.{IsHullOf, HasGrownBy};
+ghost use Rattle.hull_plain.specs.Growth.{IsHullOf, HasGrownBy, IsWhyNotGrown};
 ghost use Rattle.hull_set.specs.Replies.{LiesAt, AnswersExtreme, AnswersTangents, reply_to_extreme, reply_to_tangents};
 
 use super::extremes::extreme_of;
@@ -89,6 +89,7 @@ impl GrowingHull {
         ensures grown { OnOk result (HasGrownBy p self.old self.new) }
         ensures place { IfOk result (λ place. (S : List Pair) → IsHullOf S self.old → LiesAt S p place) }
         ensures refused { OnErr result (self.new ≡ self.old) }
+        ensures fault { IfErr result (λ fault. IsWhyNotGrown fault self.old) }
     {
         if self.lower.len() >= POINT_LIMIT as usize || self.upper.len() >= POINT_LIMIT as usize {
             return Err(GrowFault::TooMany);

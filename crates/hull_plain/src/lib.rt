@@ -34,8 +34,6 @@ mod positions;
 mod repairing;
 mod scratch_chain;
 mod tangents;
-#[cfg(test)]
-mod tests;
 mod vertices;
 
 pub use growing_hull::{GrowFault, GrowingHull};

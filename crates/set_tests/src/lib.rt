@@ -10,6 +10,8 @@ mod bucket_trees;
 #[cfg(test)]
 mod buckets;
 #[cfg(test)]
+mod growing_hulls;
+#[cfg(test)]
 mod numbers;
 #[cfg(test)]
 mod plain;

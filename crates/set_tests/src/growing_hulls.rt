@@ -1,4 +1,5 @@
-use super::{GrowingHull, Place};
+//! A hull of points that are only added.
+use hull_plain::{GrowingHull, Place};
 use lattice::{Direction, Point};
 use std::process::Abort;
 use std::test::Fail;
