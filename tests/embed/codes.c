@@ -1,4 +1,5 @@
-/* Every code of every function of hull.h, through the archive. Prints what is wrong, and how many checks passed and failed. */
+/* Every code of every function of hull.h, through the archive. Prints what is wrong, and how many checks passed and failed.
+ * codes TABLE [brief]: the table is lattice.txt; `brief` makes fewer trials of the same kind. */
 #include "hull.h"
 #include <math.h>
 #include <stdio.h>
@@ -6,6 +7,9 @@
 #include <string.h>
 
 static int passed, failed, refused_from = -1, asked;
+
+/* of many trials of one kind each so many-th is made: 1, and more if the program is to be brief (valgrind) */
+static int every = 1;
 
 /* malloc, calloc and realloc, of which those from `refused_from` on are refused (linked in by --wrap) */
 void *__real_malloc(size_t n);
@@ -612,7 +616,7 @@ static void check_two_polygons(void) {
         {{0, 0}, {3, -1}, {5, 2}, {1, 3}}, {{0, 0}, {8, 0}, {0, 6}}, {{0, 0}, {2, 1}}, {{0, 0}, {0, 4}}, {{0, 0}}};
     static const size_t counts[] = {4, 3, 2, 2, 1};
     int same = 1, met = 0, tries = 0, near = 1, edges = 0, related = 1, relations[6] = {0};
-    for (int i = 0; i < 5 * 5 * 23 * 23; i++, tries++) {
+    for (int i = 0; i < 5 * 5 * 23 * 23; i += every, tries++) {
         const hull_point *out = shapes[i % 5];
         hull_point others[4];
         for (size_t j = 0; j < 4; j++) {
@@ -627,8 +631,8 @@ static void check_two_polygons(void) {
         related &= relations[i] > 0;
     }
     CHECK(related);
-    CHECK(same && met > 900 && met < tries - 900);
-    CHECK(near && edges > 900 && edges < tries - met - 900);
+    CHECK(same && met > 900 / every && met < tries - 900 / every);
+    CHECK(near && edges > 900 / every && edges < tries - met - 900 / every);
     CHECK(number(hull_polygon_intersects(shapes[0], 0, shapes[1], 3), HULL_NUMBER, 0));
     CHECK(number(hull_polygon_intersects(shapes[0], 4, shapes[1], 0), HULL_NUMBER, 0));
     CHECK(number(hull_polygon_contains(shapes[0], 0, shapes[1], 0), HULL_NUMBER, 1));
@@ -696,7 +700,7 @@ static void check_many_polygons(void) {
     hull_pair pairs[MANY];
     uint64_t state = 5, found = 0, last = 0;
     int same = 1, grows = 1;
-    for (int trial = 0; trial < 60; trial++) {
+    for (int trial = 0; trial < 60; trial += every) {
         uint8_t relations[MANY];
         scatter(vertices, all, &state, trial % 2 == 0 ? 20 : 200);
         static const uint64_t lengths[][2] = {{0, 1}, {0, 7}, {1, 3}, {5, 2}, {9, 1}, {1u << 30, 1}, {UINT64_MAX, 1}, {1, 0}};
@@ -788,13 +792,13 @@ static void check_motions(void) {
     static const size_t counts[] = {4, 3, 2, 2, 1};
     static const int64_t ways[][2] = {{6, 0}, {0, -7}, {5, 3}, {-4, 7}, {-8, -2}, {1, 1}, {0, 0}};
     int same = 1, hits = 0, tries = 0;
-    for (int i = 0; i < 5 * 5 * 7 * 9 * 9; i++, tries++) {
+    for (int i = 0; i < 5 * 5 * 7 * 9 * 9; i += every, tries++) {
         const int64_t *way = ways[i / 25 % 7];
         hull_point other[4];
         scale_and_move(shapes[i / 5 % 5], counts[i / 5 % 5], 1, 3 * (i / 175 % 9) - 12, 3 * (i / 1575) - 12, other);
         same &= is_first_moment(shapes[i % 5], counts[i % 5], other, counts[i / 5 % 5], way[0], way[1], &hits);
     }
-    CHECK(same && hits > 500 && hits < tries - 500);
+    CHECK(same && hits > 500 / every && hits < tries - 500 / every);
     const int64_t far = HULL_COORDINATE_MAX;
     const hull_point left[] = {{-far, -far}, {-far + 2, -far}, {-far, -far + 5}}, right[] = {{far - 1, -1}, {far, 1}};
     const hull_motion wide = hull_polygon_first_meeting(left, 3, right, 2, -far, 0);
@@ -1322,7 +1326,7 @@ static void check_polygons_of_many_points(void) {
     const int64_t far = HULL_COORDINATE_MAX;
     uint64_t seed = 88172645463325252u;
     int same = 1;
-    for (int round = 0; round < 3000; round++) {
+    for (int round = 0; round < 3000; round += every) {
         const int64_t size = round % 7 == 0 ? far / 2 : 1 + round / 7 % 40;
         const hull_point place = {round % 3 == 0 ? far / 2 : 0, round % 5 == 0 ? -far / 2 : 0};
         const size_t count = 250 + (size_t)round % 60 * (round % 11 == 0 ? 12 : 1);
@@ -1353,7 +1357,7 @@ static void check_polygons_of_points(void) {
     }
     uint64_t seed = 88172645463325252u;
     int same = 1;
-    for (int round = 0; round < 4000; round++) {
+    for (int round = 0; round < 4000; round += every) {
         hull_point points[40];
         seed ^= seed << 13, seed ^= seed >> 7, seed ^= seed << 17;
         size_t count = seed % 41;
@@ -1467,6 +1471,7 @@ static void check_no_arrays(void) {
 }
 
 int main(int words, char **word) {
+    every = words > 2 && strcmp(word[2], "brief") == 0 ? 29 : 1;
     check_lattice(words > 1 ? word[1] : "lattice.txt");
     CHECK(hull_size() > 0);
     CHECK(hull_alignment() > 0 && (hull_alignment() & (hull_alignment() - 1)) == 0);

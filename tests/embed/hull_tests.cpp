@@ -565,7 +565,7 @@ static void journal_files() {
     for (std::int64_t x = 0; x < 200; x++) {
         seat.add({x, 4});
     }
-    seat.wait_at_most(std::chrono::seconds(10));
+    seat.wait_at_most(std::chrono::seconds(100));
     seat.wait_durable();
     CHECK(h.durable() > *seat.turn() && reader.newest().size() > 2);
     reader.release();
@@ -650,6 +650,7 @@ static void threads(const char *file) {
 }
 
 int main(int words, char **word) {
+    alarm(200);
     one_thread();
     points();
     many_at_once();

@@ -1,8 +1,8 @@
-/* Each step of c/gate.c, by one thread, in the file itself: the status is 0 only if each leaves the gate as it should. */
+/* Each step of c/gate.c, by one thread, in the file itself, over a clock that stands still (still_clock.h); and calls over the library that are
+ * made of them, with the time that each takes and whom each wakes. The status is 0 only if each leaves the gate as it should; a hang ends
+ * the program after a minute. */
+#define HULL_SHARED_SCHEDULER "still_clock.h"
 #include "../../c/gate.c"
-
-#include <stdio.h>
-#include <time.h>
 
 static int bad;
 
@@ -77,13 +77,15 @@ static void check_designation(void) {
     check("the designated one enters", (uint64_t)try_enter(gate, 1), 1);
     check("it is open again", gate->state, 1 + 3 * PARKED);
     check("none is designated", hull_shared_stats(&storage).designated, HULL_SHARED_SEATS_MAX);
-    check("a turn has begun", gate->turn_ends > hull_now() && gate->turn_ends <= hull_now() + HULL_SHARED_TURN, 1);
+    check("a turn of half a millisecond has begun", gate->turn_ends, hull_now() + 500000);
     set_turn_over(1);
     leave(gate);
     check("it is closed for the next at once", gate->state, DESIGNATED + CLOSED + 2 * PARKED);
     begin_turn(gate);
-    nanosleep(&(struct timespec){0, 2000000}, NULL);
-    check("a turn is over in two milliseconds", closing_bit(gate), CLOSED);
+    still_now += HULL_SHARED_TURN - 1;
+    check("a turn is not over before its end", closing_bit(gate), 0);
+    still_now++;
+    check("a turn is over at its end", closing_bit(gate), CLOSED);
     check("the second", gate->nodes[4].is_designated, 1);
 }
 
@@ -122,24 +124,19 @@ static void check_giving_up(void) {
     check("nothing is left", gate->state, 0);
 }
 
-static void *designate_later(void *own) {
-    struct timespec t = {0, 30000000};
-    nanosleep(&t, NULL);
-    __atomic_store_n(&node_of(gate, *(uint32_t *)own)->is_designated, 1, __ATOMIC_SEQ_CST);
-    return NULL;
+static void designate_fourth(void) {
+    __atomic_store_n(&node_of(gate, 4)->is_designated, 1, __ATOMIC_SEQ_CST);
 }
 
 /* A caller that was dequeued when its deadline passed is designated, before it knows; and if the gate was closed for it, it opens the
  * gate again when it gives up. */
 static void check_giving_up_when_designated(void) {
-    uint32_t seat = 4;
-    pthread_t thread;
     park_three();
-    dequeue(gate, seat);
+    dequeue(gate, 4);
     gate->state = DESIGNATED + 2 * PARKED + 1;
-    pthread_create(&thread, NULL, designate_later, &seat);
-    check("it is designated", (uint64_t)await_designation(gate, seat, hull_now()), 1);
-    pthread_join(thread, NULL);
+    in_sleep = designate_fourth;
+    check("it is designated", (uint64_t)await_designation(gate, 4, hull_now()), 1);
+    in_sleep = NULL;
     gate->state = DESIGNATED + CLOSED + 2 * PARKED + 1;
     check("it gives up", (uint64_t)enter_or_resign(gate), 0);
     check("the gate is open to the others", gate->state, 2 * PARKED + 1);
@@ -158,12 +155,269 @@ static void check_several_inside(void) {
     check("the second", gate->nodes[4].is_designated, 1);
 }
 
+/* A call that gives up does so at its deadline, neither before nor after; one that does not wait looks at nothing but whether another is
+ * inside. */
+static void check_deadlines(void) {
+    uint64_t begun;
+    enter_all(1);
+    begun = still_now;
+    check("in time", (uint64_t)enter(gate, 4, begun + 5000000), 0);
+    check("at its deadline", still_now, begun + 5000000);
+    check("nothing is left", gate->state, 1);
+    check("in no queue", gate->first + gate->last + gate->nodes[3].is_queued, 0);
+    hull_shared_gate_init(&storage, 4);
+    check("at once, if none is inside", (uint64_t)enter(gate, 9, 0), 1);
+    check("not beside another", (uint64_t)enter(gate, 9, 0), 0);
+    check("a call that waits enters beside another", (uint64_t)enter(gate, 8, HULL_NEVER), 1);
+    check("no time passed", still_now, begun + 5000000);
+}
+
+/* Numbers continue with 0 after 2^64 - 1; of two that are stored by several threads the later one stays. */
+static void check_numbers(void) {
+    enter_all(2);
+    store_turn(gate, UINT64_MAX - 1);
+    store_turn(gate, UINT64_MAX);
+    store_turn(gate, UINT64_MAX - 2);
+    check("the later one", gate->turn, UINT64_MAX);
+    store_turn(gate, 1);
+    check("past the last", gate->turn, 1);
+    store_turn(gate, UINT64_MAX);
+    check("the later one", gate->turn, 1);
+    hull_shared_handed_on(&storage, 7);
+    check("one that was handed on", gate->turn, 7);
+}
+
+static void announce_in_sleep(void) {
+    check("it is counted", gate->for_space, 1);
+    check("as the statistics say", hull_shared_stats(&storage).for_space, 1);
+    announce_space(gate);
+}
+
+/* Who waits for space sleeps until a drain or its deadline, and for ten milliseconds if the drain before was refused memory. A drain wakes
+ * all, if there are any. */
+static void check_sleep_for_space(void) {
+    uint64_t begun = still_now;
+    enter_all(1);
+    woken.count = 0;
+    announce_space(gate);
+    check("none is woken if none sleeps", woken.count, 0);
+    in_sleep = announce_in_sleep;
+    wait_for_drain(gate, gate->drains, HULL_NEVER);
+    check("one is woken", woken.count, 1);
+    check("by its word", woken.word == &gate->drains && slept.word == &gate->drains, 1);
+    check("and all others", woken.many > 1000, 1);
+    check("with no end", slept.until, HULL_NEVER);
+    in_sleep = NULL;
+    check("none sleeps", gate->for_space, 0);
+    wait_for_drain(gate, gate->drains, begun + 77);
+    check("until its deadline", still_now, begun + 77);
+    gate->refused = 1;
+    wait_for_drain(gate, gate->drains, HULL_NEVER);
+    check("for ten milliseconds", still_now, begun + 77 + 10000000);
+    wait_for_drain(gate, gate->drains, still_now + 5);
+    check("or until its deadline", still_now, begun + 77 + 10000000 + 5);
+    wait_for_drain(gate, gate->drains - 1, HULL_NEVER);
+    check("not at all after a drain", still_now, begun + 77 + 10000000 + 5);
+}
+
+/* Sets since when the call of a seat is inside, and with which number. */
+static void set_inside(uint32_t seat, uint64_t since, uint32_t has_turn, uint64_t turn) {
+    gate->nodes[seat].since = since, gate->nodes[seat].has_turn = has_turn, gate->nodes[seat].turn = turn;
+}
+
+static void check_holder(const char *what, uint32_t seat, uint64_t since) {
+    uint32_t found = HULL_SHARED_SEATS_MAX;
+    check(what, find_holder(gate, 50, &found), since);
+    check(what, found, seat);
+}
+
+/* The seat that is reported: one that serves others, one that has the number, the one that is inside for longest, and only then one whose call
+ * another thread has served. */
+static void check_holders(void) {
+    enter_all(1);
+    check_holder("none", HULL_SHARED_SEATS_MAX, 0);
+    set_inside(9, 3, HAD_TURN, 50);
+    check_holder("one that was served", 9, 3);
+    set_inside(63, 40, 0, 0), set_inside(5, 20, HAS_TURN, 51), set_inside(7, 30, 0, 0);
+    check_holder("the oldest", 5, 20);
+    set_inside(30, 60, HAS_TURN, 50);
+    check_holder("the one with the number", 30, 60);
+    gate->server = 8;
+    check_holder("the one that serves", 7, 30);
+    gate->state = 3 * PARKED + DESIGNATED + 2, gate->designated = 61, gate->drainer = 33, gate->drainer_since = 10, still_now = 1000;
+    gate->turn = 50, gate->server = 0, gate->held = 12, gate->out = 6, gate->for_space = 4, gate->combined = 99;
+    const hull_shared_state s = hull_shared_stats(&storage);
+    check("inside", s.inside, 2);
+    check("parked", s.sleepers, 3);
+    check("designated", s.designated, 60);
+    check("drainer", s.drainer, 32);
+    check("how long it drains", s.drains_for, 990);
+    check("its seat", s.seat, 30);
+    check("how long it is inside", s.seat_for, 940);
+    check("other numbers", s.turn == 50 && s.held == 12 && s.out == 6 && s.for_space == 4 && s.combined == 99, 1);
+    still_now = 5;
+    check("a clock that is behind", hull_shared_stats(&storage).seat_for + hull_shared_stats(&storage).drains_for, 0);
+    still_now = 1000000000;
+}
+
+/* ---- calls over the library */
+
+enum { SEATS = 40 };
+static hull_shared *shared;
+static hull_shared_seat *seats[SEATS];
+
+static void open_all(uint32_t capacity, uint32_t inside) {
+    check("gate", (uint64_t)hull_shared_gate_init(&storage, inside), 1);
+    check("open", hull_shared_open(shared, 1000, 7, capacity, SEATS), HULL_OPEN);
+    for (uint32_t k = 0; k < SEATS; k++) {
+        check("acquire", hull_shared_acquire_seat(shared, &storage, seats[k], k), HULL_ACQUIRED);
+    }
+}
+
+static void close_all(void) {
+    const hull_shared_state before = hull_shared_stats(&storage);
+    check("none is inside", before.inside + before.sleepers + before.for_space, 0);
+    for (uint32_t k = 0; k < SEATS; k++) {
+        check("all that are out", hull_shared_stats(&storage).out, SEATS - k);
+        check("release", hull_shared_release_seat(shared, seats[k]), HULL_RELEASED);
+        check("a call by a seat that was released", hull_seat_count(seats[k]).answer.code, HULL_VACANT);
+    }
+    const hull_shared_state state = hull_shared_stats(&storage);
+    check("no number is served", state.turn, 0);
+    check("none was served for others", state.combined, 0);
+    check("close", hull_shared_close(shared), HULL_CLOSED);
+    check("end", hull_shared_end(shared), HULL_ENDED);
+    hull_shared_gate_end(&storage);
+}
+
+static uint32_t count_by(uint32_t seat) {
+    return hull_shared_call(&storage, seats[seat], HULL_KIND_COUNT, 0, 0).answer.code;
+}
+
+static unsigned hooks;
+static uint32_t drainer;
+
+/* The hook runs with its context, not to be cancelled, and its seat is reported; other calls go on meanwhile. */
+static void look_around(void *context, const hull_shared_segment *segment) {
+    int before;
+    uint8_t text[4096];
+    hooks++;
+    check("its context", context == &hooks, 1);
+    check("its segment", hull_shared_segment_text(segment, text, sizeof text).code, HULL_TEXT);
+    pthread_setcancelstate(PTHREAD_CANCEL_DISABLE, &before);
+    check("it is not cancelled", (uint64_t)before, PTHREAD_CANCEL_DISABLE);
+    still_now += 3000000;
+    check("the seat that drains", hull_shared_stats(&storage).drainer, drainer);
+    check("how long", hull_shared_stats(&storage).drains_for, 3000000);
+    check("another call", count_by(20), HULL_NUMBER);
+    errno = 5;
+}
+
+/* A hull of eight lines is drained at each fourth, by the thread that made that call. */
+static void check_hook(void) {
+    int state;
+    open_all(8, 1);
+    check("hook", (uint64_t)hull_shared_gate_on_half_full(&storage, look_around, &hooks), 1);
+    for (uint32_t k = 0; k < 12; k++) {
+        const unsigned before = hooks;
+        const uint32_t held = hull_shared_stats(&storage).held;
+        drainer = k;
+        errno = 77;
+        check("a call", count_by(k), HULL_NUMBER);
+        check("errno", (uint64_t)errno, 77);
+        check("drained at half of the lines, and not before", hooks - before, held + 1 == 4);
+        check("the line of the hook's own call", hull_shared_stats(&storage).held, held + 1 == 4 ? 1 : held + 1);
+    }
+    drainer = 30, hooks = 0, errno = 77;
+    check("now", (uint64_t)hull_shared_gate_drain(&storage, seats[30]), 1);
+    check("by its hook", hooks, 1);
+    check("errno", (uint64_t)errno, 77);
+    check("none drains", hull_shared_stats(&storage).drainer, HULL_SHARED_SEATS_MAX);
+    pthread_setcancelstate(PTHREAD_CANCEL_ENABLE, &state);
+    check("the thread can be cancelled again", (uint64_t)state, PTHREAD_CANCEL_ENABLE);
+    close_all();
+    check("no hook", (uint64_t)hull_shared_gate_drain(&storage, seats[30]), 0);
+}
+
+/* A full journal: a call waits for space if the gate does, until its deadline. */
+static void check_full(void) {
+    for (int waits = 0; waits < 3; waits++) {
+        open_all(3, 1);
+        hull_shared_gate_wait_for_space(&storage, waits);
+        for (uint32_t k = 0; k < 3; k++) {
+            check("a call", count_by(k), HULL_NUMBER);
+        }
+        const uint64_t begun = still_now;
+        check("at once", hull_shared_try_call(&storage, seats[4], HULL_KIND_COUNT, 0, 0).answer.code, HULL_FULL);
+        check("no time passed", still_now, begun);
+        check("in time", hull_shared_call_until(&storage, seats[4], HULL_KIND_COUNT, 0, 0, begun + 20).answer.code, HULL_FULL);
+        check("at its deadline, if the gate waits", still_now, waits ? begun + 20 : begun);
+        check("lines", hull_shared_stats(&storage).held, 3);
+        check("the number that is served", hull_shared_stats(&storage).turn, 7 + 5);
+        close_all();
+    }
+}
+
+static uint64_t first_number;
+
+/* While seat 38 sleeps with its number: it is reported, and its call is made by this thread. */
+static void serve_last(void) {
+    struct wait_node *node = node_of(gate, 39);
+    hull_shared_reply reply;
+    if (node->notice != SLEEPS) {
+        return;
+    }
+    still_now += 1000;
+    check("the only seat that is inside", hull_shared_stats(&storage).seat, 38);
+    check("how long", hull_shared_stats(&storage).seat_for, 1000);
+    reply = hull_shared_look(seats[0]);
+    check("a look", reply.answer.code, HULL_NUMBER);
+    check("the seat after it", claim(gate, first_number + 1), 39);
+    check("is served", (uint64_t)serve(gate, node), 1);
+    check("and had its turn", node->has_turn, HAD_TURN);
+    check("the number that is served", gate->turn, first_number + 2);
+    check("its thread sleeps", (uint64_t)notify(node, IS_SERVED), 1);
+}
+
+/* A call that another thread serves. */
+static void check_served(void) {
+    hull_point out[2] = {{5, 5}, {5, 5}};
+    open_all(100, SEATS);
+    first_number = hull_shared_take(seats[0], HULL_KIND_COUNT, 0, 0).turn;
+    in_sleep = serve_last;
+    const hull_shared_reply reply = hull_shared_call(&storage, seats[38], HULL_KIND_ADD, 3, 4);
+    in_sleep = NULL;
+    check("its reply", reply.answer.code, HULL_ADDED);
+    check("its number", reply.turn, first_number + 1);
+    check("vertices", hull_seat_vertices(seats[38], out, 2).answer.code == HULL_VERTICES && out[0].x == 3 && out[0].y == 4, 1);
+    check("vertices of no array", hull_seat_vertices(seats[38], NULL, 0).answer.code, HULL_TOO_SMALL);
+    check("vertices of no array", hull_shared_vertices(&storage, seats[38], NULL, 0).answer.code, HULL_TOO_SMALL);
+    check("a call that does not wait", hull_seat_call_until(seats[38], HULL_KIND_COUNT, 0, 0, 0).answer.number, 1);
+    close_all();
+}
+
 int main(void) {
+    alarm(60);
+    shared = hull_shared_new();
+    for (int k = 0; k < SEATS; k++) {
+        seats[k] = hull_shared_seat_new();
+    }
     check_numbers_inside();
     check_designation();
     check_order();
     check_giving_up();
     check_giving_up_when_designated();
     check_several_inside();
+    check_deadlines();
+    check_numbers();
+    check_sleep_for_space();
+    check_holders();
+    check_hook();
+    check_full();
+    check_served();
+    for (int k = 0; k < SEATS; k++) {
+        hull_shared_seat_free(seats[k]);
+    }
+    hull_shared_free(shared);
     return bad;
 }
