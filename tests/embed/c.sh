@@ -71,7 +71,13 @@ is_stopped() {
     ! cc -I"$prefix/include" -fsyntax-only "$room/narrow.c" 2>"$room/said" && [ "$(grep -c 'error:' "$room/said")" -eq 1 ] && grep -q '64-bit pointers' "$room/said"
 }
 
+# both archives, whole, in one shared object
+both_archives() {
+    cc -shared -o "$room/both.so" -Wl,--whole-archive "$prefix/lib/libhull.a" "$prefix/lib/libhull_shared.a" -Wl,--no-whole-archive -lpthread
+}
+
 headers() {
+    attempt "both archives whole are one shared object" both_archives
     for header in hull hull_shared hull_service hull_exchange; do
         for compiler in gcc clang; do
             if ! is_there $compiler; then skip "$header.h by $compiler" $compiler; continue; fi

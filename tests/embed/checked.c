@@ -59,6 +59,10 @@ int main(void) {
     const hull_point small[] = {{-1, -1}, {1, -1}, {0, 1}};
     CHECK(hull_polygon_place(square, 4, 0, 0).code == HULL_INSIDE && hull_polygon_area(square, 4).number == 32);
     CHECK(hull_polygon_contains(square, 4, small, 3).number == 1 && hull_polygon_place(NULL, 0, 1, 1).code == HULL_OUTSIDE);
+    hull_check_arrays(0);
+    CHECK(hull_polygon_place(lists[0], 4, 0, 0).code != HULL_NO_POLYGON);
+    hull_check_arrays(1);
+    CHECK(bare(hull_polygon_place(lists[0], 4, 0, 0), HULL_NO_POLYGON));
     printf("checked: %d passed, %d failed\n", passed, failed);
     return failed != 0;
 }

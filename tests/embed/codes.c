@@ -1056,6 +1056,10 @@ static void check_extents(void) {
 
 /* directions in doubles */
 static void check_doubles(void) {
+    int64_t wide = 7;
+    CHECK(hull_from_double(0x1p-1074, 1114, &wide) == HULL_EXACT && wide == HULL_COORDINATE_MAX);
+    CHECK(hull_from_double(0x1p-1074, 1115, &wide) == HULL_NO_COORDINATE && hull_from_double(-0x3p-1074, 1113, &wide) == HULL_NO_COORDINATE);
+    CHECK(wide == HULL_COORDINATE_MAX && hull_from_double(-0x1p-1074, 1114, &wide) == HULL_EXACT && wide == -HULL_COORDINATE_MAX);
     static const hull_point vertices[] = {{-7, 2}, {-5, -6}, {1, -9}, {8, -3}, {9, 4}, {3, 10}, {-4, 9}};
     static const int64_t top = (int64_t)1 << 39;
     int64_t x = 5, y = 6;
@@ -1087,6 +1091,32 @@ static void check_doubles(void) {
     CHECK(hull_extreme_d(h, 0, 0).x == 1 && hull_extreme_d(h, 0, 0).y == 3 && hull_extreme_d(h, 0.3, 1e-3).x == 4);
     CHECK(bare(hull_extreme_d(h, NAN, NAN), HULL_OUT_OF_RANGE));
     hull_free(h);
+}
+
+/* well-known text, whole and cut at each length, with nothing written behind it; numbers with the fewest digits */
+static void check_texts(void) {
+    static const hull_point vertices[] = {{3, -4}, {HULL_COORDINATE_MAX, 1}, {5, 123456789}};
+    static const struct {
+        size_t count;
+        int power;
+        const char *text;
+    } texts[] = {
+        {0, 0, "POLYGON EMPTY"}, {1, 0, "POINT (3 -4)"}, {2, 1, "LINESTRING (1.5 -2, 549755813888 0.5)"}, {1, -3, "POINT (24 -32)"},
+        {3, 0, "POLYGON ((3 -4, 1099511627776 1, 5 123456789, 3 -4))"}, {1, 40, "POINT (2.7284841053187847e-12 -3.637978807091713e-12)"},
+        {3, 41, "POLYGON ((1.3642420526593924e-12 -1.8189894035458565e-12, 0.5 4.547473508864641e-13, 2.2737367544323206e-12 "
+                "5.6141647746699164e-05, 1.3642420526593924e-12 -1.8189894035458565e-12))"}};
+    for (size_t k = 0; k < sizeof texts / sizeof *texts; k++) {
+        const size_t length = strlen(texts[k].text);
+        int same = hull_wkt(vertices, texts[k].count, texts[k].power, NULL, 0) == length;
+        for (size_t capacity = 1; capacity < length + 3; capacity++) {
+            char out[256];
+            const size_t written = length < capacity ? length : capacity - 1;
+            memset(out, '#', sizeof out);
+            same &= hull_wkt(vertices, texts[k].count, texts[k].power, out, capacity) == length && memcmp(out, texts[k].text, written) == 0;
+            same &= out[written] == 0 && out[written + 1] == '#' && out[capacity] == '#';
+        }
+        check(same, texts[k].text, __LINE__);
+    }
 }
 
 /* segments, nearest points and boxes of a triangle, a line, a point and of nothing */
@@ -1188,6 +1218,11 @@ static void check_refusals(void) {
 /* the loop that the header gives for pieces: it ends, whatever the last piece ends with, and no point comes twice */
 static void check_pieces(void) {
     const int64_t far = HULL_COORDINATE_MAX;
+    const hull_point places[][2] = {{{3, 4}, {3, 5}}, {{-far, -far}, {-far, 1 - far}}, {{3, far - 1}, {3, far}}, {{3, far}, {4, -far}}, {{far, far}, {far + 1, -far}}};
+    for (int i = 0; i < 5; i++) {
+        const hull_point next = hull_held_after((hull_held){places[i][0].x, places[i][0].y, 1});
+        CHECK(next.x == places[i][1].x && next.y == places[i][1].y);
+    }
     for (size_t count = 0; count <= 12; count++) {
         for (int at_end = 0; at_end < 2; at_end++) {
             hull_set *h = make_set(12);
@@ -1409,6 +1444,7 @@ static void check_new_ones(void) {
     CHECK(bare(hull_add(h, 1, 2), HULL_ADDED));
     hull_free(h);
     hull_free(NULL);
+    hull_storage_free(NULL);
     refused_from = asked;
     CHECK(hull_new(1) == NULL);
     refused_from = -1;
@@ -1500,6 +1536,7 @@ int main(int words, char **word) {
     check_raycasts();
     check_extents();
     check_doubles();
+    check_texts();
     check_calls();
     check_refusals();
     check_no_arrays();

@@ -3,8 +3,11 @@
 // and how many checks passed and failed.
 #include "hull.hpp"
 
+#include <algorithm>
 #include <atomic>
 #include <cerrno>
+#include <functional>
+#include <memory>
 #include <chrono>
 #include <cstdio>
 #include <fstream>
@@ -60,6 +63,28 @@ static Polygon polygon(std::size_t count, std::int64_t most) {
     return Polygon::of(points);
 }
 
+// ---- calls that the linker sends here (--wrap)
+
+// until when the last call of a seat waits
+static std::uint64_t waited_until;
+extern "C" hull_shared_reply __real_hull_shared_call_into(hull_shared_gate *, hull_shared_seat *, std::uint32_t, std::int64_t, std::int64_t,
+                                                          hull_shared_target, std::uint64_t);
+extern "C" hull_shared_reply __wrap_hull_shared_call_into(hull_shared_gate *gate, hull_shared_seat *seat, std::uint32_t kind, std::int64_t x,
+                                                          std::int64_t y, hull_shared_target to, std::uint64_t until) {
+    waited_until = until;
+    return __real_hull_shared_call_into(gate, seat, kind, x, y, to, until);
+}
+
+// the request of the library for memory that comes after so many is refused; none if it is negative
+static long granted = -1;
+static bool refuse_next() { return granted >= 0 && granted-- == 0; }
+extern "C" void *__real_malloc(std::size_t);
+extern "C" void *__wrap_malloc(std::size_t size) { return refuse_next() ? nullptr : __real_malloc(size); }
+extern "C" void *__real_calloc(std::size_t, std::size_t);
+extern "C" void *__wrap_calloc(std::size_t count, std::size_t size) { return refuse_next() ? nullptr : __real_calloc(count, size); }
+extern "C" void *__real_realloc(void *, std::size_t);
+extern "C" void *__wrap_realloc(void *block, std::size_t size) { return refuse_next() ? nullptr : __real_realloc(block, size); }
+
 // ---- operators
 
 static void comparisons() {
@@ -105,6 +130,17 @@ static void about_one(const Polygon &p, Point a, Point b) {
     const hull_reply farthest = hull_polygon_extreme_d(p.data(), p.size(), dx, dy);
     CHECK(p.extreme_d(dx, dy).has_value() == (p.size() > 0) && (p.size() == 0 || p.extreme_d(dx, dy) == Point(farthest.x, farthest.y)));
     const std::vector<hull::Segment> many = {{a, b}, {b, a}, {a, a}, {{b.x, a.y}, {a.x, b.y}}};
+    const auto nearest = p.nearest(a);
+    CHECK(nearest.has_value() == (p.size() > 0));
+    if (nearest) { // the point itself, a vertex, or an edge
+        const auto &vertices = p.vertices();
+        const auto at = std::find(vertices.begin(), vertices.end(), nearest->from);
+        const Point next = at == vertices.end() ? a : at + 1 == vertices.end() ? vertices.front() : *(at + 1);
+        CHECK((nearest->where == hull::Nearest::Where::covered) == (p.place(a) != hull::Place::outside));
+        CHECK(nearest->where != hull::Nearest::Where::covered || (nearest->from == a && nearest->to == a));
+        CHECK(nearest->where != hull::Nearest::Where::vertex || (at != vertices.end() && nearest->to == nearest->from));
+        CHECK(nearest->where != hull::Nearest::Where::edge || (at != vertices.end() && nearest->to == next && nearest->to != nearest->from));
+    }
     const std::vector<bool> met = p.intersects_segments(many);
     for (std::size_t k = 0; k < many.size(); k++) {
         CHECK(met.size() == many.size() && met[k] == p.intersects_segment(many[k].from, many[k].to));
@@ -204,6 +240,10 @@ static void sets() {
     for (std::size_t k = 0; k < 700; k++) {
         CHECK(held[k].multiplicity == 2 && copy.multiplicity({held[k].x, held[k].y}) == 2 && twin.multiplicity({held[k].x, held[k].y}) == 2);
     }
+    Hull corners;
+    corners.load({{-far, -far}, {-far, far}, {far, -far}, {0, 0}});
+    CHECK(corners.held().size() == 4 && corners.copy().multiplicity({-far, -far}) == 1 && corners.held()[0].y == -far);
+    CHECK(corners.add_all({{-far, -far}, {far, far}}) == (std::vector<std::uint32_t>{2, 1}) && corners.remove_all({{far, far}, {-far, -far}}) == 2);
     CHECK(twin.extreme_d(0.25, -0.5) == h.extreme({1, -2}) && h.remove_all(all) == 700 && h.remove_all(all) == 700 && h.empty());
     CHECK(h.nearest_held({0, 0}) == std::nullopt && copy.size() == 700);
     for (std::uint32_t k = 1; k <= 9; k++) {
@@ -213,6 +253,65 @@ static void sets() {
         CHECK(h.remove({1, 1}) == k);
     }
     CHECK(!h.remove({1, 1}));
+}
+
+// makes a call again and again, of whose requests for memory each is refused in turn: it fails with no_memory, unless `spares` says that
+// it bears that, and then makes the call; returns how many there were
+template <class Make, class Call, class Spares> static int refuse_each(Make make, Call call, Spares spares) {
+    for (int request = 0;; request++) {
+        auto made = make();
+        granted = request;
+        const Failure failure = failure_of([&] { call(made); });
+        const bool was_refused = granted < 0;
+        granted = -1;
+        CHECK(failure == (was_refused && !spares(made) ? Failure(Refusal::no_memory, 0) : Failure()));
+        if (!was_refused) {
+            return request;
+        }
+        CHECK(spares(made) || failure_of([&] { call(made); }) == Failure());
+    }
+}
+
+// what happens where the library is refused memory
+static void refused_memory() {
+    std::vector<Point> points;
+    for (std::int64_t k = 0; k < 300; k++) {
+        points.push_back({k * 7 % 300, k * k});
+    }
+    const auto no_hull = [] { return 0; };
+    const auto hull = [&] { return Hull(points.begin(), points.begin() + 150); };
+    const auto none = [](const auto &) { return false; };
+    int requests = refuse_each(no_hull, [](int) { Hull h; }, none);
+    CHECK(requests > 0);
+    requests = refuse_each(hull, [&](Hull &h) { CHECK(h.load(points) == 300); }, [](Hull &h) { CHECK(h.size() >= 150); return false; });
+    CHECK(requests > 1 && refuse_each(hull, [](Hull &h) { CHECK(h.vertices().size() > 2); }, none) > 0);
+    CHECK(refuse_each(hull, [](Hull &h) { CHECK(h.copy().size() == 150); }, none) > 2);
+    CHECK(refuse_each(no_hull, [&](int) { CHECK(Polygon::of(points).size() > 2); }, none) > 2);
+    std::vector<std::uint32_t> times;
+    const auto adds = [&](Hull &h) { times = h.add_all(points); };
+    requests = refuse_each(hull, adds, [&](Hull &h) { // all but one are added
+        CHECK(h.size() == 150 + static_cast<std::size_t>(std::count(times.begin() + 150, times.end(), 1u)));
+        CHECK(times.size() == 300 && std::count(times.begin(), times.end(), 0u) <= 1 && h.size() >= 299);
+        return true;
+    });
+    CHECK(requests > 2);
+    const auto opened = [&] { return std::make_unique<SharedHull>(hull::Limits{400, 7, 50, 2, 2}); };
+    using Opened = std::unique_ptr<SharedHull>;
+    CHECK(refuse_each(no_hull, [&](int) { opened(); }, none) > 5);
+    const auto unread = [] { return std::make_unique<SharedHull>(hull::Limits{400, 7, 50, 2}); }; // (a snapshot that is refused fails no call)
+    CHECK(refuse_each(unread, [](Opened &h) { h->acquire_seat(1).add({1, 1}); }, none) > 0);
+    CHECK(refuse_each(opened, [](Opened &h) { CHECK(h->acquire_reader().snapshot().size() == 0); }, none) > 0);
+    CHECK(refuse_each(opened, [](Opened &h) { h->on_half_full([](void *, const hull_shared_segment *) {}, nullptr); }, none) > 0);
+    const auto drains = [](Opened &h) {
+        Seat seat = h->acquire_seat(0);
+        const Failure failure = failure_of([&] { seat.drain(); });
+        CHECK(seat.turn().has_value() == (failure == Failure())); // no call is made
+        if (failure != Failure()) {
+            hull::detail::fail(static_cast<std::uint32_t>(failure.first));
+        }
+    };
+    CHECK(refuse_each(opened, drains, none) > 2);
+    CHECK(refuse_each(opened, [](Opened &h) { CHECK(h->close().size() > 20); }, none) > 0);
 }
 
 // ---- texts and numbers
@@ -278,6 +377,30 @@ static void patience() {
     CHECK(waited >= milliseconds(79) && waited < milliseconds(20000));
     other = std::move(seat);
     CHECK(other.turn() == 2u && other.number() == 0 && time_of(count, other, Refusal::full) >= milliseconds(79));
+    // each call waits as long as its seat says
+    const std::vector<std::function<void(Seat &)>> calls = {[](Seat &s) { s.add({1, 1}); }, [](Seat &s) { s.remove({1, 1}); },
+        [](Seat &s) { s.place({1, 1}); }, [](Seat &s) { s.tangents({1, 1}); }, [](Seat &s) { s.extreme({1, 1}); },
+        [](Seat &s) { s.doubled_area(); }, [](Seat &s) { s.vertices(); }, [](Seat &s) { s.count(); }, [](Seat &s) { s.drain(); }};
+    SharedHull wide({4, 0, 100, 2});
+    Seat first = wide.acquire_seat(0), second = wide.acquire_seat(1);
+    for (const auto &call : calls) {
+        second.wait_at_most(std::chrono::hours(1));
+        second = std::move(first);
+        second.wait_at_most(std::chrono::hours(1));
+        const std::uint64_t now = hull_shared_now(), hour = UINT64_C(3600000000000);
+        call(second);
+        CHECK(waited_until >= now + hour && waited_until <= hull_shared_now() + hour);
+        first = std::move(second);
+        call(first);
+        CHECK(waited_until >= now + hour && waited_until <= hull_shared_now() + hour);
+        first.wait_at_most(std::chrono::nanoseconds(0));
+        call(first);
+        CHECK(waited_until == 0);
+        first.wait_at_most(std::nullopt);
+        call(first);
+        CHECK(waited_until == HULL_SHARED_NEVER);
+        second = wide.acquire_seat(1);
+    }
     other.wait_at_most(std::nullopt);
     Seat drainer = h.acquire_seat(1);
     std::thread drains([&] {
@@ -318,6 +441,11 @@ static void kinds() {
     SharedHull strict({4, 9, 50, 2, 1});
     CHECK(strict.stats().out == 0 && strict.acquire_seat(1).add({3, 4}) == 1 && strict.acquire_seat(0).turn() == std::nullopt);
     CHECK(strict.close().find("\n9 1 add 3 4 = added\n") != std::string::npos);
+    SharedHull bare = SharedHull::open_without_journal({4, 9, 0, 2, 1});
+    Seat only = bare.acquire_seat(1);
+    CHECK(only.add({3, 4}) == 1 && only.turn() == 9u && only.count() == 1 && only.turn() == 10u && bare.stats().out == 1);
+    only = bare.acquire_seat(0);
+    CHECK(bare.stats().out == 1 && only.number() == 0); // the seat that it had is released
 }
 
 // a reader that is moved continues with its snapshot
@@ -345,10 +473,10 @@ static void readers() {
 // ---- journal files
 
 // a sync waits as long as this is set; the linker sends it here (--wrap)
-static std::atomic<bool> syncs_wait{false};
+static std::atomic<bool> syncs_wait{false}, is_syncing{false};
 extern "C" int __real_fsync(int file);
 extern "C" int __wrap_fsync(int file) {
-    while (syncs_wait) {
+    for (; syncs_wait; is_syncing = true) {
         std::this_thread::sleep_for(milliseconds(1));
     }
     return __real_fsync(file);
@@ -413,9 +541,15 @@ static void journals() {
     Seat seat = h.acquire_seat(0);
     seat.add({3, 3});
     syncs_wait = true;
+    std::thread syncs([&] { CHECK(h.sync() > *seat.turn()); });
+    while (!is_syncing) {
+        std::this_thread::sleep_for(milliseconds(1));
+    }
+    CHECK(h.durable() <= *seat.turn()); // at once, though another waits
     seat.wait_at_most(milliseconds(30));
     CHECK(time_of([](Seat &s) { s.wait_durable(); }, seat, Refusal::busy) >= milliseconds(29));
     syncs_wait = false;
+    syncs.join();
     seat.wait_at_most(std::nullopt);
     seat.wait_durable();
     CHECK(h.durable() > *seat.turn());
@@ -428,10 +562,11 @@ static void journals() {
 }
 
 int main() {
-    alarm(100);
+    alarm(600);
     comparisons();
     answers();
     sets();
+    refused_memory();
     texts();
     patience();
     kinds();

@@ -255,7 +255,10 @@ static void texts() {
                {Refusal::no_journal, "the text is not a journal, from this line on"},
                {Refusal::old_rules, "journals before version 3 do not count points"},
                {Refusal::illegal, "the journal is not a legal history, from this line of its text on"},
-               {Refusal::too_few_seats, "the journal has lines by this many seats"}};
+               {Refusal::too_few_seats, "the journal has lines by this many seats"},
+               {Refusal::busy, "the hull was in use by others for too long"},
+               {Refusal::no_file, "a call on the journal file failed, with this errno"},
+               {Refusal::damaged, "the file is damaged, or not a journal, from this line on"}};
     for (const auto &one : all) {
         CHECK(std::strcmp(hull::Fault(one.code).what(), one.text) == 0 && hull::Fault(one.code).number() == 0);
         CHECK(hull::Fault(one.code, 7).what() == std::string(one.text) + ": 7" && hull::Fault(one.code, 7).number() == 7);
@@ -445,9 +448,9 @@ static void shared() {
 // overlaps.c has it, with which this is linked in one of two builds
 extern "C" long hull_overlaps(void) __attribute__((weak));
 
-// seats that several threads acquire and release: no two calls on their shared hull overlap
+// seats and readers that several threads acquire and release: no two calls on their shared hull overlap
 static void acquisitions() {
-    SharedHull h = SharedHull::open_without_journal({4, 0, 0, 8});
+    SharedHull h = SharedHull::open_without_journal({4, 0, 0, 8, 8});
     std::vector<std::thread> all;
     for (std::uint32_t k = 0; k < 4; k++) {
         all.emplace_back([k, &h] {
@@ -455,6 +458,9 @@ static void acquisitions() {
                 Seat seat = h.acquire_seat(k);
                 seat = h.acquire_seat(k + 4);
                 seat.add({1, 2});
+                hull::Reader reader = h.acquire_reader();
+                reader = h.acquire_reader();
+                CHECK(reader.snapshot().size() == 1);
                 if (i % 5 == 0) {
                     CHECK(refuses(Refusal::seats_out, [&] { h.close(); }));
                 }
@@ -464,6 +470,14 @@ static void acquisitions() {
     for (std::thread &thread : all) {
         thread.join();
     }
+    for (int k = 0; k < 2; k++) {
+        all[static_cast<std::size_t>(k)] = std::thread([&h] {
+            std::ostringstream text;
+            h.close_to(text);
+            CHECK(text.str() == h.close());
+        });
+    }
+    all[0].join(), all[1].join();
     CHECK(!h.close().empty() && hull_overlaps() == 0);
 }
 
@@ -650,7 +664,7 @@ static void threads(const char *file) {
 }
 
 int main(int words, char **word) {
-    alarm(200);
+    alarm(600);
     one_thread();
     points();
     many_at_once();

@@ -1,6 +1,6 @@
 /* Calls that wait with numbers and are served by the threads of others, in c/gate.c itself: how many a thread serves, for how long, and
  * when it serves none; drains, hooks, space and arrays of calls that others serve; threads that die or are cancelled meanwhile; and the
- * state that is reported. The status is 0 only if each is so; a hang ends the program after a minute. */
+ * state that is reported. The status is 0 only if each is so; a hang ends the program after five minutes. */
 #include <stdint.h>
 static unsigned limit;
 static uint64_t time_limit;
@@ -363,7 +363,7 @@ static void check_slots(void) {
 }
 
 int main(void) {
-    alarm(60);
+    alarm(300);
     shared = hull_shared_new();
     for (int k = 0; k < SEATS; k++) {
         seats[k] = hull_shared_seat_new();

@@ -311,7 +311,7 @@ static void gives_up_when_full(void) {
 
 int main(int count, char **words) {
     calls = count > 1 ? strtoul(words[1], NULL, 10) : 3000;
-    alarm(100);
+    alarm(300);
     shared = hull_shared_new();
     for (uint32_t k = 0; k < SEATS; k++) {
         seats[k] = hull_shared_seat_new();

@@ -1,6 +1,6 @@
 /* edges FOLDER [TEST]: what a journal file has to bear: a close while a seat or a reader is out or a thread waits, a file that others
  * change, files and names that an attacker chose, changed bytes, refused calls of the system, and the order of those calls. Each test has
- * a file of its own in the folder. The status is 0 only if each is as it should be; a hang ends the program after two minutes. */
+ * a file of its own in the folder. The status is 0 only if each is as it should be; a hang ends the program after five minutes. */
 #define _GNU_SOURCE
 #include "hull_shared.h"
 #include "journal_text.h"
@@ -12,8 +12,10 @@
 #include <stdarg.h>
 #include <stdio.h>
 #include <stdlib.h>
+#include <linux/futex.h>
 #include <sys/resource.h>
 #include <sys/stat.h>
+#include <sys/syscall.h>
 #include <time.h>
 #include <unistd.h>
 
@@ -122,16 +124,29 @@ int __wrap_renameat(int from, const char *old, int to, const char *new) {
     return __real_renameat(from, old, to, new);
 }
 
+/* Sleeps with a deadline end at once if that is wanted, and how long they would have been is added. */
+static int are_sleeps_skipped;
+static uint64_t skipped;
+long __real_syscall(long number, ...);
+long __wrap_syscall(long number, long a, long b, long c, const struct timespec *deadline, long e, long f) {
+    if (number == SYS_futex && (b & FUTEX_CMD_MASK) == FUTEX_WAIT_BITSET && deadline != NULL && __atomic_load_n(&are_sleeps_skipped, __ATOMIC_SEQ_CST)) {
+        const uint64_t until = (uint64_t)deadline->tv_sec * SECOND + (uint64_t)deadline->tv_nsec, now = hull_shared_now();
+        __atomic_fetch_add(&skipped, until > now ? until - now : 0, __ATOMIC_SEQ_CST);
+        return 0;
+    }
+    return __real_syscall(number, a, b, c, deadline, e, f);
+}
+
 int __real_pthread_create(pthread_t *thread, const pthread_attr_t *attributes, void *(*start)(void *), void *own);
 int __wrap_pthread_create(pthread_t *thread, const pthread_attr_t *attributes, void *(*start)(void *), void *own) {
     return threads_fail ? EAGAIN : __real_pthread_create(thread, attributes, start, own);
 }
 
-/* Requests for memory of at least so many bytes are refused so often, if that is above 0. */
+/* Requests for memory of at least so many bytes are refused so often, if that is above 0, once so many were granted. */
 static size_t refused_from;
-static long refusals;
+static long refusals, granted;
 static int refuse_next(size_t size) {
-    return size >= refused_from && __atomic_load_n(&refusals, __ATOMIC_SEQ_CST) > 0 &&
+    return size >= refused_from && __atomic_load_n(&refusals, __ATOMIC_SEQ_CST) > 0 && __atomic_fetch_sub(&granted, 1, __ATOMIC_SEQ_CST) <= 0 &&
            __atomic_fetch_sub(&refusals, 1, __ATOMIC_SEQ_CST) > 0;
 }
 
@@ -950,6 +965,28 @@ static void continues_after_a_refusal(void) {
     check("the last of them", has(path, " add 2999 -3 = added"), 1);
 }
 
+/* Memory is refused while lines are written: it is requested again for ten seconds, and then nothing more is durable. */
+static void gives_up_after_ten_seconds(void) {
+    hull_shared_journal *journal = start(0, 20000);
+    for (int k = 0; k < 6000; k++) {
+        add(k, k * k);
+    }
+    const uint64_t next = hull_shared_journal_sync(journal, HULL_SHARED_NEVER).number;
+    const uint64_t last = hull_shared_call(&gate, seat, HULL_KIND_VERTICES, 0, 0).line; /* a line of more bytes than are written at once */
+    refused_from = 60000, refusals = 1000000000, skipped = 0;
+    __atomic_store_n(&are_sleeps_skipped, 1, __ATOMIC_SEQ_CST);
+    hull_reply r = hull_shared_journal_wait(journal, last, HULL_SHARED_NEVER);
+    __atomic_store_n(&are_sleeps_skipped, 0, __ATOMIC_SEQ_CST);
+    check("not durable", r.code, HULL_NO_FILE);
+    check("why", r.high, ENOMEM);
+    check("what is", r.number, next);
+    check("for ten seconds", skipped > 9 * SECOND && skipped < 11 * SECOND, 1);
+    refusals = 0;
+    check("it stays so", hull_shared_journal_sync(journal, HULL_SHARED_NEVER).code, HULL_NO_FILE);
+    stop(journal, HULL_NO_FILE);
+    hull_shared_journal_close(open_journal(next));
+}
+
 /* A thread is refused: the shared hull is as it was, and the journal can be started then. */
 static void starts_after_a_refusal(void) {
     hull_shared_journal *journal = open_journal(0);
@@ -961,6 +998,70 @@ static void starts_after_a_refusal(void) {
     check("acquire", hull_shared_acquire_seat(shared, &gate, seat, 0), HULL_ACQUIRED);
     check("durable", add_durably(journal, 2, 2).code, HULL_DURABLE);
     stop(journal, HULL_CLOSED);
+}
+
+/* Refuses memory to a start, at the request after so many; returns whether there was one. */
+static int refuse_start(hull_shared_journal *journal, long after) {
+    refused_from = 0, granted = after, refusals = 1;
+    const hull_reply r = hull_shared_journal_start(journal, shared, &gate, 100, 10, 2, 0);
+    const int was_refused = refusals <= 0;
+    refusals = granted = 0;
+    check("start", r.code, was_refused ? HULL_NO_MEMORY : HULL_OPEN);
+    return was_refused;
+}
+
+/* Memory is refused to a start, at each request in turn: the journal can be started then, and has the points of the file. */
+static void starts_after_refused_memory(void) {
+    int was_refused = 1;
+    for (long after = 0; was_refused; after++) {
+        put_text(SEGMENT NEXT "6 0 add 1 1 = added\nend 1\n");
+        hull_shared_journal *journal = open_journal(7);
+        was_refused = refuse_start(journal, after);
+        if (was_refused) {
+            check("the shared hull is fresh", hull_shared_close(shared), HULL_NOT_OPEN);
+            check("start", hull_shared_journal_start(journal, shared, &gate, 100, 10, 2, 0).code, HULL_OPEN);
+        }
+        check("acquire", hull_shared_acquire_seat(shared, &gate, seat, 0), HULL_ACQUIRED);
+        check("the points", hull_shared_call(&gate, seat, HULL_KIND_COUNT, 0, 0).answer.number, 2);
+        check("its limit", add(2, 2).answer.code == HULL_ADDED && add(3, 3).answer.code == HULL_TOO_MANY, 1);
+        stop(journal, HULL_CLOSED);
+    }
+}
+
+/* Leaves a file with one point. */
+static char *file_of(int64_t x, size_t *count) {
+    unlink(path);
+    hull_shared_journal *journal = start(0, 50);
+    add(x, 1);
+    stop(journal, HULL_CLOSED);
+    return contents(path, count);
+}
+
+/* Another program writes to the file, as many bytes with as many lines, after an opening: a start that reads it again notices that. */
+static void notices_others_at_start(void) {
+    size_t length, other_length;
+    char *bytes = file_of(3, &length), *others = file_of(4, &other_length);
+    int was_refused = 1;
+    check("as long", length, other_length);
+    for (long after = 0; was_refused; after++) {
+        put(path, bytes, length);
+        hull_shared_journal *journal = open_journal(1);
+        was_refused = refuse_start(journal, after);
+        if (was_refused) {
+            FILE *file = fopen(path, "r+b");
+            check("written", file != NULL && fwrite(others, 1, length, file) == length && fclose(file) == 0, 1);
+            const hull_reply r = hull_shared_journal_start(journal, shared, &gate, 100, 10, 2, 0);
+            check("noticed, or what was read before", r.code == HULL_OPEN || (r.code == HULL_NO_FILE && r.number == ESTALE), 1);
+            if (r.code == HULL_OPEN) {
+                check("acquire", hull_shared_acquire_seat(shared, &gate, seat, 0), HULL_ACQUIRED);
+                check("the point of before", hull_shared_call(&gate, seat, HULL_KIND_PLACE, 3, 1).answer.code, HULL_ON);
+                check("release", hull_shared_release_seat(shared, seat), HULL_RELEASED);
+            }
+        }
+        hull_shared_journal_close(journal);
+        hull_shared_end(shared);
+    }
+    free(bytes), free(others);
 }
 
 /* ---- intervals */
@@ -1185,7 +1286,10 @@ static const struct {
     {"notices_others", notices_others},
     {"waits_for_memory", waits_for_memory},
     {"continues_after_a_refusal", continues_after_a_refusal},
+    {"gives_up_after_ten_seconds", gives_up_after_ten_seconds},
     {"starts_after_a_refusal", starts_after_a_refusal},
+    {"starts_after_refused_memory", starts_after_refused_memory},
+    {"notices_others_at_start", notices_others_at_start},
     {"syncs_at_each_interval", syncs_at_each_interval},
     {"waits_for_a_drain_without_memory", waits_for_a_drain_without_memory},
     {"reads_long_lines", reads_long_lines},
@@ -1199,7 +1303,7 @@ int main(int count, char **words) {
     if (count != 2 && count != 3) {
         return 2;
     }
-    alarm(120);
+    alarm(300);
     shared = hull_shared_new();
     seat = hull_shared_seat_new();
     for (size_t k = 0; k < sizeof tests / sizeof *tests; k++) {

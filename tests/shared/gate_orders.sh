@@ -19,9 +19,9 @@ if [ "$(uname -m)" != x86_64 ]; then
     end
 fi
 
-# compiles the program over the copy of the waiting code
+# compiles the program over the copy of the waiting code: LEVEL
 build() {
-    cc -std=gnu11 -O2 -DGATE="\"$room/gate.c\"" -I"$prefix/include" \
+    cc -std=gnu11 "$1" -DGATE="\"$room/gate.c\"" -I"$prefix/include" \
         -I"$here" "$here/gate_orders.c" -o "$room/gate_orders"
 }
 
@@ -39,7 +39,7 @@ right() {
 wrong() {
     copy
     sed -i -E "$3" "$room/${4:-gate.c}"
-    if cmp -s "$room/${4:-gate.c}" "$here/../../c/${4:-gate.c}" || ! build; then
+    if cmp -s "$room/${4:-gate.c}" "$here/../../c/${4:-gate.c}" || ! build -O1; then
         said "$1" "FAILED, the fault was not planted"
         return
     fi
@@ -50,7 +50,7 @@ wrong() {
 
 right_ones() {
     copy
-    build
+    build -O2
     count "gate_orders.c compiles" $?
     right 2 2 1 cc
     right 2 2 2 cc

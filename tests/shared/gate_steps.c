@@ -1,6 +1,6 @@
 /* Each step of c/gate.c, by one thread, in the file itself, over a clock that stands still (still_clock.h); and calls over the library that are
  * made of them, with the time that each takes and whom each wakes. The status is 0 only if each leaves the gate as it should; a hang ends
- * the program after a minute. */
+ * the program after five minutes. */
 #define HULL_SHARED_SCHEDULER "still_clock.h"
 #include "../../c/gate.c"
 
@@ -397,7 +397,7 @@ static void check_served(void) {
 }
 
 int main(void) {
-    alarm(60);
+    alarm(300);
     shared = hull_shared_new();
     for (int k = 0; k < SEATS; k++) {
         seats[k] = hull_shared_seat_new();

@@ -10,7 +10,8 @@ here=$(cd "$(dirname "$0")" && pwd)
 . "$here/../libraries.sh"
 kills=${1:-40}
 calls=${2:-40000}
-edge_calls='pwrite pread fsync ftruncate renameat flock pthread_create malloc realloc'
+all=${1:+all}
+edge_calls='pwrite pread fsync ftruncate renameat flock syscall pthread_create malloc realloc'
 kill_calls='pwrite fsync ftruncate'
 
 codes() {
@@ -31,9 +32,9 @@ steps() {
     count "the order of a journal file's calls of the system, and each of them and each request for memory refused" $?
 }
 
-# each byte of a journal file with checksums changed to each other value, and segments of other files
+# each byte of a journal file with checksums changed to other values, and segments of other files
 changed_files() {
-    mkdir "$room/changed" && build "$here/sums.c" -Wl,--wrap=fsync && "$room/sums" "$room/changed"
+    mkdir "$room/changed" && build "$here/sums.c" -Wl,--wrap=fsync && "$room/sums" "$room/changed" $all
     count "each changed byte of a journal file with checksums is noticed" $?
 }
 

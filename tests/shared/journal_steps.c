@@ -465,7 +465,7 @@ int main(int count, char **words) {
         return 2;
     }
     umask(0);
-    alarm(100);
+    alarm(300);
     snprintf(folder, sizeof folder, "%s", words[1]);
     snprintf(path, sizeof path, "%s/zone", folder);
     for (size_t at = 0; at < sizeof scenarios / sizeof *scenarios; at++) {

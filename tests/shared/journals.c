@@ -347,7 +347,7 @@ int main(int count, char **words) {
     if (count != 2) {
         return 2;
     }
-    alarm(120);
+    alarm(300);
     path = words[1];
     shared = hull_shared_new();
     seat = hull_shared_seat_new();

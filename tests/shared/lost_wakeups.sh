@@ -1,16 +1,18 @@
 #!/bin/sh
 # Tests that no wake-up is lost by futex and by pthreads: storm.c and full.c run, often for a few calls, since a lost wake-up may show only if no
 # call follows, with threads delayed between the steps of going to sleep and of waking (steps.h). (gate_orders.sh plants faults in c/gate.c.)
-# run.sh runs it:
+# waiting.sh runs it:
 #
-#     lost_wakeups.sh PREFIX [LIMIT]    PREFIX is where bin/install has put headers and library; a storm has LIMIT seconds, 120 if not given
+#     lost_wakeups.sh PREFIX [STORMS]    PREFIX is where bin/install has put headers and library; 15 storms of each kind if not given, and each
+#                                        has two minutes
 #
 # The last line is 'N passed, M failed'.
 set -u
 here=$(cd "$(dirname "$0")" && pwd)
 . "$here/../lib.sh"
 prefix=$1
-limit=${2:-120}
+storms=${2:-15}
+limit=120
 
 # compiles a program with the waiting code, whose threads are delayed: PROGRAM FLAGS..
 build() {
@@ -20,21 +22,21 @@ build() {
         -lhull_shared -lpthread -o "$room/$program" || exit 1
 }
 
-# 60 storms of eight threads: NAME COMMAND..
-storms() {
+# storms of eight threads: NAME COMMAND..
+repeat() {
     name=$1
     shift
     # shellcheck disable=SC2016 # the words are the inner shell's
-    attempt "$name" sh -c 'limit=$1; shift; for _ in $(seq 60); do rm -rf "$0"; mkdir "$0"; timeout -k 1 "$limit" "$@" || exit; done' \
-        "$room/segments" "$limit" "$@"
+    attempt "$name" sh -c 'limit=$1 storms=$2; shift 2; for _ in $(seq "$storms"); do rm -rf "$0"; mkdir "$0"; timeout -k 1 "$limit" "$@" || exit; done' \
+        "$room/segments" "$limit" "$storms" "$@"
 }
 
 for flags in '' -DHULL_SHARED_BY_PTHREADS; do
     # shellcheck disable=SC2086 # no word if there is no flag
     build storm $flags && build full $flags
     for inside in 1 2 8; do
-        storms "$inside inside $flags" "$room/storm" 8 20 $inside
+        repeat "$inside inside $flags" "$room/storm" 8 20 $inside
     done
-    storms "a full shared hull $flags" "$room/full" 8 20 2 "$room/segments"
+    repeat "a full shared hull $flags" "$room/full" 8 20 2 "$room/segments"
 done
 end

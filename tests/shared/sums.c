@@ -1,5 +1,5 @@
-/* sums FOLDER: the checksums of a journal file. Each byte of a file of three segments is changed to each other value, and segments are
- * exchanged, doubled and left out: none of that gives other points. Files are cut at each length; files without checksums are continued
+/* sums FOLDER [all]: the checksums of a journal file. Each byte of a file of three segments is changed to each sixth value, or to each other
+ * one, and segments are exchanged, doubled and left out: none of that gives other points. Files are cut at each length; files without checksums are continued
  * without, and get them when they are compacted. The status is 0 only if each is as it should be. */
 #include "hull_shared.h"
 
@@ -114,12 +114,12 @@ static void check_noticed(const char *bytes, size_t count, size_t at, size_t las
     check(what, contents(left) == count && memcmp(left, bytes, count) == 0, 1);
 }
 
-static void notices_each_changed_byte(uint64_t sum) {
+static void notices_each_changed_byte(uint64_t sum, int step) {
     char bytes[SIZE];
     size_t begins[SEGMENTS], count = with_sums(bytes, sum, segment, SEGMENTS, begins);
     for (size_t at = 0; at < count; at++) {
         char own = bytes[at];
-        for (int value = 0; value < 256; value++) {
+        for (int value = (int)at % step; value < 256; value += step) {
             if ((char)value != own) {
                 bytes[at] = (char)value;
                 check_noticed(bytes, count, at, begins[SEGMENTS - 1]);
@@ -287,7 +287,7 @@ static void continues_files_without(void) {
 }
 
 int main(int count, char **words) {
-    if (count != 2) {
+    if (count != 2 && count != 3) {
         return 2;
     }
     snprintf(path, sizeof path, "%s/sums.journal", words[1]);
@@ -295,8 +295,8 @@ int main(int count, char **words) {
     shared = hull_shared_new();
     seat = hull_shared_seat_new();
     check("FNV's own vector", add_to_sum(UINT64_C(14695981039346656037), "foobar", 6), UINT64_C(0x85944171f73967e8));
-    notices_each_changed_byte(0);
-    notices_each_changed_byte(UINT64_C(14695981039346656037));
+    notices_each_changed_byte(0, count == 3 ? 1 : 6);
+    notices_each_changed_byte(UINT64_C(14695981039346656037), count == 3 ? 1 : 6);
     notices_other_segments();
     is_cut_to_whole_segments();
     writes_sums();

@@ -1,6 +1,6 @@
 /* The promises of calls at a gate beside their answers: errno stays, no gate serves two shared hulls, a call gives up in time, a thread that
  * is cancelled or dies delays no others than the header says, and the seat that is inside is reported. The status is 0 only if each is so;
- * a hang ends the program after a minute. */
+ * a hang ends the program after five minutes. */
 #include "hull_shared.h"
 
 #include <errno.h>
@@ -343,7 +343,7 @@ static void check_dead_inside(void) {
 }
 
 int main(void) {
-    alarm(60);
+    alarm(300);
     shared = hull_shared_new();
     for (int k = 0; k < SEATS; k++) {
         seats[k] = hull_shared_seat_new();
