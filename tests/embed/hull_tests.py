@@ -140,14 +140,23 @@ class Calls(unittest.TestCase):
             numbers = array(code, [number for point in SQUARE for number in point])
             points = memoryview(numbers).cast("B").cast(code, (5, 2))
             self.assertEqual(list(self.hull.place_all(points)), [13] * 4 + [12], code)
+            least, most = (-5, 120) if code.islower() else (200, 255)
+            ends = memoryview(array(code, (least, most, most, least))).cast("B").cast(code, (2, 2))
+            self.assertEqual(list(Hull(ends)), [(least, most), (most, least)], code)
         for number in (1 << 63, (1 << 64) - 5):
             too_great = memoryview(array("Q", [0, number])).cast("B").cast("Q", (1, 2))
             self.assertRaises(OutOfRange, self.hull.place_all, too_great)
         for kind in "c_int8 c_int16 c_int32 c_int64 c_uint8 c_uint16 c_uint32 c_uint64 c_long c_size_t".split():
             points = (getattr(ctypes, kind) * 2 * 5)(*SQUARE)
             self.assertEqual(list(self.hull.place_all(points)), [13] * 4 + [12], kind)
-        swapped = (ctypes.c_int32.__ctype_be__ * 2 * 5)(*SQUARE)
-        self.assertEqual(list(self.hull.place_all(swapped)), [13] * 4 + [12])
+            least = -3 if kind.startswith(("c_int", "c_long")) else 3
+            self.assertEqual(list(Hull((getattr(ctypes, kind) * 2 * 1)((least, 100)))), [(least, 100)], kind)
+        for swapped in (ctypes.c_int32.__ctype_be__, ctypes.c_int16.__ctype_be__, ctypes.c_int64.__ctype_le__):
+            self.assertEqual(list(self.hull.place_all((swapped * 2 * 5)(*SQUARE))), [13] * 4 + [12])
+            self.assertEqual(list(Hull((swapped * 2 * 1)((-3, 300)))), [(-3, 300)])
+        for order in "@=<>!":  # (of which no exporter of the standard library has the last)
+            view = types.SimpleNamespace(shape=(1, 2), format=f"{order}h", itemsize=2, tobytes=lambda: struct.pack(f"{order}2h", -3, 300))
+            self.assertEqual(list(hull_module._flat_of_memory(view)), [-3, 300], order)
         self.assertRaises(OutOfRange, self.hull.place_all, (ctypes.c_uint64 * 2 * 1)((0, (1 << 64) - 5)))
         self.assertRaises(TypeError, self.hull.place_all, (ctypes.c_double * 2 * 1)((0, 1)))
         floats = memoryview(array("d", [0.0, 1.0])).cast("B").cast("d", (1, 2))

@@ -279,7 +279,7 @@ class Shared(unittest.TestCase):
         shared = SharedHull(1, 2, waits=True)
         with shared.acquire_seat(0) as seat, shared.acquire_seat(1) as other:
             seat.count()
-            for seconds, least, most in ((0, 0, 3), (0.2, 0.19, 5), (1e-9, 0, 3)):
+            for seconds, least, most in ((0, 0, 60), (0.2, 0.19, 60), (1e-9, 0, 60)):
                 seat.wait_at_most(seconds)
                 begun = time.monotonic()
                 self.assertRaises((hull.JournalFull, hull.Busy), seat.count)

@@ -367,7 +367,7 @@ fn stays_open_while_a_reader_is_acquired() {
     }
     let mut seat = hull.acquire_seat(1).unwrap();
     (0..100).for_each(|x| assert_eq!(seat.add(point(x, 2)), Ok(1)));
-    seat.wait_at_most(Some(Duration::from_secs(10)));
+    seat.wait_at_most(Some(Duration::from_secs(600)));
     assert_eq!(seat.wait_durable(), Ok(()));
     seat.release();
     drop(reader);
