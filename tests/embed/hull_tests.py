@@ -596,6 +596,7 @@ class Calls(unittest.TestCase):
         polygon = hull_module.Polygon([(0, 0), (10, 0), (10, 10), (0, 10)])
         self.assertEqual((polygon.extreme_d(0.5, 0.25), polygon.extreme_d(0, 0)), ((10, 10), (0, 0)))
         self.assertEqual(hull_module.Polygon([]).extreme_d(1, 1), None)
+        self.assertEqual(Hull([(0, 5), (3, -2), (7, 9)]).extreme_d(0, 0), (0, 5))  # the first by x, not by y
         self.assertEqual(Hull([(1, 2)]).extreme_d(1e300, -1e-300), (1, 2))
 
     def test_polygon_by_threads(self):

@@ -24,7 +24,7 @@ fn is_refused() -> bool {
 
 unsafe impl GlobalAlloc for Refusing {
     unsafe fn alloc(&self, layout: Layout) -> *mut u8 {
-        if is_refused() { std::ptr::null_mut() } else { System.alloc(layout) }
+        if is_refused() { std::ptr::null_mut() } else { libraries::of_rust(|| System.alloc(layout)) }
     }
 
     unsafe fn dealloc(&self, block: *mut u8, layout: Layout) {
@@ -32,7 +32,7 @@ unsafe impl GlobalAlloc for Refusing {
     }
 
     unsafe fn realloc(&self, block: *mut u8, layout: Layout, size: usize) -> *mut u8 {
-        if is_refused() { std::ptr::null_mut() } else { System.realloc(block, layout, size) }
+        if is_refused() { std::ptr::null_mut() } else { libraries::of_rust(|| System.realloc(block, layout, size)) }
     }
 }
 
@@ -154,6 +154,9 @@ fn two_polygons() {
     held.add(point(9, 9)).and(held.add(point(-9, 9))).unwrap();
     assert_eq!((held.nearest_held(point(0, 5)), held.nearest_held(point(1, 9))), (Ok(Some((point(-9, 9), 97))), Ok(Some((point(9, 9), 64)))));
     assert_eq!(held.nearest_held(point(COORDINATE_LIMIT + 1, 0)), Err(Fault::OutOfRange));
+    let far = i128::from(COORDINATE_LIMIT) - 9;
+    let wanted = Ok(Some((point(9, 9), (far * far + 81) as u128)));
+    assert_eq!(held.nearest_held(point(COORDINATE_LIMIT, 0)), wanted); // a number of two words
     let ways = [[point(-1, 1), point(20, 1)], [point(11, 0), point(11, 9)]];
     assert_eq!((polygon.intersects_segments(&ways), polygon.intersects_segments(&[])), (Ok(vec![true, false]), Ok(vec![])));
     assert_eq!(polygon.intersects_segments(&[[point(0, 0), point(0, COORDINATE_LIMIT + 1)]]), Err(Fault::OutOfRange));
@@ -195,6 +198,8 @@ fn directions_of_floats() {
     let polygon = Polygon::new(&[point(0, 0), point(10, 0), point(10, 10), point(0, 10)]).unwrap();
     assert_eq!(polygon.extreme_d(0.5, 0.25), Ok(Some(point(10, 10))));
     assert_eq!(polygon.extreme_d(0.0, 0.0), Ok(Some(point(0, 0))));
+    let steep = Polygon::of_points(&[point(0, 5), point(3, -2), point(7, 9)]).unwrap();
+    assert_eq!(steep.extreme_d(0.0, 0.0), Ok(Some(point(0, 5)))); // the first by x, not by y
     let mut hull = Hull::new(2).unwrap();
     assert_eq!(hull.extreme_d(0.0, 0.0), Ok(None));
     hull.add(point(1, 2)).unwrap();
@@ -337,6 +342,10 @@ fn refused_memory() {
         let polygon = hull.polygon()?;
         let same = Polygon::new(polygon.vertices())?;
         let mut seen = hull.wkt(3)?.len() + hull.held()?.len() + hull.try_clone()?.len() + same.vertices().len();
+        seen += same.translate(point(1, 2))?.rotate(point(0, 1))?.vertices().len() + Polygon::of_points(&points)?.vertices().len();
+        let polygons = [same.clone(), polygon];
+        seen += pairs_within_distance(&polygons, 1, 1)?.len() + same.relations(&polygons)?.len() + same.indices(&points)?.len();
+        seen += same.intersects_segments(&[[point(0, 0), point(1, 5)]])?.len() + same.tangents_all(&points)?.len();
         seen += hull.place_all(&points)?.len() + hull.add_all(&points)?.len() + same.place_all(&points)?.len();
         seen += hull.vertices()?.len();
         let shared = SharedHull::open(Limits { points: 9, first: 0, capacity: 20, seats: 2 })?;
@@ -365,6 +374,77 @@ fn refused_memory() {
         refused += 1;
     }
     assert!(all() == Ok(wanted) && refused > 15 && refused < 900, "{refused}");
+}
+
+/// A reader that had no memory for the newest snapshot is not the newest, and reads it when there is some.
+#[test]
+fn a_reader_with_no_memory() {
+    let limits = Limits { points: 300, first: 0, capacity: 1, seats: 1 };
+    let hull = SharedHull::for_readers(1).unwrap().open_without_journal(limits).unwrap();
+    let (mut reader, mut seat) = (hull.acquire_reader().unwrap(), hull.acquire_seat(0).unwrap());
+    assert_eq!((reader.newest().unwrap().vertices().len(), reader.is_newest()), (0, true));
+    (0..200).for_each(|x| assert_eq!(seat.add(point(x, x * x)), Ok(1)));
+    LEFT.set(0);
+    let read = reader.read();
+    assert_eq!((LEFT.replace(-1), read), (-1, Err(Fault::NoMemory)));
+    assert_eq!((reader.is_newest(), reader.snapshot().vertices().len()), (false, 0));
+    assert_eq!((reader.newest().unwrap().vertices().len(), reader.is_newest()), (200, true));
+    seat.remove(point(0, 0)).unwrap();
+    assert_eq!(reader.newest().unwrap().vertices().len(), 199);
+}
+
+/// The C library's malloc, except that a thread may have one request of the library refused, which is none of Rust's own.
+#[cfg(all(target_os = "linux", target_env = "gnu"))]
+mod libraries {
+    use super::*;
+
+    extern "C" {
+        fn __libc_malloc(bytes: usize) -> *mut u8;
+    }
+
+    thread_local! {
+        static LEFT_TO_LIBRARY: Cell<i64> = const { Cell::new(-1) };
+        static IS_OF_RUST: Cell<bool> = const { Cell::new(false) };
+    }
+
+    #[no_mangle]
+    extern "C" fn malloc(bytes: usize) -> *mut u8 {
+        let is_refused = IS_OF_RUST.try_with(Cell::get) == Ok(false)
+            && LEFT_TO_LIBRARY.try_with(|left| left.replace((left.get() - 1).max(-1)) == 0) == Ok(true);
+        // SAFETY: it is what this function stands for.
+        if is_refused { std::ptr::null_mut() } else { unsafe { __libc_malloc(bytes) } }
+    }
+
+    /// Allocates for Rust, whose requests are not counted here.
+    pub fn of_rust<T>(allocate: impl FnOnce() -> T) -> T {
+        let _ = IS_OF_RUST.try_with(|it| it.set(true));
+        let made = allocate();
+        let _ = IS_OF_RUST.try_with(|it| it.set(false));
+        made
+    }
+
+    /// Each request of the library's refused in turn: a call on many counts the point as not added, and goes on with the next.
+    #[test]
+    fn refused_to_the_library() {
+        let points: Vec<Point> = (0..300).map(|i| point(i, i * i)).collect();
+        let mut refused = 0;
+        for request in 0.. {
+            let mut hull = Hull::new(1000).unwrap();
+            LEFT_TO_LIBRARY.set(request);
+            let added = hull.add_all(&points).unwrap();
+            if LEFT_TO_LIBRARY.replace(-1) >= 0 {
+                break;
+            }
+            let missing: Vec<usize> = (0..300).filter(|&i| added[i] == 0).collect();
+            assert!(missing.len() <= 1 && hull.len() == 300 - missing.len(), "request {request}: {missing:?}");
+            refused += missing.len();
+            for i in missing {
+                assert_eq!((hull.multiplicity(points[i]), hull.add(points[i])), (Ok(0), Ok(1)));
+            }
+            assert!(hull.held().unwrap().iter().all(|it| it.multiplicity == 1));
+        }
+        assert!(refused > 3, "{refused}");
+    }
 }
 
 /// The table by which all languages are tested.
@@ -439,6 +519,29 @@ fn a_hull_goes_to_another_thread() {
 
 #[test]
 fn faults_have_texts() {
-    assert_eq!(Fault::ZeroDirection.to_string(), "a direction is zero");
+    let texts = [
+        (Fault::OutOfRange, "a coordinate is out of range"),
+        (Fault::ZeroDirection, "a direction is zero"),
+        (Fault::TooMany, "there are as many points as the limit, or the multiplicity is the greatest"),
+        (Fault::NoMemory, "memory was refused"),
+        (Fault::OutOfOrder, "the points are not in order"),
+        (Fault::BadLimit, "a limit of a hull is out of range"),
+        (Fault::NoPolygon, "the points are not a convex polygon"),
+        (Fault::NoSeat, "there is no such seat at the hull"),
+        (Fault::NotOpen, "the hull is closed"),
+        (Fault::SeatsOut, "a seat of the hull is acquired"),
+        (Fault::Full, "the journal of the hull is full"),
+        (Fault::Busy, "the hull was in use by others for too long"),
+        (Fault::NoJournal { line: 7, fault: 2 }, "the text is not a journal: line 7: fault 2"),
+        (Fault::OldRules, "journals before version 3 do not count points"),
+        (Fault::Illegal { line: 8 }, "the journal is not a legal history: line 8 of its text"),
+        (Fault::TooFewSeats { wanted: 9 }, "the journal has lines by 9 seats"),
+        (Fault::NoFile { errno: 2 }, "the file of the journal: No such file or directory (os error 2)"),
+        (Fault::Damaged { line: 6 }, "the file is damaged, or not a journal, from line 6 on"),
+    ];
+    for (fault, text) in texts {
+        assert_eq!(fault.to_string(), text);
+        assert_eq!(std::error::Error::source(&fault).map(ToString::to_string), None);
+    }
     assert_eq!(format!("{:?}", square()), "Hull { limit: 6, len: 5, .. }");
 }

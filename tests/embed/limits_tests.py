@@ -134,6 +134,15 @@ class Lengths(unittest.TestCase):
                 self.assertEqual(cells[0].within_distance_of_point(x, y, length), squared <= exact * exact)
                 self.assertEqual(cells[0].within_distance_of_segment(x, y, x + 1, y + 90, length), cells[0].squared_distance_to_segment(x, y, x + 1,
                         y + 90) <= exact * exact)
+        m = 1 << 19  # an edge whose length is a whole number above 2^32: distances from it have such denominators
+        edge, length = Polygon([(0, 0), (2 * m - 1, 2 * m * (m - 1))]), 2 * m * (m - 1) + 1
+        for point in ((1, 1), (2, 1), (5, 3), (1000, 1)):
+            cross = Fraction(abs((2 * m - 1) * point[1] - 2 * m * (m - 1) * point[0]), length)
+            self.assertTrue(cross.denominator >= 2 ** 32 and edge.within_distance_of_point(*point, cross))
+            self.assertTrue(edge.within_distance(Polygon([point]), cross) and hull.pairs_within_distance([edge, Polygon([point])], cross) == [(0, 1)])
+            less = cross - Fraction(1, 10 ** 40)
+            self.assertFalse(edge.within_distance_of_point(*point, less) or edge.within_distance(Polygon([point]), less))
+            self.assertEqual(hull.pairs_within_distance([edge, Polygon([point])], less), [])
         for wrong in (-1, -0.5, float("nan"), float("inf"), Fraction(-1, 10 ** 30)):
             self.assertRaises(hull.OutOfRange, hull.pairs_within_distance, cells, wrong)
             self.assertRaises(hull.OutOfRange, cells[0].within_distance, cells[1], wrong)

@@ -40,7 +40,7 @@ class Calls(unittest.TestCase):
         segment = seat.drain()
         lines = ["hullbook journal 3 first 7 limit 6 capacity 4", "7 0 add 1 2 = added", "8 0 count = count 1", "end 2"]
         self.assertEqual((list(segment), segment.text().splitlines()), (lines, lines))
-        for size in (1, 20, 46, 66, 67, 1000):
+        for size in (0, 1, 20, 46, 66, 67, 1000):
             pieces = list(segment.pieces(size))
             self.assertEqual(("".join(pieces), all(piece.endswith("\n") for piece in pieces)), (segment.text(), True))
             self.assertLessEqual(max(map(len, pieces)), max(size, 46))
@@ -312,6 +312,44 @@ class Calls(unittest.TestCase):
             self.assertRaises(JournalFull, seat.add, 1, 1)
             self.assertGreater(time.monotonic() - begun, 0.1)
 
+    def test_a_seat_is_inside_for_seconds(self):
+        hull, ends = SharedHull(capacity=None, seats=1), []
+
+        def ask():
+            with hull.acquire_seat(0) as seat:
+                for x in range(50000):
+                    seat.add(x, x * x)
+                while not ends:
+                    seat.vertices()
+
+        thread, begun, found = threading.Thread(target=ask), time.monotonic(), []
+        thread.start()
+        while len(found) < 5 and time.monotonic() < begun + 300:
+            stats = hull.stats()
+            if stats.seat_for > 0:
+                found.append((stats.seat, 0 < stats.seat_for < time.monotonic() - begun + 0.1, stats.inside))
+        ends.append(True)
+        thread.join()
+        self.assertEqual(found, [(0, True, 1)] * 5)
+
+    def test_a_file_that_is_written_again_and_again(self):
+        """Each line becomes durable with no thread that waits for it; a seat with no line waits for none."""
+        for every in (0, 1e-9, 0.01):
+            with tempfile.TemporaryDirectory() as folder:
+                hull = SharedHull.open_journal(os.path.join(folder, "zone.journal"), capacity=50, seats=1, every=every)
+                with hull.acquire_seat(0) as seat:
+                    seat.wait_at_most(300)
+                    seat.wait_durable()
+                    for x in range(3):
+                        seat.add(x, x)
+                        until = time.monotonic() + 300
+                        while hull.durable() <= seat.turn() and time.monotonic() < until:
+                            time.sleep(0.001)
+                        self.assertGreater(hull.durable(), seat.turn(), every)
+                hull.close()
+        for wrong in (-1, -1e-9, float("nan")):
+            self.assertRaises(ValueError, SharedHull.open_journal, "never", capacity=50, seats=1, every=wrong)
+
     def test_a_file_that_is_refused_is_closed(self):
         with tempfile.TemporaryDirectory() as folder:
             path = os.path.join(folder, "zone.journal")
@@ -438,24 +476,21 @@ class Locks(unittest.TestCase):
         self.race(self.hull.close, self.hull.close, segment.text, lambda: list(segment), segment.text)
 
     def test_a_seat_released_while_it_is_asked(self):
-        is_asked, faults = threading.Event(), []
+        seat, is_asked, faults = SharedHull(capacity=None, seats=1).acquire_seat(0), threading.Event(), []
 
         def ask():
             try:
                 while True:
-                    try:
-                        self.seat.count()
-                    except JournalFull:  # a busy machine may let it fill the journal before the seat is released
-                        pass
+                    seat.count()
                     is_asked.set()
             except ValueError as fault:
                 faults.append(str(fault))
 
         thread = threading.Thread(target=ask)
         thread.start()
-        self.assertTrue(is_asked.wait(60))
-        self.seat.release()
-        thread.join(60)
+        self.assertTrue(is_asked.wait(300))
+        seat.release()
+        thread.join(300)
         self.assertEqual((thread.is_alive(), faults), (False, ["the seat was released"]))
         self.assertEqual(hull_module._shared_library().hull_overlaps(), 0)
 

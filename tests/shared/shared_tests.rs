@@ -134,7 +134,11 @@ fn readers() {
     seat.remove(point(8, 0)).unwrap();
     assert_eq!(two.read(), Ok(true));
     assert!(one.snapshot().contains(two.snapshot()) && !two.snapshot().contains(one.snapshot()));
+    assert_eq!(one.newest().unwrap().vertices(), [point(0, 0), point(0, 8)]); // fewer than before
+    assert_eq!(one.line(), Some(10));
+    assert!(seat.add(point(8, 0)).is_ok() && one.read() == Ok(true));
     assert_eq!(one.snapshot().relation(&Polygon::new(&[point(0, 0), point(8, 0), point(0, 8)]).unwrap()), Relation::Equal);
+    seat.remove(point(8, 0)).unwrap();
     drop(seat);
     assert_eq!(hull.close().unwrap_err(), Fault::SeatsOut);
     thread::spawn(move || drop((one, two))).join().unwrap();

@@ -298,6 +298,15 @@ def test_lengths(tests):
         tests.same("a word that is none", run(top, "tools/reference.py", "--other")[0], 2)
 
 
+def stretches_of(text):
+    """Yields each stretch of a file that repeats the table: its mark, and the text without the middle line of the stretch."""
+    for mark in re.findall(r"written by tools/table\.py: ([^\n]*?)(?: \*/| -->)?$", text, re.M):
+        found = re.search(table.STRETCH % re.escape(mark), text)
+        lines = found[1].splitlines(True) if found else []
+        if lines and not mark.startswith("a case for each"):  # (of which a case that no other is like may be any)
+            yield mark, text[: found.start(1)] + "".join(lines[: len(lines) // 2] + lines[len(lines) // 2 + 1 :]) + text[found.end(1) :]
+
+
 def test_each_place(tests):
     """Each stretch that repeats the table fails if a line of it is gone, and --write puts it back; so does each place of the version."""
     with tempfile.TemporaryDirectory() as top:
@@ -311,23 +320,21 @@ def test_each_place(tests):
         for path in {"VERSION", *(f"tables/{it}.txt" for it in ("calls", "interface", "languages")), "crates.txt", *table.VERSIONS, *marked}:
             write(f"{top}/{path}", kit.text_of(f"{TOP}/{path}"))
         tests.accepts("all places are as the table says", top, "tools/table.py")
-        number = 0
+        rounds = {}  # of each round a stretch of each file, which lacks a line
         for path in marked:
-            text = kit.text_of(f"{TOP}/{path}")
-            for mark in re.findall(r"written by tools/table\.py: ([^\n]*?)(?: \*/| -->)?$", text, re.M):
-                found = re.search(table.STRETCH % re.escape(mark), text)
-                lines = found[1].splitlines(True) if found else []
-                if not lines or mark.startswith("a case for each"):  # (of which a case that no other is like may be any)
-                    continue
-                gone = text[: found.start(1)] + "".join(lines[: len(lines) // 2] + lines[len(lines) // 2 + 1 :]) + text[found.end(1) :]
+            for number, place in enumerate(stretches_of(kit.text_of(f"{TOP}/{path}"))):
+                rounds.setdefault(number, {})[path] = place
+        for number, places in rounds.items():
+            for path, (mark, gone) in places.items():
                 write(f"{top}/{path}", gone)
-                number += 1
-                status, said = run(top, "tools/table.py")
-                tests.see(f"a line of '{mark}' is gone from {path}",
-                        status == 1 and f"{path}: FAILED, " in said and said.endswith(" passed, 1 failed\n"), said)
-                run(top, "tools/table.py", "--write") if number % 4 == 0 else write(f"{top}/{path}", text)
-                tests.see("it is there again", kit.text_of(f"{top}/{path}") == text)
-        tests.see("stretches", number > 20, number)
+            status, said = run(top, "tools/table.py")
+            tests.see(f"round {number}: each of {len(places)} files is named, and no other", status == 1 and said.endswith(f" passed, {len(places)} failed\n"), said)
+            for path, (mark, gone) in places.items():
+                tests.see(f"a line of '{mark}' is gone from {path}", f"{path}: FAILED, {mark}" in said, said)
+            run(top, "tools/table.py", "--write")
+            for path in places:
+                tests.see("it is there again", kit.text_of(f"{top}/{path}") == kit.text_of(f"{TOP}/{path}"))
+        tests.see("stretches", sum(map(len, rounds.values())) > 20, rounds)
         write(f"{top}/VERSION", "9.9.9\n")
         said = run(top, "tools/table.py")[1]
         tests.see("each place of another version", all(f"{it}: FAILED, the version: it says '" in said for it in table.VERSIONS), said)

@@ -51,8 +51,9 @@ await tried("each operand at both ends of its range, and one beyond", () => {
     assert.equal(hull.load(BigUint64Array.of(2n ** 40n, 1n)), 1);
     assert.deepEqual([...hull.addAll(new Uint8Array([7, 8]))], [1]);
     assert.deepEqual([new Hull(2 ** 20).limit(), new Hull(1).limit(), hull.bridges(2 ** 32 - 1)], [2 ** 20, 1, []]);
+    assert.deepEqual([new Hull(7).copy().limit(), new Hull().copy().limit()], [7, 2 ** 20]);
     assert.throws(() => new Polygon(new Float64Array(2 * (2 ** 20 + 1))), faults.TooMany);
-    assert.throws(() => hull.loadHeld([{ point: [0, 0], multiplicity: 65536 }]), faults.OutOfRange);
+    for (const multiplicity of [65536, 2 ** 32 + 1, 1.5, -1, NaN]) assert.throws(() => hull.loadHeld([{ point: [0, 0], multiplicity }]), faults.OutOfRange);
     assert.equal(hull.loadHeld([{ point: [0, 0], multiplicity: 65535 }, { point: [0, 1], multiplicity: 1 }]), 2);
     assert.deepEqual([hull.multiplicity(0, 0), hull.removeAll([[0, 0], [0, 0], [0, 1], [0, 1]])], [65535, 3]);
     assert.deepEqual([polygon.withinDistance(new Polygon([[12, 0]]), 2 ** 33, 2 ** 32 - 1), polygon.withinDistance(new Polygon([[12, 0]]), 2, 1)],
@@ -234,6 +235,9 @@ await tried("a heap with a limit, one that cannot grow, and one that grows by le
         heap.begin(fixed, 1024);
         for (let at; (at = heap.take(1000)) !== 0;) blocks.push(at);
         const end = Math.min(limit, 2 ** 17);
+        const exact = new Heap(1024 + 16 + 1024);
+        exact.begin(fixed, 1024);
+        assert.deepEqual([exact.take(1000), exact.take(1)], [1040, 0]); // all of its bytes are used, and no more
         assert.ok(blocks.at(-1) + 1024 <= end && blocks.at(-1) + 2 * 1040 + 1024 > end);
         new Uint8Array(fixed.buffer, blocks[3], 1000).fill(7);
         assert.equal(heap.resize(blocks[3], 1000, 50000), 0);
@@ -362,10 +366,12 @@ await tried("a replay that is full, refused or wrong, and continues", () => {
     replay.go(3);
     assert.equal(replay.call("remove 2 2").reply, "removed");
     assert.deepEqual([replay.wrong, replay.journal.lines.length, [...replay.held.keys()]], [null, 4, ["1 1"]]);
-    for (let round = 0; round < 200; round++) replay.held[random(2) ? "set" : "delete"](`${random(6)} 0`, 1);
-    const { coordinates, size } = replay.held;
-    assert.deepEqual(Array.from({ length: size }, (_, i) => `${coordinates[2 * i]} ${coordinates[2 * i + 1]}`).sort(),
-        [...replay.held.keys()].sort());
+    for (let round = 0; round < 400; round++) {
+        replay.held[random(2) ? "set" : "delete"](`${random(6)} 0`, 1);
+        const { coordinates, size } = replay.held;
+        assert.deepEqual(Array.from({ length: size }, (_, i) => `${coordinates[2 * i]} ${coordinates[2 * i + 1]}`).sort(),
+            [...replay.held.keys()].sort());
+    }
     const segment = (first, name, more = {}) => ({ name, journal: { version: 3, first, limit: 2, capacity: 4, lines: [{ number: first, seat: 0,
         call: "count", reply: "count 0" }], ...more } });
     assert.deepEqual(joinJournals([segment(6n, "b"), segment(5n, "a")]).segments, [{ name: "a", from: 0 }, { name: "b", from: 1 }]);

@@ -183,6 +183,28 @@ await tried("the first lines of a long journal are stored in the database once",
     assert.equal(puts.length, 1);
     const again = await new Keeper().read();
     assert.deepEqual(again.was.journal.lines.map((it) => it.call), work.replay.journal.lines.map((it) => it.call));
+    // another tab has what all tabs share; of long journals the last four stay
+    const tabs = [sessionStorage, storage()];
+    globalThis.sessionStorage = tabs[1];
+    assert.deepEqual((await new Keeper().read()).was.journal.lines.length, 20011);
+    globalThis.sessionStorage = tabs[0];
+    const { lines } = work.replay.journal;
+    for (let k = 0; k < 6; k++) {
+        work.open({ ...work.replay.journal, lines: lines.slice(0, 20002 + k) });
+        await keeper.keep(work, {});
+        assert.deepEqual([bases.size, (await new Keeper().read()).was.journal.lines.length], [Math.min(k + 2, 4), 20002 + k]);
+    }
+});
+await tried("a deed that a full journal has no space for stays to be undone", () => {
+    const work = new Work(Hull, { journal: { ...emptyJournal(9), capacity: 3 }, power: 0 });
+    work.do(["add 1 1", "add 2 2"]);
+    const states = [work.replay.at, work.deeds.done.length];
+    work.undo();
+    assert.match(work.message, /the journal is full/);
+    assert.deepEqual([[work.replay.at, work.deeds.done.length], work.deeds.undone, work.hull.count()], [states, [], 2]);
+    work.do(["add 3 3"]);
+    work.undo();
+    assert.deepEqual([work.replay.at, work.hull.count()], [3, 3]);
 });
 
 await tried("doubles to the lattice, as the table of all languages has them", () => {

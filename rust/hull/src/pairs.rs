@@ -20,6 +20,14 @@ fn vertex_arrays(polygons: &[Polygon]) -> Result<Vec<VertexArray>, Fault> {
     Ok(all)
 }
 
+/// The values of an iterator that knows how many it has.
+fn collected<T>(values: impl ExactSizeIterator<Item = T>) -> Result<Vec<T>, Fault> {
+    let mut all = Vec::new();
+    all.try_reserve_exact(values.len()).map_err(|_| Fault::NoMemory)?;
+    all.extend(values);
+    Ok(all)
+}
+
 /// Returns which polygons have a distance of at most `numerator / denominator`, exactly, or, with 0 / 1, intersect: the pairs of
 /// their indices, the lesser first, in order. By a sweep over their boxes.
 pub fn pairs_within_distance(polygons: &[Polygon], numerator: u64, denominator: u32) -> Result<Vec<(usize, usize)>, Fault> {
@@ -32,7 +40,7 @@ pub fn pairs_within_distance(polygons: &[Polygon], numerator: u64, denominator: 
             raw::hull_pairs_within_distance(all.as_ptr(), all.len(), numerator, denominator, pairs.as_mut_ptr(), pairs.len())
         };
         match reply.code {
-            code::NUMBER => return Ok(pairs[..reply.number as usize].iter().map(|&[a, b]| (a, b)).collect()),
+            code::NUMBER => return collected(pairs[..reply.number as usize].iter().map(|&[a, b]| (a, b))),
             code::TOO_SMALL => capacity = reply.number as usize,
             other => return Err(answer::fault_of(other)),
         }
@@ -46,7 +54,7 @@ impl PolygonQuestions {
         let mut numbers = many(0, all.len())?;
         // SAFETY: all are convex polygons, which nobody writes; the array was written, and has an element for each.
         unsafe { raw::hull_polygon_relations(these.as_ptr(), these.len(), all.as_ptr(), all.len(), numbers.as_mut_ptr()) };
-        Ok(numbers.iter().map(|&number| answer::relation_of(number.into())).collect())
+        collected(numbers.iter().map(|&number| answer::relation_of(number.into())))
     }
 
     /// Returns whether the polygon intersects each of the segments, in order.
@@ -57,7 +65,10 @@ impl PolygonQuestions {
         let asked = unsafe {
             raw::hull_polygon_intersects_segments(these.as_ptr(), these.len(), segments.as_ptr(), segments.len(), answers.as_mut_ptr())
         };
-        (asked == segments.len()).then(|| answers.iter().map(|&answer| answer == 1).collect()).ok_or(Fault::OutOfRange)
+        if asked < segments.len() {
+            return Err(Fault::OutOfRange);
+        }
+        collected(answers.iter().map(|&answer| answer == 1))
     }
 
     /// Returns for each vertex the index of the first of the points that is equal to it: which input it is. `None` if none is.
@@ -66,6 +77,6 @@ impl PolygonQuestions {
         let mut indices = many(0, these.len())?;
         // SAFETY: the same.
         unsafe { raw::hull_polygon_indices(these.as_ptr(), these.len(), points.as_ptr(), points.len(), indices.as_mut_ptr()) };
-        Ok(indices.into_iter().map(|index| Some(index).filter(|&index| index < points.len())).collect())
+        collected(indices.iter().map(|&index| Some(index).filter(|&index| index < points.len())))
     }
 }
