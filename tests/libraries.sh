@@ -3,6 +3,7 @@
 embed=$top/tests/embed
 shared=$top/tests/shared
 prefix=$room/prefix
+sanitizers='-fsanitize=address,undefined -fno-sanitize-recover=all'
 memory_check='--error-exitcode=9 --leak-check=full --show-leak-kinds=all --errors-for-leak-kinds=all'
 # the program that judges journals: that of these sources, or the released one, so that no proof is begun here
 hullbook=$("$top/tools/product.sh" program hullbook) || hullbook=$top/dist/$(uname -m)/hullbook

@@ -109,11 +109,11 @@ documents() {
     attempt "they are true" "$room/planners"
 }
 
-# the C of ours by sanitizers: codes.c again, over c/motions.c and c/allocator.c as they are; the proved code is linked as it is
+# the C of ours by sanitizers; the proved code is linked as it is
 sanitized() {
-    # shellcheck disable=SC2046 # the flags are separated by spaces
-    attempt "codes.c compiles with sanitizers" compile codes -fsanitize=address,undefined -fno-sanitize-recover=all "$top/c/motions.c" \
-        $(wrap malloc calloc realloc)
+    # shellcheck disable=SC2046,SC2086 # the flags are separated by spaces
+    attempt "codes.c compiles with sanitizers" compile codes -O1 $sanitizers "$top/c/exports.c" \
+        "$top/c/motions.c" $(wrap malloc calloc realloc)
     attempt "sanitizers find nothing in codes" "$room/codes" "$here/lattice.txt" brief
 }
 

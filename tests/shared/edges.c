@@ -41,6 +41,7 @@ static size_t logged;
 static unsigned long syncs_made;
 static int is_extended_at_sync; /* the file gets another byte while it is synced */
 static int logs, syncs_do_nothing, folder_syncs_fail, writes_fail, syncs_take, threads_fail;
+static int syncs_wait; /* a sync waits as long as this is set */
 static unsigned long reads_made;
 static uint64_t bytes_written;
 
@@ -98,6 +99,9 @@ int __wrap_fsync(int file) {
     if (syncs_take) {
         nanosleep(&t, NULL);
     }
+    while (__atomic_load_n(&syncs_wait, __ATOMIC_SEQ_CST)) {
+        sched_yield();
+    }
     return syncs_do_nothing ? 0 : __real_fsync(file);
 }
 
@@ -122,6 +126,19 @@ int __real_renameat(int from, const char *old, int to, const char *new);
 int __wrap_renameat(int from, const char *old, int to, const char *new) {
     note("rename %s\n", strstr(old, ".new"));
     return __real_renameat(from, old, to, new);
+}
+
+/* The clock of deadlines goes on by a microsecond at each look, if that is wanted. */
+static int is_clock_slow;
+static uint64_t slow_clock;
+int __real_clock_gettime(clockid_t clock, struct timespec *t);
+int __wrap_clock_gettime(clockid_t clock, struct timespec *t) {
+    if (clock == CLOCK_MONOTONIC && __atomic_load_n(&is_clock_slow, __ATOMIC_SEQ_CST)) {
+        const uint64_t now = __atomic_add_fetch(&slow_clock, 1000, __ATOMIC_SEQ_CST);
+        *t = (struct timespec){(time_t)(now / SECOND), (long)(now % SECOND)};
+        return 0;
+    }
+    return __real_clock_gettime(clock, t);
 }
 
 /* Sleeps with a deadline end at once if that is wanted, and how long they would have been is added. */
@@ -397,6 +414,29 @@ static void answers_all_waiters(void) {
     }
     check("by no more drains than requests", __atomic_load_n(&syncs_made, __ATOMIC_SEQ_CST) - before <= WAITERS, 1);
     syncs_take = 0;
+    stop(journal, HULL_CLOSED);
+}
+
+/* A wait ends at its deadline, neither before nor after. */
+static void gives_up_at_its_deadline(void) {
+    hull_shared_journal *journal = start(0, 1000);
+    __atomic_store_n(&syncs_wait, 1, __ATOMIC_SEQ_CST);
+    const uint64_t line = add(1, 1).line;
+    slow_clock = hull_shared_now();
+    __atomic_store_n(&is_clock_slow, 1, __ATOMIC_SEQ_CST);
+    for (int waits_for_all = 0; waits_for_all < 2; waits_for_all++) {
+        const uint64_t until = slow_clock + 50000;
+        const hull_reply r = waits_for_all ? hull_shared_journal_sync(journal, until) : hull_shared_journal_wait(journal, line, until);
+        const uint64_t now = hull_shared_now();
+        check("not durable", r.code, HULL_BUSY);
+        check("the first that is not", r.number, line);
+        check("not before", now >= until, 1);
+        check("soon", now - until < MILLISECOND, 1);
+    }
+    check("not at all", hull_shared_journal_wait(journal, line, 0).code, HULL_BUSY);
+    __atomic_store_n(&is_clock_slow, 0, __ATOMIC_SEQ_CST);
+    __atomic_store_n(&syncs_wait, 0, __ATOMIC_SEQ_CST);
+    check("durable", hull_shared_journal_wait(journal, line, HULL_SHARED_NEVER).code, HULL_DURABLE);
     stop(journal, HULL_CLOSED);
 }
 
@@ -1108,6 +1148,23 @@ static void syncs_at_each_interval(void) {
     check("the processor's time", used < 25 * MILLISECOND, 1);
 }
 
+/* With an interval, nothing is written as long as there are no lines. */
+static void writes_nothing_while_idle(void) {
+    hull_shared_journal *journal = open_journal(0);
+    check("start", hull_shared_journal_start(journal, shared, &gate, 100, 1000, 2, MILLISECOND).code, HULL_OPEN);
+    check("acquire", hull_shared_acquire_seat(shared, &gate, seat, 0), HULL_ACQUIRED);
+    const uint64_t line = add(1, 1).line;
+    for (int k = 0; k < 60000 && hull_shared_journal_durable(journal).number <= line; k++) {
+        sleep_for(MILLISECOND);
+    }
+    const uint64_t next = hull_shared_journal_durable(journal).number;
+    check("the line is durable, with that of its drain", next, line + 2);
+    sleep_for(100 * MILLISECOND);
+    check("nothing more", hull_shared_journal_durable(journal).number, next);
+    check("nothing waits", hull_shared_stats(&gate).held, 0);
+    stop(journal, HULL_CLOSED);
+}
+
 /* A thread waits for a line, and memory for the drain is refused: it is tried again after a while, with no processor meanwhile, and the
  * wait ends in time, with the first line that is not durable. */
 static void waits_for_a_drain_without_memory(void) {
@@ -1269,6 +1326,7 @@ static const struct {
     {"closes_beside_waiters", closes_beside_waiters},
     {"syncs_before_it_reports", syncs_before_it_reports},
     {"answers_all_waiters", answers_all_waiters},
+    {"gives_up_at_its_deadline", gives_up_at_its_deadline},
     {"waits_for_nothing", waits_for_nothing},
     {"takes_no_signals", takes_no_signals},
     {"opens_what_has_the_name", opens_what_has_the_name},
@@ -1291,6 +1349,7 @@ static const struct {
     {"starts_after_refused_memory", starts_after_refused_memory},
     {"notices_others_at_start", notices_others_at_start},
     {"syncs_at_each_interval", syncs_at_each_interval},
+    {"writes_nothing_while_idle", writes_nothing_while_idle},
     {"waits_for_a_drain_without_memory", waits_for_a_drain_without_memory},
     {"reads_long_lines", reads_long_lines},
     {"opens_long_paths", opens_long_paths},

@@ -11,7 +11,7 @@ here=$(cd "$(dirname "$0")" && pwd)
 kills=${1:-40}
 calls=${2:-40000}
 all=${1:+all}
-edge_calls='pwrite pread fsync ftruncate renameat flock syscall pthread_create malloc realloc'
+edge_calls='pwrite pread fsync ftruncate renameat flock syscall clock_gettime pthread_create malloc realloc'
 kill_calls='pwrite fsync ftruncate'
 
 codes() {
@@ -53,7 +53,7 @@ all_edges() {
     count "edges.c compiles" $?
     edges "a journal file"
     # shellcheck disable=SC2046,SC2086
-    build "$here/edges.c" "$top/c/journal.c" -fsanitize=address,undefined -fno-sanitize-recover=all $(wrap $edge_calls)
+    build "$here/edges.c" "$top/c/journal.c" -O1 $sanitizers $(wrap $edge_calls)
     count "edges.c compiles with sanitizers" $?
     edges "the same by sanitizers" bears_
 }

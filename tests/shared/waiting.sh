@@ -13,8 +13,11 @@ long=${1:-}
 
 # what calls at a gate promise beside their answers
 waits() {
-    build "$here/gate_steps.c" && "$room/gate_steps"
+    build "$here/gate_steps.c" -I"$here" && "$room/gate_steps"
     count "each step of the gate" $?
+    # shellcheck disable=SC2086 # the flags are separated by spaces
+    build "$here/gate_steps.c" -O1 -I"$here" $sanitizers && "$room/gate_steps"
+    count "sanitizers find nothing in the steps of the gate" $?
     build "$here/combining.c" && "$room/combining"
     count "calls that the threads of others serve: limits, deadlines, drains, hooks, threads that are cancelled or die" $?
     build "$here/waits.c" -Wl,--wrap=malloc && "$room/waits"
@@ -45,6 +48,10 @@ services() {
     build "$here/one_object.c" $(wrap malloc realloc calloc strdup pthread_create) && "$room/one_object" "$room/one.journal"
     count "a service: every code, each option at its ends, each request refused, 64 threads, and its file" $?
     if is_there valgrind; then by_valgrind one_object "$room/one_object" "$room/valgrind.journal"; else skip "a service by valgrind" valgrind; fi
+    # shellcheck disable=SC2046,SC2086
+    build "$here/one_object.c" -O1 $sanitizers "$top/c/service.c" "$top/c/gate.c" "$top/c/journal.c" "$top/c/shared_exports.c" \
+        $(wrap malloc realloc calloc strdup pthread_create) && "$room/one_object" "$room/one.journal"
+    count "sanitizers find nothing in a service, its gate and its file" $?
 }
 
 install_libraries

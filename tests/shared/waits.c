@@ -2,6 +2,7 @@
  * is cancelled or dies delays no others than the header says, and the seat that is inside is reported. The status is 0 only if each is so;
  * a hang ends the program after five minutes. */
 #include "hull_shared.h"
+#include "../../c/sleep.h"
 
 #include <errno.h>
 #include <pthread.h>
@@ -92,6 +93,22 @@ static void look(void) {
     hull_shared_reply reply = hull_shared_look(seats[0]);
     check("a look", reply.answer.code, HULL_NUMBER);
     hull_shared_handed_on(&gate, reply.turn + 1);
+}
+
+/* A sleep with a deadline lasts until then: it does not end at once again and again. */
+static void check_sleep(void) {
+    uint32_t word = 0;
+    unsigned sleeps = 0;
+    const uint64_t until = hull_now() + 30 * MILLISECOND;
+    for (; hull_now() < until; sleeps++) {
+        hull_sleep(&word, 0, until);
+    }
+    check("some sleeps", sleeps >= 1 && sleeps < 20, 1);
+    hull_sleep(&word, 1, HULL_NEVER);
+    check("seconds", (uint64_t)hull_timespec(7999999999).tv_sec, 7);
+    check("nanoseconds", (uint64_t)hull_timespec(7999999999).tv_nsec, 999999999);
+    check("the coarse clock", hull_now() - hull_now_coarse() < 1000 * MILLISECOND || hull_now_coarse() - hull_now() < 1000 * MILLISECOND, 1);
+    check("half a millisecond", HULL_SHARED_TURN, 500000);
 }
 
 /* One gate for two shared hulls, and calls at a gate that is not the seat's. */
@@ -349,6 +366,7 @@ int main(void) {
         seats[k] = hull_shared_seat_new();
     }
     check("a gate of 65", (uint64_t)hull_shared_gate_init(&gate, HULL_SHARED_SEATS_MAX + 1), 0);
+    check_sleep();
     check_other_gates();
     check_deadlines();
     check_waiting_for_space();
