@@ -80,11 +80,14 @@ run_on_terminal() {
     if [ "${1:-}" = run ]; then
         "$program" "$@" <&0 &
         child=$!
-        trap 'kill -INT $child 2>/dev/null' INT
+        # (a program in the background does not get the terminal's interrupt, and ignores one that it is sent)
+        interrupted=
+        trap 'interrupted=yes; kill -TERM $child 2>/dev/null' INT
         show_time $child &
         watcher=$!
-        wait $child
+        wait $child 2>/dev/null
         status=$?
+        [ -z "$interrupted" ] || { wait $child 2>/dev/null; status=130; }
         kill $watcher 2>/dev/null && wait $watcher 2>/dev/null
     else
         "$program" "$@"

@@ -171,6 +171,7 @@ case $1 in version) echo rattle-test ;; doc) echo "$(dirname "$0")/kit/doc.md" ;
 RATTLE = """#!/bin/sh
 bad=
 for it in "$@"; do case $it in *.rt | *.antt) grep -q '  $' "$it" && bad=yes && echo "$it: not laid out" ;; esac; done
+[ -z "${SAID:-}" ] || { echo "$SAID" >&2; exit 1; }
 [ -z "$bad" ]
 """
 
@@ -201,6 +202,8 @@ def test_layouts(tests):
             write(f"{top}/crates/small/{name}", text)
             tests.refuses(f"{name} with {text!r}", wanted, top, "tools/layout.py", env=env)
             write(f"{top}/crates/small/{name}", before) if before else os.remove(f"{top}/crates/small/{name}")
+        for said, wanted in (("crates/small/src/lib.rt: odd", "src/lib.rt: FAILED, not in the layout of rt fmt"), ("the formatter is gone", "the formatter is gone\n")):
+            tests.refuses(f"a formatter that says {said}", wanted, top, "tools/layout.py", env={**env, "SAID": said})
         for target, name in (("../src", "proofs/linked"), ("lib.rt", "src/linked.txt")):
             os.symlink(target, f"{top}/crates/small/{name}")
             tests.refuses(f"a link {name}", f"{name}: FAILED, it is a link", top, "tools/layout.py", env=env)
@@ -264,7 +267,7 @@ def test_lengths(tests):
         write(f"{top}/crates/small/src/lib.rt",
                 "//! What it is about.\n//! In two lines.\n//!\n//! More.\npub use inner::{Two, One};\npub use inner::Three;\nuse other::Four;\n")
         write(f"{top}/crates/small/specs/Lib.antt", "")
-        write(f"{top}/crates/small/specs/Sets.antt", "-- All about sets.\n\n-- What a set is\npub set : Set\n\n-- Hidden.\nhidden : Set\n")
+        write(f"{top}/crates/small/specs/Sets.antt", "-- All about sets.\n\n-- What a set is\npub set : Set\n\n-- Hidden.\nhidden : Set\n\n-- Is it one?\npub asked : Set\n\n-- (as before)\nabbrev pub aside : Set\npub beside : Set\n")
         write(f"{top}/crates/calls/src/lib.rt", "//! Callers.\n")
         write(f"{top}/crates/calls/src/of.rt", "//! A caller of `small`.\nfn call() {}\n")
         for page in reference.PARTS:
@@ -278,7 +281,8 @@ def test_lengths(tests):
         run(top, "tools/reference.py", "--definitions")
         text = kit.text_of(f"{top}/out/DEFINITIONS.md")
         tests.see("the definitions that contracts can name",
-                "| `set` | What a set is. |\n" in text and "**Sets.** All about sets." in text and "hidden" not in text, text)
+                "| `set` | What a set is. |\n" in text and "**Sets.** All about sets.\n" in text and "hidden" not in text
+                and "| `asked` | Is it one? |\n| `aside`, `beside` | (as before) |\n" in text, text)
         write(f"{top}/crates/calls/src/of.rt", "//! A caller of `small`.\nfn call() { again }\n")
         tests.refuses("a caller that has changed", "crates/small/CALLING.md: FAILED", top, "tools/reference.py")
         run(top, "tools/reference.py", "--write")
@@ -338,6 +342,9 @@ def test_each_place(tests):
         write(f"{top}/VERSION", "9.9.9\n")
         said = run(top, "tools/table.py")[1]
         tests.see("each place of another version", all(f"{it}: FAILED, the version: it says '" in said for it in table.VERSIONS), said)
+        run(top, "tools/table.py", "--write")
+        said = run(top, "tools/table.py")[1]
+        tests.see("--write writes all but the list of changes, which is by hand", said.endswith(" passed, 1 failed\n") and "CHANGELOG.md: FAILED, the version" in said, said)
 
 
 def test_table_itself(tests):

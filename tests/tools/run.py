@@ -7,6 +7,7 @@ Each tool has to refuse the fault with its message and exit status, beside a cas
 without it. The last line is 'N passed, M failed'.
 """
 import os
+import re
 import shutil
 import subprocess
 import sys
@@ -14,9 +15,11 @@ import tempfile
 
 sys.path.insert(0, os.path.dirname(os.path.abspath(__file__)))
 from small import TOP, Tests, lay_tools, run, write  # noqa: E402 (the path comes first)
+import flows  # noqa: E402
 import installs  # noqa: E402
 import judges  # noqa: E402
 import mutants  # noqa: E402
+import scripts  # noqa: E402
 
 SOURCE = """//! Three functions on which the gate's own tools are tried.
 #![tactic(auto)]
@@ -48,12 +51,12 @@ pub fn third_behind(n: u32) -> u32
 }
 """
 EDITS = {
+    "a-missing-name": ("    n + 3", "    missing(n)"),
     "adds-two": ("    n + 1", "    n + 2"),
-    "a-comment": ("    n + n", "    n + n // unchanged"),
-    "no-such-name": ("    n + 3", "    missing(n)"),
+    "comment": ("    n + n", "    n + n // unchanged"),
 }
 # the message for each, tried together
-WANTED = {"adds-two": "refused: ", "a-comment": "NOT REFUSED: the crate is still proved", "no-such-name": "NOT TRIED: BAD EDIT: "}
+WANTED = {"adds-two": "refused: ", "comment": "NOT REFUSED: the crate is still proved", "a-missing-name": "NOT TRIED: BAD EDIT: "}
 # faults in the places that repeat the table of codes: a file, a text in it, what replaces it, the message
 PLACES = (
     ("a changed number", "python/hull.py", "    NO_SEAT = 36\n", "    NO_SEAT = 37\n", "python/hull.py: FAILED, codes: it says 'NO_SEAT = 37'"),
@@ -68,6 +71,7 @@ PLACES = (
     ("a declaration changed by hand", "include/hull.h", "size_t hull_size(void);", "size_t hull_size(int a);", "include/hull.h: FAILED, storage: it says"),
     ("a method that is gone", "web/hull.d.ts", "    diameter(): [Point, Point] | null;\n", "", "web/hull.d.ts: FAILED, questions: it says"),
     ("a code that there is not", "tables/interface.txt", "codes = BOX,", "codes = BOXES,", "tables/interface.txt: FAILED, hull_polygon_box: BOXES is no code"),
+    ("a second code that there is not", "tables/interface.txt", "codes = NUMBER, OUT_OF_RANGE", "codes = NUMBER, OUT_OF_REACH", "OUT_OF_REACH is no code"),
     ("an argument that there is not", "tables/interface.txt", "takes = polygon, segment\n", "takes = polygon, line\n", "argument line has no C++"),
     ("a number left out", "tables/calls.txt", "code 9 ABSENT", "code 90 ABSENT", "tables/calls.txt: FAILED, the numbers of each code"),
 )
@@ -124,22 +128,15 @@ def test_judgement(tests):
 
 
 def test_mutants(tests):
-    """A mutant counts as refused only if a goal refuses it, and is recorded only if all of its crate's are."""
+    """The toolchain itself says of a goal, of a change of nothing and of a name that is none what the tools take it to say."""
     with tempfile.TemporaryDirectory() as top:
         lay_crate(top, EDITS)
         status, said = run(top, "tools/mutants.py", "--record", "small")
         tests.see("a run with two bad mutants fails", status == 1 and said.endswith("1 passed, 2 failed\n"), said)
         for name, wanted in WANTED.items():
             tests.see(f"{name}, in a group with the others: {wanted}", f"mutant small/{name}.edit: {wanted}" in said, said)
-        record = f"{top}/.ci/mutants.txt"
-        with open(record, encoding="utf-8") if os.path.exists(record) else open(os.devnull, encoding="utf-8") as file:
-            tests.see("a crate with bad mutants is not recorded", "small" not in file.read())
-        for name in ("a-comment", "no-such-name"):
-            os.remove(f"{top}/crates/small/mutants/{name}.edit")
-        tests.accepts("a crate whose mutants are refused", top, "tools/mutants.py", "--record", "small")
-        status, said = run(top, "tools/mutants.py", "--changed")
-        tests.see("a recorded crate is not tried again", status == 0 and "no crate with mutants differs" in said, said)
-        write(f"{top}/crates/small/src/lib.rt", SOURCE.replace("    n + 1", "    n + 2"))
+        tests.see("a crate with bad mutants is not recorded", "small" not in read(f"{top}/.ci/mutants.txt") if os.path.exists(f"{top}/.ci/mutants.txt") else True)
+        write(f"{top}/crates/small/src/lib.rt", SOURCE.replace("    n + 1", "    missing(n)"))
         tests.refuses("a crate that is not proved", "not proved without any change: small", top, "tools/mutants.py", "--changed")
 
 
@@ -194,6 +191,24 @@ def test_suites(tests):
                            ("a failure", "echo it: FAILED; echo 3 passed, 1 failed; exit 1")):
             write(suite, f"#!/bin/sh\n{text}\n", 0o755)
             tests.refuses(f"a suite with {what}", ", 1 failed", top, "bin/test", "files")
+        write(suite, "#!/bin/sh\nkill -9 $PPID; echo 3 passed, 0 failed\n", 0o755)
+        tests.refuses("a suite that ends its runner", "0 passed, 1 failed", top, "bin/test", "files")
+        write(suite, "#!/bin/sh\necho 'x: skipped, there is no y'; echo 0 passed, 0 failed\n", 0o755)
+        status, said = run(top, "bin/test", "files")
+        tests.see("nothing that passes is a failure, and what is skipped is named", status == 1 and "files: there is no y\n0 passed, 0 failed\n" in said, said)
+        write(suite, "#!/bin/sh\nsleep 0; echo here $PWD; echo 2 passed, 0 failed\n", 0o755)
+        write(f"{top}/tests/cli/run.sh", "#!/bin/sh\necho 4 passed, 1 failed; exit 1\n", 0o755)
+        write(f"{top}/tools/product.sh", "#!/bin/sh\necho here\n", 0o755)
+        status, said = run(top, "bin/test", "files", "cli")
+        tests.see("two suites are summed", status == 1 and said.endswith("\n6 passed, 1 failed\n") and "==== cli, the end of out/test/cli.log" in said, said)
+        tests.see("each has its log", read(f"{top}/out/test/files.log") == f"here {top}\n2 passed, 0 failed\n" and "4 passed" in read(f"{top}/out/test/cli.log"))
+        write(f"{top}/tools/product.sh", "#!/bin/sh\nexit 1\n", 0o755)
+        status, said = run(top, "bin/test", "files", "cli")
+        tests.see("one that cannot run is left out, with why", status == 0 and "Left out:\ncli: the proved sources have changed" in said
+                  and said.endswith("\n2 passed, 0 failed\n") and read(f"{top}/out/test/left_out") == "cli\n", said)
+        status, said = run(top, "bin/test", "--list")
+        tests.see("--list", status == 0 and all(re.search(rf"(?m)^{it} .*\(needs: ", said) for it in ("files", "cli", "dist", "tools")), said)
+        tests.see("--help", run(top, "bin/test", "--help")[1].startswith("Runs the tests that this machine can run"))
         tests.refuses("a name that is no suite", "there is no suite or crate 'other'", top, "bin/test", "other", status=2)
 
 
@@ -208,6 +223,17 @@ def test_gate(tests):
             write(f"{top}/{it}", good, 0o755)
         status, said = run(top, ".ci/run", env=env)
         tests.see("a gate whose stages pass", status == 0 and said.endswith("\n5 passed, 0 failed\n"), said)
+        for it in commands:
+            write(f"{top}/{it}", f"#!/bin/sh\necho {it} $* >>asked\nmkdir -p out/test\necho trials web >out/test/left_out\necho 1 passed, 0 failed\n", 0o755)
+        for words, mutants_asked in (((), "tools/mutants.py --changed --known"), (("--all-mutants",), "tools/mutants.py\ntests/shared/run.sh 100000 150")):
+            write(f"{top}/tests/shared/run.sh", "#!/bin/sh\necho tests/shared/run.sh $* >>asked\necho 1 passed, 0 failed\n", 0o755)
+            write(f"{top}/asked", "")
+            run(top, ".ci/run", *words, env=env)
+            asked = "".join(it for it in read(f"{top}/asked").splitlines(True) if not it.startswith("tools/product.sh"))
+            tests.same(f"the stages of .ci/run {words}", asked, "bin/test\npath/rt version\npath/rt ci\n".replace("bin/test\npath/rt version", "path/rt version\nbin/test")
+                       + f"bin/test memory pictures soak texts trials web\n{mutants_asked}\ntools/release.sh --compare\n")
+        for it in commands:
+            write(f"{top}/{it}", good, 0o755)
         for it in commands[:4]:
             for what, text in (("fails", "echo 4 passed, 1 failed; exit 1"), ("ends with status 3", "echo 4 passed, 0 failed; exit 3"), ("is silent", "exit 0")):
                 write(f"{top}/{it}", f"#!/bin/sh\nmkdir -p out/test\n: >out/test/left_out\n{text}\n", 0o755)
@@ -262,7 +288,7 @@ def test_tables(tests):
 def main():
     tests = Tests()
     for test in (test_judgement, test_layout, test_products, test_suites, test_gate, test_language, test_tables, *judges.TESTS,
-                 installs.test_install, installs.test_packages):
+                 *flows.TESTS, *scripts.TESTS, installs.test_install, installs.test_packages):
         test(tests)
     if shutil.which("rt"):
         test_mutants(tests)

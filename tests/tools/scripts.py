@@ -1,0 +1,224 @@
+"""Tests the scripts: tests/lib.sh, which counts for the suites, tools/program.sh, which finds and runs a program, what tools/terminal.sh says
+on a terminal, and the completions. Programs and products are stand-ins, which say and return what a test wants of them."""
+import os
+import pty
+import re
+import select
+import shutil
+import signal
+import subprocess
+import tempfile
+import time
+
+import kit
+from small import TOP, lay_tools, run, write
+
+# what a script that reads tests/lib.sh does, what it prints, and its status
+SCRIPTS = (
+    ("nothing", "", "0 passed, 0 failed\n", 0),
+    ("two that are ok", "said a ok; said b 'ok, 3 lines'", "a: ok\nb: ok, 3 lines\n2 passed, 0 failed\n", 0),
+    ("one that is not", "said a ok; said b 'not ok'", "a: ok\nb: not ok\n1 passed, 1 failed\n", 1),
+    ("equal and other values", "came a x x; came b '' x; came c x ''; came d '' ''",
+     "a: ok\nb: FAILED, , not x\nc: FAILED, x, not \nd: ok\n2 passed, 2 failed\n", 1),
+    ("statuses", "echo why >\"$room/told\"; count a 0; count b 3", "a: ok\nb: FAILED, 3, not 0\nwhy\n1 passed, 1 failed\n", 1),
+    ("commands", "attempt a true; attempt b sh -c 'echo said; echo more >&2; exit 4'; attempt c false",
+     "a: ok\nb: FAILED, 4, not 0\nsaid\nmore\nc: FAILED, 1, not 0\n1 passed, 2 failed\n", 1),
+    ("a command that counts", "counted a sh -c 'echo x: ok; echo 3 passed, 0 failed'", "x: ok\n3 passed, 0 failed\n", 0),
+    ("one with a failure", "counted a sh -c 'echo x: no; echo 3 passed, 2 failed; exit 1'; said b ok", "x: no\nb: ok\n4 passed, 2 failed\n", 1),
+    ("one with a failure and status 0", "counted a sh -c 'echo 1 passed, 1 failed'", "1 passed, 1 failed\n", 1),
+    ("one with a status", "counted a sh -c 'echo 3 passed, 0 failed; exit 5'", "a: FAILED, exit status 5 after 3 passed, 0 failed\n3 passed, 1 failed\n", 1),
+    ("one with no count", "counted a sh -c 'echo well; echo done'", "well\na: FAILED, exit status 0: done\n0 passed, 1 failed\n", 1),
+    ("one that says nothing", "counted a true", "a: FAILED, exit status 0: \n0 passed, 1 failed\n", 1),
+    ("what is skipped counts nothing", "skip a tool; is_there sh && said b ok; is_there no-such-tool || said c ok",
+     "a: skipped, there is no tool\nb: ok\nc: ok\n2 passed, 0 failed\n", 0),
+    ("where it is", "came top \"$top\" \"$(cd ../.. && pwd)\"; [ -d \"$room\" ] && said room ok", "top: ok\nroom: ok\n2 passed, 0 failed\n", 0),
+)
+
+
+def test_lib(tests):
+    """What a script that reads tests/lib.sh prints and returns."""
+    with tempfile.TemporaryDirectory() as top:
+        write(f"{top}/tests/lib.sh", kit.text_of(f"{TOP}/tests/lib.sh"))
+        os.makedirs(f"{top}/rooms")
+        for what, text, wanted, status in SCRIPTS:
+            write(f"{top}/tests/one/run.sh", f"set -u\nhere=$(cd \"$(dirname \"$0\")\" && pwd)\ncd \"$here\"\n. \"$here/../lib.sh\"\n{text}\nend\n")
+            tests.same(f"a script with {what}", run(top, "sh", "tests/one/run.sh", env={"TMPDIR": f"{top}/rooms"}), (status, wanted))
+        tests.same("no folder is left", os.listdir(f"{top}/rooms"), [])
+
+
+# ---- programs
+
+# finds the program at PROGRAM, or ends with FOUND; makes one, or ends with MADE
+PRODUCT = """#!/bin/sh
+case $1 in
+program) [ "${FOUND:-0}" -eq 0 ] || exit "$FOUND"; echo "$(dirname "$0")/stand-in" ;;
+put) echo "put $2" >&2; [ "${MADE:-0}" -eq 0 ] || exit "$MADE"; mkdir -p "crates/${2#*/}/out/${2%/*}"; cp "$(dirname "$0")/stand-in" "crates/${2#*/}/out/$2" ;;
+*) exit 99 ;;
+esac
+"""
+# says ERR on standard error and its words on standard output, after a time, and returns STATUS
+STAND_IN = """#!/bin/sh
+[ -z "${PID:-}" ] || echo $$ >"$PID"
+[ -z "${SLEEP:-}" ] || sleep "$SLEEP"
+printf "%b" "${ERR:-}" >&2
+echo "said $* by ${GLIBC_TUNABLES:-none}"
+exit "${STATUS:-0}"
+"""
+
+
+def lay(top):
+    lay_tools(top)
+    write(f"{top}/tools/product.sh", PRODUCT, 0o755)
+    write(f"{top}/tools/stand-in", STAND_IN, 0o755)
+    write(f"{top}/dist/SUMS", "# sums\nversion 7.8.9\n")
+    write(f"{top}/VERSION", "7.8.9\n")
+    write(f"{top}/path/uname", "#!/bin/sh\ncase $1 in -s) echo ${SYSTEM:-Linux} ;; *) echo ${MACHINE:-x86_64} ;; esac\n", 0o755)
+    write(f"{top}/rt/rt", "#!/bin/sh\n", 0o755)
+    os.makedirs(f"{top}/rooms")
+    without = ":".join(it for it in os.environ["PATH"].split(":") if not os.path.exists(f"{it}/rt"))
+    return {"PATH": f"{top}/path:{without}", "TMPDIR": f"{top}/rooms"}
+
+
+def test_programs(tests):
+    """A program is found, or proved first; if it cannot be had, the cause is said, with a status of its own."""
+    with tempfile.TemporaryDirectory() as top:
+        env = lay(top)
+        tests.same("the program's words, output and status", run(top, "bin/hullbook", "a b", "c", env={**env, "STATUS": "3", "ERR": "oh\\n"}),
+                   (3, "oh\nsaid a b c by glibc.malloc.hugetlb=1\n"))
+        tests.same("the caller's tunables stay", run(top, "bin/hulldraw", env={**env, "GLIBC_TUNABLES": "mine"}), (0, "said  by mine\n"))
+        tests.same("its path", run(top, "tools/program.sh", "--path", "hullbook", env=env), (0, f"{top}/tools/stand-in\n"))
+        os.symlink(f"{top}/bin/hullbook", f"{top}/linked")
+        tests.same("by a link", run("/", f"{top}/linked", "x", env=env), (0, "said x by glibc.malloc.hugetlb=1\n"))
+        rt = {**env, "PATH": f"{top}/rt:{env['PATH']}"}
+        for what, more, status, wanted in (
+            ("other sources and no toolchain", {"FOUND": "1"}, 69, "hullbook: dist/x86_64/hullbook is release 7.8.9, made of other sources than these"),
+            ("a damaged program", {"FOUND": "2"}, 69, "hullbook: dist/x86_64/hullbook is damaged: its checksum is not the one in dist/SUMS."),
+            ("a damaged program, with the toolchain", {**rt, "FOUND": "2"}, 69, "is damaged"),
+            ("another processor", {"FOUND": "1", "MACHINE": "riscv64"}, 69, "the programs are for Linux on x86-64, and this machine is Linux on riscv64."),
+            ("another system", {"FOUND": "1", "SYSTEM": "Darwin"}, 69, "this machine is Darwin on x86_64."),
+            ("a proof that fails", {**rt, "FOUND": "1", "MADE": "70"}, 70, "proving these sources first"),
+            ("no compiler", {**rt, "FOUND": "1", "MADE": "71"}, 71, "put x86_64/hullbook\n"),
+        ):
+            came, said = run(top, "bin/hullbook", "run", env={**env, **more})
+            tests.see(f"{what}: {status}", came == status and wanted in said and "said " not in said, f"{came}: {said}")
+        status, said = run(top, "bin/hulldraw", "x", env={**rt, "FOUND": "1"})
+        tests.see("a proof that does not", status == 0 and said.endswith("put x86_64/hulldraw\nsaid x by glibc.malloc.hugetlb=1\n"), f"{status}: {said}")
+        tests.same("no folder is left", os.listdir(f"{top}/rooms"), [])
+
+
+def on_terminal(top, *words, env, keys=b"", once=""):
+    """Runs a command on a terminal, and types the keys once a file is there. Returns its status and what the terminal shows."""
+    pid, terminal = pty.fork()
+    if pid == 0:
+        # (the command is not the leader of the session, as it is not where a shell has started it)
+        signal.signal(signal.SIGINT, lambda *_: None)
+        os._exit(subprocess.run(words, cwd=top, env={**os.environ, **env}, check=False).returncode % 256)
+    shown, typed = b"", not keys
+    while True:
+        typed = typed or (os.path.exists(once) and os.write(terminal, keys) > 0)
+        if not select.select([terminal], [], [], 0.05)[0]:
+            continue
+        try:
+            part = os.read(terminal, 4096)
+        except OSError:
+            part = b""
+        if not part:
+            break
+        shown += part
+    status = os.waitpid(pid, 0)[1]
+    os.close(terminal)
+    return os.waitstatus_to_exitcode(status) if hasattr(os, "waitstatus_to_exitcode") else status >> 8, shown.decode().replace("\r\n", "\n")
+
+
+# of each fault of a text a part of what it means
+MEANINGS = {1: "its form: a field or a space is missing", 2: "a number is spelled otherwise", 3: "a coordinate is out of range", 4: "a worker or a seat is above 63",
+            5: "a word is no call and no reply", 6: "a journal ends before its end line", 7: "the first line is not the header", 8: "the file could not be read",
+            10: "there was not enough memory"}
+
+
+def test_meanings(tests):
+    """On a terminal a fault is explained by its number, with the line that it is in."""
+    with tempfile.TemporaryDirectory() as top:
+        env = lay(top)
+        write(f"{top}/text", "first\nsecond\nthird\n")
+        for number, meaning in MEANINGS.items():
+            status, shown = on_terminal(top, "bin/hullbook", "check", "text", env={**env, "STATUS": "2", "ERR": f"hullbook: line 2: fault {number}\\n"})
+            tests.see(f"fault {number}", status == 2 and f"hullbook: fault {number}: {meaning}" in shown and shown.endswith("hullbook: line 2 is: second\n"), f"{status}: {shown}")
+        for status, text in ((3, "hullbook: b: line 3: fault 5\\n"), (4, "hullbook: line 1: fault 10\\n")):
+            came, shown = on_terminal(top, "bin/hullbook", "run", "text", env={**env, "STATUS": str(status), "ERR": text})
+            tests.see(f"status {status}", came == status and "hullbook: fault " in shown, f"{came}: {shown}")
+        for words, wanted in ((("check", "/dev/stdin"), ""), (("check", "none"), "hullbook: fault 2: "), (("check", "text", "text", "text", "text"), "hullbook: fault 2: ")):
+            shown = on_terminal(top, "bin/hullbook", *words, env={**env, "STATUS": "2", "ERR": "hullbook: line 2: fault 2\\n"})[1]
+            tests.see(f"no line of {words}", "line 2 is" not in shown and (wanted in shown if wanted else "hullbook: fault" not in shown), shown)
+
+
+def test_terminal(tests):
+    """On a terminal there is the synopsis, the version, the time of a run, and how many calls found the journal full; an interrupt ends it."""
+    with tempfile.TemporaryDirectory() as top:
+        env = lay(top)
+        status, shown = on_terminal(top, "bin/hullbook", "nonsense", env={**env, "STATUS": "2", "ERR": "hullbook: usage\\n"})
+        tests.see("the synopsis", status == 2 and "usage: hullbook run SCRIPT [--capacity N]" in shown and shown.endswith("docs/PROGRAM.md.\n"), f"{status}: {shown}")
+        for word in ("--version", "-V"):
+            status, shown = on_terminal(top, "bin/hullbook", word, env={**env, "STATUS": "2", "ERR": "hullbook: usage\\n"})
+            tests.see(word, status == 2 and shown.endswith("hullbook 7.8.9\n") and "SCRIPT" not in shown, f"{status}: {shown}")
+        tests.same("hulldraw says no more", on_terminal(top, "bin/hulldraw", env={**env, "STATUS": "2", "ERR": "usage\\n"}),
+                   (2, "usage\nsaid  by glibc.malloc.hugetlb=1\n"))
+        status, shown = on_terminal(top, "sh", "-c", "bin/hullbook x 2>errors; cat errors", env={**env, "STATUS": "2", "ERR": "hullbook: usage\\n"})
+        tests.see("nor does hullbook, if standard error is a file", "SCRIPT" not in shown, shown)
+        write(f"{top}/five", "0 add 1 1\n" * 5 + "join\n# a comment\n"), write(f"{top}/other", "0 add 1 1\n")
+        for words, wanted in ((("five", "--capacity", "2"), "hullbook: 3 of 5 calls found the journal full: see --capacity"),
+                              (("--capacity", "4", "five"), "hullbook: 1 of 5 calls"), (("five", "--capacity", "5"), ""), (("five",), ""),
+                              (("five", "--limit", "2"), ""), (("five", "--capacity", "2", "--after", "other"), ""), (("none", "--capacity", "2"), "")):
+            status, shown = on_terminal(top, "bin/hullbook", "run", *words, env=env)
+            tests.see(f"a run of {words}", status == 0 and (wanted in shown if wanted else "found the journal" not in shown), f"{status}: {shown}")
+        tests.see("a check of the same", "found the journal" not in on_terminal(top, "bin/hullbook", "check", "five", "--capacity", "2", env=env)[1])
+        status, shown = on_terminal(top, "bin/hullbook", "run", "five", env={**env, "SLEEP": "4", "STATUS": "1"})
+        tests.see("the seconds of a run, which go when it ends", status == 1 and "\rhullbook: running, 2 s" in shown and shown.endswith("hugetlb=1\n"), f"{status}: {shown!r}")
+        status, shown = on_terminal(top, "bin/hullbook", "run", "five", env={**env, "SLEEP": "1000", "PID": f"{top}/pid"}, keys=b"\x03", once=f"{top}/pid")
+        until = time.monotonic() + 60
+        while os.path.exists(f"/proc/{kit.text_of(f'{top}/pid').strip()}") and time.monotonic() < until:
+            time.sleep(0.05)
+        tests.see("an interrupt ends the program, too", status == 130 and not os.path.exists(f"/proc/{kit.text_of(f'{top}/pid').strip()}"), f"{status}: {shown}")
+
+
+# ---- completions
+
+
+def test_completions(tests):
+    """Each shell completes the commands and the flags that the synopses name, and no others."""
+    texts = {it: kit.text_of(f"{TOP}/tools/completions/{it}") for it in ("hullbook.bash", "_hullbook", "hullbook.fish")}
+    synopsis = re.search(r"(?s)synopsis='(.*?)SCRIPT and", kit.text_of(f"{TOP}/tools/terminal.sh"))[1]
+    commands = re.findall(r"hullbook (\w+)", synopsis)
+    flags = {it: set(re.findall(rf"--(\w+)", re.search(rf"hullbook {it}\b[^\n]*", synopsis)[0])) for it in commands}
+    drawn = set(re.findall(r"--(\w+)", re.search(r"(?s)\.SH SYNOPSIS(.*?)\.SH", kit.text_of(f"{TOP}/man/hulldraw.1"))[1].replace("\\-", "-")))
+    tests.same("the commands", commands, ["run", "check", "compact", "upgrade"])
+    zsh = {name: set(re.findall(r"'--(\w+)\[", text)) for name, text in zip(("hullbook", "hulldraw"), re.split(r"(?m)^case", texts["_hullbook"]))}
+    tests.same("zsh: flags", zsh, {"hullbook": set().union(*flags.values()), "hulldraw": drawn})
+    tests.see("zsh: commands", f"({' '.join(commands)})" in texts["_hullbook"] and texts["_hullbook"].startswith("#compdef hullbook hulldraw\n"))
+    fish = re.findall(r"(?m)^complete -c (\w+)(?: -n '__fish_seen_subcommand_from (\w+)')? -l (\w+)", texts["hullbook.fish"])
+    tests.same("fish: flags", {(program, command): {it[2] for it in fish if it[:2] == (program, command)} for program, command, _ in fish},
+               {**{("hullbook", it): flags[it] for it in commands if flags[it]}, ("hulldraw", ""): drawn})
+    tests.see("fish: commands", f"complete -c hullbook -n __fish_use_subcommand -a '{' '.join(commands)}'\n" in texts["hullbook.fish"])
+    bash = shutil.which("bash")
+    if not bash:
+        print("skipped: completions of bash: there is no bash")
+        return
+    with tempfile.TemporaryDirectory() as top:
+        write(f"{top}/script.txt", ""), write(f"{top}/other.txt", "")
+
+        def complete(*words):
+            """Returns what bash offers for the last of these words."""
+            quoted = " ".join(f"'{it}'" for it in words)
+            script = f". '{TOP}/tools/completions/hullbook.bash'; COMP_WORDS=({quoted}); COMP_CWORD={len(words) - 1}; " \
+                     f"f=$(complete -p {words[0]} | sed 's/.*-F \\([^ ]*\\) .*/\\1/'); $f; printf '%s\\n' \"${{COMPREPLY[@]}}\""
+            return {it for it in run(top, bash, "-c", script)[1].split("\n") if it}
+
+        tests.same("bash: commands", [complete("hullbook", it) for it in ("", "c", "x")], [set(commands), {"check", "compact"}, set()])
+        for it in commands:
+            tests.same(f"bash: flags of {it}", complete("hullbook", it, "-"), {f"--{flag}" for flag in flags[it]})
+        tests.same("bash: flags that begin so", complete("hullbook", "run", "--l"), {"--limit"})
+        tests.same("bash: files", [complete("hullbook", "run", "s"), complete("hulldraw", "")], [{"script.txt"}, {"script.txt", "other.txt"}])
+        tests.same("bash: flags of hulldraw", complete("hulldraw", "--"), {f"--{it}" for it in drawn})
+
+
+TESTS = (test_lib, test_programs, test_meanings, test_terminal, test_completions)
