@@ -1,0 +1,5 @@
+pub mod Weights
+pub mod Passed
+pub mod Arrivals
+pub mod Passings
+pub mod Earlier
