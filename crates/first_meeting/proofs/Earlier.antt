@@ -1,22 +1,20 @@
 -- If two sets that are disjoint at first intersect after a part of the motion of one of them, then by that time, and
 -- perhaps before, a vertex of one of them came into the other.
-use Rattle.std.proofs.Common.{◌≡◌, ℕ, ◌<◌, ℤ, pos, ◌+ℤ◌, ◌-ℤ◌, ◌*ℤ◌, ◌≤ℤ◌, ◌<ℤ◌, neg_ℤ, ◌⊎◌, inl, inr, refl, sym, ap, ◌∙◌, subst}
-use Rattle.std.proofs.Common.{List, [], ◌∷◌, length, map, get_or, arith}
+use Rattle.std.proofs.Common.{◌≡◌, ℕ, ◌<◌, ℤ, pos, ◌+ℤ◌, ◌-ℤ◌, ◌*ℤ◌, ◌<ℤ◌, neg_ℤ, ◌⊎◌, inl, inr, sym, ap, ◌∙◌, subst}
+use Rattle.std.proofs.Common.{List, [], length, map, get_or, arith}
 use Rattle.std.specs.List.{Contains}
 use Rattle.std.proofs.lemmas.Bool.{cases_lt}
 use Rattle.std.proofs.lemmas.Int.{ints}
 use Rattle.std.proofs.lemmas.List.{get_or-map, length-map}
 use Rattle.std.proofs.lemmas.List.Elements.{Contains-get_or}
-use Rattle.lattice.specs.Covers.{Covers, IsExtreme}
 use Rattle.lattice.specs.Plane.{Pair, product}
 use Rattle.lattice.specs.Polynomials.{difference-eq, as_difference, difference_rules}
-use Rattle.lattice.proofs.Vectors.{as_pair, opp}
+use Rattle.lattice.proofs.Vectors.{opp}
 use Rattle.hull_geometry.proofs.CandidateListHulls.{covers_more}
 use Rattle.hull_geometry.proofs.Slopes.{product-opp}
 use Rattle.hull_polygon.specs.Closest.{magnified}
 use Rattle.hull_polygon.specs.Meetings.{AreDisjoint, Parts}
 use Rattle.hull_polygon.specs.Polygons.{IsPolygonOf}
-use Rattle.hull_polygon.specs.Raycasts.{moved, on_way}
 use Rattle.hull_polygon.specs.Rounds.{vertex, IsSeparated}
 use Rattle.hull_polygon.specs.Steps.{backward}
 use Rattle.hull_polygon.proofs.Differences.{separated_or_shared}
@@ -25,19 +23,27 @@ use Rattle.hull_polygon.proofs.SeparatedLists.{farther_back, never_both}
 use Rattle.hull_polygon.proofs.Shields.{apart_empty}
 use Rattle.hull_polygon.proofs.Together.{apart_from_none}
 use Rattle.hull_polygon.proofs.Switches.{all_nearer}
-use Rattle.hull_polygon.proofs.Vertices.{vertex_extreme}
-use Rattle.first_meeting.specs.FirstMeetings.{carried, MeetAt}
-use Rattle.first_meeting.proofs.Arrivals.{Arrives, Passing, carried_point, times, magnified_there, product_carried, product_times, arrives}
+use Rattle.first_meeting.specs.FirstMeetings.{carried, MeetAfter}
+use Rattle.first_meeting.proofs.Reached.{Arrives, Passing, carried_point, times, magnified_there, product_carried, product_times, arrives}
 use Rattle.first_meeting.proofs.Passed.{HasPassed, IsPassed, SomePassed, passed}
 use Rattle.first_meeting.proofs.Passings.{has_passed, is_passed}
 
 -- ---- members
 
 -- a member of a mapped list is the image of a member
-image_of : (g : Pair → Pair) (V : List Pair) (x : Pair) → Contains (map g V) x → (a : Pair) × Contains V a × (x ≡ g a)
+pub image_of : (g : Pair → Pair) (V : List Pair) (x : Pair) → Contains (map g V) x → (a : Pair) × Contains V a × (x ≡ g a)
 image_of g V x (i, l, e) =
     let m : i < length V = rw length-map at l in
     (get_or V i x, Contains-get_or V i x m, sym e ∙ get_or-map g V i x x m)
+
+-- a carried member is a member of the carried set
+pub carried_there : (V : List Pair) (p : Pair) (j m : ℕ) (w : Pair) → Contains V p
+    → Contains (carried j m w V) (carried_point j m w p)
+carried_there V p j m w (i, l, e) = (
+  i,
+  rw length-map l,
+  get_or-map (carried_point j m w) V i p _ l ∙ ap (λ (t : Pair). carried_point j m w t) e,
+)
 
 -- a magnified part of a set is in the magnified set
 magnified_more : (k : ℕ) (W T : List Pair) → ((t : Pair) → Contains W t → Contains T t) → (t : Pair)
@@ -91,13 +97,6 @@ apart_whole : (S T V W : List Pair) (last end : ℕ) (w : Pair) (m j : ℕ) → 
     → AreDisjoint (carried j m w V) (magnified j W) → AreDisjoint (carried j m w S) (magnified j T)
 apart_whole S T V W last end w m j o p q r n k (d, h) = (d, λ s t ms mt. parted s t ms mt)
   where
-    there : (V : List Pair) (p : Pair) → Contains V p → Contains (carried j m w V) (carried_point j m w p)
-    there V p (i, l, e) = (
-      i,
-      rw length-map l,
-      get_or-map (carried_point j m w) V i p _ l ∙ ap (λ (t : Pair). carried_point j m w t) e,
-    )
-
     before : (x y z b c : ℤ) → b ≡ x +ℤ z → c ≡ y → b <ℤ c → x <ℤ (y -ℤ z)
     before x y z b c e f h = omega (arith, ints)
 
@@ -107,7 +106,7 @@ apart_whole S T V W last end w m j o p q r n k (d, h) = (d, λ s t ms mt. parted
     vertices u v mu mv = before _ _ _ _ _
         (product_carried j m d w u ∙ ap (λ (z : ℤ). z +ℤ pos m *ℤ product d w) (sym (times_along j d u)))
         (product_times j d v ∙ sym (times_along j d v))
-        (h (carried_point j m w u) (times j v) (there V u mu) (magnified_there W v j mv))
+        (h (carried_point j m w u) (times j v) (carried_there V u j m w mu) (magnified_there W v j mv))
 
     over : (x y z : ℤ) → x <ℤ (y -ℤ z) → (x +ℤ z) <ℤ y
     over x y z h = omega (arith, ints)
@@ -170,19 +169,27 @@ some_arrives S T V W w f m j o q hj h (inl (x, y, z, mx, my, mz, t)) =
     let a = image_of (carried_point j m w) V x mx in
     let d = image_of (times j) W y my in
     let e = image_of (times j) W z mz in
-    inl (a.0, a.1, arrives_more W T w a.0 m j (λ t k. vertex_of T W t q k)
-    (arrives W w f a.0 d.0 e.0 m j d.1 e.1 hj (h a.0 d.0 (vertex_of S V a.0 o a.1) (vertex_of T W d.0 q d.1))
-    (h a.0 e.0 (vertex_of S V a.0 o a.1) (vertex_of T W e.0 q e.1))
-    (passed_there w f a.0 d.0 e.0 x y z m j hj a.2 d.2 e.2 t)))
+    inl (
+      a.0,
+      a.1,
+      arrives_more W T w a.0 m j (λ t k. vertex_of T W t q k)
+          (arrives W w f a.0 d.0 e.0 m j d.1 e.1 hj (h a.0 d.0 (vertex_of S V a.0 o a.1) (vertex_of T W d.0 q d.1))
+          (h a.0 e.0 (vertex_of S V a.0 o a.1) (vertex_of T W e.0 q e.1))
+          (passed_there w f a.0 d.0 e.0 x y z m j hj a.2 d.2 e.2 t)),
+    )
 some_arrives S T V W w f m j o q hj h (inr (x, y, z, mx, my, mz, t)) =
     let d = image_of (times j) W x mx in
     let a = image_of (carried_point j m w) V y my in
     let b = image_of (carried_point j m w) V z mz in
-    inr (d.0, d.1, arrives_more V S (backward w) d.0 m j (λ t k. vertex_of S V t o k)
-    (arrives V (opp w) (opp f) d.0 a.0 b.0 m j a.1 b.1 hj
-    (farther_back f a.0 d.0 (h a.0 d.0 (vertex_of S V a.0 o a.1) (vertex_of T W d.0 q d.1)))
-    (farther_back f b.0 d.0 (h b.0 d.0 (vertex_of S V b.0 o b.1) (vertex_of T W d.0 q d.1)))
-    (passed_by w f d.0 a.0 b.0 x y z m j hj d.2 a.2 b.2 t)))
+    inr (
+      d.0,
+      d.1,
+      arrives_more V S (backward w) d.0 m j (λ t k. vertex_of S V t o k)
+          (arrives V (opp w) (opp f) d.0 a.0 b.0 m j a.1 b.1 hj
+          (farther_back f a.0 d.0 (h a.0 d.0 (vertex_of S V a.0 o a.1) (vertex_of T W d.0 q d.1)))
+          (farther_back f b.0 d.0 (h b.0 d.0 (vertex_of S V b.0 o b.1) (vertex_of T W d.0 q d.1)))
+          (passed_by w f d.0 a.0 b.0 x y z m j hj d.2 a.2 b.2 t)),
+    )
 
 -- the image of the empty set
 carried_none : (j m : ℕ) (w : Pair) (S : List Pair) → S ≡ [] → carried j m w S ≡ []
@@ -190,7 +197,7 @@ carried_none j m w S e = ap (carried j m w) e
 
 -- if the sets are disjoint at first and intersect at m / j of the motion, some vertex arrives by then
 pub arrives_before : (S T V W : List Pair) (last end : ℕ) (w : Pair) (m j : ℕ) → IsPolygonOf S V → IsSeparated V last
-    → IsPolygonOf T W → IsSeparated W end → 0 < j → AreDisjoint S T → MeetAt S T w m j → SomeArrives S T V W w m j
+    → IsPolygonOf T W → IsSeparated W end → 0 < j → AreDisjoint S T → MeetAfter S T w m j → SomeArrives S T V W w m j
 arrives_before S T V W last end w m j o p q r hj a meet = elim (cases_lt 0 (length V)) [
   | inr n ↦ absurd (never_both _ _ meet (apart_empty _ _ (carried_none j m w S (no_vertices S V o (omega (arith, n))))))
   | inl n ↦ elim (cases_lt 0 (length W)) [

@@ -1,5 +1,8 @@
 pub mod Weights
 pub mod Passed
-pub mod Arrivals
+pub mod Reached
 pub mod Passings
 pub mod Earlier
+pub mod Hits
+pub mod Sooner
+pub mod FirstOfBoth

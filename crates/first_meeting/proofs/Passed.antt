@@ -1,11 +1,10 @@
 -- If the hulls of two sets share a point, a point of one of them has passed a segment of the other: it lies on the line
 -- through a point of the segment along a vector, and no less far on in a direction.
-use Rattle.std.proofs.Common.{◌≡◌, ℤ, pos, ◌+ℤ◌, ◌-ℤ◌, ◌*ℤ◌, ◌≤ℤ◌, ◌<ℤ◌, neg_ℤ, ◌⊎◌, inl, inr, refl, sym, ap, ◌∙◌, List, arith}
+use Rattle.std.proofs.Common.{◌≡◌, ℤ, pos, ◌+ℤ◌, ◌-ℤ◌, ◌*ℤ◌, ◌≤ℤ◌, neg_ℤ, ◌⊎◌, inl, inr, refl, ◌∙◌, List, arith}
 use Rattle.std.specs.List.{Contains}
 use Rattle.std.proofs.lemmas.Int.{ints}
 use Rattle.lattice.specs.Plane.{Pair, product}
 use Rattle.lattice.specs.Polynomials.{difference-eq, as_difference, difference_rules}
-use Rattle.lattice.proofs.Numbers.{le_itself}
 use Rattle.lattice.proofs.Vectors.{as_pair, cross}
 use Rattle.hull_polygon.proofs.Differences.{Shared}
 use Rattle.first_meeting.proofs.Weights.{Two, Three, TwoOf, One, Four, OneOf, two_of_three, one_of_four}

@@ -1,12 +1,12 @@
 -- A point of magnified sets that has passed a segment, without the scale.
-use Rattle.std.proofs.Common.{◌≡◌, ℕ, ◌<◌, ℤ, pos, ◌+ℤ◌, ◌-ℤ◌, ◌*ℤ◌, ◌≤ℤ◌, ◌<ℤ◌, neg_ℤ, sym, ap, ◌∙◌, arith}
+use Rattle.std.proofs.Common.{◌≡◌, ℕ, ◌<◌, ℤ, pos, ◌+ℤ◌, ◌-ℤ◌, ◌*ℤ◌, ◌≤ℤ◌, neg_ℤ, sym, ap, ◌∙◌, arith}
 use Rattle.std.proofs.lemmas.Int.{ints}
 use Rattle.lattice.specs.Plane.{Pair, product}
 use Rattle.lattice.specs.Polynomials.{difference-eq, as_difference, difference_rules}
 use Rattle.lattice.specs.Signs.{cancel_zero}
 use Rattle.lattice.proofs.Vectors.{as_pair, cross, opp}
 use Rattle.hull_geometry.proofs.Slopes.{product-opp}
-use Rattle.first_meeting.proofs.Arrivals.{Passing, carried_point, times, cross_carried, cross_times, product_carried, product_times}
+use Rattle.first_meeting.proofs.Reached.{Passing, carried_point, times, cross_carried, cross_times, product_carried, product_times}
 use Rattle.first_meeting.proofs.Passed.{HasPassed, IsPassed}
 
 -- a scale above 0 is left out of a balance

@@ -1,7 +1,7 @@
 -- A point that has passed a segment of a set, after some part of a motion, came to the segment no later: the set covers
 -- the point at that part or before.
 use Rattle.std.proofs.Common.{◌≡◌, ℕ, ◌*◌, ◌<◌, ◌≤◌, ℤ, pos, negsuc, ◌+ℤ◌, ◌-ℤ◌, ◌*ℤ◌, ◌≤ℤ◌, ◌<ℤ◌, neg_ℤ, inl, inr, refl, sym, ap}
-use Rattle.std.proofs.Common.{◌∙◌, subst, List, length, arith}
+use Rattle.std.proofs.Common.{◌∙◌, subst, List, arith}
 use Rattle.std.specs.List.{Contains}
 use Rattle.std.proofs.lemmas.Int.{ints}
 use Rattle.std.proofs.lemmas.List.{get_or-map, length-map}
@@ -13,8 +13,6 @@ use Rattle.lattice.proofs.Vectors.{as_pair, cross}
 use Rattle.hull_polygon.specs.Closest.{magnified}
 use Rattle.hull_polygon.specs.Raycasts.{moved, on_way}
 use Rattle.hull_polygon.proofs.Shields.{between_by}
-use Rattle.first_meeting.proofs.Weights.{One}
-use Rattle.first_meeting.proofs.Passed.{HasPassed, IsPassed}
 
 -- T covers a, moved by some part of w that is no more than m / j
 pub record Arrives (T : List Pair) (w : Pair) (m j : ℕ) (a : Pair) : Type 0 where
