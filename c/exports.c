@@ -41,6 +41,8 @@ hull_reply hull_proved_polygon_relation_to_segment(const hull_point *vertices, s
 hull_hit hull_proved_polygon_raycast(const hull_point *vertices, size_t count, int64_t x, int64_t y, int64_t dx, int64_t dy);
 hull_hit hull_proved_polygon_raycast_exit(const hull_point *vertices, size_t count, int64_t x, int64_t y, int64_t dx, int64_t dy);
 hull_hit hull_proved_polygon_raycast_segment(const hull_point *vertices, size_t count, int64_t ax, int64_t ay, int64_t bx, int64_t by);
+hull_motion hull_proved_polygon_first_meeting(const hull_point *vertices, size_t count, const hull_point *others, size_t other_count,
+                                              int64_t dx, int64_t dy);
 hull_reply hull_proved_polygon_translate(const hull_point *vertices, size_t count, int64_t dx, int64_t dy, hull_point *out,
                                          size_t capacity);
 hull_reply hull_proved_polygon_rotate(const hull_point *vertices, size_t count, int64_t a, int64_t b, hull_point *out, size_t capacity);
@@ -90,6 +92,11 @@ static hull_distance_bounds distance_bounds_refusal(uint32_t code) {
 static hull_hit hit_refusal(uint32_t code) {
     const hull_hit h = {.code = code};
     return h;
+}
+
+static hull_motion motion_refusal(uint32_t code) {
+    const hull_motion m = {.hit = {.code = code}};
+    return m;
 }
 
 const char *hull_library_version(void) {
@@ -314,6 +321,15 @@ hull_hit hull_polygon_raycast_segment(const hull_point *vertices, size_t count, 
         return hit_refusal(fault);
     }
     return hull_proved_polygon_raycast_segment(hull_array(vertices, count), count, ax, ay, bx, by);
+}
+
+hull_motion hull_polygon_first_meeting(const hull_point *vertices, size_t count, const hull_point *others, size_t other_count, int64_t dx,
+                                       int64_t dy) {
+    const uint32_t fault = fault_of_both(vertices, count, others, other_count);
+    if (fault != HULL_OK) {
+        return motion_refusal(fault);
+    }
+    return hull_proved_polygon_first_meeting(hull_array(vertices, count), count, hull_array(others, other_count), other_count, dx, dy);
 }
 /* end of what tools/table.py writes */
 

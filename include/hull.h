@@ -500,14 +500,14 @@ hull_hit hull_polygon_raycast_segment(const hull_point *vertices, size_t count, 
  * in size; boundaries count. */
 typedef struct hull_motion {
     hull_hit hit;      /* HULL_COVERED: they intersect before it moves. HULL_EDGE or HULL_VERTEX: the vertex arrives there, so far along.
-                        * HULL_DISJOINT: they never do. HULL_EMPTY: one of them has no vertices. HULL_OUT_OF_RANGE */
+                        * HULL_DISJOINT: they never do. HULL_EMPTY: one of them has no vertices. HULL_OUT_OF_RANGE, HULL_NO_POLYGON */
     hull_point vertex; /* with HULL_EDGE or HULL_VERTEX, a vertex that arrives first, */
     uint32_t moves;    /* of the second polygon, if this is 1, at the first one; else of the first, at the second one as it was before it
                         * moved */
 } hull_motion;
 
-/* Returns when the second polygon, which moves straight by (dx, dy), first intersects the first. This is C over the calls above
- * (c/motions.c), tested and not proved. It takes a ray for each vertex of both. */
+/* Returns when the second polygon, which moves straight by (dx, dy), first intersects the first. It takes a ray for each vertex
+ * of both. */
 hull_motion hull_polygon_first_meeting(const hull_point *vertices, size_t count, const hull_point *others, size_t other_count, int64_t dx,
                                        int64_t dy);
 /* end of what tools/table.py writes */

@@ -4,6 +4,7 @@
 #![tactic(auto)]
 
 mod counts;
+mod free_motions;
 mod free_ways;
 mod halves;
 mod joints;
@@ -20,6 +21,7 @@ mod texts;
 mod with_progress_zones;
 
 pub use counts::write_count;
+pub use free_motions::moves_freely;
 pub use free_ways::intersects_way;
 pub use halves::seen_from;
 pub use joints::joined;

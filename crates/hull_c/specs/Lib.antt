@@ -12,3 +12,4 @@ pub mod VerticesOf
 pub mod DistanceBounds
 pub mod Raycasts
 pub mod Many
+pub mod FirstMeetings

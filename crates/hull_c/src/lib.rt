@@ -24,6 +24,7 @@ ghost use Rattle.hull_c.specs.DistanceBounds.{EncodesWithinOf, square_of};
 ghost use Rattle.hull_c.specs.VerticesOf.{EncodesVerticesOf};
 ghost use Rattle.hull_c.specs.Findings.{IsEncodedAlong, IsEncodedOf, EncodesBox, EncodesDiameter, EncodesNearest, EncodesSplit};
 ghost use Rattle.hull_c.specs.Findings.{EncodesWhether, EncodesWidth};
+ghost use Rattle.hull_c.specs.FirstMeetings.{EncodesFirstMeeting, IsMotionOf};
 ghost use Rattle.hull_c.specs.Pairs.{EncodesContains, EncodesContainsInside, EncodesDistance, EncodesLeastWidth, EncodesIntersects};
 ghost use Rattle.hull_c.specs.Pairs.{EncodesRelation, EncodesWhetherWithin, EncodesWitness};
 ghost use Rattle.hull_c.specs.Held.{AreLoaded, IsListed};
@@ -44,6 +45,7 @@ mod bridges;
 mod calls;
 mod distance_bounds;
 mod findings;
+mod first_meetings;
 mod held;
 mod hull;
 mod load;
@@ -59,6 +61,7 @@ mod vertices_of;
 
 pub use bridges::HullBridge;
 pub use distance_bounds::HullDistanceBounds;
+pub use first_meetings::HullMotion;
 use heap::Heap;
 pub use held::HullHeld;
 use hull::Hull;
@@ -608,6 +611,21 @@ pub extern "C" fn hull_polygon_raycast_segment(
     ensures { IsHitOf ax ay (λ a. IsHitOf bx by (EncodesSegmentHit vertices.now a)) result }
 {
     raycasts::raycast_segment(vertices, ax, ay, bx, by)
+}
+
+/// Finds when the second of two convex polygons, which moves straight by (dx, dy), first intersects the first.
+#[unsafe(no_mangle)]
+pub extern "C" fn hull_polygon_first_meeting(
+    vertices: &[Point],
+    others: &[Point],
+    dx: i64,
+    dy: i64,
+) -> HullMotion
+    requires this { IsShortPolygon vertices.now }
+    requires that { IsShortPolygon others.now }
+    ensures { IsMotionOf dx dy (EncodesFirstMeeting vertices.now others.now) result }
+{
+    first_meetings::meeting(vertices, others, dx, dy)
 }
 
 /// Returns 1 if the points are the vertices of a set in the order in which [`hull_vertices`] writes them, else 0.

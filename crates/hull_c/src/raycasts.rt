@@ -38,7 +38,7 @@ pub struct HullHit {
 }
 
 /// Makes a reply with only a code.
-fn bare(code: Code) -> HullHit
+pub(crate) fn bare(code: Code) -> HullHit
     ensures { IsNoHit code result }
 {
     HullHit {
@@ -95,7 +95,7 @@ fn words(number: u128) -> (u64, u64)
 }
 
 /// Makes the reply for an entry, and how far along the way it is.
-fn way_in(found: Hit) -> HullHit
+pub(crate) fn way_in(found: Hit) -> HullHit
     ensures place { IsEntryEncoded found.place result }
     ensures part { IsPart found.numerator found.denominator result }
 {

@@ -1,5 +1,5 @@
-//! Tests of polygons compared with the plain set, of points that are dropped before a polygon is made, of motions, and of near pairs, over
-//! the public surface of these crates.
+//! Tests of polygons compared with the plain set, of points that are dropped before a polygon is made, of motions, of first meetings, and
+//! of near pairs, over the public surface of these crates.
 #![tactic(auto)]
 
 #[cfg(test)]
@@ -12,6 +12,8 @@ mod distance_bounds;
 mod distances;
 #[cfg(test)]
 mod dropped;
+#[cfg(test)]
+mod first_meetings;
 #[cfg(test)]
 mod lists;
 #[cfg(test)]
