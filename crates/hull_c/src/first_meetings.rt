@@ -81,7 +81,10 @@ fn meeting_by(vertices: &[Point], others: &[Point], motion: Point) -> HullMotion
     requires that { IsShortPolygon others.now }
     ensures { EncodesFirstMeeting vertices.now others.now motion result }
 {
-    if vertices.is_empty() || others.is_empty() {
+    if vertices.is_empty() {
+        return bare(Code::Empty);
+    }
+    if others.is_empty() {
         return bare(Code::Empty);
     }
     encoded(first_meeting(
