@@ -4,5 +4,6 @@ pub mod Reached
 pub mod Passings
 pub mod Earlier
 pub mod Hits
+pub mod PassedBy
 pub mod Sooner
 pub mod FirstOfBoth

@@ -1,5 +1,5 @@
 -- The sooner of two arrivals, as fractions of a motion.
-use Rattle.std.proofs.Common.{◌≡◌, ℕ, ◌+◌, ◌*◌, ◌<◌, ◌≤◌, ◌⊎◌, inl, inr, sym, ap, ◌∙◌, subst, List, [], ◌∷◌, ◌++◌, length, take}
+use Rattle.std.proofs.Common.{◌≡◌, ℕ, ◌+◌, ◌*◌, ◌<◌, ◌≤◌, ◌⊎◌, inl, inr, refl, sym, ap, ◌∙◌, subst, List, [], ◌∷◌, ◌++◌, length, take}
 use Rattle.std.proofs.Common.{get_or, Option, Some, None, IfSome, arith}
 use Rattle.std.specs.List.{Contains}
 use Rattle.std.proofs.lemmas.Bool.{cases_lt}
@@ -127,3 +127,8 @@ sooner_keeps P None g r hf hg e = subst (λ (z : Option Arrival). IfSome z P) (s
 sooner_keeps P (Some a) None r hf hg e = subst (λ (z : Option Arrival). IfSome z P) (sym e) hf
 sooner_keeps P (Some a) (Some b) r hf hg (inl e) = subst (λ (z : Option Arrival). IfSome z P) (sym e.0) hf
 sooner_keeps P (Some a) (Some b) r hf hg (inr e) = subst (λ (z : Option Arrival). IfSome z P) (sym e.0) hg
+
+-- an arrival, or none, stays if none comes
+pub sooner_none : (f : Option Arrival) → ReturnsSooner f None f
+sooner_none None = refl
+sooner_none (Some a) = refl

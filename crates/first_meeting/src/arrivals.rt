@@ -3,7 +3,9 @@ ghost use Rattle.std.specs.Prelude.{◌≡◌, ◌↔◌, ◌∷◌, [], ◌*◌
 ghost use Rattle.hull_polygon.specs.Lent.{vertices_of};
 ghost use Rattle.hull_polygon.specs.Polygons.{HoldsOfSetsOf};
 ghost use Rattle.first_meeting.specs.Arrivals.{ReturnsFirst, ReturnsSooner};
+ghost use Rattle.first_meeting.specs.Lanes.{IsLane};
 
+use super::lanes::{Lane, misses};
 use super::products::is_product_less;
 use hull_polygon::{Hit, Polygon};
 use lattice::{Direction, Point};
@@ -55,11 +57,16 @@ fn arrival_of(
     vertex: Point,
     polygon: &Polygon,
     direction: Direction,
+    lane: &Option<Lane>,
     moves: bool,
 ) -> Option<Arrival>
+    requires { HoldsOfSetsOf (vertices_of polygon.now) (λ T. IfSome lane.now (λ known. IsLane T direction known)) }
     ensures first { HoldsOfSetsOf (vertices_of polygon.now) (λ T. ReturnsFirst T direction (vertex ∷ []) result) }
     ensures moves { IfSome result (λ found. found.moves ≡ moves) }
 {
+    if misses(lane, vertex) {
+        return None;
+    }
     match polygon.raycast(vertex, direction) {
         Some(hit) => {
             if hit.numerator <= hit.denominator {
@@ -82,9 +89,12 @@ pub(crate) fn first_arrival(
     ensures first { HoldsOfSetsOf (vertices_of polygon.now) (λ T. ReturnsFirst T direction vertices.now result) }
     ensures moves { IfSome result (λ found. found.moves ≡ moves) }
 {
+    let lane = Lane::of(polygon, direction);
     let mut found: Option<Arrival> = None;
     for vertex in vertices {
-        found = sooner(found, arrival_of(*vertex, polygon, direction, moves));
+        if let Some(arrival) = arrival_of(*vertex, polygon, direction, &lane, moves) {
+            found = sooner(found, Some(arrival));
+        }
     }
     found
 }

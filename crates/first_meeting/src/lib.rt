@@ -1,10 +1,11 @@
 //! The first moment at which a convex polygon that moves straight intersects another.
 //!
-//! Two convex polygons that are disjoint first intersect, as one of them moves, where a vertex of one comes to the other. So
-//! [`first_meeting`] casts a ray from each vertex of both.
+//! Two convex polygons that are disjoint first intersect, as one of them moves, at a vertex of one of them. So [`first_meeting`]
+//! casts a ray from each vertex of both that is not beside the other's lane.
 #![tactic(auto)]
 
 mod arrivals;
+mod lanes;
 mod meeting;
 mod products;
 

@@ -64,7 +64,8 @@ fn first_later(moving: &Polygon, other: &Polygon, motion: Point) -> Option<Arriv
 }
 
 /// Returns when a polygon, which moves straight by the vector from the origin to `motion`, first intersects another one;
-/// boundaries count. `None` if it does not within the motion, or one of the two is empty. It takes a ray for each vertex of both.
+/// boundaries count. `None` if it does not within the motion, or one of the two is empty. It takes at most a ray for each vertex of
+/// both.
 pub fn first_meeting(moving: &Polygon, other: &Polygon, motion: Point) -> Option<FirstMeeting>
     ensures { HoldsOfBoth (vertices_of moving.now) (vertices_of other.now) (λ S T. ReturnsFirstMeeting S T motion result) }
 {

@@ -12,3 +12,6 @@ returns-else-hit-clause-first c = λ S o.
 
 pub returns-in-None-clause-first : goal.returns-in-None-clause-first
 returns-in-None-clause-first c = λ S o. missed_one S c.args.direction c.args.vertex (c.in-None.ensures S o)
+
+pub returns-then-misses-clause-first : goal.returns-then-misses-clause-first
+returns-then-misses-clause-first c = λ S o. c.misses.ensures c.if-misses.true S c.args.direction (c.requires S o)
