@@ -1438,7 +1438,10 @@ static void check_polygons_of_points(void) {
 /* a hull of malloc's, and the names of codes */
 static void check_new_ones(void) {
     CHECK(hull_new(0) == NULL && hull_new(HULL_LIMIT_MAX + 1) == NULL);
-    hull_set *h = hull_new(HULL_LIMIT_MAX);
+    hull_set *h = hull_new(1);
+    CHECK(h != NULL && bare(hull_add(h, 1, 2), HULL_ADDED) && bare(hull_add(h, 1, 3), HULL_TOO_MANY));
+    hull_free(h);
+    h = hull_new(HULL_LIMIT_MAX);
     CHECK(h != NULL && (uintptr_t)h % hull_alignment() == 0);
     CHECK(number(hull_limit(h), HULL_NUMBER, HULL_LIMIT_MAX));
     CHECK(bare(hull_add(h, 1, 2), HULL_ADDED));

@@ -192,6 +192,76 @@ static void *count_points(void *seat) {
     return NULL;
 }
 
+/* The calls that need only a seat, of which each waits for admission. */
+static hull_shared_reply call_by_seat(hull_shared_seat *seat, int which) {
+    hull_point out[8];
+    switch (which) {
+    case 0: return hull_seat_add(seat, 2, 3);
+    case 1: return hull_seat_remove(seat, 2, 3);
+    case 2: return hull_seat_place(seat, 0, 1);
+    case 3: return hull_seat_tangents(seat, 5, 1);
+    case 4: return hull_seat_extreme(seat, 0, 1);
+    case 5: return hull_seat_area(seat);
+    case 6: return hull_seat_count(seat);
+    default: return hull_seat_vertices(seat, out, 8);
+    }
+}
+
+static struct waiting_call {
+    hull_shared_seat *seat;
+    int which, is_done;
+    hull_shared_reply reply;
+} waiting_call;
+
+static void *make_waiting_call(void *none) {
+    (void)none;
+    waiting_call.reply = call_by_seat(waiting_call.seat, waiting_call.which);
+    __atomic_store_n(&waiting_call.is_done, 1, __ATOMIC_SEQ_CST);
+    return NULL;
+}
+
+/* Each of them while another call is admitted: it waits, and has the answer that it has with no other. */
+static void wait_by_seat(hull_shared *shared, hull_shared_seat *one, hull_shared_seat *two) {
+    hull_shared_seat *three = hull_shared_seat_new();
+    const struct timespec moment = {0, 100000};
+    pthread_t thread, other;
+    check("open", hull_shared_open(shared, 10, 0, 1000, 3), HULL_OPEN);
+    check("seat", hull_shared_acquire_seat(shared, &gate, one, 0) + hull_shared_acquire_seat(shared, &gate, two, 1), 2 * HULL_ACQUIRED);
+    check("seat", hull_shared_acquire_seat(shared, &gate, three, 2), HULL_ACQUIRED);
+    call(one, HULL_KIND_ADD, 0, 0), call(one, HULL_KIND_ADD, 4, 0), call(one, HULL_KIND_ADD, 1, 6);
+    for (int which = 0; which < 8; which++) {
+        waiting_call = (struct waiting_call){.seat = three, .which = which};
+        check("take", hull_shared_take(one, HULL_KIND_COUNT, 0, 0).answer.code, HULL_TAKEN);
+        pthread_create(&thread, NULL, count_points, two); /* is admitted, and waits for its number */
+        while (hull_shared_stats(&gate).inside != 1) {
+            nanosleep(&moment, NULL);
+        }
+        pthread_create(&other, NULL, make_waiting_call, NULL);
+        while (hull_shared_stats(&gate).sleepers != 1 && !__atomic_load_n(&waiting_call.is_done, __ATOMIC_SEQ_CST)) {
+            nanosleep(&moment, NULL);
+        }
+        hull_shared_handed_on(&gate, hull_shared_look(one).turn + 1);
+        pthread_join(thread, NULL);
+        pthread_join(other, NULL);
+        const hull_reply got = waiting_call.reply.answer;
+        if (which < 2) {
+            check("a change", got.code, which == 0 ? HULL_ADDED : HULL_REMOVED);
+            continue;
+        }
+        const hull_reply wanted = call_by_seat(one, which).answer;
+        check("its code", got.code, wanted.code);
+        check("its numbers", got.x == wanted.x && got.y == wanted.y && got.other_x == wanted.other_x && got.other_y == wanted.other_y, 1);
+        check("its number", got.number, wanted.number);
+    }
+    check("the answers", hull_seat_tangents(one, 5, 1).answer.x == 4 && hull_seat_extreme(one, 0, 1).answer.y == 6 && hull_seat_area(one).answer.number == 24, 1);
+    hull_shared_release_seat(shared, one), hull_shared_release_seat(shared, two), hull_shared_release_seat(shared, three);
+    hull_shared_seat_free(three);
+    check("close", hull_shared_close(shared), HULL_CLOSED);
+    check("end", hull_shared_end(shared), HULL_ENDED);
+    hull_shared_seat_free(NULL), hull_shared_free(NULL), hull_shared_segment_free(NULL), hull_shared_reader_free(NULL);
+    check("a version", strcmp(hull_shared_library_version(), HULL_VERSION) == 0 && strcmp(hull_version(), HULL_VERSION) == 0, 1);
+}
+
 /* A caller that sleeps after a number is woken by the thread of that number, which looks by itself and wakes at the gate. */
 static void wake_by_own_looks(hull_shared *shared, hull_shared_seat *one, hull_shared_seat *two) {
     struct timespec moment = {0, 2000000};
@@ -492,6 +562,7 @@ int main(void) {
     check_codes(shared, one, two);
     take_and_look(shared, one, two);
     wake_by_own_looks(shared, one, two);
+    wait_by_seat(shared, one, two);
     check_segments(shared, one, segment);
     check_reopened(shared, one, segment);
     pass_no_arrays(shared, one, segment);
@@ -520,5 +591,9 @@ int main(void) {
     check("no memory for a shared hull", hull_shared_new() == NULL, 1);
     left = 0;
     check("no memory for a seat", hull_shared_seat_new() == NULL, 1);
+    left = 0;
+    check("no memory for a segment", hull_shared_segment_new() == NULL, 1);
+    left = 0;
+    check("no memory for a reader", hull_shared_reader_new() == NULL, 1);
     return bad;
 }

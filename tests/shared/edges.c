@@ -144,12 +144,23 @@ int __wrap_clock_gettime(clockid_t clock, struct timespec *t) {
 /* Sleeps with a deadline end at once if that is wanted, and how long they would have been is added. */
 static int are_sleeps_skipped;
 static uint64_t skipped;
+/* Threads that are woken go on some milliseconds later if that is wanted; how many sleep, or are to go on. */
+static int wakes_late;
+static unsigned sleepers;
 long __real_syscall(long number, ...);
 long __wrap_syscall(long number, long a, long b, long c, const struct timespec *deadline, long e, long f) {
     if (number == SYS_futex && (b & FUTEX_CMD_MASK) == FUTEX_WAIT_BITSET && deadline != NULL && __atomic_load_n(&are_sleeps_skipped, __ATOMIC_SEQ_CST)) {
         const uint64_t until = (uint64_t)deadline->tv_sec * SECOND + (uint64_t)deadline->tv_nsec, now = hull_shared_now();
         __atomic_fetch_add(&skipped, until > now ? until - now : 0, __ATOMIC_SEQ_CST);
         return 0;
+    }
+    if (number == SYS_futex && (b & FUTEX_CMD_MASK) == FUTEX_WAIT_BITSET && __atomic_load_n(&wakes_late, __ATOMIC_SEQ_CST)) {
+        const struct timespec moment = {0, 5000000};
+        __atomic_fetch_add(&sleepers, 1, __ATOMIC_SEQ_CST);
+        const long result = __real_syscall(number, a, b, c, deadline, e, f);
+        nanosleep(&moment, NULL);
+        __atomic_fetch_sub(&sleepers, 1, __ATOMIC_SEQ_CST);
+        return result;
     }
     return __real_syscall(number, a, b, c, deadline, e, f);
 }
@@ -354,7 +365,10 @@ static void closes_beside_waiters(void) {
             }
         }
         sleep_for((uint64_t)again * 20 * MILLISECOND);
+        __atomic_store_n(&wakes_late, 1, __ATOMIC_SEQ_CST);
         stop(journal, HULL_CLOSED);
+        check("no thread is in a call", __atomic_load_n(&sleepers, __ATOMIC_SEQ_CST), 0);
+        __atomic_store_n(&wakes_late, 0, __ATOMIC_SEQ_CST);
         for (int k = 0; k < WAITERS; k++) {
             pthread_join(threads[k], NULL);
         }
