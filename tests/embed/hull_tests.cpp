@@ -105,6 +105,7 @@ static void two_polygons() {
     CHECK(hull::pairs_within_distance({beside, polygon, none, small, across}) == (Pairs{{0, 4}, {1, 3}, {1, 4}}));
     CHECK(hull::pairs_within_distance({}).empty());
     CHECK(hull::pairs_within_distance({beside, polygon}, 2).size() == 1 && hull::pairs_within_distance({beside, polygon}, 1999, 1000).empty());
+    CHECK(hull::pairs_within_distance({beside, polygon}, 1, 0).size() == 1 && hull::pairs_within_distance({beside, polygon}, 3, 2).empty());
     CHECK(hull::pairs_within_distance({small, small, small, small}) == (Pairs{{0, 1}, {0, 2}, {0, 3}, {1, 2}, {1, 3}, {2, 3}}));
     CHECK(polygon.intersects_segments({{{-1, 1}, {20, 1}}, {{11, 0}, {11, 9}}}) == (std::vector<bool>{true, false}));
     CHECK(polygon.intersects_segments({}).empty());
