@@ -732,6 +732,14 @@ static void check_many_polygons(void) {
     CHECK(number(hull_pairs_within_distance(all, MANY, UINT64_MAX, 1, pairs, MANY), HULL_TOO_SMALL, 32 * 31 / 2));
     CHECK(number(hull_pairs_within_distance(all, MANY, 1, 0, NULL, 0), HULL_TOO_SMALL, 32 * 31 / 2));
     CHECK(number(hull_pairs_within_distance(NULL, 0, 1, 1, NULL, 0), HULL_NUMBER, 0));
+    hull_polygon some[4] = {all[0], {NULL, 0}, all[1], {NULL, 0}}; /* with no array in the middle and in the end */
+    CHECK(number(hull_pairs_within_distance(some, 4, 1, 0, pairs, MANY), HULL_NUMBER, 1) && pairs[0].first == 0 && pairs[0].second == 2);
+    CHECK(some[1].vertices == NULL && some[3].vertices == NULL);
+    some[1] = all[2];
+    CHECK(number(hull_pairs_within_distance(some, 4, 1, 0, pairs, MANY), HULL_NUMBER, 3) && pairs[2].first == 1 && pairs[2].second == 2);
+    refused_from = 0, asked = 0;
+    CHECK(bare(hull_pairs_within_distance(some, 4, 1, 0, pairs, MANY), HULL_NO_MEMORY) && asked == 1);
+    refused_from = -1;
     refused_from = 0, asked = 0;
     CHECK(bare(hull_pairs_within_distance(all, MANY, 0, 1, pairs, MANY), HULL_NO_MEMORY) && asked == 1);
     refused_from = -1;
@@ -786,6 +794,30 @@ static int is_first_moment(const hull_point *a, size_t count, const hull_point *
            !intersect_at(a, count, b, other_count, dx, dy, part * times - 1, whole * times);
 }
 
+static int is_scaled(uint64_t high, uint64_t low, uint64_t number, int shift) {
+    __extension__ const unsigned __int128 wanted = (unsigned __int128)number << shift;
+    return high == (uint64_t)(wanted >> 64) && low == (uint64_t)wanted;
+}
+
+/* Whether shapes that are 2^shift times as large meet as the small ones do. */
+static int is_moment_scaled(const hull_point *a, size_t count, const hull_point *b, size_t other_count, int64_t dx, int64_t dy, int shift) {
+    const int64_t k = (int64_t)1 << shift;
+    hull_point first[4], second[4];
+    scale_and_move(a, count, k, 0, 0, first), scale_and_move(b, other_count, k, 0, 0, second);
+    const hull_motion small = hull_polygon_first_meeting(a, count, b, other_count, dx, dy);
+    const hull_motion large = hull_polygon_first_meeting(first, count, second, other_count, k * dx, k * dy);
+    int same = small.hit.code == large.hit.code && small.moves == large.moves;
+    same &= large.vertex.x == k * small.vertex.x && large.vertex.y == k * small.vertex.y;
+    same &= large.hit.a.x == k * small.hit.a.x && large.hit.b.y == k * small.hit.b.y;
+    if (small.hit.code == HULL_EDGE || small.hit.code == HULL_VERTEX) {
+        same &= is_scaled(large.hit.high, large.hit.low, small.hit.low, 2 * shift);
+        same &= is_scaled(large.hit.divisor_high, large.hit.divisor_low, small.hit.divisor_low, 2 * shift);
+    } else {
+        same &= small.vertex.x == 0 && small.vertex.y == 0 && small.moves == 0;
+    }
+    return same;
+}
+
 /* polygons that move straight to others, and polygons that are translated and rotated */
 static void check_motions(void) {
     static const hull_point shapes[][4] = {{{0, 0}, {3, -1}, {5, 2}, {1, 3}}, {{0, 0}, {4, 0}, {0, 3}}, {{0, 0}, {2, 1}}, {{0, 0}, {0, 4}}, {{0, 0}}};
@@ -797,6 +829,7 @@ static void check_motions(void) {
         hull_point other[4];
         scale_and_move(shapes[i / 5 % 5], counts[i / 5 % 5], 1, 3 * (i / 175 % 9) - 12, 3 * (i / 1575) - 12, other);
         same &= is_first_moment(shapes[i % 5], counts[i % 5], other, counts[i / 5 % 5], way[0], way[1], &hits);
+        same &= is_moment_scaled(shapes[i % 5], counts[i % 5], other, counts[i / 5 % 5], way[0], way[1], i % 4 * 11);
     }
     CHECK(same && hits > 500 / every && hits < tries - 500 / every);
     const int64_t far = HULL_COORDINATE_MAX;

@@ -192,6 +192,24 @@ static void *count_points(void *seat) {
     return NULL;
 }
 
+/* A journal that is continued, by a hull that answers questions also when it is full, and by one that does not. */
+static void answer_when_full(hull_shared *shared, hull_shared_seat *seat) {
+    static const char text[] = "hullbook journal 3 first 5 limit 3 capacity 9\n5 0 add 0 0 = added\nend 1\n";
+    for (int answers = 0; answers < 2; answers++) {
+        const hull_reply r = (answers ? hull_shared_reopen_answering : hull_shared_reopen)(shared, (const uint8_t *)text, strlen(text), 1, 1);
+        check("reopen", r.code, HULL_OPEN);
+        check("seat", hull_shared_acquire_seat(shared, &gate, seat, 0), HULL_ACQUIRED);
+        check("the only line", hull_seat_add(seat, 0, 0).answer.number, 2);
+        const hull_shared_reply reply = hull_seat_count(seat);
+        check("a question", reply.answer.code, answers ? HULL_NUMBER : HULL_FULL);
+        check("its line", reply.has_line, 0);
+        check("a change", hull_seat_add(seat, 1, 1).answer.code, HULL_FULL);
+        check("release", hull_shared_release_seat(shared, seat), HULL_RELEASED);
+        check("close", hull_shared_close(shared), HULL_CLOSED);
+        check("end", hull_shared_end(shared), HULL_ENDED);
+    }
+}
+
 /* The calls that need only a seat, of which each waits for admission. */
 static hull_shared_reply call_by_seat(hull_shared_seat *seat, int which) {
     hull_point out[8];
@@ -562,6 +580,7 @@ int main(void) {
     check_codes(shared, one, two);
     take_and_look(shared, one, two);
     wake_by_own_looks(shared, one, two);
+    answer_when_full(shared, one);
     wait_by_seat(shared, one, two);
     check_segments(shared, one, segment);
     check_reopened(shared, one, segment);

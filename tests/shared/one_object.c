@@ -6,6 +6,7 @@
 #include "refusing.h"
 
 #include <errno.h>
+#include <fcntl.h>
 #include <pthread.h>
 #include <sched.h>
 #include <sys/stat.h>
@@ -482,7 +483,17 @@ static void refusals(const char *path) {
     unlink(path);
 }
 
+/* How many files are open. */
+static unsigned open_files(void) {
+    unsigned count = 0;
+    for (int file = 0; file < 256; file++) {
+        count += fcntl(file, F_GETFD) >= 0;
+    }
+    return count;
+}
+
 int main(int count, char **words) {
+    const unsigned before = open_files();
     (void)call;
     if (count != 2) {
         return 2;
@@ -496,5 +507,6 @@ int main(int count, char **words) {
     when_durable(words[1]);
     failures(words[1]);
     refusals(words[1]);
+    check("open files", open_files(), before);
     return bad;
 }

@@ -8,6 +8,7 @@
 #include <pthread.h>
 #include <stdio.h>
 #include <stdlib.h>
+#include <string.h>
 #include <sys/syscall.h>
 #include <time.h>
 #include <unistd.h>
@@ -37,14 +38,17 @@ int __wrap_clock_gettime(clockid_t clock, struct timespec *t) {
 }
 #endif
 
-/* The linker sends malloc here (--wrap): the thread that is to die in it ends without notice. */
+/* The linker sends malloc here (--wrap): the thread that is to die in it ends without notice; it may be refused; and what it returns is not
+ * zero by chance. */
 static __thread int dies;
+static int is_refused;
 void *__real_malloc(size_t size);
 void *__wrap_malloc(size_t size) {
     if (dies) {
         syscall(SYS_exit, 0);
     }
-    return __real_malloc(size);
+    void *block = is_refused ? NULL : __real_malloc(size);
+    return block == NULL ? NULL : memset(block, 0x5a, size);
 }
 
 static void nap(uint64_t nanoseconds) {
@@ -121,6 +125,7 @@ static void check_other_gates(void) {
     check("one gate for two shared hulls", hull_shared_acquire_seat(second, &gate, seat, 0), HULL_OTHER_GATE);
     check("storage with no seat", hull_shared_call(&gate, seat, HULL_KIND_COUNT, 0, 0).answer.code, HULL_VACANT);
     check("no seat", hull_shared_acquire_seat(second, &other, seat, 5), HULL_NO_SEAT);
+    check("none is out", hull_shared_stats(&other).out, 0);
     check("acquire", hull_shared_acquire_seat(second, &other, seat, 0), HULL_ACQUIRED);
     check("another gate", hull_shared_call(&gate, seat, HULL_KIND_COUNT, 0, 0).answer.code, HULL_OTHER_GATE);
     check("another gate", hull_shared_call(&other, seats[0], HULL_KIND_COUNT, 0, 0).answer.code, HULL_OTHER_GATE);
@@ -298,6 +303,28 @@ static void check_cancelled_in_hook(void) {
     hull_shared_gate_end(&gate);
 }
 
+/* Memory is refused to a hook: there is none, and a full journal is not drained. */
+static void check_refused_hook(void) {
+    open_all(4, 1);
+    is_refused = 1;
+    check("no hook", (uint64_t)hull_shared_gate_on_half_full(&gate, count_hook, NULL), 0);
+    is_refused = 0;
+    hooks = 0;
+    for (int k = 0; k < 4; k++) {
+        check("a call", count_by(seats[0]), HULL_NUMBER);
+    }
+    check("a full journal", count_by(seats[0]), HULL_FULL);
+    check("it is not drained", (uint64_t)hull_shared_gate_drain(&gate, seats[0]), 0);
+    check("by no hook", (uint64_t)hooks, 0);
+    check("hook", (uint64_t)hull_shared_gate_on_half_full(&gate, count_hook, NULL), 1);
+    check("a call", count_by(seats[0]), HULL_NUMBER);
+    check("it is drained", (uint64_t)hooks > 0, 1);
+    hull_shared_gate_end(&gate);
+    check("a gate that ended has none", (uint64_t)hull_shared_gate_drain(&gate, seats[0]), 0);
+    check("a call", count_by(seats[0]), HULL_NUMBER);
+    close_all();
+}
+
 static void *check_errno_kept(void *seat) {
     for (int k = 0; k < 2000; k++) {
         errno = 77;
@@ -377,6 +404,7 @@ int main(void) {
     check_cancelled(2);
     check_cancelled(SEATS);
     check_cancelled_in_hook();
+    check_refused_hook();
     check_errno();
     check_dead_inside();
     return bad;
