@@ -6,15 +6,15 @@
 #include <stdlib.h>
 #include <string.h>
 
-static int passed, failed, refused_from = -1, asked;
+static int passed, failed, refused_from = -1, refused_to = 1 << 30, asked;
 
 /* of many trials of one kind each so many-th is made: 1, and more if the program is to be brief (valgrind) */
 static int every = 1;
 
-/* malloc, calloc and realloc, of which those from `refused_from` on are refused (linked in by --wrap) */
+/* malloc, calloc and realloc, of which those from `refused_from` on are refused, up to `refused_to` (linked in by --wrap) */
 void *__real_malloc(size_t n);
 void *__real_realloc(void *p, size_t n);
-static int refuse_next(void) { return refused_from >= 0 && asked++ >= refused_from; }
+static int refuse_next(void) { return refused_from >= 0 && asked++ >= refused_from && asked <= refused_to; }
 void *__wrap_malloc(size_t n) { return refuse_next() ? NULL : __real_malloc(n); }
 void *__wrap_realloc(void *p, size_t n) { return refuse_next() ? NULL : __real_realloc(p, n); }
 void *__real_calloc(size_t count, size_t n);
@@ -1306,6 +1306,11 @@ static void check_refused_copies(void) {
         CHECK(bare(r, HULL_NO_MEMORY) && number(hull_multiplicity(other, 50, 8), HULL_NUMBER, 1));
     }
     CHECK(refusals > 2 && number(hull_multiplicity(other, 8, 64), HULL_NUMBER, 1));
+    for (int request = 0; request < refusals; request++) { /* and only one */
+        refused_from = request, refused_to = request + 1, asked = 0;
+        CHECK(bare(hull_copy(other, h), HULL_NO_MEMORY));
+        refused_from = -1, refused_to = 1 << 30;
+    }
     end_set(h), end_set(other);
 }
 

@@ -1019,6 +1019,30 @@ static void continues_after_a_refusal(void) {
     check("the last of them", has(path, " add 2999 -3 = added"), 1);
 }
 
+/* Each large request for memory of an append is refused once in turn: the lines are durable all the same. */
+static void continues_after_each_refusal(void) {
+    hull_shared_journal *journal = start(0, 20000);
+    for (int k = 0; k < 6000; k++) {
+        add(k, k * k);
+    }
+    check("durable", hull_shared_journal_sync(journal, HULL_SHARED_NEVER).code, HULL_DURABLE);
+    int refused = 0;
+    for (long after = 0, was_refused = 1; was_refused; after++) {
+        for (int k = 0; k < 2000; k++) { /* each list is longer than the one before */
+            add(6000 + 2000 * after + k, (6000 + 2000 * after + k) * (6000 + 2000 * after + k));
+        }
+        check("durable", hull_shared_journal_sync(journal, HULL_SHARED_NEVER).code, HULL_DURABLE);
+        const uint64_t line = hull_shared_call(&gate, seat, HULL_KIND_VERTICES, 0, 0).line;
+        refused_from = 60000, granted = after, refusals = 1;
+        check("durable, though memory was refused", hull_shared_journal_wait(journal, line, hull_shared_now() + 60 * SECOND).code, HULL_DURABLE);
+        was_refused = refusals <= 0;
+        refused += (int)was_refused;
+        refusals = granted = 0;
+    }
+    check("requests", refused >= 2, 1);
+    stop(journal, HULL_CLOSED);
+}
+
 /* Memory is refused while lines are written: it is requested again for ten seconds, and then nothing more is durable. */
 static void gives_up_after_ten_seconds(void) {
     hull_shared_journal *journal = start(0, 20000);
@@ -1358,6 +1382,7 @@ static const struct {
     {"notices_others", notices_others},
     {"waits_for_memory", waits_for_memory},
     {"continues_after_a_refusal", continues_after_a_refusal},
+    {"continues_after_each_refusal", continues_after_each_refusal},
     {"gives_up_after_ten_seconds", gives_up_after_ten_seconds},
     {"starts_after_a_refusal", starts_after_a_refusal},
     {"starts_after_refused_memory", starts_after_refused_memory},

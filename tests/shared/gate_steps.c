@@ -201,6 +201,7 @@ static void check_sleep_for_space(void) {
     woken.count = 0;
     announce_space(gate);
     check("none is woken if none sleeps", woken.count, 0);
+    check("the word is another", gate->drains, 1);
     in_sleep = announce_in_sleep;
     wait_for_drain(gate, gate->drains, HULL_NEVER);
     check("one is woken", woken.count, 1);
@@ -358,6 +359,43 @@ static void check_full(void) {
     }
 }
 
+/* Calls that are refused take no number, have no line, and drain nothing. */
+static void check_refused(void) {
+    static const struct {
+        uint32_t kind, code;
+        int64_t x;
+    } refused[] = {{HULL_KIND_ADD, HULL_OUT_OF_RANGE, HULL_COORDINATE_MAX + 1}, {HULL_KIND_EXTREME, HULL_ZERO_DIRECTION, 0}, {99, HULL_UNKNOWN_KIND, 0}};
+    for (uint32_t inside = 1; inside <= 2; inside++) {
+        open_all(1, inside);
+        check("hook", (uint64_t)hull_shared_gate_on_half_full(&storage, look_around, &hooks), 1);
+        drainer = 0;
+        check("a call", count_by(0), HULL_NUMBER);
+        const hull_shared_state before = hull_shared_stats(&storage);
+        hooks = 0;
+        for (int k = 0; k < 3; k++) {
+            const hull_shared_reply reply = hull_shared_call(&storage, seats[1], refused[k].kind, refused[k].x, 0);
+            check("refused", reply.answer.code, refused[k].code);
+            check("no number, no line", reply.turn + reply.has_line + reply.line, 0);
+        }
+        check("take", hull_shared_take(seats[2], HULL_KIND_COUNT, 0, 0).answer.code, HULL_TAKEN);
+        check("a seat that waits", hull_shared_call(&storage, seats[2], HULL_KIND_COUNT, 0, 0).answer.code, HULL_WAITING);
+        const hull_shared_state after = hull_shared_stats(&storage);
+        check("the number that is served, and the lines", after.turn == before.turn && after.held == before.held, 1);
+        check("nothing was drained", hooks, 0);
+        hull_shared_handed_on(&storage, hull_shared_look(seats[2]).turn + 1);
+        close_all();
+    }
+}
+
+/* A call serves others for fifty microseconds, and not after its deadline. */
+static void check_time_of_serving(void) {
+    struct call call = {gate, NULL, 1, HULL_KIND_COUNT, 0, 0, HULL_NEVER};
+    check("fifty microseconds", end_of_serving(&call), still_now + 50000);
+    call.until = still_now + 49999;
+    check("not after its deadline", end_of_serving(&call), still_now + 49999);
+    check("as many as there are seats", HULL_SHARED_SERVES, HULL_SHARED_SEATS_MAX);
+}
+
 static uint64_t first_number;
 
 /* While seat 38 sleeps with its number: it is reported, and its call is made by this thread. */
@@ -414,6 +452,8 @@ int main(void) {
     check_holders();
     check_hook();
     check_full();
+    check_refused();
+    check_time_of_serving();
     check_served();
     for (int k = 0; k < SEATS; k++) {
         hull_shared_seat_free(seats[k]);

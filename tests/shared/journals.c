@@ -323,6 +323,28 @@ static void check_drained_by_another(void) {
     hull_shared_journal_close(open_journal(6, 0));
 }
 
+/* The same noticed by a thread whose call finds the journal half full: the reply has no errno. */
+static void check_gap_at_half_full(void) {
+    hull_shared_segment *segment = hull_shared_segment_new();
+    hull_shared_journal *journal;
+    put_text(SEGMENT);
+    journal = open_journal(6, 0);
+    start_journal(journal, 8, 0);
+    check("space", hull_shared_segment_reserve(segment, 8), HULL_RESERVED);
+    check("drain", hull_shared_drain(&gate, seat, segment, HULL_KIND_COUNT, 0, 0).answer.code, HULL_NUMBER);
+    errno = 77;
+    for (int k = 0; k < 5; k++) {
+        check("a call", call(HULL_KIND_COUNT, 0, 0).answer.code, HULL_NUMBER);
+    }
+    const hull_reply r = hull_shared_journal_durable(journal);
+    check("a gap", r.code, HULL_ILLEGAL);
+    check("the first line that is not durable", r.number, 6);
+    check("no errno", r.high, 0);
+    hull_shared_segment_end(segment);
+    hull_shared_segment_free(segment);
+    close_journal(journal, HULL_ILLEGAL, 6);
+}
+
 /* Writes that take a few bytes at a time or are interrupted, and a fsync that takes long. */
 static void check_slow_writes(void) {
     hull_shared_journal *journal;
@@ -358,6 +380,7 @@ int main(int count, char **words) {
     check_damaged();
     check_refused();
     check_drained_by_another();
+    check_gap_at_half_full();
     check_slow_writes();
     unlink(path);
     check_continuing();
