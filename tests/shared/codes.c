@@ -173,6 +173,7 @@ static void check_codes(hull_shared *shared, hull_shared_seat *one, hull_shared_
     check("too small", answer.code, HULL_TOO_SMALL);
     check("text", hull_shared_text(shared, text, sizeof text).code, HULL_TEXT);
     check("its end", text[answer.number - 1], '\n');
+    check("the size of the text", hull_shared_text_size(shared).number, answer.number);
     read_in_pieces(shared, text, answer.number);
     check("after it", text[answer.number], 0);
     check("end", hull_shared_end(shared), HULL_ENDED);

@@ -315,6 +315,48 @@ static void closes_with_a_reader_out(void) {
     check("the last line", has(path, " add 99 10801 = added"), 1);
 }
 
+static int is_closed;
+static void *close_refused(void *journal) {
+    check("a reader is out", hull_shared_journal_close(journal).code, HULL_SEATS_OUT);
+    __atomic_store_n(&is_closed, 1, __ATOMIC_SEQ_CST);
+    return NULL;
+}
+
+static void *sync_all(void *journal) {
+    check("durable", hull_shared_journal_sync(journal, HULL_SHARED_NEVER).code, HULL_DURABLE);
+    return NULL;
+}
+
+/* Each close waits until the journal's thread has ended what it does, also after one that was refused. */
+static void closes_after_its_thread_rests(void) {
+    hull_shared_reader *reader = hull_shared_reader_new();
+    pthread_t threads[2];
+    check("set how many readers", hull_shared_set_max_readers(shared, 1), HULL_READERS_SET);
+    hull_shared_journal *journal = start(0, 50);
+    check("acquire a reader", hull_shared_acquire_reader(shared, reader), HULL_ACQUIRED);
+    for (int again = 0; again < 2; again++) {
+        add(again, 1);
+        check("release", hull_shared_release_seat(shared, seat), HULL_RELEASED);
+        syncs_made = 0;
+        __atomic_store_n(&syncs_wait, 1, __ATOMIC_SEQ_CST);
+        pthread_create(&threads[0], NULL, sync_all, journal);
+        while (__atomic_load_n(&syncs_made, __ATOMIC_SEQ_CST) == 0) {
+            sched_yield();
+        }
+        is_closed = 0;
+        pthread_create(&threads[1], NULL, close_refused, journal);
+        sleep_for(50 * MILLISECOND);
+        check("it waits", __atomic_load_n(&is_closed, __ATOMIC_SEQ_CST), 0);
+        __atomic_store_n(&syncs_wait, 0, __ATOMIC_SEQ_CST);
+        pthread_join(threads[0], NULL), pthread_join(threads[1], NULL);
+        check("acquire", hull_shared_acquire_seat(shared, &gate, seat, 0), HULL_ACQUIRED);
+        check("durable", add_durably(journal, 9, again).code, HULL_DURABLE);
+    }
+    check("release the reader", hull_shared_release_reader(shared, reader), HULL_RELEASED);
+    hull_shared_reader_free(reader);
+    stop(journal, HULL_CLOSED);
+}
+
 /* A seat is out that was acquired with no gate. */
 static void closes_with_a_seat_of_no_gate_out(void) {
     hull_shared_seat *bare = hull_shared_seat_new();
@@ -1215,7 +1257,7 @@ static void waits_for_a_drain_without_memory(void) {
     hull_reply r = hull_shared_journal_wait(journal, line, hull_shared_now() + 300 * MILLISECOND);
     check("not yet", r.code, HULL_BUSY);
     check("what is durable", r.number, line);
-    check("memory was refused", refusals < 1000000000, 1);
+    check("memory was refused, not more often than each ten milliseconds", refusals < 1000000000 && refusals > 1000000000 - 1000, 1);
     check("the processor's time", processor_time() - begun < 60 * MILLISECOND, 1);
     refusals = 0;
     check("durable", hull_shared_journal_wait(journal, line, hull_shared_now() + 60 * SECOND).code, HULL_DURABLE);
@@ -1361,6 +1403,7 @@ static const struct {
 } tests[] = {
     {"closes_with_a_reader_out", closes_with_a_reader_out},
     {"closes_with_a_seat_of_no_gate_out", closes_with_a_seat_of_no_gate_out},
+    {"closes_after_its_thread_rests", closes_after_its_thread_rests},
     {"closes_beside_waiters", closes_beside_waiters},
     {"syncs_before_it_reports", syncs_before_it_reports},
     {"answers_all_waiters", answers_all_waiters},

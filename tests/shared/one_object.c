@@ -9,6 +9,7 @@
 #include <fcntl.h>
 #include <pthread.h>
 #include <sched.h>
+#include <sys/file.h>
 #include <sys/stat.h>
 #include <time.h>
 #include <unistd.h>
@@ -28,6 +29,21 @@ void *__wrap_calloc(size_t count, size_t size) {
 
 char *__wrap_strdup(const char *text) {
     return refuse_next() ? NULL : __real_strdup(text);
+}
+
+/* Another process locks the file just before this one would, if that is wanted. */
+static const char *locked_path;
+static int locked = -1;
+int __real_flock(int file, int how);
+int __wrap_flock(int file, int how) {
+    if (locked_path != NULL) {
+        locked = open(locked_path, O_RDWR);
+        locked_path = NULL;
+        if (locked < 0 || __real_flock(locked, LOCK_EX) != 0) {
+            exit(3);
+        }
+    }
+    return __real_flock(file, how);
 }
 
 int __wrap_pthread_create(pthread_t *thread, const pthread_attr_t *how, void *(*begin)(void *), void *context) {
@@ -418,6 +434,17 @@ static void when_durable(const char *path) {
     unlink(path);
 }
 
+/* A file that this process made, and another one has by then: it stays. */
+static void other_process(const char *path) {
+    unlink(path);
+    locked_path = path;
+    refuses("a file that another process has", (hull_service_options){.path = path}, HULL_NO_FILE, EWOULDBLOCK);
+    check("the file stays", is_there(path), 1);
+    close(locked);
+    close_it("close", open_with("it is free", (hull_service_options){.path = path}));
+    unlink(path);
+}
+
 /* What ends a journal file: lines that were drained elsewhere, and a file that was cut. */
 static void failures(const char *path) {
     hull_service *service = open_with("open", (hull_service_options){.path = path, .capacity = 100, .every = HULL_SHARED_NEVER});
@@ -505,6 +532,7 @@ int main(int count, char **words) {
     with_threads(0), with_threads(HULL_SHARED_SEATS_MAX);
     with_file(words[1]);
     when_durable(words[1]);
+    other_process(words[1]);
     failures(words[1]);
     refusals(words[1]);
     check("open files", open_files(), before);
