@@ -113,7 +113,7 @@ documents() {
 sanitized() {
     # shellcheck disable=SC2046,SC2086 # the flags are separated by spaces
     attempt "codes.c compiles with sanitizers" compile codes -O1 $sanitizers "$top/c/exports.c" \
-        "$top/c/motions.c" $(wrap malloc calloc realloc)
+        $(wrap malloc calloc realloc)
     attempt "sanitizers find nothing in codes" "$room/codes" "$here/lattice.txt" brief
 }
 

@@ -794,14 +794,13 @@ static int is_first_moment(const hull_point *a, size_t count, const hull_point *
            !intersect_at(a, count, b, other_count, dx, dy, part * times - 1, whole * times);
 }
 
-static int is_scaled(uint64_t high, uint64_t low, uint64_t number, int shift) {
-    __extension__ const unsigned __int128 wanted = (unsigned __int128)number << shift;
+static int is_scaled(uint64_t high, uint64_t low, uint64_t number, int64_t k) {
+    __extension__ const unsigned __int128 wanted = (unsigned __int128)number * (uint64_t)k * (uint64_t)k;
     return high == (uint64_t)(wanted >> 64) && low == (uint64_t)wanted;
 }
 
-/* Whether shapes that are 2^shift times as large meet as the small ones do. */
-static int is_moment_scaled(const hull_point *a, size_t count, const hull_point *b, size_t other_count, int64_t dx, int64_t dy, int shift) {
-    const int64_t k = (int64_t)1 << shift;
+/* Whether shapes that are k times as large meet as the small ones do. */
+static int is_moment_scaled(const hull_point *a, size_t count, const hull_point *b, size_t other_count, int64_t dx, int64_t dy, int64_t k) {
     hull_point first[4], second[4];
     scale_and_move(a, count, k, 0, 0, first), scale_and_move(b, other_count, k, 0, 0, second);
     const hull_motion small = hull_polygon_first_meeting(a, count, b, other_count, dx, dy);
@@ -810,8 +809,8 @@ static int is_moment_scaled(const hull_point *a, size_t count, const hull_point 
     same &= large.vertex.x == k * small.vertex.x && large.vertex.y == k * small.vertex.y;
     same &= large.hit.a.x == k * small.hit.a.x && large.hit.b.y == k * small.hit.b.y;
     if (small.hit.code == HULL_EDGE || small.hit.code == HULL_VERTEX) {
-        same &= is_scaled(large.hit.high, large.hit.low, small.hit.low, 2 * shift);
-        same &= is_scaled(large.hit.divisor_high, large.hit.divisor_low, small.hit.divisor_low, 2 * shift);
+        same &= is_scaled(large.hit.high, large.hit.low, small.hit.low, k);
+        same &= is_scaled(large.hit.divisor_high, large.hit.divisor_low, small.hit.divisor_low, k);
     } else {
         same &= small.vertex.x == 0 && small.vertex.y == 0 && small.moves == 0;
     }
@@ -823,13 +822,14 @@ static void check_motions(void) {
     static const hull_point shapes[][4] = {{{0, 0}, {3, -1}, {5, 2}, {1, 3}}, {{0, 0}, {4, 0}, {0, 3}}, {{0, 0}, {2, 1}}, {{0, 0}, {0, 4}}, {{0, 0}}};
     static const size_t counts[] = {4, 3, 2, 2, 1};
     static const int64_t ways[][2] = {{6, 0}, {0, -7}, {5, 3}, {-4, 7}, {-8, -2}, {1, 1}, {0, 0}};
+    static const int64_t scales[] = {1, 2039, 4194301, 8589934583};
     int same = 1, hits = 0, tries = 0;
     for (int i = 0; i < 5 * 5 * 7 * 9 * 9; i += every, tries++) {
         const int64_t *way = ways[i / 25 % 7];
         hull_point other[4];
         scale_and_move(shapes[i / 5 % 5], counts[i / 5 % 5], 1, 3 * (i / 175 % 9) - 12, 3 * (i / 1575) - 12, other);
         same &= is_first_moment(shapes[i % 5], counts[i % 5], other, counts[i / 5 % 5], way[0], way[1], &hits);
-        same &= is_moment_scaled(shapes[i % 5], counts[i % 5], other, counts[i / 5 % 5], way[0], way[1], i % 4 * 11);
+        same &= is_moment_scaled(shapes[i % 5], counts[i % 5], other, counts[i / 5 % 5], way[0], way[1], scales[i % 4]);
     }
     CHECK(same && hits > 500 / every && hits < tries - 500 / every);
     const int64_t far = HULL_COORDINATE_MAX;
