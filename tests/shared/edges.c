@@ -147,12 +147,18 @@ static uint64_t skipped;
 /* Threads that are woken go on some milliseconds later if that is wanted; how many sleep, or are to go on. */
 static int wakes_late;
 static unsigned sleepers;
+/* This thread falls asleep a tenth of a second late, if that is wanted: what it sleeps for has come by then. */
+static __thread int falls_asleep_late;
 long __real_syscall(long number, ...);
 long __wrap_syscall(long number, long a, long b, long c, const struct timespec *deadline, long e, long f) {
     if (number == SYS_futex && (b & FUTEX_CMD_MASK) == FUTEX_WAIT_BITSET && deadline != NULL && __atomic_load_n(&are_sleeps_skipped, __ATOMIC_SEQ_CST)) {
         const uint64_t until = (uint64_t)deadline->tv_sec * SECOND + (uint64_t)deadline->tv_nsec, now = hull_shared_now();
         __atomic_fetch_add(&skipped, until > now ? until - now : 0, __ATOMIC_SEQ_CST);
         return 0;
+    }
+    if (number == SYS_futex && (b & FUTEX_CMD_MASK) == FUTEX_WAIT_BITSET && falls_asleep_late) {
+        const struct timespec tenth = {0, 100000000};
+        nanosleep(&tenth, NULL);
     }
     if (number == SYS_futex && (b & FUTEX_CMD_MASK) == FUTEX_WAIT_BITSET && __atomic_load_n(&wakes_late, __ATOMIC_SEQ_CST)) {
         const struct timespec moment = {0, 5000000};
@@ -470,6 +476,19 @@ static void answers_all_waiters(void) {
     }
     check("by no more drains than requests", __atomic_load_n(&syncs_made, __ATOMIC_SEQ_CST) - before <= WAITERS, 1);
     syncs_take = 0;
+    stop(journal, HULL_CLOSED);
+}
+
+/* A thread that has looked, and falls asleep after its line became durable, does not sleep on. */
+static void wakes_who_falls_asleep_late(void) {
+    hull_shared_journal *journal = start(0, 1000);
+    falls_asleep_late = 1;
+    for (int k = 0; k < 3; k++) {
+        check("durable", add_durably(journal, k, 1).code, HULL_DURABLE);
+        add(k, 2);
+        check("durable", hull_shared_journal_sync(journal, hull_shared_now() + 60 * SECOND).code, HULL_DURABLE);
+    }
+    falls_asleep_late = 0;
     stop(journal, HULL_CLOSED);
 }
 
@@ -968,6 +987,7 @@ static void bears_zeros(void) {
 }
 
 /* Others cut, extend, remove or replace the file: nothing more is reported as durable, and the file stays as they left it. */
+static int is_linked;
 static void touch(int how, const char *left) {
     hull_shared_journal *journal;
     put_some();
@@ -982,7 +1002,10 @@ static void touch(int how, const char *left) {
         put(beside(".mine"), SEGMENT, strlen(SEGMENT));
         check("replaced", (uint64_t)rename(beside(".mine"), path), 0);
         break;
-    case 4: check("renamed", (uint64_t)rename(path, beside(".mine")), 0); break;
+    case 4:
+        check("renamed", (uint64_t)rename(path, beside(".mine")), 0);
+        check("a link in its place", !is_linked || symlink(beside(".mine"), path) == 0, 1);
+        break;
     case 5: is_extended_at_sync = 1; break;
     }
     hull_reply r = add_durably(journal, 0, 0);
@@ -999,6 +1022,8 @@ static void notices_others(void) {
     touch(1, NULL);
     touch(2, NULL);
     touch(3, SEGMENT);
+    touch(4, NULL);
+    is_linked = 1;
     touch(4, NULL);
     touch(5, NULL);
 }
@@ -1144,6 +1169,10 @@ static void starts_after_refused_memory(void) {
         check("acquire", hull_shared_acquire_seat(shared, &gate, seat, 0), HULL_ACQUIRED);
         check("the points", hull_shared_call(&gate, seat, HULL_KIND_COUNT, 0, 0).answer.number, 2);
         check("its limit", add(2, 2).answer.code == HULL_ADDED && add(3, 3).answer.code == HULL_TOO_MANY, 1);
+        hull_shared_seat *other_seat = hull_shared_seat_new();
+        check("the journal's own seat", hull_shared_acquire_seat(shared, &gate, other_seat, 2), HULL_NO_SEAT);
+        check("there are no more", hull_shared_acquire_seat(shared, &gate, other_seat, 3), HULL_NO_SEAT);
+        hull_shared_seat_free(other_seat);
         stop(journal, HULL_CLOSED);
     }
 }
@@ -1407,6 +1436,7 @@ static const struct {
     {"closes_beside_waiters", closes_beside_waiters},
     {"syncs_before_it_reports", syncs_before_it_reports},
     {"answers_all_waiters", answers_all_waiters},
+    {"wakes_who_falls_asleep_late", wakes_who_falls_asleep_late},
     {"gives_up_at_its_deadline", gives_up_at_its_deadline},
     {"waits_for_nothing", waits_for_nothing},
     {"takes_no_signals", takes_no_signals},

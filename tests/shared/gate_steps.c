@@ -327,6 +327,7 @@ static void check_hook(void) {
         check("a call", count_by(k), HULL_NUMBER);
         check("errno", (uint64_t)errno, 77);
         check("drained at half of the lines, and not before", hooks - before, held + 1 == 4);
+        check("no memory was refused", gate->refused, 0);
         check("the line of the hook's own call", hull_shared_stats(&storage).held, held + 1 == 4 ? 1 : held + 1);
     }
     drainer = 30, hooks = 0, errno = 77;
@@ -428,9 +429,15 @@ static void check_served(void) {
     check("its reply", reply.answer.code, HULL_ADDED);
     check("its number", reply.turn, first_number + 1);
     check("vertices", hull_seat_vertices(seats[38], out, 2).answer.code == HULL_VERTICES && out[0].x == 3 && out[0].y == 4, 1);
+    for (int64_t k = 0; k < 5; k++) {
+        hull_point all[8];
+        check("vertices in an array that is just long enough", hull_seat_vertices(seats[38], all, (size_t)k + 1).answer.code, HULL_VERTICES);
+        check("and in one that is too short", hull_shared_vertices(&storage, seats[38], all, (size_t)k).answer.code, HULL_TOO_SMALL);
+        check("added", hull_seat_add(seats[38], 10 + k, k * k).answer.code, HULL_ADDED);
+    }
     check("vertices of no array", hull_seat_vertices(seats[38], NULL, 0).answer.code, HULL_TOO_SMALL);
     check("vertices of no array", hull_shared_vertices(&storage, seats[38], NULL, 0).answer.code, HULL_TOO_SMALL);
-    check("a call that does not wait", hull_seat_call_until(seats[38], HULL_KIND_COUNT, 0, 0, 0).answer.number, 1);
+    check("a call that does not wait", hull_seat_call_until(seats[38], HULL_KIND_COUNT, 0, 0, 0).answer.number, 6);
     close_all();
 }
 
