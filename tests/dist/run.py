@@ -12,11 +12,11 @@ import base64
 import hashlib
 import os
 import pty
+import resource
 import shutil
 import subprocess
 import sys
 import tempfile
-import time
 import zipfile
 
 TOP = os.path.dirname(os.path.dirname(os.path.dirname(os.path.abspath(__file__))))
@@ -24,7 +24,7 @@ sys.path.insert(0, f"{TOP}/tools")
 import kit  # noqa: E402 (the path comes first)
 import packages  # noqa: E402
 
-FIRST_ANSWER = 1.0  # seconds
+FIRST_ANSWER = 1.0  # seconds of processors
 C_PROGRAM = """#include "hull.h"
 #include <stdio.h>
 int main(void) {
@@ -155,15 +155,21 @@ def put_back(path, data):
         file.write(data)
 
 
+def of_children():
+    """Returns the seconds of processors that commands have taken, which do not depend on what else the machine does."""
+    used = resource.getrusage(resource.RUSAGE_CHILDREN)
+    return used.ru_utime + used.ru_stime
+
+
 def try_clone(tries, stale):
     """Lays a fresh copy, whose programs start at once, by a link too, if they were made of these sources."""
     shutil.copytree(TOP, f"{tries.room}/clone", ignore=shutil.ignore_patterns(".git", "out", "target", "__pycache__"))
     if "x86_64/hullbook" in stale:
         print("skipped: the first answer of a fresh copy: the program has other sources than the release")
         return
-    begun = time.time()
+    begun = of_children()
     status, told = tries.run("bin/hullbook", "run", "examples/placement.txt", at="clone")
-    took = time.time() - begun
+    took = of_children() - begun
     tries.see(f"the first answer of a fresh copy, in {took:.2f} s", status == 0 and told.endswith("sum 8 journal 8 capacity 65536\n") and took < FIRST_ANSWER, told)
     os.symlink(f"{tries.room}/clone/bin/hullbook", f"{tries.room}/hullbook")
     tries.prints("the program by a link", "sum 8 journal 8 capacity 65536", f"{tries.room}/hullbook", "run", "examples/placement.txt", at="clone")

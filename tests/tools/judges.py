@@ -447,6 +447,34 @@ def test_found(tests):
                 1, 1, 1])
 
 
+def test_made(tests):
+    """What was proved here is found if it was made of these sources; and dist/ without a file is not right."""
+    with tempfile.TemporaryDirectory() as top:
+        lay_products(top)
+        find = lambda word="program": run(top, "tools/product.sh", word, "hullbook")
+        here = f"{top}/crates/hullbook/out/{os.uname().machine}/hullbook"
+        tests.same("the released program", find(), (0, f"{top}/dist/x86_64/hullbook\n"))
+        tests.same("none is linked here", find("linked")[0], 1)
+        write(f"{top}/crates/hullbook/src/lib.rt", "changed\n")
+        tests.same("of other sources there is none", find()[0], 1)
+        write(f"{top}/crates/hullbook/out/hullbook", "linked here\n"), write(f"{top}/crates/hullbook/out/hullbook.o", "object\n")
+        tests.same("what a proof left is kept", run(top, "tools/product.sh", "made", "hullbook"), (0, ""))
+        tests.same("and found", [find(), find("linked"), kit.text_of(here)], [(0, f"{here}\n")] * 2 + ["linked here\n"])
+        tests.same("it is ready, and put", [run(top, "tools/product.sh", *words)[0] for words in (("ready", "x86_64/hullbook"),
+                ("put", "x86_64/hullbook", f"{top}/copy"))] + [kit.text_of(f"{top}/copy")], [0, 0, "linked here\n"])
+        tests.same("the object beside it", kit.text_of(f"{here}.o"), "object\n")
+        write(f"{top}/crates/low/src/lib.rt", "changed below\n")
+        tests.same("of others again it is not", [find()[0], find("linked")[0], run(top, "tools/product.sh", "ready", "x86_64/hullbook")[0]], [1, 1, 1])
+        status, said = run(top, "tools/product.sh", "make", "web/hull.wasm", f"{top}/page")
+        tests.see("a page of other sources is not taken", status == 69 and "web/out was made of other sources" in said, said)
+        write(f"{top}/web/out/made-of", run(top, "tools/product.sh", "sum", "hull_c")[1]), write(f"{top}/web/out/hull.wasm", "built\n")
+        tests.same("one of these is", (run(top, "tools/product.sh", "make", "web/hull.wasm", f"{top}/page")[0], kit.text_of(f"{top}/page")), (0, "built\n"))
+        write(f"{top}/dist/SUMS", "")
+        for name in ("x86_64/libhull.a", "x86_64/hullbook", "web/hull.wasm"):
+            os.remove(f"{top}/dist/{name}")
+        tests.same("dist/ without a file", run(top, "tools/product.sh", "check"), (1, "0 passed, 0 failed\n"))
+
+
 RELEASE_RT = "#!/bin/sh\n[ \"$1\" = version ] && echo \"${TOOLCHAIN:-kit-1}\"\n"
 RELEASE_TOOL = "#!/bin/sh\n[ \"$1\" != --version ] || echo \"$(basename \"$0\") ${COMPILER:-1}\"\n"
 # makes what MADE says in place of the released bytes
@@ -514,4 +542,4 @@ def test_release(tests):
         tests.same("words that are none", [run(top, "tools/release.sh", it, env=env)[0] for it in ("--help", "--other")], [0, 1])
 
 
-TESTS = (test_outcomes, test_edits, test_layouts, test_words, test_lengths, test_each_place, test_table_itself, test_found, test_release)
+TESTS = (test_outcomes, test_edits, test_layouts, test_words, test_lengths, test_each_place, test_table_itself, test_found, test_made, test_release)

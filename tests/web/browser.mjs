@@ -7,7 +7,7 @@ import { ChromiumLink } from "./chromium.mjs";
 import { FirefoxLink } from "./firefox.mjs";
 
 const LINKS = { chromium: ChromiumLink, firefox: FirefoxLink };
-const PATIENCE = 20000; // milliseconds
+const PATIENCE = 120000; // milliseconds, also on a machine with much else to do
 
 export const wait = (milliseconds) => new Promise((done) => setTimeout(done, milliseconds));
 
