@@ -376,6 +376,23 @@ fn refused_memory() {
     assert!(all() == Ok(wanted) && refused > 15 && refused < 900, "{refused}");
 }
 
+/// After a fault, and after the last one, there is no block of a text any more.
+#[test]
+fn blocks_end() {
+    let hull = SharedHull::open(Limits { points: 9, first: 0, capacity: 20, seats: 1 }).unwrap();
+    let mut seat = hull.acquire_seat(0).unwrap();
+    (0..5).for_each(|x| assert_eq!(seat.add(point(x, 2)), Ok(1)));
+    let segment = seat.drain().unwrap();
+    let mut pieces = segment.pieces(50);
+    assert!(pieces.next().unwrap().unwrap().starts_with("hullbook journal 3 "));
+    LEFT.set(0);
+    let refused = pieces.next();
+    LEFT.set(-1);
+    assert_eq!((refused, pieces.next(), pieces.next()), (Some(Err(Fault::NoMemory)), None, None));
+    let mut pieces = segment.pieces(50);
+    assert!(pieces.by_ref().count() > 3 && pieces.next().is_none() && pieces.next().is_none());
+}
+
 /// A reader that had no memory for the newest snapshot is not the newest, and reads it when there is some.
 #[test]
 fn a_reader_with_no_memory() {

@@ -280,13 +280,19 @@ fn deadlines() {
     assert!(begun.elapsed() >= Duration::from_millis(20));
     let stats = hull.stats();
     assert_eq!((stats.inside, stats.sleepers, stats.for_space, stats.held, stats.seat, stats.drainer), (0, 0, 0, 2, None, None));
+    assert_eq!((stats.out, stats.designated, stats.combined), (2, None, 0));
     one.wait_at_most(None);
-    let waiting = thread::spawn(move || one.count());
-    while hull.stats().for_space == 0 {
-        thread::yield_now();
+    for patience in [None, Some(Duration::MAX), Some(Duration::from_secs(1 << 40)), Some(Duration::from_secs(600))] {
+        one.wait_at_most(patience);
+        let waiting = thread::spawn(move || (one.count(), one));
+        while hull.stats().for_space == 0 {
+            thread::yield_now();
+        }
+        two.drain().unwrap();
+        let counted;
+        (counted, one) = waiting.join().unwrap();
+        assert_eq!((counted, two.count()), (Ok(0), Ok(0))); // which fills it again
     }
-    assert_eq!(two.drain().unwrap().lines().unwrap().count(), 5);
-    assert_eq!(waiting.join().unwrap(), Ok(0));
 }
 
 /// A hull whose journal is in a file, and others that continue it.
@@ -329,6 +335,32 @@ fn opens_a_journal() {
     std::fs::remove_file(&path).unwrap();
     assert_eq!(SharedHull::open_journal("a\0b", limits, None).unwrap_err(), Fault::NoFile { errno: 22 });
     assert_eq!(SharedHull::open(limits).unwrap().durable(), Err(Fault::NotOpen));
+}
+
+/// A seat with no line waits for none; files that are refused are closed, and say why.
+#[test]
+fn files_that_are_refused() {
+    let folder = Folder::new("refused");
+    let limits = Limits { points: 9, first: 0, capacity: 50, seats: 1 };
+    let wrong = [Limits { capacity: 0, ..limits }, Limits { points: 0, ..limits }, Limits { seats: SEAT_LIMIT, ..limits }];
+    for limits in wrong {
+        assert_eq!(SharedHull::open_journal(folder.file(), limits, None).unwrap_err(), Fault::BadLimit);
+    }
+    let hull = SharedHull::open_journal(folder.file(), limits, None).unwrap();
+    let mut seat = hull.acquire_seat(0).unwrap();
+    seat.wait_at_most(Some(Duration::from_secs(5)));
+    assert_eq!((seat.turn(), seat.wait_durable()), (None, Ok(())));
+    drop((seat, hull));
+    let head = "hullbook journal 3 first 0 limit 9 capacity 9\n";
+    for (text, fault) in [
+        (format!("{head}0 0 add 1 1 = again 2\nend 1\n"), Fault::Illegal { line: 2 }),
+        (format!("{head}0 0 add 1 = added\nend 1\n"), Fault::Damaged { line: 2 }),
+    ] {
+        std::fs::write(folder.file(), &text).unwrap();
+        assert_eq!(SharedHull::open_journal(folder.file(), limits, None).unwrap_err(), fault, "{text}");
+        assert_eq!((SharedHull::compact(folder.file()), std::fs::read_to_string(folder.file()).unwrap()), (Err(fault), text));
+    }
+    assert_eq!(SharedHull::compact(folder.0.join("none/at/all")), Err(Fault::NoFile { errno: 2 }));
 }
 
 /// A folder that is removed at the end of the test.
