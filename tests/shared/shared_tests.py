@@ -76,7 +76,7 @@ class Calls(unittest.TestCase):
 
     def test_readers(self):
         self.assertRaises(NoSeat, SharedHull(capacity=20, seats=1).acquire_reader)
-        for wrong in (-1, READER_LIMIT + 1, 1 << 40):
+        for wrong in (-1, READER_LIMIT + 1, 1 << 40, (1 << 32) + 5):
             self.assertRaises(ValueError, SharedHull, capacity=20, seats=1, readers=wrong)
         hull = SharedHull(capacity=20, seats=1, limit=10, first=7, readers=2)
         one, two = hull.acquire_reader(), hull.acquire_reader()

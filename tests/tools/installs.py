@@ -7,12 +7,14 @@ import json
 import os
 import shutil
 import stat
+import struct
 import subprocess
 import tarfile
 import tempfile
 import zipfile
 
 from small import TOP, lay_tools, run, write
+import packages
 
 # the products are texts with their names; PRODUCT_STATUS is the status of a product that cannot be had, STALE names those of other sources
 PRODUCT = """#!/bin/sh
@@ -243,6 +245,7 @@ def test_sources(tests, top, out):
             "man/hull.3", "rust/hull/Cargo.toml",
               "docs/INSTALLED.md", "crates.txt", "crates/low/src/lib.rt", "crates/hull_c/src/lib.rt", "crates/hull_shared/src/lib.rt", "dist/x86_64/libhull.a", "dist/aarch64/libhull.a"]
     tests.same("the archive for pip", {it: texts.get(at + it) for it in needed}, {it: contents(f"{top}/{it}") for it in needed})
+    tests.same("nothing that commands left", [it for it in texts if "__pycache__" in it or "/target/" in it], [])
     tests.same("it has nothing else of crates", {it for it in texts if "/crates/" in it}, {f"{at}crates/{it}/src/lib.rt" for it in ("low", "hull_c",
             "hull_shared")})
     tests.see("its description",
@@ -295,11 +298,33 @@ def test_deb(tests, room, out):
     tests.same("its owner", owners, {"root/root"})
 
 
+def elf(*kinds, names=b""):
+    """Returns a program's file with program headers of these kinds (3 is that of an interpreter), and these names."""
+    head = b"\x7fELF".ljust(32, b"\0") + struct.pack("<Q", 64) + bytes(14) + struct.pack("<HH", 56, len(kinds))
+    return head.ljust(64, b"\0") + b"".join(struct.pack("<I", kind).ljust(56, b"\0") for kind in kinds) + names
+
+
+def test_needed(tests):
+    """A program that is linked dynamically depends on the newest version of the C library that it names."""
+    names = b"GLIBC_2.4\0GLIBC_2.34\0GLIBC_2.17\0GLIBC_PRIVATE\0"
+    with tempfile.TemporaryDirectory() as room:
+        for what, data, wanted in (("static", elf(1, 2, names=names), ""), ("dynamic", elf(1, 3, 2, names=names), "libc6 (>= 2.34)"),
+                                   ("dynamic, by its first header", elf(3, 1, names=names), "libc6 (>= 2.34)"),
+                                   ("dynamic with no names", elf(3, 1), ""), ("of no header", elf(names=names), "")):
+            with open(f"{room}/program", "wb") as file:
+                file.write(data)
+            tests.same(f"a program, {what}", packages.needed_library(f"{room}/program"), wanted)
+
+
 def test_packages(tests):
     """bin/package makes each package whole, the same each time, and none if a file is of other sources."""
     with tempfile.TemporaryDirectory() as room:
         top, out, work = f"{room}/repository", f"{room}/out", f"{room}/temporary"
         lay(top), os.makedirs(work)
+        for it in ("hull.wasm", "hull32.wasm", "index.html"):
+            write(f"{top}/web/out/{it}", f"built here, not released: {it}\n")
+        for it in ("rust/hull/Cargo.lock", "rust/hull/target/left", "python/__pycache__/hull.pyc", "tools/__pycache__/kit.pyc", "crates/low/mutants/a.edit"):
+            write(f"{top}/{it}", "left by a command\n")
         # (of a program the head of its ELF file is read)
         write(f"{top}/tools/product.sh", PRODUCT.replace("chmod 600", "case $2 in */hull[bd]*) head -c 100 /dev/zero >>\"$3\" ;; esac; chmod 600"),
                 0o755)

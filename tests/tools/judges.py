@@ -278,6 +278,9 @@ def test_lengths(tests):
         tests.see("its page",
                 page.startswith("# Calling `small`\n\nWhat it is about. In two lines.\n") and "```rust\nfn call() {}\n```" in page and "\n`One`, `Three`, `Two`.\n" in page, page)
         tests.accepts("the same again", top, "tools/reference.py")
+        write(f"{top}/crates/small/CALLING.md", f"{page}\n")
+        tests.refuses("a line more", "crates/small/CALLING.md: FAILED", top, "tools/reference.py")
+        write(f"{top}/crates/small/CALLING.md", page)
         run(top, "tools/reference.py", "--definitions")
         text = kit.text_of(f"{top}/out/DEFINITIONS.md")
         tests.see("the definitions that contracts can name",
@@ -339,6 +342,7 @@ def test_each_place(tests):
             for path in places:
                 tests.see("it is there again", kit.text_of(f"{top}/{path}") == kit.text_of(f"{TOP}/{path}"))
         tests.see("stretches", sum(map(len, rounds.values())) > 20, rounds)
+        tests.same("words that are none", run(top, "tools/table.py", "--other")[0], 2)
         write(f"{top}/VERSION", "9.9.9\n")
         said = run(top, "tools/table.py")[1]
         tests.see("each place of another version", all(f"{it}: FAILED, the version: it says '" in said for it in table.VERSIONS), said)

@@ -288,7 +288,7 @@ def test_tables(tests):
 def main():
     tests = Tests()
     for test in (test_judgement, test_layout, test_products, test_suites, test_gate, test_language, test_tables, *judges.TESTS,
-                 *flows.TESTS, *scripts.TESTS, installs.test_install, installs.test_packages):
+                 *flows.TESTS, *scripts.TESTS, installs.test_install, installs.test_needed, installs.test_packages):
         test(tests)
     if shutil.which("rt"):
         test_mutants(tests)

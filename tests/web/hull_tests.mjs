@@ -312,14 +312,20 @@ await tried("after a trap nothing is served", async () => {
         // a hull at an address beyond the memory, for requests of x 666
         const isStray = (requests) => new DataView(memory.buffer).getBigInt64(Number(requests) + 8, true) === 666n;
         const stray = (at, requests, ...rest) => hull_calls(isStray(requests) ? STRAY : at, requests, ...rest);
-        return { instance: { exports: { ...instance.exports, hull_calls: stray } } };
+        const counted = Object.entries({ ...instance.exports, hull_calls: stray }).map(([name, it]) => [name, typeof it === "function" ? (...words) => (calls++, it(...words)) : it]);
+        return { instance: { exports: Object.fromEntries(counted) } };
     };
+    let calls = 0;
     const { Hull: Other } = await load(bytes).finally(() => (WebAssembly.instantiate = instantiate)), hull = new Other();
     assert.equal(hull.add(1, 1), 1);
-    assert.throws(() => hull.add(666, 1), faults.Trapped);
+    const polygon = hull.polygon();
+    assert.throws(() => hull.add(666, 1), (error) => error instanceof faults.Trapped && error.cause instanceof WebAssembly.RuntimeError);
+    calls = 0;
     assert.throws(() => hull.place(1, 1), faults.Trapped);
     assert.throws(() => new Other(), faults.Trapped);
-    hull.free();
+    assert.throws(() => polygon.doubledArea(), faults.Trapped);
+    hull.free(), polygon.free();
+    assert.equal(calls, 0); // not one that might find the memory as the trap left it
 });
 console.log(`${passed} passed, ${failed} failed`);
 process.exit(failed ? 1 : 0);

@@ -207,7 +207,7 @@ await tried("blocks of the heap, by chance, beside what was written to them", ()
     heap.begin(memory, base);
     const bytesAt = (at, count) => new Uint8Array(memory.buffer, at, count), write = (at, count) => blocks.set(at, { count,
         mark: 1 + random(255) }) && bytesAt(at, count).fill(blocks.get(at).mark);
-    const check = (at, { count, mark }) => assert.ok(bytesAt(at, count).every((it) => it === mark), `${count} bytes at ${at}`);
+    const check = (at, { count, mark }) => assert.ok(Buffer.alloc(count, mark).equals(bytesAt(at, count)), `${count} bytes at ${at}`);
     for (let step = 0; step < 6000; step++) {
         const bytes = [1 + random(40), 500 + random(30), 1 + random(9000), 16 * (1 + random(40))][random(4)], all = [...blocks.keys()],
             at = all[random(all.length || 1)];

@@ -190,8 +190,8 @@ await tried("the first lines of a long journal are stored in the database once",
     globalThis.sessionStorage = tabs[0];
     const { lines } = work.replay.journal;
     for (let k = 0; k < 6; k++) {
-        work.open({ ...work.replay.journal, lines: lines.slice(0, 20002 + k) });
-        await keeper.keep(work, {});
+        const journal = { ...work.replay.journal, lines: lines.slice(0, 20002 + k) };
+        await keeper.keep({ here: { journal, at: 0, power: 0 }, deeds: { done: [], undone: [] } }, {});
         assert.deepEqual([bases.size, (await new Keeper().read()).was.journal.lines.length], [Math.min(k + 2, 4), 20002 + k]);
     }
 });
