@@ -290,8 +290,8 @@ class Calls(unittest.TestCase):
                     time.sleep(0.005)
                 with open(path, encoding="ascii") as file:
                     self.assertEqual(file.read(), "")  # nothing is written for most of an hour
-                times = []
-                while len(times) < 20:  # (whether a drain is met while it lasts is up to the scheduler)
+                times, until = [], time.monotonic() + 300
+                while len(times) < 20 and time.monotonic() < until:  # (whether a drain is met while it lasts is up to the scheduler)
                     for x in range(50000):
                         seat.add(x % 1000, x // 1000)
                     thread = threading.Thread(target=hull.sync)
@@ -302,7 +302,7 @@ class Calls(unittest.TestCase):
                             times.append(stats.drains_for)
                     thread.join()
                 # (most of them: seat and time may be of two moments)
-                self.assertTrue(0 <= sorted(times)[len(times) // 2] < 60, times)
+                self.assertTrue(len(times) >= 20 and 0 <= sorted(times)[len(times) // 2] < 60, times)
             hull.close()
         hull = SharedHull(capacity=1, seats=1, waits=True)
         with hull.acquire_seat(0) as seat:
@@ -347,6 +347,16 @@ class Calls(unittest.TestCase):
                             time.sleep(0.001)
                         self.assertGreater(hull.durable(), seat.turn(), every)
                 hull.close()
+        with tempfile.TemporaryDirectory() as folder:
+            hull = SharedHull.open_journal(os.path.join(folder, "zone.journal"), capacity=50, seats=1)
+            with hull.acquire_seat(0) as seat:
+                seat.wait_at_most(0)
+                seat.add(1, 1)
+                self.assertRaises(Busy, seat.wait_durable)  # nobody has asked for it yet
+                seat.wait_at_most(None)
+                seat.wait_durable()
+                self.assertGreater(hull.durable(), 0)
+            hull.close()
         for wrong in (-1, -1e-9, float("nan")):
             self.assertRaises(ValueError, SharedHull.open_journal, "never", capacity=50, seats=1, every=wrong)
 

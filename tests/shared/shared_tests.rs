@@ -350,6 +350,10 @@ fn files_that_are_refused() {
     let mut seat = hull.acquire_seat(0).unwrap();
     seat.wait_at_most(Some(Duration::from_secs(5)));
     assert_eq!((seat.turn(), seat.wait_durable()), (None, Ok(())));
+    seat.wait_at_most(Some(Duration::ZERO));
+    assert_eq!((seat.add(point(1, 1)), seat.wait_durable()), (Ok(1), Err(Fault::Busy))); // nobody has asked for it yet
+    seat.wait_at_most(None);
+    assert_eq!((seat.wait_durable(), hull.durable().unwrap() > 0), (Ok(()), true));
     drop((seat, hull));
     let head = "hullbook journal 3 first 0 limit 9 capacity 9\n";
     for (text, fault) in [

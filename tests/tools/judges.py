@@ -217,7 +217,7 @@ def test_layouts(tests):
 PROSE = {
     "README.md": ("{}\n", None), "docs/A.md": ("{}\n", None), "include/a.h": ("/* {} */\n", 'const char *a = "{}";\n'), "include/a.hpp": ("// {}\n",
             'auto a = "{}";\n'),
-    "man/a.3": ("{}\n", None), "python/a.py": ('"""{}"""\n', "a = '{}'\n"), "python/README.md": ("{}\n", None), "rust/hull/src/a.rs": ("/// {}\n",
+    "rust/hull/src/b.rs": ("mod b;\n    /// {}\n", "    // {}\n"), "man/a.3": ("{}\n", None), "python/a.py": ('"""{}"""\n', "a = '{}'\n"), "python/README.md": ("{}\n", None), "rust/hull/src/a.rs": ("/// {}\n",
             "// {}\n"),
     "web/a.d.ts": ("/** {} */\n", 'type A = "{}";\n'), "crates/small/src/a.rt": ("//! {}\n", "// {}\n"),
 }
@@ -267,7 +267,7 @@ def test_lengths(tests):
         write(f"{top}/crates/small/src/lib.rt",
                 "//! What it is about.\n//! In two lines.\n//!\n//! More.\npub use inner::{Two, One};\npub use inner::Three;\nuse other::Four;\n")
         write(f"{top}/crates/small/specs/Lib.antt", "")
-        write(f"{top}/crates/small/specs/Sets.antt", "-- All about sets.\n\n-- What a set is\npub set : Set\n\n-- Hidden.\nhidden : Set\n\n-- Is it one?\npub asked : Set\n\n-- (as before)\nabbrev pub aside : Set\npub beside : Set\n")
+        write(f"{top}/crates/small/specs/Sets.antt", "-- All about sets.\n\n-- What a set is\npub set : Set\n\n-- Hidden.\nhidden : Set\n\n-- Is it one?\npub asked : Set\n\n-- (as before)\nabbrev pub aside : Set\npub beside : Set\n\npub bare : Set\n")
         write(f"{top}/crates/calls/src/lib.rt", "//! Callers.\n")
         write(f"{top}/crates/calls/src/of.rt", "//! A caller of `small`.\nfn call() {}\n")
         for page in reference.PARTS:
@@ -285,7 +285,7 @@ def test_lengths(tests):
         text = kit.text_of(f"{top}/out/DEFINITIONS.md")
         tests.see("the definitions that contracts can name",
                 "| `set` | What a set is. |\n" in text and "**Sets.** All about sets.\n" in text and "hidden" not in text
-                and "| `asked` | Is it one? |\n| `aside`, `beside` | (as before) |\n" in text, text)
+                and "| `asked` | Is it one? |\n| `aside`, `beside` | (as before) |\n" in text and "bare" not in text, text)
         write(f"{top}/crates/calls/src/of.rt", "//! A caller of `small`.\nfn call() { again }\n")
         tests.refuses("a caller that has changed", "crates/small/CALLING.md: FAILED", top, "tools/reference.py")
         run(top, "tools/reference.py", "--write")
@@ -300,6 +300,9 @@ def test_lengths(tests):
         there = sum(len(kit.text_of(f"{top}/{it}").split()) for it in reference.PARTS)
         write(f"{top}/docs/LONG.md", "word " * (reference.BY_HAND - there))
         tests.accepts("as many words as there may be", top, "tools/reference.py")
+        made = "\n<!-- written by a tool -->\nmany words\n<!-- end of what it writes -->\n"
+        write(f"{top}/docs/LONG.md", "word " * (reference.BY_HAND - there - 1) + f"{made}word{made}")
+        tests.accepts("and those that a tool writes, in two stretches", top, "tools/reference.py")
         write(f"{top}/docs/more/LONG.md", "word\n")
         tests.refuses("one more", f"docs: FAILED, {reference.BY_HAND + 1} words, and {reference.BY_HAND} may be", top, "tools/reference.py")
         tests.same("a word that is none", run(top, "tools/reference.py", "--other")[0], 2)
