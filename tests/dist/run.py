@@ -312,9 +312,9 @@ def try_packages(tries):
     try_wheel(tries, wheel)
     if tries.run("python3", "-m", "venv", "venv")[0] == 0:
         tries.prints("the wheel, by pip", "200 INSIDE", "sh", "-c", f"venv/bin/pip install --no-index -q {wheel} && venv/bin/python -c '{PYTHON}'")
-        tries.run("python3", "-m", "venv", "built")
+        tries.see("and removed", tries.run("sh", "-c", "venv/bin/pip uninstall -q -y hullbook && ! venv/bin/python -c 'import hull' 2>none")[0] == 0)
         tries.prints("the archive for pip, built and installed", "200 INSIDE", "sh", "-c",
-                     f"built/bin/pip install --no-index -q {at}/hullbook-{version}.tar.gz && built/bin/python -c '{PYTHON}'")
+                     f"venv/bin/pip install --no-index -q {at}/hullbook-{version}.tar.gz && venv/bin/python -c '{PYTHON}'")
     if tries.has("objdump", "symbols of the wheel"):
         script = f"unzip -q -o {wheel} -d wheel && objdump -T wheel/hull/*.so | grep -o 'GLIBC_[0-9.]*' | sort -uV | tail -n 1"
         newest = tries.run("sh", "-c", script)[1].strip()

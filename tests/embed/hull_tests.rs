@@ -80,6 +80,10 @@ fn loads() {
     held.swap(0, 1);
     assert_eq!((twin.load_held(&held), twin.len()), (Err(Fault::OutOfOrder), 2));
     assert_eq!((twin.load_held(&[]), twin.len()), (Ok(()), 0));
+    let ends: Vec<Point> = [-1, 1].iter().flat_map(|x| [-1, 0, 1].map(|y| point(x * COORDINATE_LIMIT, y * COORDINATE_LIMIT))).collect();
+    let all = Hull::from_points(6, &ends).unwrap();
+    assert!(all.held().unwrap().iter().map(|it| it.point).eq(ends.iter().copied()));
+    assert_eq!((all.try_clone().unwrap().len(), all.held().unwrap().iter().map(|it| it.multiplicity).sum::<u32>()), (6, 6));
     let many: Vec<Point> = (0..1000).map(|i| point(i * 7 % 1000, i * i)).collect();
     assert_eq!(Hull::from_points(999, &many).unwrap_err(), Fault::TooMany);
     let mut slow = Hull::new(1000).unwrap();
@@ -211,6 +215,7 @@ fn changes() {
     let mut hull = Hull::new(2).unwrap();
     assert!(hull.is_empty());
     assert_eq!(hull.add(point(1, 2)), Ok(1));
+    assert!(!hull.is_empty());
     assert_eq!(hull.add(point(1, 2)), Ok(2));
     assert_eq!(hull.add(point(COORDINATE_LIMIT + 1, 0)), Err(Fault::OutOfRange));
     assert_eq!(hull.add(point(-COORDINATE_LIMIT, COORDINATE_LIMIT)), Ok(1));

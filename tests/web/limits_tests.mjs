@@ -377,6 +377,10 @@ await tried("a replay that is full, refused or wrong, and continues", () => {
     assert.deepEqual(joinJournals([segment(6n, "b"), segment(5n, "a")]).segments, [{ name: "a", from: 0 }, { name: "b", from: 1 }]);
     for (const other of [segment(9n, "c"), segment(6n, "c", { limit: 3 }), segment(6n, "c", { version: 2 }), segment(6n, "c",
         { capacity: 0 })]) assert.throws(() => joinJournals([other, segment(5n, "a")]), RangeError);
+    for (const order of [[9n, 5n, 6n], [6n, 9n, 5n], [5n, 6n, 9n]]) {
+        assert.throws(() => joinJournals(order.map((first) => segment(first, `segment ${first}`))),
+            { name: "RangeError", message: "a segment is missing: those before end at 7, and segment 9 begins at 9" });
+    }
 });
 console.log(`${passed} passed, ${failed} failed`);
 process.exit(failed ? 1 : 0);
