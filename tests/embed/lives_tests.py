@@ -32,7 +32,7 @@ def run(text, head=HEAD):
 
 
 def in_child(work):
-    """Returns what a child of a fork reports: the name of the fault, "" if there was none; None if it hung."""
+    """Returns what a child of a fork reports: the name of the fault, "" if there was none, its status if it died; None if it hung."""
     reading, writing = os.pipe()
     child = os.fork()
     if child == 0:
@@ -46,9 +46,10 @@ def in_child(work):
     os.close(writing)
     until = time.monotonic() + PATIENCE
     while time.monotonic() < until:
-        if os.waitpid(child, os.WNOHANG)[0] != 0:
+        ended, status = os.waitpid(child, os.WNOHANG)
+        if ended != 0:
             with open(reading, "rb") as file:
-                return file.read().decode()
+                return file.read().decode() if status == 0 else f"status {status}"
         time.sleep(0.005)
     os.kill(child, signal.SIGKILL)
     os.waitpid(child, 0)
@@ -319,6 +320,7 @@ class Forks(unittest.TestCase):
                     ended += 1
             assert ended in (0, len(calls)), ended
             if ended:
+                type(hull._at).__del__(hull._at)  # (as of the last reference: what is torn is not freed)
                 raise Ended
 
         thread = threading.Thread(target=load)

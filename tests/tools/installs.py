@@ -20,7 +20,7 @@ import packages
 PRODUCT = """#!/bin/sh
 case $1 in
 put) [ -z "${PRODUCT_STATUS:-}" ] || exit "$PRODUCT_STATUS"; echo "product $2" >"$3"; chmod 600 "$3" ;;
-find) case " ${STALE:-} " in *" $2 "*) exit 1 ;; esac; echo "$0" ;;
+find) case " ${STALE:-} " in *" $2 "*) exit 1 ;; esac; [ "${DAMAGED:-}" != "$2" ] || exit 2; echo "$0" ;;
 *) exit 99 ;;
 esac
 """
@@ -68,7 +68,7 @@ def lay(top):
     write(f"{top}/tools/product.sh", PRODUCT, 0o755)
     write(f"{top}/crates.txt", "low:\nhull_c staticlib: low\nother:\nhull_shared staticlib: low\n")
     for crate in ("low", "hull_c", "other", "hull_shared"):
-        write(f"{top}/crates/{crate}/src/lib.rt", f"// {crate}\n")
+        write(f"{top}/crates/{crate}/src/lib.rt", f"// {crate}\n"), write(f"{top}/crates/{crate}/proofs/A.antt", f"-- {crate}\n")
         write(f"{top}/crates/{crate}/out/left", "not packed\n")
     for processor in ("x86_64", "aarch64", "web"):
         for it in ("libhull.a", "hull.wasm", "hull32.wasm"):
@@ -246,8 +246,8 @@ def test_sources(tests, top, out):
               "docs/INSTALLED.md", "crates.txt", "crates/low/src/lib.rt", "crates/hull_c/src/lib.rt", "crates/hull_shared/src/lib.rt", "dist/x86_64/libhull.a", "dist/aarch64/libhull.a"]
     tests.same("the archive for pip", {it: texts.get(at + it) for it in needed}, {it: contents(f"{top}/{it}") for it in needed})
     tests.same("nothing that commands left", [it for it in texts if "__pycache__" in it or "/target/" in it], [])
-    tests.same("it has nothing else of crates", {it for it in texts if "/crates/" in it}, {f"{at}crates/{it}/src/lib.rt" for it in ("low", "hull_c",
-            "hull_shared")})
+    tests.same("it has nothing else of crates", {it for it in texts if "/crates/" in it}, {f"{at}crates/{it}/{part}" for it in ("low", "hull_c",
+            "hull_shared") for part in ("src/lib.rt", "proofs/A.antt")})
     tests.see("its description",
             texts[f"{at}PKG-INFO"].startswith(b"Metadata-Version: 2.1\nName: hullbook\nVersion: 7.8.9\n") and modes[f"{at}bin/install"] == 0o755)
     tests.same("its owner and time", kinds, {(315532800, 0, 0, "root", "root")})
@@ -352,6 +352,10 @@ def test_stale(tests, top, room, names):
         status, said = run(top, "bin/package", f"{room}/none", env={"STALE": stale})
         tests.see(f"{stale} of other sources", status == 69 and f"made of other sources: {stale};" in said and not os.path.exists(f"{room}/none"),
                 f"{status}: {said}")
+    status, said = run(top, "bin/package", f"{room}/none", env={"DAMAGED": "web/hull.wasm"})
+    tests.see("a damaged file", status == 69 and "web/hull.wasm;" in said and not os.path.exists(f"{room}/none"), f"{status}: {said}")
+    run(top, "bin/package", "--test", f"{room}/all")
+    tests.same("--test of a release makes all", sorted(os.listdir(f"{room}/all")), names)
     status, said = run(top, "bin/package", "--test", f"{room}/tested", env={"STALE": "web/hull.wasm"})
     others = {"x86_64", "aarch64"} - {mine}
     tests.see("--test", status == 0 and sorted(os.listdir(f"{room}/tested")) == [it for it in names if not any(other in it for other in others)],

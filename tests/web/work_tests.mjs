@@ -244,6 +244,7 @@ await tried("points as texts", () => {
     assert.deepEqual(readRows(JSON.stringify(geometry)), [[1, 2, 1], [0, 0, 1], [5, 0, 1], [0, 5, 1]]);
     const held = new Map([["4 6", 1], ["0 0", 3], ["8 0", 1]]);
     assert.equal(writeRows("csv", held, [], 1), "x,y,times\n0,0,3\n2,3,1\n4,0,1\n");
+    assert.equal(writeRows("csv", new Map([["1 9", 1], ["1 -9", 2], ["0 5", 1]]), [], 0), "x,y,times\n0,5,1\n1,-9,2\n1,9,1\n");
     assert.deepEqual(readRows(writeRows("geojson", held, [[0, 0], [8, 0], [4, 6]], 0)), [[0, 0, 3], [4, 6, 1], [8, 0, 1]]);
 });
 await tried("the power by which numbers are whole", () => {
