@@ -21,7 +21,7 @@ tests() {
     attempt "the tests of hull.hpp" "$room/hull_tests" "$here/lattice.txt" "$room/journal"
     attempt "its threads leave a legal journal" legal "$room/journal"
     # shellcheck disable=SC2046 # the flags are separated by spaces
-    attempt "hull_answers.cpp compiles" compile hull_answers -g "$here/hull_answers.cpp" $(wrap fsync hull_shared_call_into malloc calloc realloc)
+    attempt "hull_answers.cpp compiles" compile hull_answers -g "$here/hull_answers.cpp" $(wrap fsync hull_shared_call_into hull_shared_journal_sync malloc calloc realloc)
     attempt "each answer of hull.hpp beside that of hull.h" "$room/hull_answers"
     attempt "overlaps.c compiles" overlaps_object
     # shellcheck disable=SC2046 # the flags are separated by spaces

@@ -516,12 +516,41 @@ static void refused_files(const std::string &path) {
     CHECK(failure_of([] { SharedHull({4, 0, 4, 1}).acquire_seat(0).wait_durable(); }).first == Refusal::not_open && open_files() == before);
 }
 
+// a sync begins late, if that is wanted, and then the hull is not closed yet
+static std::atomic<bool> syncs_late{false}, is_late{false}, is_closed{false}, was_closed{false};
+extern "C" hull_reply __real_hull_shared_journal_sync(hull_shared_journal *, std::uint64_t);
+extern "C" hull_reply __wrap_hull_shared_journal_sync(hull_shared_journal *journal, std::uint64_t until) {
+    if (syncs_late) {
+        is_late = true;
+        std::this_thread::sleep_for(milliseconds(100));
+        was_closed = is_closed.load();
+    }
+    return was_closed ? hull_reply{HULL_DURABLE, 0, 0, 0, 0, 0, 0} : __real_hull_shared_journal_sync(journal, until);
+}
+
+static void closes_after_syncs(const std::string &path) {
+    SharedHull h = SharedHull::open_journal(path, {9, 0, 1000, 1});
+    h.acquire_seat(0).add({1, 1});
+    syncs_late = true;
+    std::thread syncs([&] { h.sync(); });
+    while (!is_late) {
+        std::this_thread::sleep_for(milliseconds(1));
+    }
+    h.close();
+    is_closed = true;
+    syncs.join();
+    syncs_late = false;
+    CHECK(!was_closed);
+}
+
 // lines are durable by themselves if an interval is set, and else when a thread waits; a failed write is reported once, with errno
 static void journals() {
     char folder[] = "/tmp/hull_answersXXXXXX";
     CHECK(mkdtemp(folder) != nullptr);
     const std::string path = std::string(folder) + "/zone";
     refused_files(path);
+    std::remove(path.c_str());
+    closes_after_syncs(path);
     std::remove(path.c_str());
     for (const milliseconds every : {milliseconds(0), milliseconds(20)}) {
         SharedHull h = SharedHull::open_journal(path, {9, 0, 1000, 1}, every);

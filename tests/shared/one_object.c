@@ -422,6 +422,10 @@ static void when_durable(const char *path) {
     check("after a time", hull_service_durable(service).number > 0, 1);
     hull_service_release_seat(service, seat);
     close_it("close", service);
+    static uint8_t bytes[LONGEST];
+    bytes[read_file(path, bytes)] = 0;
+    check("as many points as there may be", strstr((char *)bytes, " limit 1048576 capacity ") != NULL, 1);
+    refuses("64 seats with no file", (hull_service_options){.seats = HULL_SHARED_SEATS_MAX}, HULL_OUT_OF_LIMITS, 0);
     unlink(path);
     service = open_with("four lines", (hull_service_options){.path = path, .capacity = 4, .every = HULL_SHARED_NEVER});
     seat = hull_service_acquire_seat(service);
