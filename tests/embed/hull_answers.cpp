@@ -540,7 +540,7 @@ static void closes_after_syncs(const std::string &path) {
     is_closed = true;
     syncs.join();
     syncs_late = false;
-    CHECK(!was_closed);
+    CHECK(!was_closed.exchange(false));
 }
 
 // lines are durable by themselves if an interval is set, and else when a thread waits; a failed write is reported once, with errno
