@@ -78,7 +78,9 @@ show_time() {
 # runs the program with these words, and exits with its status
 run_on_terminal() {
     if [ "${1:-}" = run ]; then
-        "$program" "$@" <&0 &
+        # (a command in the background has no input of its own: the descriptor 3 keeps it)
+        exec 3<&0
+        "$program" "$@" <&3 3<&- &
         child=$!
         # (a program in the background does not get the terminal's interrupt, and ignores one that it is sent)
         interrupted=

@@ -61,6 +61,8 @@ STAND_IN = """#!/bin/sh
 [ -z "${PID:-}" ] || echo $$ >"$PID"
 [ -z "${SLEEP:-}" ] || sleep "$SLEEP"
 printf "%b" "${ERR:-}" >&2
+[ -z "${READ:-}" ] || cat
+[ -z "${COUNT:-}" ] || echo "$# words"
 echo "said $* by ${GLIBC_TUNABLES:-none}"
 exit "${STATUS:-0}"
 """
@@ -85,6 +87,7 @@ def test_programs(tests):
         env = lay(top)
         tests.same("the program's words, output and status", run(top, "bin/hullbook", "a b", "c", env={**env, "STATUS": "3", "ERR": "oh\\n"}),
                    (3, "oh\nsaid a b c by glibc.malloc.hugetlb=1\n"))
+        tests.same("each word as one", run(top, "bin/hullbook", "a b", "", "c", env={**env, "COUNT": "1"})[1].split("\n")[0], "3 words")
         tests.same("the caller's tunables stay", run(top, "bin/hulldraw", env={**env, "GLIBC_TUNABLES": "mine"}), (0, "said  by mine\n"))
         tests.same("its path", run(top, "tools/program.sh", "--path", "hullbook", env=env), (0, f"{top}/tools/stand-in\n"))
         os.symlink(f"{top}/bin/hullbook", f"{top}/linked")
@@ -165,6 +168,8 @@ def test_terminal(tests):
                    (2, "usage\nsaid  by glibc.malloc.hugetlb=1\n"))
         status, shown = on_terminal(top, "sh", "-c", "bin/hullbook x 2>errors; cat errors", env={**env, "STATUS": "2", "ERR": "hullbook: usage\\n"})
         tests.see("nor does hullbook, if standard error is a file", "SCRIPT" not in shown, shown)
+        shown = on_terminal(top, "sh", "-c", "echo from a pipe | bin/hullbook run /dev/stdin", env={**env, "READ": "1"})[1]
+        tests.see("a run reads standard input", shown.startswith("from a pipe\nsaid run /dev/stdin"), shown)
         write(f"{top}/five", "0 add 1 1\n" * 5 + "join\n# a comment\n"), write(f"{top}/other", "0 add 1 1\n")
         for words, wanted in ((("five", "--capacity", "2"), "hullbook: 3 of 5 calls found the journal full: see --capacity"),
                               (("--capacity", "4", "five"), "hullbook: 1 of 5 calls"), (("five", "--capacity", "5"), ""), (("five",), ""),

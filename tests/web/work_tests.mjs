@@ -205,6 +205,14 @@ await tried("a deed that a full journal has no space for stays to be undone", ()
     work.do(["add 3 3"]);
     work.undo();
     assert.deepEqual([work.replay.at, work.hull.count()], [3, 3]);
+    assert.deepEqual([3, 0].map((at) => (work.go(at), [work.hasSpace(3 - at), work.hasSpace(4 - at)])), [[true, false], [true, false]]);
+});
+await tried("a new deed ends what could be done again", () => {
+    const work = new Work(Hull);
+    work.do(["add 1 1"]), work.do(["add 2 2"]), work.undo();
+    assert.equal(work.deeds.undone.length, 1);
+    work.do(["add 3 3"]), work.redo();
+    assert.deepEqual([work.deeds.undone.length, [...work.replay.held.keys()]], [0, ["1 1", "3 3"]]);
 });
 
 await tried("doubles to the lattice, as the table of all languages has them", () => {
