@@ -144,7 +144,7 @@ struct gate {
     uint32_t drains;    /* changed when there may be space again; callers that wait for space sleep on it */
     uint32_t for_space; /* how many callers wait for space */
     uint32_t drainer;   /* the seat that drains for the hook, plus 1, or 0 */
-    uint64_t drainer_since;
+    uint64_t drainer_since; /* 0 until it has begun */
     uint32_t refused; /* whether memory was refused to the previous drain */
     unsigned char padding_4[36];
     struct slot slots[HULL_SHARED_SEATS_MAX];
@@ -852,6 +852,8 @@ static int drain_for_hook(const struct call *call) {
     has_space = drain_and_call_hook(call);
     hull_mark_before(&gate->drainer);
     was_refused = __atomic_exchange_n(&gate->refused, !has_space, __ATOMIC_SEQ_CST) != 0;
+    /* (so that who finds the next drainer before that has stored its time does not find this one's) */
+    __atomic_store_n(&gate->drainer_since, 0, __ATOMIC_RELAXED);
     __atomic_store_n(&gate->drainer, 0, __ATOMIC_SEQ_CST);
     if (has_space || !was_refused) {
         announce_space(gate);
@@ -1023,7 +1025,8 @@ hull_shared_state hull_shared_stats(const hull_shared_gate *opaque) {
     stats.seat = HULL_SHARED_SEATS_MAX;
     stats.designated = (state & DESIGNATED) == 0 ? HULL_SHARED_SEATS_MAX : __atomic_load_n(&gate->designated, __ATOMIC_RELAXED) - 1;
     stats.drainer = drainer == 0 ? HULL_SHARED_SEATS_MAX : drainer - 1;
-    stats.drains_for = drainer == 0 ? 0 : elapsed(now, __atomic_load_n(&gate->drainer_since, __ATOMIC_RELAXED));
+    since = drainer == 0 ? 0 : __atomic_load_n(&gate->drainer_since, __ATOMIC_RELAXED);
+    stats.drains_for = since == 0 ? 0 : elapsed(now, since);
     since = find_holder(gate, stats.turn, &stats.seat);
     stats.seat_for = since == 0 ? 0 : elapsed(now, since);
     stats.combined = __atomic_load_n(&gate->combined, __ATOMIC_RELAXED);

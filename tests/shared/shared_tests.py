@@ -301,8 +301,7 @@ class Calls(unittest.TestCase):
                         if stats.drainer is not None:
                             times.append(stats.drains_for)
                     thread.join()
-                # (most of them: seat and time may be of two moments)
-                self.assertTrue(len(times) >= 20 and 0 <= sorted(times)[len(times) // 2] < 60, times)
+                self.assertTrue(len(times) >= 20 and all(0 <= lasts < 60 for lasts in times), times)
             hull.close()
         hull = SharedHull(capacity=1, seats=1, waits=True)
         with hull.acquire_seat(0) as seat:
