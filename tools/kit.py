@@ -1,8 +1,7 @@
 """What the tools share: the repository's files and crates, and workspaces in which the toolchain's command `rt` runs on a changed copy.
 
 Two runs of `rt` wait for each other if one crate is below both. So each runs in a workspace of its own: a folder with a crates.txt, the
-crate, and hard links to the crates below it and to the libraries that were built of them. The tools use only what `rt help` documents.
-"""
+crate, and hard links to the crates below it and to the libraries that were built of them. The tools use only what `rt help` documents."""
 import contextlib
 import functools
 import os
