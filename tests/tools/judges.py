@@ -1,6 +1,7 @@
 """Tests each rule of the tools that judge by a stored wrong input beside a right one: what a check of the prover means, which mutants are
 tried together and recorded, where files may be, which words and lengths documents may have, what repeats the table, and which files of
 dist/ are those of the sources. A stand-in for the toolchain is on the path where one is needed."""
+import contextlib
 import hashlib
 import os
 import re
@@ -525,6 +526,8 @@ def test_release(tests):
                                    ("another compiler", {"COMPILER": "2"}, names[:2])):
             said = run(top, "tools/release.sh", "--compare", env={**env, **more})[1]
             tests.same(f"not compared with {what}", re.findall("dist/(\\S+): not compared", said), [*wanted])
+        with contextlib.suppress(FileNotFoundError):
+            os.remove(f"{top}/.ci/compared.txt")
         tests.refuses("files without a record", f"dist/{names[0]}: FAILED, made again", top, "tools/release.sh", "--changed", env={**env,
                 "OTHER": names[0]})
         tests.refuses("a record of a file with other bytes", "2 passed, 1 failed", top, "tools/release.sh", "--record", env={**env,
