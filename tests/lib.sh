@@ -21,17 +21,17 @@ came() {
     if [ "$2" = "$3" ]; then said "$1" ok; else said "$1" "FAILED, $2, not $3"; fi
 }
 
-# the same of a status, with the end of $room/told if it is not 0: NAME STATUS
+# the same of a status, with the end of $room/output if it is not 0: NAME STATUS
 count() {
     came "$1" "$2" 0
-    [ "$2" -eq 0 ] || [ ! -f "$room/told" ] || tail -n 20 "$room/told"
+    [ "$2" -eq 0 ] || [ ! -f "$room/output" ] || tail -n 20 "$room/output"
 }
 
 # runs a command: NAME COMMAND..
 attempt() {
     trial=$1
     shift
-    "$@" >"$room/told" 2>&1
+    "$@" >"$room/output" 2>&1
     count "$trial" $?
 }
 
@@ -39,10 +39,10 @@ attempt() {
 counted() {
     suite=$1
     shift
-    "$@" >"$room/told" 2>&1
+    "$@" >"$room/output" 2>&1
     status=$?
-    sed '$d' "$room/told"
-    last=$(tail -n 1 "$room/told")
+    sed '$d' "$room/output"
+    last=$(tail -n 1 "$room/output")
     case $last in
     [0-9]*' passed, '[0-9]*' failed')
         passed=$((passed + ${last%% *}))

@@ -49,7 +49,7 @@ build_watched() {
 }
 
 has_thread_sanitizer() {
-    is_there clang && echo 'int main(void) { return 0; }' | clang -fsanitize=thread -x c -o "$room/watched" - 2>"$room/told"
+    is_there clang && echo 'int main(void) { return 0; }' | clang -fsanitize=thread -x c -o "$room/watched" - 2>"$room/output"
 }
 
 # the linker's flags that send calls to functions of a program of their own name: CALL..

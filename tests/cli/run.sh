@@ -36,28 +36,28 @@ outcome() {
     done
     words=$(head_of "$1" words | sed 's#INPUT#input#g; s#JOURNAL#journal#g; s#PART#part#g; s#ABSENT#absent#g; s#FOLDER#folder#g')
     words="${words%% *} $2 ${words#"${words%% *}"}"
-    told="$room/told.output"
+    told="$room/output.output"
     if [ "$(head_of "$1" device)" = full ]; then
         told=/dev/full
     fi
-    : >"$room/told.output"
+    : >"$room/output.output"
     # shellcheck disable=SC2086 # the words stand apart by spaces
-    (cd "$room" && "$hullbook" $words) >"$told" 2>"$room/told.error"
+    (cd "$room" && "$hullbook" $words) >"$told" 2>"$room/output.error"
     status=$?
     if [ "$status" != "$(head_of "$1" status)" ]; then
         echo "status $status"
-    elif ! cmp -s "$room/told.error" "$room/wanted.error"; then
-        echo "on standard error: $(head -n 3 "$room/told.error")"
-    elif cmp -s "$room/told.output" "$room/wanted.output"; then
+    elif ! cmp -s "$room/output.error" "$room/wanted.error"; then
+        echo "on standard error: $(head -n 3 "$room/output.error")"
+    elif cmp -s "$room/output.output" "$room/wanted.output"; then
         :
-    elif grep -q '^or:' "$1" && cmp -s "$room/told.output" "$room/wanted.or"; then
+    elif grep -q '^or:' "$1" && cmp -s "$room/output.output" "$room/wanted.or"; then
         :
     else
-        echo "wrote: $(head -n 20 "$room/told.output")"
+        echo "wrote: $(head -n 20 "$room/output.output")"
     fi
     case "$(head_of "$1" device) $status $words" in
         ' 0 compact '* | ' 0 run '*--journal*)
-            "$hullbook" check "$told" >"$room/told.check" 2>&1 || echo "check: $(head -n 3 "$room/told.check")"
+            "$hullbook" check "$told" >"$room/output.check" 2>&1 || echo "check: $(head -n 3 "$room/output.check")"
             ;;
     esac
 }

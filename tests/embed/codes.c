@@ -1126,7 +1126,7 @@ static void check_doubles(void) {
     hull_free(h);
 }
 
-/* well-known text, whole and cut at each length, with nothing written behind it; numbers with the fewest digits */
+/* well-known text, whole and cut at each length, with nothing written after it; numbers with the fewest digits */
 static void check_texts(void) {
     static const hull_point vertices[] = {{3, -4}, {HULL_COORDINATE_MAX, 1}, {5, 123456789}};
     static const struct {

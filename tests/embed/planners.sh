@@ -25,7 +25,7 @@ beside_libccd() {
 
 # whether the planner among obstacles that move plans as it should, with snapshots, with a mutex, and with copies
 moves() {
-    "$room/moving" 2>"$room/told" | cmp - "$top/examples/shared/moving.txt" && "$room/moving" mutex && "$room/moving" copies
+    "$room/moving" 2>"$room/output" | cmp - "$top/examples/shared/moving.txt" && "$room/moving" mutex && "$room/moving" copies
 }
 
 beside_ompl() {
@@ -46,8 +46,8 @@ beside_ompl() {
 by_dask() {
     wanted=$large/$1.txt
     shift
-    writes "$wanted" python "$large/blocks.py" "$@" 2>"$room/told_of_workers" || { cat "$room/told_of_workers"; return 1; }
-    case " $* " in *' --kill '*) grep -q 'is killed that holds [1-9]' "$room/told_of_workers" ;; esac
+    writes "$wanted" python "$large/blocks.py" "$@" 2>"$room/output_of_workers" || { cat "$room/output_of_workers"; return 1; }
+    case " $* " in *' --kill '*) grep -q 'is killed that holds [1-9]' "$room/output_of_workers" ;; esac
 }
 
 in_workers() {

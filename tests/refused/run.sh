@@ -17,15 +17,15 @@ cp -r "$top/crates/ticket_lock" "$room/crates/"
 for case in "$here"/*.case; do
     name=$(basename "$case" .case)
     cp "$case" "$room/crates/refused/src/lib.rt"
-    (cd "$room/crates/refused" && rt check --jobs 1) >"$room/told" 2>&1
+    (cd "$room/crates/refused" && rt check --jobs 1) >"$room/output" 2>&1
     status=$?
     wanted=$(sed -n '1s/^\/\/! must fail: //p' "$case")
-    errors=$(sed -n 's/^.*error\[\([a-z0-9-]*\)\].*$/\1/p' "$room/told" | sort -u | tr '\n' ' ')
+    errors=$(sed -n 's/^.*error\[\([a-z0-9-]*\)\].*$/\1/p' "$room/output" | sort -u | tr '\n' ' ')
     if [ -z "$wanted" ]; then
-        if [ $status -eq 0 ] && tail -n 1 "$room/told" | grep -q '^logic=proved'; then
+        if [ $status -eq 0 ] && tail -n 1 "$room/output" | grep -q '^logic=proved'; then
             said "$name" 'ok, it is proved'
         else
-            said "$name" "FAILED, it must pass: $(grep -m 1 error "$room/told")"
+            said "$name" "FAILED, it must pass: $(grep -m 1 error "$room/output")"
         fi
     elif [ $status -eq 1 ] && [ "$errors" = "$wanted " ]; then
         said "$name" "ok, refused by $wanted"

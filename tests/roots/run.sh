@@ -16,7 +16,7 @@ debian() {
     [ -f "$roots/$1/made" ] && return
     is_there debootstrap || { skip "$1" debootstrap; return 1; }
     rm -rf "${roots:?}/$1"
-    debootstrap --variant=minbase "$1" "$roots/$1" >"$room/told" 2>&1 || { said "the root of $1" "FAILED, $(tail -n 2 "$room/told")"; return 1; }
+    debootstrap --variant=minbase "$1" "$roots/$1" >"$room/output" 2>&1 || { said "the root of $1" "FAILED, $(tail -n 2 "$room/output")"; return 1; }
     touch "$roots/$1/made"
 }
 

@@ -31,8 +31,8 @@ copy() {
 
 # all orders of the gate as it is: THREADS CALLS INSIDE MODES [SPACE TICKS EARLY RELAXED [RANDOM]]
 right() {
-    "$room/gate_orders" "$@" >"$room/told"
-    count "$(cat "$room/told")" $?
+    "$room/gate_orders" "$@" >"$room/output"
+    count "$(cat "$room/output")" $?
 }
 
 # a fault: its name, the words of a search that finds it, a script of sed that plants it, and the file if it is another
@@ -44,8 +44,8 @@ wrong() {
         return
     fi
     # shellcheck disable=SC2086 # the words are separated by spaces
-    timeout 600 "$room/gate_orders" $2 >"$room/told"
-    if [ $? -eq 1 ]; then said "found, $1: $(cat "$room/told")" ok; else said "$1" "FAILED, not found: $(cat "$room/told")"; fi
+    timeout 600 "$room/gate_orders" $2 >"$room/output"
+    if [ $? -eq 1 ]; then said "found, $1: $(cat "$room/output")" ok; else said "$1" "FAILED, not found: $(cat "$room/output")"; fi
 }
 
 right_ones() {

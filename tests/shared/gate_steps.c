@@ -1,4 +1,4 @@
-/* Each step of c/gate.c, by one thread, in the file itself, over a clock that stands still (still_clock.h); and calls over the library that are
+/* Each step of c/gate.c, by one thread, in the file itself, over a clock that does not move (still_clock.h); and calls over the library that are
  * made of them, with the time that each takes and whom each wakes. The status is 0 only if each leaves the gate as it should; a hang ends
  * the program after five minutes. */
 #define HULL_SHARED_SCHEDULER "still_clock.h"
@@ -257,7 +257,7 @@ static void check_holders(void) {
     check("how long it is inside", s.seat_for, 940);
     check("other numbers", s.turn == 50 && s.held == 12 && s.out == 6 && s.for_space == 4 && s.combined == 99, 1);
     still_now = 5;
-    check("a clock that is behind", hull_shared_stats(&storage).seat_for + hull_shared_stats(&storage).drains_for, 0);
+    check("a clock that is late", hull_shared_stats(&storage).seat_for + hull_shared_stats(&storage).drains_for, 0);
     still_now = 1000000000;
 }
 

@@ -41,7 +41,7 @@ changed_files() {
 # each test of edges.c but those that fill the memory or the disk: NAME
 edges() {
     for edge in $(sed -n 's/^    {"\([a-z_]*\)", [a-z_]*},$/\1/p' "$here/edges.c" | grep -v "${2:-^$}"); do
-        rm -rf "$room/edge" && mkdir "$room/edge" && "$room/edges" "$room/edge" "$edge" 2>"$room/told"
+        rm -rf "$room/edge" && mkdir "$room/edge" && "$room/edges" "$room/edge" "$edge" 2>"$room/output"
         count "$1: $edge" $?
     done
 }
@@ -61,16 +61,16 @@ all_edges() {
 # a process that keeps a journal is killed
 killed() {
     # shellcheck disable=SC2046,SC2086 # the flags are separated by spaces
-    build "$here/kills.c" $(wrap $kill_calls) && "$room/kills" "$kills" "$room/zone.journal" 1 >"$room/told" &&
+    build "$here/kills.c" $(wrap $kill_calls) && "$room/kills" "$kills" "$room/zone.journal" 1 >"$room/output" &&
         in_segments "$room/zone.journal"
-    count "a process that keeps a journal is killed: $(cat "$room/told")" $?
+    count "a process that keeps a journal is killed: $(cat "$room/output")" $?
 }
 
 # a service whose process is killed and started again
 services() {
-    build "$here/service.c" && "$room/service" "$calls" 3 "$room/service.journal" "$hullbook" >"$room/told" &&
+    build "$here/service.c" && "$room/service" "$calls" 3 "$room/service.journal" "$hullbook" >"$room/output" &&
         in_segments "$room/service.journal"
-    count "a service of 64 threads is killed and started again: $(cat "$room/told")" $?
+    count "a service of 64 threads is killed and started again: $(cat "$room/output")" $?
 }
 
 install_libraries

@@ -21,8 +21,8 @@ build_wrongly() {
 # a process that keeps a journal is killed, over a fault, which has to be found: NAME SCRIPT
 killed_wrongly() {
     # shellcheck disable=SC2046,SC2086 # the flags are separated by spaces
-    build_wrongly kills "$2" $(wrap $kill_calls) && ! "$room/kills" 3000 "$room/wrong.journal" 2 >"$room/told" 2>&1
-    count "$1: found ($(tail -n 1 "$room/told"))" $?
+    build_wrongly kills "$2" $(wrap $kill_calls) && ! "$room/kills" 3000 "$room/wrong.journal" 2 >"$room/output" 2>&1
+    count "$1: found ($(tail -n 1 "$room/output"))" $?
 }
 
 journals() {
@@ -38,8 +38,8 @@ journals() {
 
 # a service whose process is killed, over a fault, which has to be found: NAME SCRIPT
 served_wrongly() {
-    build_wrongly service "$2" && ! "$room/service" 6000000 120 "$room/wrong.journal" "$hullbook" >"$room/told" 2>&1
-    count "$1, beneath a service: found ($(tail -n 1 "$room/told"))" $?
+    build_wrongly service "$2" && ! "$room/service" 6000000 120 "$room/wrong.journal" "$hullbook" >"$room/output" 2>&1
+    count "$1, beneath a service: found ($(tail -n 1 "$room/output"))" $?
 }
 
 services() {
@@ -51,7 +51,7 @@ services() {
 races_are_found() {
     sed -E "$2" "$top/c/gate.c" >"$room/gate.c"
     ! cmp -s "$room/gate.c" "$top/c/gate.c" && build_watched "$room/gate.c"
-    "$room/gate_races" 64 400 64 0 >"$room/told" 2>&1
+    "$room/gate_races" 64 400 64 0 >"$room/output" 2>&1
     came "found by ThreadSanitizer, $1" $? 66
 }
 

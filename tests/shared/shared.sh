@@ -27,8 +27,8 @@ documents() {
     count "examples/shared/first.c continues its file" $?
     sed -n '/^size_t capacity = 4096;/,/^```/{/^```/!p;}' "$top/docs/SHARED.md" >"$room/pieces.inc"
     # shellcheck disable=SC2046 # the flags are separated by spaces
-    build "$here/pieces.c" -I"$room" $(wrap malloc realloc) && "$room/pieces" >"$room/told"
-    count "the loop for pieces of docs/SHARED.md: $(cat "$room/told")" $?
+    build "$here/pieces.c" -I"$room" $(wrap malloc realloc) && "$room/pieces" >"$room/output"
+    count "the loop for pieces of docs/SHARED.md: $(cat "$room/output")" $?
     build "$examples/threads.c" && "$room/threads" >"$room/journal" && legal "$room/journal"
     count "examples/shared/threads.c writes a legal journal" $?
 }
@@ -120,10 +120,10 @@ full_hulls() {
 # the orders that threads have by a gate are those that helgrind is informed of; without that it finds what it takes for races
 by_helgrind() {
     build "$here/full.c" && mkdir -p "$room/segments"
-    valgrind --tool=helgrind -q --error-exitcode=9 "$room/full" 4 100 50 "$room/segments" >"$room/said" 2>"$room/told"
+    valgrind --tool=helgrind -q --error-exitcode=9 "$room/full" 4 100 50 "$room/segments" >"$room/said" 2>"$room/output"
     count "helgrind finds nothing in full.c" $?
     build "$here/full.c" -DHULL_SHARED_UNWATCHED "$top/c/gate.c"
-    valgrind --tool=helgrind -q --error-exitcode=9 "$room/full" 4 100 50 "$room/segments" >"$room/said" 2>"$room/told"
+    valgrind --tool=helgrind -q --error-exitcode=9 "$room/full" 4 100 50 "$room/segments" >"$room/said" 2>"$room/output"
     came "and much if it is informed of nothing" $? 9
 }
 

@@ -12,8 +12,8 @@ calls=${1:-20000}
 
 # threads that read while others make calls: SEATS READERS CALLS
 read_by() {
-    "$room/readers" "$1" "$2" "$3" >"$room/told"
-    count "$1 seats of $3 calls and $2 readers: $(cat "$room/told")" $?
+    "$room/readers" "$1" "$2" "$3" >"$room/output"
+    count "$1 seats of $3 calls and $2 readers: $(cat "$room/output")" $?
 }
 
 readers() {
@@ -28,14 +28,14 @@ readers() {
 
 # every order of the steps over the library itself: WORDS
 orders() {
-    "$room/orders" "$@" >"$room/told"
-    count "every order of the steps of two seats and a reader: $(cat "$room/told")" $?
+    "$room/orders" "$@" >"$room/output"
+    count "every order of the steps of two seats and a reader: $(cat "$room/output")" $?
 }
 
 # every order of the steps of the model: WORDS
 model() {
-    "$room/snapshot_model" "$@" >"$room/told"
-    count "every order of the steps of publishing and reading: $(cat "$room/told")" $?
+    "$room/snapshot_model" "$@" >"$room/output"
+    count "every order of the steps of publishing and reading: $(cat "$room/output")" $?
 }
 
 install_libraries
@@ -45,15 +45,15 @@ count "orders.c compiles" $?
 orders 3 3 1
 orders 3 2 2
 orders 4 1 1
-"$room/orders" 2 2 2 short >"$room/told"
-count "snapshots beside journals of one line less are found: $(cat "$room/told")" $?
+"$room/orders" 2 2 2 short >"$room/output"
+count "snapshots beside journals of one line less are found: $(cat "$room/output")" $?
 build "$here/snapshot_model.c"
 count "snapshot_model.c compiles" $?
 model 2 4 4 2
 model 3 5 2 1
 model 1 3 5 3
 for fault in $(seq 11); do
-    "$room/snapshot_model" 2 4 4 2 "$fault" >"$room/told"
-    count "a fault of snapshots is found: $(sed 's/.*fault \(.*\): .* snapshots, /\1: /' "$room/told")" $?
+    "$room/snapshot_model" 2 4 4 2 "$fault" >"$room/output"
+    count "a fault of snapshots is found: $(sed 's/.*fault \(.*\): .* snapshots, /\1: /' "$room/output")" $?
 done
 end

@@ -37,8 +37,8 @@ races() {
     count "gate_races.c compiles" $?
     for words in "4 2000 1 0" "8 2000 8 0" "8 2000 2 20" "8 2000 8 20" "64 400 64 0" "64 200 1 100"; do
         # shellcheck disable=SC2086 # the words are separated by spaces
-        "$room/gate_races" $words >"$room/told" 2>&1
-        count "no race by ThreadSanitizer, $words: $(tail -n 1 "$room/told")" $?
+        "$room/gate_races" $words >"$room/output" 2>&1
+        count "no race by ThreadSanitizer, $words: $(tail -n 1 "$room/output")" $?
     done
 }
 

@@ -73,12 +73,12 @@ run() {
 
 # judges the report of a script: NAME WORKERS
 judge() {
-    grep -v '^ledger\|^sum' "$room/output" | sed 's/ = .*//' >"$room/told"
-    said "$1, answers" "$(same "$room/told" "$room/calls")"
-    grep '^ledger' "$room/output" >"$room/told"
+    grep -v '^ledger\|^sum' "$room/output" | sed 's/ = .*//' >"$room/chosen"
+    said "$1, answers" "$(same "$room/chosen" "$room/calls")"
+    grep '^ledger' "$room/output" >"$room/chosen"
     awk -v workers="$2" '{ count[$1]++ } END { for (k = 0; k < workers; k++) print "ledger " k " " count[k] + 0 }' \
         "$room/calls" >"$room/wanted"
-    said "$1, ledgers" "$(same "$room/told" "$room/wanted")"
+    said "$1, ledgers" "$(same "$room/chosen" "$room/wanted")"
     sum=$(tail -n 1 "$room/output")
     [ "$sum" = "sum $calls journal $calls capacity 65536" ] && said "$1, sum" ok || said "$1, sum" "$sum"
     made=$((made + calls))
@@ -89,8 +89,8 @@ judge_journal() {
     mv "$room/output" "$room/journal"
     verdict=$("$program" check "$room/journal" 2>&1)
     [ "$verdict" = legal ] && said "$1, check" ok || said "$1, check" "$verdict"
-    grep ' = ' "$room/journal" | sed 's/^[0-9]* //; s/ = .*//' | sort -s -n -k 1,1 >"$room/told"
-    said "$1, journal" "$(same "$room/told" "$room/calls")"
+    grep ' = ' "$room/journal" | sed 's/^[0-9]* //; s/ = .*//' | sort -s -n -k 1,1 >"$room/chosen"
+    said "$1, journal" "$(same "$room/chosen" "$room/calls")"
     made=$((made + calls))
 }
 

@@ -20,7 +20,7 @@ SCRIPTS = (
     ("one that is not", "said a ok; said b 'not ok'", "a: ok\nb: not ok\n1 passed, 1 failed\n", 1),
     ("equal and other values", "came a x x; came b '' x; came c x ''; came d '' ''",
      "a: ok\nb: FAILED, , not x\nc: FAILED, x, not \nd: ok\n2 passed, 2 failed\n", 1),
-    ("statuses", "echo why >\"$room/told\"; count a 0; count b 3", "a: ok\nb: FAILED, 3, not 0\nwhy\n1 passed, 1 failed\n", 1),
+    ("statuses", "echo why >\"$room/output\"; count a 0; count b 3", "a: ok\nb: FAILED, 3, not 0\nwhy\n1 passed, 1 failed\n", 1),
     ("commands", "attempt a true; attempt b sh -c 'echo said; echo more >&2; exit 4'; attempt c false",
      "a: ok\nb: FAILED, 4, not 0\nsaid\nmore\nc: FAILED, 1, not 0\n1 passed, 2 failed\n", 1),
     ("a command that counts", "counted a sh -c 'echo x: ok; echo 3 passed, 0 failed'", "x: ok\n3 passed, 0 failed\n", 0),

@@ -36,13 +36,13 @@ copy() {
 
 # runs the tests of the copy: NAME, and whether they have to end or to hang
 try() {
-    (cd "$crate" && timeout -k 1 300 rt try --test --seconds "$limit") >"$room/told" 2>&1
-    if grep -q '^test result: ok' "$room/told"; then
+    (cd "$crate" && timeout -k 1 300 rt try --test --seconds "$limit") >"$room/output" 2>&1
+    if grep -q '^test result: ok' "$room/output"; then
         how=end
-    elif grep -q '^run=no-answer' "$room/told"; then
+    elif grep -q '^run=no-answer' "$room/output"; then
         how=hang
     else
-        how="neither: $(grep -m 1 'error\|FAILED' "$room/told")"
+        how="neither: $(grep -m 1 'error\|FAILED' "$room/output")"
     fi
     if [ "$how" = "$2" ]; then
         said "$1" "ok, they $how"
