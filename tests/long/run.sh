@@ -13,9 +13,10 @@
 # hill       one worker adds the 20,000 points (k, k * k) and removes them, both in random order
 # circle     one worker adds 10,000 points on a circle, and removes each and adds it again
 # chance     one worker makes a million random calls
+# apex       one worker adds the 52,000 points (k, k * k) and a vertex below all of them, which it removes and adds 52,000 times
 #
-# The last six are hard for a checker that keeps vertices. Each check may take several times the processor time that it needs, and is stopped
-# then: a checker that visits half of all points at each `remove` does not finish.
+# The last seven are hard for a checker that keeps vertices. Each check may take several times the processor time that it needs, and is stopped
+# then: a checker that visits half of all points at each `remove` does not finish. The check of `apex` may take three times the run.
 set -u
 here=$(cd "$(dirname "$0")" && pwd)
 . "$here/../lib.sh"
@@ -190,6 +191,28 @@ chance() {
         }
         print "0 count" }'
 }
+apex() {
+    awk -v most=26000 'BEGIN {
+        for (k = -most; k < most; k++) print "0 add " k " " k * k
+        for (k = -most; k < most; k++) print "0 add 0 -1000000000000\n0 remove 0 -1000000000000"
+        print "0 count" }'
+}
+
+# prints the seconds of a processor that a command takes: COMMAND..
+seconds_of() {
+    ("$@" >"$room/output"; times) | tail -n 1 | tr 'ms' '  ' | awk '{ print 60 * ($1 + $3) + $2 + $4 }'
+}
+
+# checks the journal of a script NAME in at most three times the processor time of its run
+no_slower() {
+    "$1" >"$room/script"
+    run=$(seconds_of "$hullbook" run "$room/script" --capacity 1000000 --journal)
+    mv "$room/output" "$room/journal"
+    check=$(seconds_of "$hullbook" check "$room/journal")
+    verdict=$(cat "$room/output")
+    [ "$verdict" = legal ] && awk "BEGIN { exit !($check <= 3 * $run) }" && said "$1, journal within three times the run" ok ||
+        said "$1, journal within three times the run" "$verdict; run $run s, check $check s"
+}
 
 # checks the journal of a script NAME within these processor SECONDS, after which it has so many POINTS, where that is known
 hard() {
@@ -206,6 +229,7 @@ hard seesaw 15 100000
 hard hill 15 0
 hard circle 15 10000
 hard chance 15
+no_slower apex
 
 try grid 65536
 try parabola 65536
