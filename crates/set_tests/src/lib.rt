@@ -1,4 +1,4 @@
-//! Tests of the plane, of both sets, of buckets and of the questions, over the public surface of these crates.
+//! Tests of the plane, of the sets, of buckets and of the questions, over the public surface of these crates.
 //!
 //! They are in a crate of their own, so that the crates under test are proved once.
 #![tactic(auto)]
@@ -9,6 +9,8 @@ mod bucket_nodes;
 mod bucket_trees;
 #[cfg(test)]
 mod buckets;
+#[cfg(test)]
+mod deferring;
 #[cfg(test)]
 mod growing_hulls;
 #[cfg(test)]
