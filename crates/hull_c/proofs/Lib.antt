@@ -5,3 +5,4 @@ pub mod Rings
 pub mod Asked
 pub mod OuterPoints
 pub mod Written
+pub mod Grown

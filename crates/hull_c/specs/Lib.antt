@@ -4,7 +4,9 @@ pub mod Held
 pub mod Requests
 pub mod Left
 pub mod Loads
+pub mod Allowed
 pub mod Polygons
+pub mod Growing
 pub mod Findings
 pub mod NearestHeld
 pub mod Pairs

@@ -1,53 +1,31 @@
 -- The results of asking a convex polygon, in numbers.
-use Rattle.std.specs.Prelude.{◌≡◌, ◌≢◌, ◌⊎◌, ◌<◌, ◌≤◌, ℕ, ℤ, List, [], length, drop, min, slice_index_or, Result, Ok, Err}
+use Rattle.std.specs.Prelude.{◌≡◌, ◌≢◌, ◌⊎◌, ◌<◌, ◌≤◌, ℕ, ℤ, List, [], length, drop, min, slice_index_or, Result}
 use Rattle.std.specs.List.{All}
 use Rattle.lattice.specs.Plane.{Pair}
-use Rattle.hull_set.specs.Held.{Held}
-use Rattle.hull_set.specs.Replies.{Answers}
-use Rattle.hull_set.specs.declared.call.Call.{Call}
-use Rattle.hull_set.specs.declared.call.Call.TheVariants.{Place, Tangents, Extreme, Area, Vertices}
-use Rattle.hull_set.specs.declared.reply.Reply.{Reply}
-use Rattle.hull_set.specs.declared.rules.Rules.TheVariants.{Counted}
 use Rattle.hull_polygon.specs.Polygons.{IsPolygonOf, IsShortPolygon}
-use Rattle.hull_reply.specs.Requests.{IsRequestOf, kind_number}
-use Rattle.hull_reply.specs.Encoded.{IsBare, IsNumber, Encodes}
+use Rattle.hull_reply.specs.Requests.{kind_number}
+use Rattle.hull_reply.specs.Encoded.{IsBare, IsNumber}
 use Rattle.hull_reply.specs.declared.code.Code.{Code}
 use Rattle.hull_reply.specs.declared.code.Code.TheVariants as code
 use Rattle.hull_reply.specs.declared.kind.Kind.TheVariants as kinds
 use Rattle.hull_reply.specs.declared.reply.HullReply.{HullReply}
 use Rattle.hull_reply.specs.declared.request.Request.{Request}
-use Rattle.hull_reply.specs.declared.request.Request.TheVariants as request
+use Rattle.hull_c.specs.Allowed.{IsAnswerOf, IsAskedOf}
 use Rattle.hull_c.specs.Loads.{HasCoordinates}
 use Rattle.hull_c.specs.declared.requests.HullRequest.{HullRequest}
 
--- the numbers are a reply to the call that is allowed for every set that has these vertices
-pub record IsAllowedFor (vertices : List Pair) (call : Call) (encoded : HullReply) : Type 0 where
-  pub reply : Reply
-  pub reports : Encodes encoded reply
-  pub allowed : (held : Held) (limit : ℕ) → IsPolygonOf held.points vertices → Answers Counted held limit call reply
-
--- the vertices were asked: a place, the tangents, a farthest point, the area, or how many they are; all else is no
--- kind for them
-abbrev pub IsAskedOf : List Pair → Result Request Code → HullReply → Type 0
-IsAskedOf vertices (Ok (request.Call (Place q))) encoded = IsAllowedFor vertices (Place q) encoded
-IsAskedOf vertices (Ok (request.Call (Tangents q))) encoded = IsAllowedFor vertices (Tangents q) encoded
-IsAskedOf vertices (Ok (request.Call (Extreme d))) encoded = IsAllowedFor vertices (Extreme d) encoded
-IsAskedOf vertices (Ok (request.Call Area)) encoded = IsAllowedFor vertices Area encoded
-IsAskedOf vertices (Ok (request.Call Vertices)) encoded = IsNumber code.Vertices (length vertices) encoded
-IsAskedOf vertices (Ok _) encoded = IsBare code.UnknownKind encoded
-IsAskedOf vertices (Err fault) encoded = IsBare fault encoded
+-- the vertices were asked; their number is known
+abbrev pub IsAskedOfPolygon : List Pair → Result Request Code → HullReply → Type 0
+IsAskedOfPolygon vertices asked encoded =
+    IsAskedOf (λ S. IsPolygonOf S vertices) (IsNumber code.Vertices (length vertices)) asked encoded
 
 -- the number of a kind that vertices can be asked: from that of a place to that of the area
 abbrev pub IsPolygonKind : ℕ → Type 0
 IsPolygonKind kind = (kind_number kinds.Place ≤ kind) × (kind ≤ kind_number kinds.Area)
 
--- the request of the kind with this number and these two numbers was asked of the vertices; for another kind the
--- reply is that there is no such kind, for any two numbers
+-- the request of the kind with this number and these two numbers was asked of the vertices
 abbrev pub IsPolygonAnswer : List Pair → ℕ → ℤ → ℤ → HullReply → Type 0
-IsPolygonAnswer vertices kind x y encoded =
-    (¬ IsPolygonKind kind × IsBare code.UnknownKind encoded)
-    ⊎ (IsPolygonKind kind
-    × ((asked : Result Request Code) × IsRequestOf kind x y asked × IsAskedOf vertices asked encoded))
+IsPolygonAnswer vertices kind x y encoded = IsAnswerOf IsPolygonKind (IsAskedOfPolygon vertices) kind x y encoded
 
 -- the request at i was asked of the vertices
 abbrev pub AnswersAt : List Pair → List HullRequest → ℕ → HullReply → Type 0

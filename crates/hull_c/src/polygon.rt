@@ -1,8 +1,9 @@
 //! Questions about an array of vertices.
 ghost use Rattle.std.specs.Prelude.{◌≡◌, ◌↔◌, ◌<◌, IsTrue, length, Ok};
-ghost use Rattle.hull_polygon.specs.Polygons.{IsShortPolygon};
+ghost use Rattle.hull_polygon.specs.Polygons.{IsPolygonOf, IsShortPolygon};
 ghost use Rattle.hull_polygon.specs.Lent.{vertices_of};
-ghost use Rattle.hull_c.specs.Polygons.{AnswersAt, ArePolygonAnswers, IsAllowedFor, IsAskedOf, IsPolygonAnswer, IsPolygonKind, EncodesPolygon};
+ghost use Rattle.hull_c.specs.Allowed.{IsAllowedFor};
+ghost use Rattle.hull_c.specs.Polygons.{AnswersAt, ArePolygonAnswers, IsAskedOfPolygon, IsPolygonAnswer, IsPolygonKind, EncodesPolygon};
 ghost use Rattle.hull_reply.specs.declared.request.Request.TheVariants as request;
 
 use super::load::points_of;
@@ -15,35 +16,35 @@ use lattice::{Direction, Point};
 
 /// Locates a point.
 fn place(polygon: &Polygon, q: Point) -> HullReply
-    ensures { IsAllowedFor (vertices_of polygon.now) (Call.Place q) result }
+    ensures { IsAllowedFor (λ S. IsPolygonOf S (vertices_of polygon.now)) (Call.Place q) result }
 {
     encoded(Reply::Lies(polygon.place(q)))
 }
 
 /// Finds the tangents from a point.
 fn tangents(polygon: &Polygon, q: Point) -> HullReply
-    ensures { IsAllowedFor (vertices_of polygon.now) (Call.Tangents q) result }
+    ensures { IsAllowedFor (λ S. IsPolygonOf S (vertices_of polygon.now)) (Call.Tangents q) result }
 {
     encoded(tangents_reply(polygon.tangents(q)))
 }
 
 /// Finds the farthest point in a direction.
 fn extreme(polygon: &Polygon, d: Direction) -> HullReply
-    ensures { IsAllowedFor (vertices_of polygon.now) (Call.Extreme d) result }
+    ensures { IsAllowedFor (λ S. IsPolygonOf S (vertices_of polygon.now)) (Call.Extreme d) result }
 {
     encoded(extreme_reply(polygon.extreme(d)))
 }
 
 /// Returns the doubled area.
 fn area(polygon: &Polygon) -> HullReply
-    ensures { IsAllowedFor (vertices_of polygon.now) Call.Area result }
+    ensures { IsAllowedFor (λ S. IsPolygonOf S (vertices_of polygon.now)) Call.Area result }
 {
     encoded(Reply::DoubledArea(polygon.area2()))
 }
 
 /// Asks a convex polygon what a call asks of the set that it is of.
 fn answer(polygon: &Polygon, call: Call) -> HullReply
-    ensures { IsAskedOf (vertices_of polygon.now) (Ok (request.Call call)) result }
+    ensures { IsAskedOfPolygon (vertices_of polygon.now) (Ok (request.Call call)) result }
 {
     match call {
         Call::Place(q) => place(polygon, q),
@@ -56,7 +57,7 @@ fn answer(polygon: &Polygon, call: Call) -> HullReply
 }
 
 /// Whether vertices can be asked the call of a kind.
-fn is_polygon_kind(kind: u32) -> bool
+pub(crate) fn is_polygon_kind(kind: u32) -> bool
     ensures { IsTrue result ↔ IsPolygonKind kind }
 {
     (Kind::Place as u32..=Kind::Area as u32).contains(&kind)
