@@ -1,5 +1,5 @@
 -- the number is that of the vertices; memory is refused only if there are points
-use Rattle.std.proofs.Common.{◌≡◌, ◌∙◌, List, [], false, true, arith, length, subst, sym}
+use Rattle.std.proofs.Common.{◌≡◌, ◌∙◌, List, [], arith, length, subst, sym}
 use Rattle.std.proofs.lemmas.Bool.{false≢true}
 use Rattle.lattice.specs.Plane.{Pair}
 use Rattle.lattice.specs.Vertices.{IsVertexList}
