@@ -10,6 +10,9 @@ hull_reply hull_proved_load(hull_set *h, const hull_point *points, size_t count)
 hull_reply hull_proved_held_from(const hull_set *h, int64_t x, int64_t y, hull_held *out, size_t capacity);
 hull_reply hull_proved_load_held(hull_set *h, const hull_held *held, size_t count);
 hull_reply hull_proved_bridges(const hull_set *h, uint32_t level, hull_bridge *out, size_t capacity);
+hull_reply hull_proved_growing_vertices(const hull_growing *g, hull_point *out, size_t capacity);
+size_t hull_proved_growing_calls(hull_growing *g, const hull_request *requests, size_t request_count, hull_reply *replies,
+                                 size_t reply_capacity);
 hull_reply hull_proved_is_polygon(const hull_point *points, size_t count);
 hull_reply hull_proved_polygon_of(const hull_point *points, size_t count, hull_point *out, size_t capacity);
 hull_reply hull_proved_polygon_call(const hull_point *vertices, size_t count, uint32_t kind, int64_t x, int64_t y);
@@ -110,6 +113,12 @@ hull_reply hull_ask(const hull_set *h, uint32_t kind, int64_t x, int64_t y) {
     return hull_call(set, kind, x, y);
 }
 
+hull_reply hull_growing_ask(const hull_growing *g, uint32_t kind, int64_t x, int64_t y) {
+    hull_growing *hull;
+    memcpy(&hull, &g, sizeof hull);
+    return hull_growing_call(hull, kind, x, y);
+}
+
 /* written by tools/table.py: functions */
 hull_reply hull_vertices(const hull_set *h, hull_point *out, size_t capacity) {
     return hull_proved_vertices(h, hull_array(out, capacity), capacity);
@@ -133,6 +142,15 @@ hull_reply hull_load_held(hull_set *h, const hull_held *held, size_t count) {
 
 hull_reply hull_bridges(const hull_set *h, uint32_t level, hull_bridge *out, size_t capacity) {
     return hull_proved_bridges(h, level, hull_array(out, capacity), capacity);
+}
+
+hull_reply hull_growing_vertices(const hull_growing *g, hull_point *out, size_t capacity) {
+    return hull_proved_growing_vertices(g, hull_array(out, capacity), capacity);
+}
+
+size_t hull_growing_calls(hull_growing *g, const hull_request *requests, size_t request_count, hull_reply *replies, size_t reply_capacity) {
+    return hull_proved_growing_calls(g, hull_array(requests, request_count), request_count, hull_array(replies, reply_capacity),
+                                     reply_capacity);
 }
 
 hull_reply hull_is_polygon(const hull_point *points, size_t count) {

@@ -247,6 +247,88 @@ static inline hull_reply hull_copy(hull_set *to, const hull_set *from) {
     return reply;
 }
 
+/* A growing hull: the hull of points that are only added. It keeps only its vertices, and drops each point that it covers: nothing
+ * can be removed from it, and multiplicities are not kept. It is faster than a set unless most points are vertices, and takes any number
+ * of points, as long as its lower and its upper side have at most HULL_LIMIT_MAX vertices each. Otherwise all that is said of sets above goes for
+ * it, too: it is in storage of its own between hull_growing_make and hull_growing_end, with one call at a time, and a call that fails
+ * leaves it as it was. h are its vertices. */
+typedef struct hull_growing hull_growing;
+
+/* written by tools/table.py: growing storage */
+/* Returns the size in bytes of the storage of a growing hull, the same at each call. */
+size_t hull_growing_size(void);
+
+/* Returns the alignment of the storage of a growing hull, the same at each call. */
+size_t hull_growing_alignment(void);
+
+/* Makes the hull of no points in the storage. It allocates nothing. The storage is overwritten: it must not contain a hull that
+ * was not ended. */
+void hull_growing_make(hull_growing *storage);
+
+/* Ends a growing hull: frees all its memory; the storage is yours again. Returns HULL_OK. */
+uint32_t hull_growing_end(hull_growing *g);
+/* end of what tools/table.py writes */
+
+/* Returns the hull of no points, in storage from malloc; null if memory was refused. End it by hull_growing_free, not by
+ * hull_growing_end. */
+static inline hull_growing *hull_growing_new(void) {
+    hull_growing *g = HULL_CAST(hull_growing *, hull_storage_new(hull_growing_size(), hull_growing_alignment()));
+    if (g != NULL) {
+        hull_growing_make(g);
+    }
+    return g;
+}
+
+/* Ends a hull of hull_growing_new and frees its storage; does nothing for null. */
+static inline void hull_growing_free(hull_growing *g) {
+    if (g != NULL) {
+        hull_growing_end(g);
+        hull_storage_free(g);
+    }
+}
+
+/* written by tools/table.py: growing hulls */
+/* Makes a call by its kind (HULL_KIND_ADD, _PLACE, _TANGENTS, _EXTREME, _VERTICES or _AREA) with the point or direction (x, y);
+ * returns HULL_UNKNOWN_KIND for all others. Only HULL_KIND_ADD and HULL_KIND_VERTICES allocate. */
+hull_reply hull_growing_call(hull_growing *g, uint32_t kind, int64_t x, int64_t y);
+
+/* Makes a call of those kinds but HULL_KIND_ADD, which change nothing. */
+hull_reply hull_growing_ask(const hull_growing *g, uint32_t kind, int64_t x, int64_t y);
+
+/* Adds the point (x, y). Returns its place before: HULL_OUTSIDE, and the hull has grown; or HULL_ON or HULL_INSIDE, and it is
+ * unchanged. Fails with HULL_OUT_OF_RANGE; for a point outside, with HULL_NO_MEMORY, or with HULL_TOO_MANY if the hull has
+ * HULL_LIMIT_MAX vertices below or above. */
+static inline hull_reply hull_growing_add(hull_growing *g, int64_t x, int64_t y) {
+    return hull_growing_call(g, HULL_KIND_ADD, x, y);
+}
+
+/* Locates the point (x, y), as hull_place. */
+static inline hull_reply hull_growing_place(const hull_growing *g, int64_t x, int64_t y) {
+    return hull_growing_ask(g, HULL_KIND_PLACE, x, y);
+}
+
+/* Finds the tangents from (x, y), as hull_tangents. */
+static inline hull_reply hull_growing_tangents(const hull_growing *g, int64_t x, int64_t y) {
+    return hull_growing_ask(g, HULL_KIND_TANGENTS, x, y);
+}
+
+/* Finds the farthest point in the direction (x, y), as hull_extreme. */
+static inline hull_reply hull_growing_extreme(const hull_growing *g, int64_t x, int64_t y) {
+    return hull_growing_ask(g, HULL_KIND_EXTREME, x, y);
+}
+
+/* Returns HULL_NUMBER with twice the area, as hull_area. */
+static inline hull_reply hull_growing_area(const hull_growing *g) {
+    return hull_growing_ask(g, HULL_KIND_AREA, 0, 0);
+}
+
+/* Writes the vertices to the front of the array, as hull_vertices. O(h). */
+hull_reply hull_growing_vertices(const hull_growing *g, hull_point *out, size_t capacity);
+
+/* Makes the calls of the requests, as hull_calls. */
+size_t hull_growing_calls(hull_growing *g, const hull_request *requests, size_t request_count, hull_reply *replies, size_t reply_capacity);
+/* end of what tools/table.py writes */
+
 /* A convex polygon is an array of vertices as hull_vertices writes it. The functions below answer what those above answer of
  * the set that it was taken from, as the set was then, in O(log h) for h vertices (hull_polygon_area in O(h)). They write
  * nothing and allocate nothing, so any number of threads may query one array at once.
@@ -598,6 +680,13 @@ static inline hull_reply hull_extreme_d(const hull_set *h, double dx, double dy)
     int64_t x = HULL_COORDINATE_MAX + 1, y = 0;
     hull_direction_from_doubles(dx, dy, &x, &y);
     return hull_extreme(h, x == 0 && y == 0 ? -1 : x, y);
+}
+
+/* The same of a growing hull. */
+static inline hull_reply hull_growing_extreme_d(const hull_growing *g, double dx, double dy) {
+    int64_t x = HULL_COORDINATE_MAX + 1, y = 0;
+    hull_direction_from_doubles(dx, dy, &x, &y);
+    return hull_growing_extreme(g, x == 0 && y == 0 ? -1 : x, y);
 }
 
 #ifdef __cplusplus

@@ -501,6 +501,15 @@ void call_each(std::uint32_t kind, const std::vector<Point> &points, Serve serve
     }
 }
 
+// Fails if a coordinate is out of range.
+inline void check_range(const std::vector<Point> &points) {
+    for (const Point &p : points) {
+        if (std::max(p.x, p.y) > HULL_COORDINATE_MAX || std::min(p.x, p.y) < -HULL_COORDINATE_MAX) {
+            fail(HULL_OUT_OF_RANGE);
+        }
+    }
+}
+
 // Returns what `convert` makes of each of the replies.
 template <class Answer, class Serve, class Convert>
 std::vector<Answer> answers(std::uint32_t kind, const std::vector<Point> &points, Serve serve, Convert convert) {
@@ -936,7 +945,7 @@ public:
     // Adds each of the points, in order; returns for each its multiplicity then, 0 if it failed, since there are too many or for want of
     // memory: those after it are still added. Refusal::out_of_range for any of them changes nothing.
     std::vector<std::uint32_t> add_all(const std::vector<Point> &points) {
-        check(points);
+        detail::check_range(points);
         return detail::answers<std::uint32_t>(HULL_KIND_ADD, points, serve(), [](const hull_reply &r) {
             return r.code == HULL_TOO_MANY || r.code == HULL_NO_MEMORY ? 0 : detail::multiplicity_after_add(r);
         });
@@ -944,7 +953,7 @@ public:
 
     // Removes each of the points once, in order; returns how many of them were there. Refusal::out_of_range as for add_all.
     std::size_t remove_all(const std::vector<Point> &points) {
-        check(points);
+        detail::check_range(points);
         std::size_t there = 0;
         detail::call_each(HULL_KIND_REMOVE, points, serve(), [&](const hull_reply &r) {
             there += detail::multiplicity_after_remove(r).has_value();
@@ -1026,17 +1035,109 @@ private:
         hull_prepare(h);
         return h;
     }
-    static void check(const std::vector<Point> &points) {
-        for (const Point &p : points) {
-            if (std::max(p.x, p.y) > HULL_COORDINATE_MAX || std::min(p.x, p.y) < -HULL_COORDINATE_MAX) {
-                detail::fail(HULL_OUT_OF_RANGE);
-            }
-        }
-    }
     struct End {
         void operator()(hull_set *h) const noexcept { hull_free(h); }
     };
     std::unique_ptr<hull_set, End> at_;
+};
+
+// The hull of points that are only added: it keeps only its vertices, so nothing can be removed from it, and multiplicities are not kept. It
+// is faster than a Hull unless most points are vertices, and takes any number of points. It may go to another thread, and be moved from, as a Hull.
+class GrowingHull {
+    auto serve() const {
+        return [g = alive()](const hull_request *requests, hull_reply *replies, std::size_t count) {
+            return hull_growing_calls(g, requests, count, replies, count);
+        };
+    }
+
+public:
+    // The hull of no points.
+    GrowingHull() : at_(hull_growing_new()) {
+        if (!at_) {
+            detail::fail(HULL_NO_MEMORY);
+        }
+    }
+
+    // The hull of the points of a range.
+    template <class Iterator> GrowingHull(Iterator first, Iterator last) : GrowingHull() {
+        for (; first != last; ++first) {
+            add(*first);
+        }
+    }
+
+    // Adds a point. Returns its place before: the hull has grown if it was outside, and is unchanged else. Refusal::too_many if the hull has
+    // HULL_LIMIT_MAX vertices below or above.
+    Place add(Point p) { return detail::place(hull_growing_add(alive(), p.x, p.y)); }
+
+    // Adds each of the points, in order; returns for each its place before it, none if it failed, since there are too many vertices or for
+    // want of memory: those after it are still added. Refusal::out_of_range for any of them changes nothing.
+    std::vector<std::optional<Place>> add_all(const std::vector<Point> &points) {
+        detail::check_range(points);
+        return detail::answers<std::optional<Place>>(HULL_KIND_ADD, points, serve(), [](const hull_reply &r) {
+            return r.code == HULL_TOO_MANY || r.code == HULL_NO_MEMORY ? std::nullopt : std::optional<Place>(detail::place(r));
+        });
+    }
+
+    // Return what place, tangents and extreme do for each of many points, or directions, in order.
+    std::vector<Place> place_all(const std::vector<Point> &points) const {
+        return detail::answers<Place>(HULL_KIND_PLACE, points, serve(), detail::place);
+    }
+    std::vector<std::optional<Tangents>> tangents_all(const std::vector<Point> &points) const {
+        return detail::answers<std::optional<Tangents>>(HULL_KIND_TANGENTS, points, serve(), detail::tangents);
+    }
+    std::vector<std::optional<Point>> extreme_all(const std::vector<Point> &directions) const {
+        return detail::answers<std::optional<Point>>(HULL_KIND_EXTREME, directions, serve(), detail::extreme);
+    }
+
+    // Returns the farthest point in a direction of two doubles, as Polygon::extreme_d.
+    std::optional<Point> extreme_d(double dx, double dy) const { return detail::extreme(hull_growing_extreme_d(alive(), dx, dy)); }
+
+    // written by tools/table.py: growing
+    // Returns the location of `point`.
+    Place place(Point point) const {
+        return detail::place(hull_growing_place(alive(), point.x, point.y));
+    }
+
+    // Returns the left and the right tangent point seen from `point`, of several on one line the farthest; none if there is no point, or
+    // the hull covers the one asked about.
+    std::optional<Tangents> tangents(Point point) const {
+        return detail::tangents(hull_growing_tangents(alive(), point.x, point.y));
+    }
+
+    // Returns the farthest point in a direction, of several the first by x and then y; none if there is none.
+    std::optional<Point> extreme(Point direction) const {
+        return detail::extreme(hull_growing_extreme(alive(), direction.x, direction.y));
+    }
+
+    // Returns twice the area, 0 for a point and a segment.
+    Area doubled_area() const {
+        return detail::number(hull_growing_area(alive()));
+    }
+    // end of what tools/table.py writes
+
+    // Returns the vertices, counterclockwise from the first by x and then by y, each once and none inside an edge.
+    std::vector<Point> vertices() const {
+        return detail::vertices(64, [this](Point *out, std::size_t space) { return hull_growing_vertices(alive(), out, space); });
+    }
+
+    // Returns the vertices of the hull now as a convex polygon.
+    Polygon polygon() const { return Polygon(vertices()); }
+
+    // The growing hull of hull.h; null if it was moved away.
+    hull_growing *get() noexcept { return at_.get(); }
+    const hull_growing *get() const noexcept { return at_.get(); }
+
+private:
+    hull_growing *alive() const {
+        if (!at_) {
+            detail::fail(HULL_ENDED);
+        }
+        return at_.get();
+    }
+    struct End {
+        void operator()(hull_growing *g) const noexcept { hull_growing_free(g); }
+    };
+    std::unique_ptr<hull_growing, End> at_;
 };
 
 // The limits that a shared hull is opened with.

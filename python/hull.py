@@ -54,7 +54,7 @@ if sys.version_info < (3, 8):
 __version__ = "3.4.0"
 __all__ = [
     "CAPACITY_LIMIT", "COORDINATE_LIMIT", "MULTIPLICITY_LIMIT", "POINT_LIMIT", "READER_LIMIT", "SEAT_LIMIT", "Busy", "Ended",
-    "FloatHull", "Hull", "JournalFault", "JournalFull", "JournalSegment", "Lattice", "Motion", "NoSeat", "OutOfRange", "Place", "Polygon",
+    "FloatHull", "GrowingHull", "Hull", "JournalFault", "JournalFull", "JournalSegment", "Lattice", "Motion", "NoSeat", "OutOfRange", "Place", "Polygon",
     "Reader", "Relation", "Seat", "SeatsOut", "SharedHull", "Shows", "Snapshot", "Stats", "TooMany", "Witness", "ZeroDirection",
     "direction_of", "from_floats", "merge", "pairs_within_distance", "to_floats", "wkt",
 ]
@@ -385,6 +385,10 @@ def _library() -> ctypes.CDLL:
         ("python_load", [_address, _address, _size], _Reply), ("python_load_held", [_address, _address, _size], _Reply),
         ("python_held_from", [_address, _int64, _int64, _address, _size], _Reply), ("python_nearest_held", [_address, _int64, _int64], _Reply),
         ("python_copy", [_address, _address], _Reply), ("python_limit", [_address], _Reply), ("python_clear", [_address], _Reply),
+        ("python_growing_new", [], _address), ("python_growing_free", [_address], None),
+        ("python_growing_call", [_address, _uint32, _int64, _int64], _Reply),
+        ("python_growing_calls", [_address, _address, _address, _size], _size),
+        ("python_growing_vertices", [_address, _address, _size], _Reply),
         # written by tools/table.py: signatures
         ("is_polygon", [_address, _size], _Reply), ("polygon_of", [_address, _size, _address, _size], _Reply),
         ("polygon_call", [_address, _size, _uint32, _int64, _int64], _Reply),
@@ -460,6 +464,7 @@ def _kind(free: Any) -> Any:
 
 
 _HullAt = _kind(_LIBRARY.hull_python_free)
+_GrowingAt = _kind(_LIBRARY.hull_python_growing_free)
 
 
 @functools.lru_cache(maxsize=None)
@@ -1141,6 +1146,86 @@ class Hull(_Questions):
         """Removes each of the points once, in order; returns how many of them were there."""
         codes = self._ask_all(_Kind.REMOVE, points)[0::14].tolist()
         return len(codes) - codes.count(_Code.ABSENT)
+
+
+class GrowingHull(_Questions):
+    """The hull of points that are only added, at first those given.
+
+    It keeps only its vertices, so nothing can be removed from it, and multiplicities are not kept. It is faster than a Hull unless most points are
+    vertices, and takes any number of points. Its iteration, `==`, copies and pickles are those of its vertices.
+    """
+
+    __slots__ = ("_at", "__weakref__")
+    __hash__ = None  # type: ignore[assignment] # it changes
+
+    def __init__(self, points: Any = ()) -> None:
+        self._at = _at(_GrowingAt, _LIBRARY.hull_python_growing_new())
+        if None in self._add_each(points):
+            raise MemoryError("memory was refused, or there are too many vertices")
+
+    def __reduce__(self) -> Any:
+        return GrowingHull, (self.vertices(),)
+
+    def __eq__(self, other: object) -> bool:
+        if not isinstance(other, GrowingHull):
+            return NotImplemented
+        return bool(self._flat_vertices() == other._flat_vertices())
+
+    def copy(self) -> GrowingHull:
+        """Returns another hull with the same vertices."""
+        return GrowingHull(self.vertices())
+
+    __copy__ = copy
+
+    def __repr__(self) -> str:
+        return f"<GrowingHull of {len(self.vertices())} vertices>"
+
+    def __iter__(self) -> Iterator[Pair]:
+        """Yields the vertices, counterclockwise from the first by x and then y."""
+        return iter(self.vertices())
+
+    def _call(self, kind: int, x: int = 0, y: int = 0) -> _Reply:
+        reply: _Reply = _LIBRARY.hull_python_growing_call(self._at, kind, x, y)
+        _check_code(reply.code)
+        return reply
+
+    def _serve(self, requests: int, replies: int, count: int) -> None:
+        if _LIBRARY.hull_python_growing_calls(self._at, requests, replies, count) > count:
+            _check_code(_Code.ENDED)
+
+    def _flat_vertices(self) -> "array[int]":
+        def write(out: int, space: int) -> _Reply:
+            reply: _Reply = _LIBRARY.hull_python_growing_vertices(self._at, out, space)
+            return reply
+        return _written_vertices(write)
+
+    def add(self, x: SupportsIndex, y: SupportsIndex) -> Place:
+        """Adds the point, and returns its place before: if that is Place.OUTSIDE, the hull has grown, and else it is unchanged.
+
+        TooMany if the hull has POINT_LIMIT vertices below or above.
+        """
+        return _place(self._call(_Kind.ADD, _whole(x), _whole(y)))
+
+    def _add_each(self, points: Any) -> List[Optional[int]]:
+        """Adds each of the points, and returns for each the number of its place before it, None if it failed."""
+        codes = self._ask_all(_Kind.ADD, points)[0::14].tolist()
+        return [None if code in (_Code.TOO_MANY, _Code.NO_MEMORY) else code for code in codes]
+
+    @overload
+    def add_all(self, points: _Array) -> Any: ...
+    @overload
+    def add_all(self, points: Points) -> bytes: ...
+
+    def add_all(self, points: Any) -> Any:
+        """Adds each of the points, in order; returns the place of each before it, as bytes with the numbers of Place.
+
+        That is 0 if it failed, since there are too many vertices or for want of memory: those after it are still added.
+        """
+        return _like(points, bytes(code or 0 for code in self._add_each(points)))
+
+    def polygon(self) -> Polygon:
+        """Returns the vertices of the hull now as a convex polygon."""
+        return _polygon_again(self._flat_vertices())
 
 
 def _written_vertices(write: Callable[[int, int], _Reply]) -> "array[int]":

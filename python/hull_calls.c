@@ -81,3 +81,45 @@ hull_reply hull_python_limit(hull_python *h) {
 hull_reply hull_python_clear(hull_python *h) {
     HULL_REPLY_OF(h, hull_clear(h->hull));
 }
+
+/* A growing hull, in the same way. */
+typedef struct hull_python_growing {
+    hull_owned owned;
+    hull_growing *hull;
+} hull_python_growing;
+
+hull_python_growing *hull_python_growing_new(void) {
+    hull_python_growing *h = (hull_python_growing *)malloc(sizeof *h);
+    hull_growing *hull = h == NULL ? NULL : hull_growing_new();
+    if (hull == NULL) {
+        free(h);
+        return NULL;
+    }
+    h->hull = hull;
+    hull_begin(&h->owned, 1);
+    return h;
+}
+
+void hull_python_growing_free(hull_python_growing *h) {
+    if (hull_drop(&h->owned)) {
+        hull_growing_free(h->hull);
+        free(h);
+    }
+}
+
+hull_reply hull_python_growing_call(hull_python_growing *h, uint32_t kind, int64_t x, int64_t y) {
+    HULL_REPLY_OF(h, hull_growing_call(h->hull, kind, x, y));
+}
+
+size_t hull_python_growing_calls(hull_python_growing *h, const hull_request *requests, hull_reply *replies, size_t count) {
+    size_t made = SIZE_MAX;
+    if (hull_enter(&h->owned)) {
+        made = hull_growing_calls(h->hull, requests, count, replies, count);
+        hull_leave(&h->owned);
+    }
+    return made;
+}
+
+hull_reply hull_python_growing_vertices(hull_python_growing *h, hull_point *out, size_t capacity) {
+    HULL_REPLY_OF(h, hull_growing_vertices(h->hull, out, capacity));
+}

@@ -198,7 +198,7 @@ def stretches():
     for language, words in ((name[9:], it) for name, it in every.items() if name.startswith("language ")):
         if "structs in" in words:
             yield words["structs in"], "structs", "".join(struct_in(language, it) for it in structs if language in it).rstrip("\n") + "\n"
-        for mark, first in (("questions", "polygon"), ("sets", "prepared set"), ("seats", "prepared set")):
+        for mark, first in (("questions", "polygon"), ("sets", "prepared set"), ("seats", "prepared set"), ("growing", "asked growing")):
             text = "".join(filled(words[mark], it.in_method(language)) for it in calls if mark in words and it.is_method(language, first))
             if text:
                 yield words[f"{mark} in"], mark, text.rstrip("\n") + "\n"

@@ -114,6 +114,16 @@ export interface Hull extends Questions {
 }
 
 /** A convex polygon: the vertices of a hull, which answers as that hull did then. */
+/** The hull of points that are only added: it keeps only its vertices, so nothing can be removed from it, and multiplicities are not kept. */
+export interface GrowingHull extends Questions {
+    /** Adds the point; returns its place before: the hull has grown if it was "outside", and is unchanged else. TooMany, NoMemory. */
+    add(x: number, y: number): Place;
+    /** Adds each of the points in order; returns for each its place before it, null if it failed. */
+    addAll(points: Points): (Place | null)[];
+    /** Returns the convex polygon of the hull now. NoMemory. */
+    polygon(): Polygon;
+}
+
 export interface Polygon extends Questions {
     /** Returns how many vertices there are. */
     count(): number;
@@ -224,6 +234,10 @@ export interface Library {
     Hull: {
         /** Makes an empty hull for at most `limit` different points, 1 to 2^20 (the default). OutOfRange, NoMemory. */
         new (limit?: number): Hull;
+    };
+    GrowingHull: {
+        /** Makes the hull of no points. NoMemory. */
+        new (): GrowingHull;
     };
     Polygon: {
         /** Makes the polygon of vertices as `vertices` returns them. NoPolygon, OutOfRange, NoMemory. */

@@ -489,6 +489,40 @@ class HullOfInstance extends Questions {
     }
 }
 
+class GrowingHullOfInstance extends Questions {
+    #at;
+
+    constructor(instance) {
+        const storage = instance.take(Number(instance.call("hull_growing_size"))), at = BigInt(storage);
+        super(instance, () => {
+            instance.end("hull_growing_end", at);
+            instance.heap.give(storage);
+        });
+        this.#at = at;
+        instance.call("hull_growing_make", at);
+    }
+
+    add(x, y) {
+        return this._answered("asPlace", KIND.add, x, y);
+    }
+
+    addAll(points) {
+        const places = [];
+        this._serve(KIND.add, flat(points), (_, code) => places.push(PLACES[code] ?? null));
+        return places;
+    }
+
+    vertexArray() {
+        const instance = this._live();
+        const count = instance.filled(POINT.size, "hull_growing_vertices", this.#at);
+        return instance.points(instance.out.at, count);
+    }
+
+    _callAll(requests, count, replies, capacity) {
+        this._live().call("hull_growing_calls", this.#at, requests, count, replies, capacity);
+    }
+}
+
 class PolygonOfInstance extends Questions {
     #at;
     #count;
@@ -788,7 +822,7 @@ export async function load(source = moduleBeside(), { memory = Infinity } = {}) 
     } catch (error) {
         throw new Unsupported(`this engine can't load these bytes as the module: ${error.message}`, { cause: error });
     }
-    if (!wasm.memory || !wasm.__heap_base || !wasm.hull_calls) throw new Unsupported("these bytes are another module");
+    if (!wasm.memory || !wasm.__heap_base || !wasm.hull_growing_calls) throw new Unsupported("these bytes are another module");
     heap.begin(wasm.memory, Number(wasm.__heap_base.value));
     return classesOf(new Instance(wasm, heap));
 }
@@ -829,5 +863,14 @@ function classesOf(instance) {
             return other;
         }
     }
-    return { Hull, Polygon };
+    class GrowingHull extends GrowingHullOfInstance {
+        constructor() {
+            super(instance);
+        }
+
+        polygon() {
+            return new Polygon(this.vertexArray());
+        }
+    }
+    return { Hull, GrowingHull, Polygon };
 }

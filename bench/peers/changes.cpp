@@ -2,6 +2,7 @@
 // edges at infinity are the hull, and beside vertices in an array that is computed again if one of them changes.
 //
 //     changes SHAPE POINTS ROUNDS
+//     changes added SHAPE POINTS ROUNDS
 //
 // SHAPE is `square` (random points of a square), `circle` or `parabola` (every point a vertex), `spike` (a parabola, over which one
 // point is added and removed) or `outermost` (a parabola whose points are removed from its ends inward). Each round inserts the
@@ -9,7 +10,8 @@
 // Three shapes are inserted in their own order, and only removed again, from outside: `outwards` and `inwards` (a parabola from its
 // middle to its ends, and from its ends to its middle) and `spiral` (points on a spiral, each outside the hull of those before). Each
 // line shows nanoseconds per change, the least of the rounds, the peers in turns with the library, in processor time of the thread;
-// a ratio above 1 means that the library is the faster one.
+// a ratio above 1 means that the library is the faster one. With `added` the points (also those of a `disk`) are only added, to a growing hull,
+// to a set, and to the hull's lower and upper chain in a std::map each, the textbook structure.
 #include <CGAL/Delaunay_triangulation_2.h>
 #include <CGAL/Exact_predicates_inexact_constructions_kernel.h>
 #include <CGAL/Triangulation_hierarchy_2.h>
@@ -18,6 +20,7 @@
 #include <cstdio>
 #include <cstdlib>
 #include <ctime>
+#include <map>
 #include <random>
 #include <set>
 #include <string>
@@ -60,6 +63,81 @@ class Ours {
     void add(Point p) { hull_add(place, p.x, p.y); }
     void remove(Point p) { hull_remove(place, p.x, p.y); }
     bool covers(Point p) { return hull_place(place, p.x, p.y).code != HULL_OUTSIDE; }
+};
+
+// A growing hull; `add` returns whether it covered the point.
+class Growing {
+    hull_growing *hull = hull_growing_new();
+
+  public:
+    ~Growing() { hull_growing_free(hull); }
+    bool add(Point p) { return hull_growing_add(hull, p.x, p.y).code != HULL_OUTSIDE; }
+};
+
+// The same by a set, which is asked before.
+class Asked {
+    Ours set;
+
+  public:
+    bool add(Point p) {
+        const bool covered = set.covers(p);
+        set.add(p);
+        return covered;
+    }
+};
+
+// The lower and the upper chain by x (Preparata, 1979): the height of each vertex, from its chain inward.
+class TwoMaps {
+    struct Chain {
+        std::map<int64_t, int64_t> heights;
+        int64_t inward;
+
+        __int128 turn(std::map<int64_t, int64_t>::const_iterator a, std::map<int64_t, int64_t>::const_iterator b, Point c) const {
+            return inward * orient({a->first, a->second}, {b->first, b->second}, c);
+        }
+        // returns whether p is not outside on this side
+        bool covers(Point p) const {
+            const auto right = heights.lower_bound(p.x);
+            if (right == heights.end()) {
+                return false;
+            }
+            if (right->first == p.x) {
+                return inward * right->second <= inward * p.y;
+            }
+            return right != heights.begin() && turn(std::prev(right), right, p) >= 0;
+        }
+        void add(Point p) {
+            auto at = heights.insert_or_assign(p.x, p.y).first;
+            for (auto next = std::next(at); next != heights.end() && std::next(next) != heights.end();) {
+                const auto after = std::next(next);
+                if (turn(at, after, {next->first, next->second}) < 0) {
+                    break;
+                }
+                heights.erase(next);
+                next = after;
+            }
+            while (at != heights.begin() && std::prev(at) != heights.begin()) {
+                const auto before = std::prev(at), first = std::prev(before);
+                if (turn(first, at, {before->first, before->second}) < 0) {
+                    break;
+                }
+                heights.erase(before);
+            }
+        }
+    };
+    Chain lower{{}, 1}, upper{{}, -1};
+
+  public:
+    bool add(Point p) {
+        const bool below = lower.covers(p), above = upper.covers(p);
+        if (!below) {
+            lower.add(p);
+        }
+        if (!above) {
+            upper.add(p);
+        }
+        return below && above;
+    }
 };
 
 class Cgal {
@@ -146,7 +224,11 @@ std::vector<Point> points_of(const std::string &shape, size_t count, std::mt1993
     for (size_t i = 0; i < count; i++) {
         const auto x = static_cast<int64_t>(i) - static_cast<int64_t>(count / 2);
         const double angle = 2 * 3.14159265358979323846 * static_cast<double>(i) / static_cast<double>(count);
-        points.push_back(shape == "square"   ? Point{any(random), any(random)}
+        Point p = {any(random), any(random)};
+        while (shape == "disk" && p.x * p.x + p.y * p.y > int64_t{1'000'000'000} * 1'000'000'000) {
+            p = {any(random), any(random)};
+        }
+        points.push_back(shape == "square" || shape == "disk" ? p
                          : shape == "circle" ? Point{std::llround(1e9 * std::cos(angle)), std::llround(1e9 * std::sin(angle))}
                          : shape == "spiral" ? Point{std::llround(1e3 * static_cast<double>(i + 1) * std::cos(2.399963 * static_cast<double>(i))),
                                                      std::llround(1e3 * static_cast<double>(i + 1) * std::sin(2.399963 * static_cast<double>(i)))}
@@ -214,6 +296,36 @@ template <class Set> size_t round_of(const std::vector<Point> &points, const Chu
     return covered;
 }
 
+// Adds the points; returns how many were covered by those before.
+template <class Set> size_t added(const std::vector<Point> &points, double &least) {
+    Set set;
+    size_t covered = 0;
+    const double start = now();
+    for (const Point &p : points) {
+        covered += set.add(p);
+    }
+    least = std::min(least, (now() - start) / static_cast<double>(points.size()));
+    return covered;
+}
+
+// Compares hulls of points that are only added.
+int compare_added(const std::string &shape, size_t count, int rounds) {
+    std::mt19937_64 random(12345);
+    const std::vector<Point> points = points_of(shape, count, random);
+    double growing = 1e300, set = 1e300, maps = 1e300;
+    for (int round = 0; round < rounds; round++) {
+        const size_t covered = added<Growing>(points, growing);
+        if (added<Asked>(points, set) != covered || added<TwoMaps>(points, maps) != covered) {
+            std::printf("the peers do not agree\n");
+            return 1;
+        }
+    }
+    std::printf("%s, %zu points only added: %.0f ns a point\n", shape.c_str(), count, growing);
+    std::printf("  %-24s %9.0f ns, ratio %7.2f\n", "two std::maps", maps, maps / growing);
+    std::printf("  %-24s %9.0f ns, ratio %7.2f\n", "a set, asked before", set, set / growing);
+    return 0;
+}
+
 void print(const char *name, const Times &ours, const Times &peer) {
     std::printf("  %-24s insert %9.0f ns, ratio %7.2f   churn %9.0f ns, ratio %7.2f\n", name, peer.insert, peer.insert / ours.insert,
                 peer.churn, peer.churn / ours.churn);
@@ -222,8 +334,11 @@ void print(const char *name, const Times &ours, const Times &peer) {
 } // namespace
 
 int main(int argc, char **argv) {
+    if (argc == 5 && std::string(argv[1]) == "added") {
+        return compare_added(argv[2], std::strtoull(argv[3], nullptr, 10), std::atoi(argv[4]));
+    }
     if (argc != 4) {
-        std::fprintf(stderr, "usage: changes square|circle|parabola|spike|outermost|outwards|inwards|spiral POINTS ROUNDS\n");
+        std::fprintf(stderr, "usage: changes [added] square|disk|circle|parabola|spike|outermost|outwards|inwards|spiral POINTS ROUNDS\n");
         return 2;
     }
     const std::string shape = argv[1];

@@ -53,6 +53,9 @@ programs() {
     # shellcheck disable=SC2046
     attempt "refusals.c compiles" compile refusals $(wrap malloc realloc free)
     attempt "each request for memory refused in turn" "$room/refusals"
+    # shellcheck disable=SC2046
+    attempt "growing.c compiles" compile growing $(wrap malloc realloc free)
+    attempt "growing hulls answer as sets do" "$room/growing"
 }
 
 # whether a file that includes a header has no warning, checked or not: COMPILER HEADER
@@ -120,6 +123,7 @@ sanitized() {
 memory() {
     if ! is_there valgrind; then skip "memory by valgrind" valgrind; return; fi
     for name in first placement motions; do by_valgrind "$name" "$room/$name"; done
+    by_valgrind growing "$room/growing" 997
     by_valgrind codes "$room/codes" "$here/lattice.txt" brief
 }
 

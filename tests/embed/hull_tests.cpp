@@ -63,6 +63,7 @@ template <class Call> static bool refuses(Refusal code, Call call) {
 
 static_assert(!std::is_copy_constructible_v<Hull> && !std::is_copy_assignable_v<Hull>);
 static_assert(std::is_nothrow_move_constructible_v<Hull> && std::is_nothrow_move_assignable_v<Hull>);
+static_assert(!std::is_copy_constructible_v<hull::GrowingHull> && std::is_nothrow_move_constructible_v<hull::GrowingHull>);
 static_assert(!std::is_copy_constructible_v<Seat> && std::is_nothrow_move_constructible_v<Seat>);
 static_assert(!std::is_copy_constructible_v<SharedHull> && std::is_nothrow_move_assignable_v<SharedHull>);
 
@@ -94,6 +95,75 @@ static void polygons() {
     backward.push_back({5, 5});
     CHECK(hull::Polygon::of(backward).vertices() == square && refuses(Refusal::out_of_range, [] { hull::Polygon::of({{0, far + 1}}); }));
     CHECK(hull::Polygon().place({0, 0}) == Place::outside && hull::Polygon() == hull::Polygon(std::vector<Point>()) && polygon != hull::Polygon());
+}
+
+static bool are_same(const std::optional<hull::Tangents> &a, const std::optional<hull::Tangents> &b) {
+    return a.has_value() == b.has_value() && (!a || (a->left == b->left && a->right == b->right));
+}
+
+// whether a growing hull of these points answers as a set of them
+static bool grows_as_a_set(const std::vector<Point> &points, const std::vector<Point> &asked) {
+    Hull set;
+    hull::GrowingHull grown;
+    bool same = true;
+    for (const Point &p : points) {
+        const Place before = set.place(p);
+        set.add(p);
+        same = same && grown.add(p) == before;
+    }
+    hull::GrowingHull at_once;
+    at_once.add_all(points);
+    same = same && grown.vertices() == set.vertices() && at_once.polygon() == set.polygon() && grown.doubled_area() == set.doubled_area();
+    same = same && hull::GrowingHull(points.rbegin(), points.rend()).vertices() == set.vertices() && grown.place_all(asked) == set.place_all(asked);
+    const auto tangents = grown.tangents_all(asked), wanted = set.tangents_all(asked);
+    for (std::size_t i = 0; i < asked.size(); i++) {
+        const Point p = asked[i];
+        same = same && grown.place(p) == set.place(p) && are_same(grown.tangents(p), set.tangents(p)) && are_same(tangents[i], wanted[i]);
+        same = same && (p == Point() || (grown.extreme(p) == set.extreme(p) && grown.extreme_all({p})[0] == set.extreme(p)));
+    }
+    return same;
+}
+
+static void growing_hulls() {
+    bool same = true;
+    std::vector<Point> around;
+    for (std::int64_t at = 0; at < 36; at++) {
+        around.push_back({at % 6 - 1, at / 6 - 1});
+    }
+    for (std::uint32_t subset = 0; subset < 1u << 16; subset += 3) {
+        std::vector<Point> points;
+        for (std::int64_t i = 0; i < 16; i++) {
+            if (subset >> (5 * i + subset) % 16 & 1) {
+                points.push_back({(5 * i + subset) % 16 / 4, (5 * i + subset) % 4});
+            }
+        }
+        same = same && grows_as_a_set(points, around);
+    }
+    CHECK(same);
+    std::uint64_t seed = 88172645463325252u;
+    for (const std::int64_t size : {std::int64_t(3), std::int64_t(1000000), far}) {
+        std::vector<Point> points(600);
+        for (Point &p : points) {
+            for (std::int64_t *c : {&p.x, &p.y}) {
+                seed ^= seed << 13, seed ^= seed >> 7, seed ^= seed << 17;
+                *c = static_cast<std::int64_t>(seed % (2 * static_cast<std::uint64_t>(size) + 1)) - size;
+            }
+        }
+        CHECK(grows_as_a_set(points, points));
+    }
+    CHECK(grows_as_a_set({{far, far}, {-far, -far}, {far, -far}, {0, 0}, {-far, far}, {1, 1}}, {{0, far}, {far, 0}, {1, 0}, {-far, far}}));
+    hull::GrowingHull h;
+    CHECK(h.vertices().empty() && h.polygon() == hull::Polygon() && !h.extreme({1, 0}) && !h.tangents({0, 0}) && h.doubled_area() == 0);
+    CHECK(h.add_all({{0, 0}, {8, 0}, {4, 0}, {0, 8}, {1, 1}, {0, 0}}) ==
+          (std::vector<std::optional<Place>>{Place::outside, Place::outside, Place::on, Place::outside, Place::inside, Place::on}));
+    CHECK(refuses(Refusal::out_of_range, [&] { h.add({far + 1, 0}); }) && refuses(Refusal::out_of_range, [&] { h.add_all({{9, 9}, {0, -far - 1}}); }));
+    CHECK(refuses(Refusal::zero_direction, [&] { h.extreme({0, 0}); }) && refuses(Refusal::out_of_range, [&] { h.place({0, far + 1}); }));
+    CHECK(h.place({9, 9}) == Place::outside && h.get() != nullptr && h.extreme_d(0.5, 0.25) == Point(8, 0) && h.extreme_d(0, 0) == Point());
+    hull::GrowingHull moved = std::move(h);
+    CHECK(moved.doubled_area() == 64 && h.get() == nullptr && refuses(Refusal::ended, [&] { h.add({0, 0}); }));
+    CHECK(refuses(Refusal::ended, [&] { h.vertices(); }) && refuses(Refusal::ended, [&] { h.place_all({{0, 0}}); }));
+    h = std::move(moved);
+    CHECK(h.place({2, 2}) == Place::inside && refuses(Refusal::ended, [&] { moved.extreme({1, 0}); }));
 }
 
 static void two_polygons() {
@@ -674,6 +744,7 @@ int main(int words, char **word) {
     refusals();
     lattice(words > 1 ? word[1] : "lattice.txt");
     polygons();
+    growing_hulls();
     two_polygons();
     exchange();
     shared();

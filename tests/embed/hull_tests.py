@@ -23,7 +23,7 @@ except ImportError:
     numpy = None
 
 import hull as hull_module
-from hull import COORDINATE_LIMIT, MULTIPLICITY_LIMIT, POINT_LIMIT, Hull, OutOfRange, Place, TooMany, ZeroDirection
+from hull import COORDINATE_LIMIT, MULTIPLICITY_LIMIT, POINT_LIMIT, GrowingHull, Hull, OutOfRange, Place, TooMany, ZeroDirection
 from hull import from_floats, to_floats, wkt
 
 SQUARE = [(0, 0), (10, 0), (10, 10), (0, 10), (4, 4)]
@@ -649,6 +649,70 @@ class Calls(unittest.TestCase):
         self.assertEqual((len(hull), hull.multiplicity(7, 49)), (2000, 4))
 
 
+class Growing(unittest.TestCase):
+    def grows_as_a_set(self, points, asked):
+        """A growing hull of the points answers as a set of them."""
+        points, hull, grown = list(points), Hull(), GrowingHull()
+        for x, y in points:
+            before = hull.place(x, y)
+            hull.add(x, y)
+            self.assertIs(grown.add(x, y), before)
+        self.assertEqual((grown.vertices(), list(grown), grown.doubled_area()), (hull.vertices(), hull.vertices(), hull.doubled_area()))
+        self.assertEqual((GrowingHull(points[::-1]), grown.polygon(), grown.wkt(2)), (grown, hull.polygon(), hull.wkt(2)))
+        for x, y in asked:
+            self.assertEqual((grown.place(x, y), grown.tangents(x, y)), (hull.place(x, y), hull.tangents(x, y)))
+            self.assertEqual(grown.extreme(x, y or 1), hull.extreme(x, y or 1))
+        self.assertEqual((grown.place_all(asked), grown.tangents_all(asked)), (hull.place_all(asked), hull.tangents_all(asked)))
+        self.assertEqual(grown.extreme_all([(x, y or 1) for x, y in asked]), hull.extreme_all([(x, y or 1) for x, y in asked]))
+
+    def test_a_grid(self):
+        grid, around = [(x, y) for x in range(4) for y in range(4)], [(x, y) for x in range(-1, 5) for y in range(-1, 5)]
+        for subset in range(0, 1 << 16, 97):
+            order = [(5 * i + subset) % 16 for i in range(16)]
+            self.grows_as_a_set((grid[i] for i in order if subset >> i & 1), around)
+        for subset in range(0, 1 << 16, 7):
+            points = [grid[i] for i in range(16) if subset >> i & 1]
+            self.assertEqual(GrowingHull(points).vertices(), hull_module.Polygon.of(points).vertices())
+
+    def test_at_random(self):
+        numbers = random.Random(1)
+        for size in (3, 10 ** 6, COORDINATE_LIMIT):
+            points = [(numbers.randint(-size, size), numbers.randint(-size, size)) for _ in range(300)]
+            self.grows_as_a_set(points, points[:100])
+        far = COORDINATE_LIMIT
+        self.grows_as_a_set([(far, far), (-far, -far), (far, -far), (0, 0), (-far, far), (1, 1)], [(0, far), (far, 0), (1, 0)])
+        parabola = [(x, x * x) for x in range(-3000, 3000)]
+        numbers.shuffle(parabola)
+        self.assertEqual(GrowingHull(parabola).vertices(), sorted(parabola))
+
+    def test_replies(self):
+        hull = GrowingHull()
+        self.assertEqual((hull.vertices(), list(hull), hull.extreme(1, 0), hull.tangents(0, 0), hull.doubled_area()), ([], [], None, None, 0))
+        self.assertEqual(list(hull.add_all([(0, 0), (8, 0), (4, 0), (0, 8), (1, 1)])), [14, 14, 13, 14, 12])
+        self.assertEqual((list(hull.add_all(columns([(0, 0), (9, 0)]))), hull.add_all([])), ([13, 14], b""))
+        self.assertEqual((Place(hull.add_all([(0, 9)])[0]), hull.extreme_d(0.5, 1), repr(hull)), (Place.OUTSIDE, (0, 9), "<GrowingHull of 3 vertices>"))
+        self.assertEqual(hull_module.to_floats(hull.vertices(), 1), [(0, 0), (4.5, 0), (0, 4.5)])
+
+    def test_refusals(self):
+        hull, far = GrowingHull(SQUARE), COORDINATE_LIMIT + 1
+        self.assertRaises(OutOfRange, hull.add, far, 0)
+        self.assertRaises(OutOfRange, hull.add_all, [(99, 99), (0, -far)])
+        self.assertRaises(OutOfRange, GrowingHull, [(0, far)])
+        self.assertRaises(ZeroDirection, hull.extreme, 0, 0)
+        self.assertRaises(TypeError, hull.add, 0.5, 0)
+        self.assertRaises(AttributeError, getattr, hull, "remove")
+        self.assertRaises(TypeError, hash, hull)
+        self.assertEqual(hull.doubled_area(), 200)
+
+    def test_copies(self):
+        hull = GrowingHull(SQUARE)
+        for other in (hull.copy(), copy.copy(hull), copy.deepcopy(hull), pickle.loads(pickle.dumps(hull))):
+            self.assertEqual((other == hull, other != GrowingHull(), other == 7), (True, True, False))
+            other.add(99, 99)
+            self.assertNotEqual(other, hull)
+        self.assertEqual(hull.vertices(), [(0, 0), (10, 0), (10, 10), (0, 10)])
+
+
 @unittest.skipUnless(hasattr(hull_module._LIBRARY, "hull_overlaps"), "the library counts no overlaps")
 class Locks(unittest.TestCase):
     """By a library that is slowed down, and counts the calls on a hull that begin while another is under way (overlaps.c)."""
@@ -691,6 +755,26 @@ class Locks(unittest.TestCase):
             assert vertices == [(n, n * n) for n in range(len(vertices))], vertices
 
         self.race(lambda n: hull.add(n, n * n), are_those_of_a_parabola)
+
+    def test_growing_hulls(self):
+        hull = GrowingHull()
+        self.race(lambda n: hull.add(n, n * n), lambda n: hull.add_all([(n, -n)]), lambda n: hull.place(n, n), lambda n: hull.vertices())
+
+    def test_memory_refused_to_growing_hulls(self):
+        points, refused = [(x, x * x) for x in range(3000)], 0
+        for request in range(100):
+            hull_module._LIBRARY.hull_refuse(request)
+            try:
+                hull = GrowingHull()
+                missing = [point for point, place in zip(points, hull.add_all(points)) if place == 0]
+                self.assertTrue(len(missing) <= 1)
+                self.assertEqual([hull.add(*point) for point in missing], [Place.OUTSIDE] * len(missing))
+                self.assertEqual(hull.vertices(), points)
+                refused += len(missing)
+            except MemoryError:
+                refused += 1
+        hull_module._LIBRARY.hull_refuse(-1)
+        self.assertTrue(5 < refused < 90, refused)
 
     def test_refused_memory(self):
         hull, refused = Hull([(x, x * x) for x in range(9)]), 0

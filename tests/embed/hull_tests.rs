@@ -1,5 +1,5 @@
 //! Functions of `rust/hull`, answers and faults; `answers/ask.py` asks the questions of polygons.
-use hull::{direction_of, pairs_within_distance, wkt, Fault, Held, Hull, Lattice, Place, Point, Polygon, Relation};
+use hull::{direction_of, pairs_within_distance, wkt, Fault, GrowingHull, Held, Hull, Lattice, Place, Point, Polygon, Relation};
 use hull::{Limits, SharedHull, COORDINATE_LIMIT, MULTIPLICITY_LIMIT, POINT_LIMIT};
 use std::alloc::{GlobalAlloc, Layout, System};
 use std::cell::Cell;
@@ -90,6 +90,66 @@ fn loads() {
     many.iter().for_each(|&p| assert_eq!(slow.add(p), Ok(1)));
     let fast = Hull::from_points(1000, &many).unwrap();
     assert!(fast.vertices().unwrap().eq(slow.vertices().unwrap()));
+}
+
+/// A growing hull of these points answers as a set of them.
+fn grows_as_a_set(points: &[Point], asked: &[Point]) {
+    let (mut set, mut grown) = (Hull::default(), GrowingHull::new().unwrap());
+    assert!(grown.is_empty());
+    for &at in points {
+        let before = set.place(at);
+        set.add(at).unwrap();
+        assert_eq!(grown.add(at), before);
+    }
+    assert_eq!(grown.is_empty(), points.is_empty());
+    let vertices: Vec<Point> = set.vertices().unwrap().collect();
+    assert!(grown.vertices().unwrap().eq(vertices.iter().copied()));
+    assert_eq!(GrowingHull::from_points(points).unwrap().polygon(), set.polygon());
+    assert!(points.iter().rev().copied().collect::<GrowingHull>().vertices().unwrap().eq(vertices));
+    assert_eq!((grown.doubled_area(), grown.wkt(3)), (set.doubled_area(), set.wkt(3)));
+    for &at in asked {
+        assert_eq!((grown.place(at), grown.tangents(at), grown.extreme(at)), (set.place(at), set.tangents(at), set.extreme(at)));
+    }
+    assert_eq!((grown.place_all(asked), grown.tangents_all(asked)), (set.place_all(asked), set.tangents_all(asked)));
+    assert_eq!(grown.extreme_all(asked), set.extreme_all(asked));
+}
+
+#[test]
+fn growing_hulls() {
+    let around: Vec<Point> = (0..36).map(|at| point(at % 6 - 1, at / 6 - 1)).collect();
+    for subset in (0..1u32 << 16).step_by(3) {
+        let order = (0..16).map(|i| (5 * i + subset) % 16).filter(|at| subset >> at & 1 == 1);
+        grows_as_a_set(&order.map(|at| point(i64::from(at / 4), i64::from(at % 4))).collect::<Vec<_>>(), &around);
+    }
+    let far = COORDINATE_LIMIT;
+    let mut seed = 88172645463325252u64;
+    for size in [3, 1000000, far] {
+        let mut drawn = || {
+            seed ^= seed << 13;
+            seed ^= seed >> 7;
+            seed ^= seed << 17;
+            (seed % (2 * size as u64 + 1)) as i64 - size
+        };
+        let points: Vec<Point> = (0..600).map(|_| point(drawn(), drawn())).collect();
+        grows_as_a_set(&points, &points[..300]);
+    }
+    grows_as_a_set(&[point(far, far), point(-far, -far), point(far, -far), point(0, 0), point(-far, far)], &[point(0, far), point(1, 0)]);
+    let mut hull = GrowingHull::default();
+    assert_eq!((hull.vertices().unwrap().len(), hull.extreme(point(1, 0)), hull.doubled_area()), (0, Ok(None), 0));
+    let places = [Some(Place::Outside), Some(Place::Outside), Some(Place::On), Some(Place::Outside), Some(Place::Inside)];
+    assert_eq!(hull.add_all(&[point(0, 0), point(8, 0), point(4, 0), point(0, 8), point(1, 1)]).unwrap(), places);
+    assert_eq!(hull.add(point(far + 1, 0)), Err(Fault::OutOfRange));
+    assert_eq!(hull.add_all(&[point(9, 9), point(0, -far - 1)]), Err(Fault::OutOfRange));
+    assert_eq!((hull.place(point(9, 9)), hull.place(point(0, far + 1))), (Ok(Place::Outside), Err(Fault::OutOfRange)));
+    assert_eq!((hull.extreme(point(0, 0)), hull.extreme_d(0.25, 0.5)), (Err(Fault::ZeroDirection), Ok(Some(point(0, 8)))));
+    assert_eq!(format!("{hull:?}"), "GrowingHull { doubled_area: 64, .. }");
+    hull.extend([point(8, 8), point(2, 2)]);
+    hull.extend(&[point(3, 3)]);
+    let hull = std::thread::spawn(move || hull).join().unwrap();
+    assert_eq!(hull.doubled_area(), 128);
+    LEFT.set(0);
+    assert_eq!(GrowingHull::new().unwrap_err(), Fault::NoMemory);
+    LEFT.set(-1);
 }
 
 #[test]
@@ -464,6 +524,28 @@ mod libraries {
                 assert_eq!((hull.multiplicity(points[i]), hull.add(points[i])), (Ok(0), Ok(1)));
             }
             assert!(hull.held().unwrap().iter().all(|it| it.multiplicity == 1));
+        }
+        assert!(refused > 3, "{refused}");
+    }
+
+    /// The same of a growing hull.
+    #[test]
+    fn refused_to_a_growing_hull() {
+        let points: Vec<Point> = (0..3000).map(|i| point(i, i * i)).collect();
+        let mut refused = 0;
+        for request in 0.. {
+            let mut hull = GrowingHull::new().unwrap();
+            LEFT_TO_LIBRARY.set(request);
+            let added = hull.add_all(&points).unwrap();
+            if LEFT_TO_LIBRARY.replace(-1) >= 0 {
+                break;
+            }
+            let missing: Vec<usize> = (0..3000).filter(|&i| added[i].is_none()).collect();
+            assert!(missing.len() <= 1 && hull.vertices().unwrap().len() == 3000 - missing.len(), "request {request}: {missing:?}");
+            refused += missing.len();
+            for i in missing {
+                assert_eq!((hull.add(points[i]), hull.add(points[i])), (Ok(Place::Outside), Ok(Place::On)));
+            }
         }
         assert!(refused > 3, "{refused}");
     }

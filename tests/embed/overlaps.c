@@ -100,4 +100,7 @@ SLOW(hull_reply, hull_load_held, (hull_set * at, const hull_held *held, size_t c
 SLOW(hull_reply, hull_held_from, (const hull_set *at, int64_t x, int64_t y, hull_held *out, size_t capacity), (at, x, y, out, capacity))
 SLOW(hull_reply, hull_limit, (const hull_set *at), (at))
 SLOW(hull_reply, hull_clear, (hull_set * at), (at))
+SLOW(hull_reply, hull_growing_call, (hull_growing * at, uint32_t kind, int64_t x, int64_t y), (at, kind, x, y))
+SLOW(size_t, hull_growing_calls, (hull_growing * at, const hull_request *asked, size_t count, hull_reply *replies, size_t capacity), (at, asked, count, replies, capacity))
+SLOW(hull_reply, hull_growing_vertices, (const hull_growing *at, hull_point *out, size_t capacity), (at, out, capacity))
 #endif

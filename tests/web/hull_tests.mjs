@@ -10,7 +10,7 @@ const { load } = faults, FAR = 2 ** 40, MEMORY = 2 ** 24;
 const STRAY = process.env.MODULE === "hull32.wasm" ? 0xfffffff0n : 1n << 60n;
 // the module that is tried: hull.wasm, or the name in MODULE
 const module = new URL(`../../web/out/${process.env.MODULE ?? "hull.wasm"}`, import.meta.url), cases = new URL("../cli/cases/", import.meta.url);
-const { Hull, Polygon } = await load(module);
+const { GrowingHull, Hull, Polygon } = await load(module);
 let passed = 0, failed = 0;
 async function tried(name, run) {
     try {
@@ -51,6 +51,29 @@ await tried("the program's stored reports", () => {
     }
     assert.ok(compared > 50, `${compared} answers`);
     return `${compared} answers`;
+});
+await tried("growing hulls beside hulls", () => {
+    const random = random_of(11);
+    for (const size of [3, 40, 2 ** 20, FAR / 2]) {
+        const hull = new Hull(), grown = new GrowingHull(), points = [], at = () => random(2 * size + 1) - size;
+        assert.deepEqual([grown.vertices(), grown.doubledArea(), grown.extreme(1, 0), grown.tangents(0, 0)], [[], 0n, null, null]);
+        for (let i = 0; i < 300; i++) {
+            const [x, y] = [at(), at()], place = hull.place(x, y);
+            hull.add(x, y);
+            points.push([x, y]);
+            assert.equal(grown.add(x, y), place);
+            assert.deepEqual([grown.place(y, x), grown.tangents(y, x), grown.extreme(x, y || 1)], [hull.place(y, x), hull.tangents(y, x), hull.extreme(x, y || 1)]);
+        }
+        assert.deepEqual([grown.vertices(), grown.doubledArea(), grown.placeAll(points)], [hull.vertices(), hull.doubledArea(), hull.placeAll(points)]);
+        assert.deepEqual(grown.polygon().vertices(), hull.polygon().vertices());
+        assert.deepEqual(grown.addAll(points.slice(0, 9)), hull.placeAll(points.slice(0, 9)));
+        assert.throws(() => grown.add(FAR + 1, 0), faults.OutOfRange);
+        assert.throws(() => grown.extreme(0, 0), faults.ZeroDirection);
+        assert.equal(grown.remove, undefined);
+        for (const it of [hull, grown]) it.free();
+        assert.throws(() => grown.add(0, 0), faults.Ended);
+    }
+    return "1200 points";
 });
 await tried("the points with their multiplicities, and the stored bridges", () => {
     const hull = new Hull(), random = random_of(7), wanted = new Map();

@@ -1,5 +1,5 @@
 // What the types allow: the README's first example and one call of each kind.
-import { HullError, load, type Fraction, type Held, type Hull, type Place, type Point, type Polygon, type Relation, type Tangents } from "hullbook";
+import { HullError, load, type Fraction, type GrowingHull, type Held, type Hull, type Place, type Point, type Polygon, type Relation, type Tangents } from "hullbook";
 import { directionOf, fromFloats, wkt } from "hullbook/exchange.js";
 import { firstMeeting, indices, intersectsSegments, nearestHeld, pairsWithinDistance, relations, rotate, translate } from "hullbook/many.js";
 import { Replay, joinJournals, journalText, judge, readJournal } from "hullbook/journal.js";
@@ -29,6 +29,11 @@ export function asked(hull: Hull, polygon: Polygon): (Fraction | Held | Tangents
 export function many(hull: Hull, all: Polygon[]): (number | bigint | boolean | Point | Relation | undefined | null)[] {
     const pairs: [number, number][] = pairsWithinDistance(all, 3, 2), met = firstMeeting(all[0], all[1], 3, 4), near = nearestHeld(hull, 1, 2);
     return [pairs[0][1], relations(all[0], all)[0], intersectsSegments(all[0], [[0, 0, 1, 1]])[0], indices(all[0], [[1, 2]])[0], met?.part.numerator, met?.vertex, translate(all[0], 1, 2)[0], rotate(all[0], 3, 4)[0], near?.squared];
+}
+
+export function grown(hull: GrowingHull): (Place | Point | null)[] {
+    const place: Place = hull.add(1, 2), all: (Place | null)[] = hull.addAll([[3, 4]]);
+    return [place, ...all, ...hull.polygon().vertices()];
 }
 
 export function related(ours: Polygon, theirs: Polygon): Relation | null {

@@ -18,6 +18,7 @@ mod answer;
 mod counted;
 mod distance_bounds;
 mod exchange;
+mod growing;
 mod many;
 mod motions;
 mod pairs;
@@ -33,6 +34,7 @@ use std::ptr::NonNull;
 
 pub use distance_bounds::DistanceBounds;
 pub use exchange::{direction_of, wkt, Lattice, Rounded};
+pub use growing::GrowingHull;
 pub use motions::Motion;
 pub use pairs::pairs_within_distance;
 pub use polygon::{Distance, Entry, Hit, Nearest, Polygon, PolygonQuestions, Relation, Separation, Strip, Witness};

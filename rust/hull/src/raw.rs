@@ -331,6 +331,15 @@ extern "C" {
     pub(crate) fn hull_nearest_held(h: *const u8, x: i64, y: i64) -> Reply;
     pub(crate) fn hull_load_held(h: *mut u8, held: *const Held, count: usize) -> Reply;
     pub(crate) fn hull_clear(h: *mut u8) -> Reply;
+    pub(crate) fn hull_growing_size() -> usize;
+    pub(crate) fn hull_growing_alignment() -> usize;
+    pub(crate) fn hull_growing_make(storage: *mut u8);
+    pub(crate) fn hull_growing_end(g: *mut u8) -> u32;
+    pub(crate) fn hull_growing_call(g: *mut u8, kind: u32, x: i64, y: i64) -> Reply;
+    pub(crate) fn hull_growing_ask(g: *const u8, kind: u32, x: i64, y: i64) -> Reply;
+    pub(crate) fn hull_growing_vertices(g: *const u8, out: *mut Point, capacity: usize) -> Reply;
+    pub(crate) fn hull_growing_calls(g: *mut u8, requests: *const Request, request_count: usize, replies: *mut Reply,
+                                     reply_capacity: usize) -> usize;
     pub(crate) fn hull_is_polygon(points: *const Point, count: usize) -> Reply;
     pub(crate) fn hull_polygon_of(points: *const Point, count: usize, out: *mut Point, capacity: usize) -> Reply;
     pub(crate) fn hull_polygon_call(vertices: *const Point, count: usize, kind: u32, x: i64, y: i64) -> Reply;

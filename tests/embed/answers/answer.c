@@ -129,6 +129,17 @@ static const hull_set *loaded(void) {
     return h;
 }
 
+/* a growing hull of the points of the first list */
+static const hull_growing *grown(void) {
+    static hull_growing *g;
+    hull_growing_free(g);
+    g = hull_growing_new();
+    for (size_t i = 0; i < counts[0]; i++) {
+        if (g == NULL || hull_growing_add(g, vertices[0][i].x, vertices[0][i].y).code == HULL_NO_MEMORY) abort();
+    }
+    return g;
+}
+
 static int answer(const char *name) {
     /* @CASES@ */
     return 0;

@@ -1,4 +1,4 @@
-// Answers the questions of polygons, sets and seats that ask.py writes, a line each, by the classes of hull.hpp: a line with the answer for each.
+// Answers the questions of polygons, sets, growing hulls and seats that ask.py writes, a line each, by the classes of hull.hpp: a line with the answer for each.
 #include "hull.hpp"
 #include <cstring>
 #include <iostream>
@@ -94,11 +94,14 @@ static Point point(const std::int64_t *n, int i) { return {n[i], n[i + 1]}; }
 struct Asked {
     Polygon polygon, other;
     Hull hull{64};
+    GrowingHull grown;
     std::optional<Seat> seat;
 
     void take(const std::string &name, std::size_t which, const std::vector<Point> &points) {
         if (name.rfind("set_", 0) == 0) {
             hull.load(points);
+        } else if (name.rfind("growing_", 0) == 0) {
+            grown.add_all(points);
         } else if (name.rfind("seat_", 0) == 0) {
             seat = SharedHull({64, 0, 64, 1}).acquire_seat(0);
             for (Point p : points) seat->add(p);
@@ -109,7 +112,7 @@ struct Asked {
 };
 
 static bool answer(const std::string &name, Asked &asked, const std::int64_t *n) {
-    auto &[polygon, other, hull, seat] = asked;
+    auto &[polygon, other, hull, grown, seat] = asked;
     // @CASES@
     return false;
 }

@@ -5,7 +5,7 @@ import { readFileSync } from "node:fs";
 const [library, module] = process.argv.slice(2);
 const { load } = await import(library);
 const { firstMeeting } = await import(library.replace("hull.js", "many.js"));
-const { Hull, Polygon } = await load(readFileSync(module));
+const { GrowingHull, Hull, Polygon } = await load(readFileSync(module));
 
 const perhaps = (say) => (value) => (value === null ? "none" : say(value));
 const all = (word, points) => [word, ...points.flat()].filter((it) => it !== "").join(" ");
@@ -54,6 +54,12 @@ function hullOf(points) {
     return hull;
 }
 
+function grownOf(points) {
+    const hull = new GrowingHull();
+    hull.addAll(points);
+    return hull;
+}
+
 const lines = [];
 for (const line of readFileSync(0, "utf8").split("\n")) {
     if (line === "") continue;
@@ -66,7 +72,7 @@ for (const line of readFileSync(0, "utf8").split("\n")) {
     const count = numbers.shift();
     for (let i = 0; i < count; i++) {
         const vertices = new Float64Array(numbers.splice(0, 2 * numbers.shift()));
-        polygons.push(name.startsWith("set_") ? hullOf(vertices) : new Polygon(vertices));
+        polygons.push(name.startsWith("set_") ? hullOf(vertices) : name.startsWith("growing_") ? grownOf(vertices) : new Polygon(vertices));
     }
     try {
         lines.push(found(polygons[0], polygons[1], numbers));

@@ -1,5 +1,5 @@
-//! Answers the questions of polygons, sets and seats that ask.py writes, a line each, by the types of the crate `hull`: a line with the answer for each.
-use hull::{Distance, DistanceBounds, Entry, Fault, Hit, Hull, Limits, Motion, Nearest, Place, Point, Polygon, Relation, Seat, Separation};
+//! Answers the questions of polygons, sets, growing hulls and seats that ask.py writes, a line each, by the types of the crate `hull`: a line with the answer for each.
+use hull::{Distance, DistanceBounds, Entry, Fault, GrowingHull, Hit, Hull, Limits, Motion, Nearest, Place, Point, Polygon, Relation, Seat, Separation};
 use hull::{SharedHull, Strip, Witness};
 use std::io::BufRead;
 
@@ -136,7 +136,7 @@ fn seat_of(points: &[Point]) -> Seat {
     seat
 }
 
-fn answer(name: &str, [polygon, other]: &[Polygon; 2], hull: &Hull, seat: &mut Option<Seat>, n: &[i64]) -> String {
+fn answer(name: &str, [polygon, other]: &[Polygon; 2], hull: &Hull, grown: &GrowingHull, seat: &mut Option<Seat>, n: &[i64]) -> String {
     match name {
         // @CASES@
         _ => "-".to_string(),
@@ -149,19 +149,21 @@ fn main() {
         let (name, rest) = line.split_once(' ').unwrap();
         let mut numbers = rest.split(' ').map(|it| it.parse::<i64>().unwrap());
         let mut two = [Polygon::new(&[]).unwrap(), Polygon::new(&[]).unwrap()];
-        let (mut hull, mut seat) = (Hull::new(64).unwrap(), None);
+        let (mut hull, mut grown, mut seat) = (Hull::new(64).unwrap(), GrowingHull::new().unwrap(), None);
         let lists = numbers.next().unwrap() as usize;
         for polygon in &mut two[..lists] {
             let count = numbers.next().unwrap();
             let vertices: Vec<Point> = (0..count).map(|_| (numbers.next().unwrap(), numbers.next().unwrap()).into()).collect();
             if name.starts_with("set_") {
                 hull.load(&vertices).unwrap();
+            } else if name.starts_with("growing_") {
+                grown.add_all(&vertices).unwrap();
             } else if name.starts_with("seat_") {
                 seat = Some(seat_of(&vertices));
             } else {
                 *polygon = Polygon::new(&vertices).unwrap();
             }
         }
-        println!("{}", answer(name, &two, &hull, &mut seat, &numbers.collect::<Vec<_>>()));
+        println!("{}", answer(name, &two, &hull, &grown, &mut seat, &numbers.collect::<Vec<_>>()));
     }
 }

@@ -1,4 +1,4 @@
-"""Asks every question of polygons, sets and seats that tables/interface.txt describes, in each language, and compares the answers:
+"""Asks every question of polygons, sets, growing hulls and seats that tables/interface.txt describes, in each language, and compares the answers:
 
     ask.py TOP PREFIX FOLDER
 
@@ -25,7 +25,7 @@ HERE = os.path.dirname(os.path.abspath(__file__))
 sys.path[:0] = [HERE, f"{TOP}/tools"]
 import interface  # noqa: E402 (the path comes first)
 import plain  # noqa: E402
-from hull import Hull, OutOfRange, Polygon, SharedHull, ZeroDirection  # noqa: E402
+from hull import GrowingHull, Hull, OutOfRange, Polygon, SharedHull, ZeroDirection  # noqa: E402
 
 LIMIT = 1 << 40
 # how many questions of a kind are asked of a grid, at most; at random; and at the ends of the range
@@ -33,7 +33,9 @@ OF_A_GRID, AT_RANDOM, AT_ENDS = 7000, 400, 200
 ENDS = (-LIMIT, 1 - LIMIT, -1, 0, 1, LIMIT - 1, LIMIT)
 LENGTHS = (Fraction(0), Fraction(1, 2), Fraction(1), Fraction(7, 5), Fraction(2))
 # the kinds of arguments that are lists of points, by where they are in a question
-LISTS = {"polygon": 0, "prepared set": 0, "other": 1}
+LISTS = {"polygon": 0, "prepared set": 0, "asked growing": 0, "other": 1}
+# those that are points of any kind, and what the names of their questions begin with
+SETS = {"prepared set": "set_", "asked growing": "growing_"}
 # what a seat is called, in languages whose seats have methods
 SEATS = {"C++": "(*seat)", "Rust": "seat.as_mut().unwrap()"}
 # of each language: its program, and how that writes a case
@@ -65,7 +67,7 @@ def choices(kind, width, height, reach):
     if kind in LISTS:
         points = grid(width, height)
         subsets = (some for count in range(len(points) + 1) for some in itertools.combinations(points, count))
-        return [(it,) for it in (polygons_of(width, height) if kind != "prepared set" else subsets)]
+        return [(it,) for it in (subsets if kind in SETS else polygons_of(width, height))]
     if kind == "segment":
         return list(itertools.product(grid(width + 1, height + 1), repeat=2))
     values = {"point": grid(width + 1, height + 1), "length": LENGTHS}.get(kind, grid(reach + 1, reach + 1, -reach))
@@ -83,7 +85,7 @@ def of_a_grid(kinds):
 
 def listed(kind, points):
     """Returns points as an argument of a kind: a set has them as they are, a polygon the vertices of their hull."""
-    return tuple(points) if kind == "prepared set" else plain.hull_of(points)
+    return tuple(points) if kind in SETS else plain.hull_of(points)
 
 
 def cut(point):
@@ -211,9 +213,9 @@ def text_of(it, value):
 
 @functools.lru_cache(maxsize=1 << 10)
 def made(name, points):
-    """Returns what a question is asked of: a seat of a shared hull, a hull, or a polygon."""
+    """Returns what a question is asked of: a seat of a shared hull, a hull, a growing one, or a polygon."""
     if not name.startswith("seat_"):
-        return Hull(points) if name.startswith("set_") else Polygon(points)
+        return {"set": Hull, "growing": GrowingHull}.get(name.partition("_")[0], Polygon)(points)
     seat = SharedHull(capacity=None, seats=1, limit=64).acquire_seat(0)
     for x, y in points:
         seat.add(x, y)
@@ -257,7 +259,7 @@ def is_right(name, it, arguments, text):
     fault = fault_of(it, arguments)
     if fault:
         return text == fault
-    wanted = getattr(plain, it.method)(*((plain.hull_of(arguments[0]), *arguments[1:]) if name.startswith(("set_", "seat_")) else arguments))
+    wanted = getattr(plain, it.method)(*((plain.hull_of(arguments[0]), *arguments[1:]) if name.startswith(("set_", "growing_", "seat_")) else arguments))
     if name not in plain.IS_RIGHT:
         return text == text_of(it, wanted)
     if text == "none":
@@ -276,7 +278,7 @@ def words_in(language, kind, at, count):
     """Returns an argument of a kind in a language: the numbers that it has in C begin at n[at]."""
     if kind in LISTS:
         which = LISTS[kind]
-        in_c = ["loaded()"] if kind == "prepared set" else [f"vertices[{which}]", f"counts[{which}]"]
+        in_c = {"prepared set": ["loaded()"], "asked growing": ["grown()"]}.get(kind, [f"vertices[{which}]", f"counts[{which}]"])
         return in_c if language == "C" else ["other"] * which
     numbers = [f"n[{at + i}]" for i in range(count)]
     if language in ("C", "JavaScript"):
@@ -294,7 +296,7 @@ def case_of(language, name, it):
         words += words_in(language, kind, at, count)
         at += 0 if kind in LISTS else count
     values = {"name": name, "function": it.name, "gives": it["gives"], "code": "r.hit.code" if it["gives"] == "hull_motion" else "r.code", "answer": answer,
-              "method": it.method, "object": {"set": "hull", "seat": SEATS.get(language, "")}.get(name.partition("_")[0], "polygon")}
+              "method": it.method, "object": {"set": "hull", "growing": "grown", "seat": SEATS.get(language, "")}.get(name.partition("_")[0], "polygon")}
     if language == "JavaScript":  # (a few questions are functions of another module)
         is_function = language in it.words("by hand") and name == "first_meeting"
         words = ["polygon"] * is_function + words
@@ -371,7 +373,7 @@ def wrong_codes(every):
 
 def main():
     described = [it for it in interface.description().values() if "answer" in it]
-    every = {"set_" * ("kind" in it) + it.method: it for it in described} | {f"seat_{it.method}": it for it in described if "kind" in it}
+    every = {SETS.get(it.words("takes")[0], "") + it.method: it for it in described} | {f"seat_{it.method}": it for it in described if "kind" in it}
     numbers = random.Random(1)
     questions = [(name, it, arguments) for name, it in every.items() for arguments in asked(it, numbers)]
     lines = [line_of(*question) for question in questions]
