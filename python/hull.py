@@ -5,7 +5,8 @@
     hull.place(5, 5) is Place.INSIDE
     hull.place_all([(5, 5), (10, 5), (11, 5)])     # three of Place, as bytes
 
-A hull contains points, each with a multiplicity; questions are about their convex hull. A coordinate is an integer from -COORDINATE_LIMIT to
+A hull contains points, each with a multiplicity; questions are about their convex hull. A GrowingHull is that of points that are only added: nothing
+can be removed from it, and multiplicities are not kept. A coordinate is an integer from -COORDINATE_LIMIT to
 COORDINATE_LIMIT. Many points at once are a list of pairs, or an array of integers in two columns, a point in each row: of numpy, and then results
 are arrays of numpy too, or any other with the buffer protocol, as arrays of ctypes. Arrays of floats and bools, masked ones, and those of two rows
 and another number of columns than two are refused. A call that raises leaves the hull as it was. Calls on one hull from several threads wait for

@@ -1,11 +1,12 @@
 //! A convex hull for C: a static library over a [`Prepared`](prepared_set::Prepared)
 //! [`BucketTree`](bucket_tree::BucketTree), whose header is `include/hull.h`.
 //!
-//! A set is in storage that the caller provides, and so is a hull of points that are only added (`hull_growing_*`). Changes and questions are one export, [`hull_call`], by their kind;
-//! the header has a function for each over it, except for the three most frequent questions, which are exports of
-//! their own. An export passes a reference to the set at the pointer to one plain function (`calls.rt`, `vertices.rt`,
-//! `requests.rt`) and returns its reply: the export promises that function's contract. Its walk
-//! (`proofs/hull_*/Proof.antt`) shows that it lends the set to the function and takes it back.
+//! A set is in storage that the caller provides, and so is a hull of points that are only added (`growing.rt`). Changes
+//! and questions are one export, [`hull_call`], by their kind; the header has a function for each over it, except for the
+//! three most frequent questions, which are exports of their own. An export passes a reference to the set at the pointer
+//! to one plain function (`calls.rt`, `vertices.rt`, `requests.rt`) and returns its reply: the export promises that
+//! function's contract. Its walk (`proofs/hull_*/Proof.antt`) shows that it lends the set to the function and takes it
+//! back.
 #![tactic(auto)]
 
 ghost use Rattle.std.specs.Prelude.{◌≡◌, [], length};
