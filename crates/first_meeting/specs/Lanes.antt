@@ -1,13 +1,15 @@
 -- The lane of a set: where the rays along a direction come from that may meet it.
-use Rattle.std.specs.Prelude.{◌≡◌, List}
-use Rattle.lattice.specs.Plane.{Pair}
-use Rattle.lattice.specs.Places.{IsFarthest}
-use Rattle.hull_polygon.specs.Steps.{backward, turned_left}
+use Rattle.std.specs.Prelude.{◌≡◌, ◌≤ℤ◌, List}
+use Rattle.std.specs.List.{All}
+use Rattle.lattice.specs.Plane.{IsWithin, Pair, product, widest_side}
+use Rattle.hull_polygon.specs.Steps.{turned_left}
 use Rattle.first_meeting.specs.declared.lanes.Lane.{Lane}
 
--- no point of T lies farther to the left of the direction d, or farther to its right
+-- no point of T lies farther to the left of the direction d than the most, or less far than the least, which are no
+-- larger than products are
 pub record IsLane (T : List Pair) (d : Pair) (lane : Lane) : Type 0 where
   pub left : lane.left ≡ turned_left d
-  pub right : lane.right ≡ backward lane.left
-  pub most_left : IsFarthest T lane.left lane.most_left
-  pub most_right : IsFarthest T lane.right lane.most_right
+  pub most_fits : IsWithin widest_side lane.most
+  pub least_fits : IsWithin widest_side lane.least
+  pub most : All (λ t. product lane.left t ≤ℤ lane.most) T
+  pub least : All (λ t. lane.least ≤ℤ product lane.left t) T

@@ -11,13 +11,12 @@ ghost use Rattle.first_meeting.specs.Lanes.{IsLane};
 use hull_polygon::Polygon;
 use lattice::{Direction, Point, product};
 
-/// The points of a polygon that lie farthest to the left of a direction and to its right.
+/// How far a polygon lies to the left of a direction, at most and at least, by the product with the direction to the left.
 #[derive(Clone, Copy)]
 pub(crate) struct Lane {
     left: Direction,
-    right: Direction,
-    most_left: Point,
-    most_right: Point,
+    most: i128,
+    least: i128,
 }
 
 /// Returns the negative of a component of a direction.
@@ -49,11 +48,18 @@ fn opposite(direction: Direction) -> Option<Direction>
     }
 }
 
-/// Whether a point lies farther in a direction than the farthest of a set.
-fn lies_beyond(direction: Direction, farthest: Point, point: Point) -> bool
-    ensures { IsTrue result ↔ (plane.product direction farthest <ℤ plane.product direction point) }
+/// Whether a point lies farther in a direction than this.
+fn lies_farther(direction: Direction, point: Point, most: i128) -> bool
+    ensures { IsTrue result ↔ (most <ℤ plane.product direction point) }
 {
-    product(direction, farthest) < product(direction, point)
+    most < product(direction, point)
+}
+
+/// Whether a point lies less far in a direction than this.
+fn lies_less_far(direction: Direction, point: Point, least: i128) -> bool
+    ensures { IsTrue result ↔ (plane.product direction point <ℤ least) }
+{
+    product(direction, point) < least
 }
 
 impl Lane {
@@ -65,22 +71,19 @@ impl Lane {
         let right = opposite(left)?;
         let most_left = polygon.extreme(left)?;
         let most_right = polygon.extreme(right)?;
-        Some(Lane {
-            left,
-            right,
-            most_left,
-            most_right,
-        })
+        let most = product(left, most_left);
+        let least = product(left, most_right);
+        Some(Lane { left, most, least })
     }
 
     /// Whether a point lies beside the lane, so that its ray misses the polygon.
-    pub(crate) fn misses(&self, point: Point) -> bool
-        ensures { IsTrue result → (T : List Pair) (d : Pair) → IsLane T d self.now → NoneArrives T d (point ∷ []) }
+    pub(crate) fn misses(self, point: Point) -> bool
+        ensures { IsTrue result → (T : List Pair) (d : Pair) → IsLane T d self → NoneArrives T d (point ∷ []) }
     {
-        if lies_beyond(self.left, self.most_left, point) {
+        if lies_farther(self.left, point, self.most) {
             return true;
         }
-        lies_beyond(self.right, self.most_right, point)
+        lies_less_far(self.left, point, self.least)
     }
 }
 
