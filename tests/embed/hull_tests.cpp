@@ -130,7 +130,7 @@ static void growing_hulls() {
     for (std::int64_t at = 0; at < 36; at++) {
         around.push_back({at % 6 - 1, at / 6 - 1});
     }
-    for (std::uint32_t subset = 0; subset < 1u << 16; subset += 3) {
+    for (std::uint32_t subset = 0; subset < 1u << 16; subset += 61) {
         std::vector<Point> points;
         for (std::int64_t i = 0; i < 16; i++) {
             if (subset >> (5 * i + subset) % 16 & 1) {

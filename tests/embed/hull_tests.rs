@@ -117,7 +117,7 @@ fn grows_as_a_set(points: &[Point], asked: &[Point]) {
 #[test]
 fn growing_hulls() {
     let around: Vec<Point> = (0..36).map(|at| point(at % 6 - 1, at / 6 - 1)).collect();
-    for subset in (0..1u32 << 16).step_by(3) {
+    for subset in (0..1u32 << 16).step_by(61) {
         let order = (0..16).map(|i| (5 * i + subset) % 16).filter(|at| subset >> at & 1 == 1);
         grows_as_a_set(&order.map(|at| point(i64::from(at / 4), i64::from(at % 4))).collect::<Vec<_>>(), &around);
     }
@@ -530,7 +530,7 @@ mod libraries {
 
     /// The same of a growing hull.
     #[test]
-    fn refused_to_a_growing_hull() {
+    fn refused_to_the_library_by_a_growing_hull() {
         let points: Vec<Point> = (0..3000).map(|i| point(i, i * i)).collect();
         let mut refused = 0;
         for request in 0.. {

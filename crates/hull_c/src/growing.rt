@@ -2,7 +2,6 @@
 ghost use Rattle.std.specs.Prelude.{◌≡◌, ◌≢◌, ◌⊎◌, ◌↔◌, IsTrue, List, [], Ok};
 ghost use Rattle.lattice.specs.Plane.{Pair};
 ghost use Rattle.hull_plain.specs.Growth.{IsHullOf};
-ghost use Rattle.hull_reply.specs.Requests.{kind_number};
 ghost use Rattle.hull_reply.specs.declared.request.Request.TheVariants as request;
 ghost use Rattle.hull_c.specs.Allowed.{IsAllowedFor};
 ghost use Rattle.hull_c.specs.Growing.{AreGrowingVertices, IsAdded, IsGrowingCall, IsGrowingKind, IsGrowingServed, IsRefusedPoint, IsWhyRefused};
@@ -11,14 +10,11 @@ use super::calls::encoded_place;
 use super::polygon::is_polygon_kind;
 use heap::Heap;
 use hull_plain::{GrowFault, GrowingHull};
-use hull_reply::{
-    Code, HullPoint, HullReply, Kind, Request, encoded, point_of, put_vertices, request_of,
-};
+use hull_reply::{Code, HullPoint, HullReply, Kind, Request, encoded, put_vertices, request_of};
 use hull_set::{Call, Place, Reply, extreme_reply, tangents_reply};
 use lattice::{Direction, Point};
 
 /// Adds a point that lies outside.
-#[inline(never)]
 fn grow(hull: &mut GrowingHull, p: Point) -> HullReply
     ensures { IsAdded p hull.old hull.new result ⊎ ((hull.new ≡ hull.old) × IsWhyRefused hull.old result) }
 {
@@ -120,8 +116,7 @@ fn is_growing_kind(kind: u32) -> bool
 }
 
 /// Makes the call of a kind with two numbers.
-#[inline(never)]
-fn any_call(hull: &mut GrowingHull, kind: u32, x: i64, y: i64) -> HullReply
+pub(crate) fn call(hull: &mut GrowingHull, kind: u32, x: i64, y: i64) -> HullReply
     ensures { IsGrowingCall kind x y hull.old hull.new result }
 {
     if !is_growing_kind(kind) {
@@ -131,27 +126,6 @@ fn any_call(hull: &mut GrowingHull, kind: u32, x: i64, y: i64) -> HullReply
         Ok(Request::Call(call)) => serve(hull, call),
         Ok(Request::Multiplicity(_)) => HullReply::bare(Code::UnknownKind),
         Err(fault) => HullReply::bare(fault),
-    }
-}
-
-/// Adds the point (x, y).
-#[inline(always)]
-fn add_at(hull: &mut GrowingHull, x: i64, y: i64) -> HullReply
-    ensures { IsGrowingCall (kind_number Kind.Add) x y hull.old hull.new result }
-{
-    match point_of(x, y) {
-        Ok(p) => add(hull, p),
-        Err(fault) => HullReply::bare(fault),
-    }
-}
-
-/// Makes the call of a kind with two numbers, with less to do for the most frequent one.
-pub(crate) fn call(hull: &mut GrowingHull, kind: u32, x: i64, y: i64) -> HullReply
-    ensures { IsGrowingCall kind x y hull.old hull.new result }
-{
-    match Kind::of(kind) {
-        Some(Kind::Add) => add_at(hull, x, y),
-        _ => any_call(hull, kind, x, y),
     }
 }
 
