@@ -822,7 +822,7 @@ export async function load(source = moduleBeside(), { memory = Infinity } = {}) 
     } catch (error) {
         throw new Unsupported(`this engine can't load these bytes as the module: ${error.message}`, { cause: error });
     }
-    if (!wasm.memory || !wasm.__heap_base || !wasm.hull_growing_calls) throw new Unsupported("these bytes are another module");
+    if (!wasm.memory || !wasm.__heap_base || !wasm.hull_calls) throw new Unsupported("these bytes are another module");
     heap.begin(wasm.memory, Number(wasm.__heap_base.value));
     return classesOf(new Instance(wasm, heap));
 }

@@ -1,4 +1,4 @@
-// Makes the page small: of the library only the methods that the page names, of the script only what is called, with short names, and
+// Makes the page small: of the library only the classes and methods that the page names, of the script only what is called, with short names, and
 // of the module only the exports that the script names. These steps are not proved: esbuild and Binaryen's wasm-metadce are trusted,
 // and tests/web runs the resulting page.
 import { execFileSync } from "node:child_process";
@@ -8,9 +8,10 @@ import { fileURLToPath } from "node:url";
 
 const HERE = fileURLToPath(new URL(".", import.meta.url));
 const COMMON = ["--bundle", "--format=esm", "--target=es2022", "--charset=utf8", "--log-level=warning"];
-// a line that begins a class, and one that begins a method, in the layout that esbuild writes
-const CLASS = /^( *)(?:var \w+ = )?class\b.*\{$/;
+// a line that begins a class, one that begins a method, and one that returns variables by their names, in the layout that esbuild writes
+const CLASS = /^( *)(?:var (\w+) = )?class\b ?(\w*).*\{$/;
 const METHOD = /^( *)(?:static )?(?:async )?(get )?(#?\w+)\(.*\) \{$/;
+const RETURNED = /^ *return \{ \w+(?:, \w+)* \};$/;
 
 const esbuild = (text, ...words) => execFileSync("esbuild", [...COMMON, ...words], { input: text, cwd: HERE, encoding: "utf8" });
 
@@ -43,9 +44,24 @@ function calledIn(text) {
     return { called: new Set(found), read: new Set(read) };
 }
 
-/** Returns a bundle without the methods that nothing left in it names. */
+/** Returns the lines without the first class that nothing names but itself and a line that returns it, or null if each is named. */
+function withoutUnusedClass(lines) {
+    for (const [from, line] of lines.entries()) {
+        const [, indent, variable, own] = CLASS.exec(line) ?? [], name = variable ?? own;
+        if (!name) continue;
+        const to = lines.findIndex((it, i) => i > from && (it === `${indent}}` || it === `${indent}};`)) + 1, word = new RegExp(`\\b${name}\\b`);
+        const rest = [...lines.slice(0, from), ...lines.slice(to)];
+        if (rest.some((it) => word.test(it) && !RETURNED.test(it))) continue;
+        return rest.map((it) => RETURNED.test(it) ? it.replace(new RegExp(`\\b${name}, |, ${name}\\b`), "") : it);
+    }
+    return null;
+}
+
+/** Returns a bundle without the classes and methods that nothing left in it names. */
 export function shaken(text) {
-    for (let lines = text.split("\n"); ; ) {
+    let lines = text.split("\n");
+    for (let fewer = lines; fewer; fewer = withoutUnusedClass(lines)) lines = fewer;
+    for (;;) {
         const { called, read } = calledIn(lines.join("\n"));
         const gone = methodsOf(lines).filter(({ name, isRead }) => name !== "constructor" && !(isRead ? read : called).has(name));
         if (gone.length === 0) return lines.join("\n");

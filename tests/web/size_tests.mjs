@@ -62,5 +62,20 @@ tried("a method stays where it is called, read, or named in a call that passes i
     assert.deepEqual(left, ["seen", "#look", "passed", "made", "ends", "on"]);
     minified(shaken(text));
 });
+tried("a class stays where it is named, and not only where it is returned", () => {
+    const text = bundled(`
+        class Base { seen() { return 1; } }
+        class Alone extends Base {}
+        function all() {
+            class Used extends Base {}
+            class Unused extends Alone { seen() { return new Unused(); } }
+            return { Used, Unused };
+        }
+        console.log(new (all().Used)().seen());`);
+    const left = [...shaken(text).matchAll(/^ *(?:var (\w+) = )?class ?(\w*)/gm)].map((it) => it[1] ?? it[2]);
+    assert.deepEqual(left, ["Base", "Used"]);
+    assert.match(shaken(text), /return \{ Used \};/);
+    minified(shaken(text));
+});
 console.log(`${passed} passed, ${failed} failed`);
 process.exit(failed ? 1 : 0);
