@@ -3,8 +3,9 @@
 compile, one that only a proof's names refuse, a count that differs, stale or damaged files, a page that differs, a word too many, a suite
 that fails without saying so.
 
-Each tool has to refuse the fault with its message and exit status, beside a case that it accepts. What needs the toolchain is skipped
-without it. The last line is 'N passed, M failed'.
+    tests/tools/run.py [tools | packages | toolchain]    one of the suites of bin/test; without a word the first
+
+Each tool has to refuse the fault with its message and exit status, beside a case that it accepts. The last line is 'N passed, M failed'.
 """
 import os
 import re
@@ -293,18 +294,20 @@ def test_tables(tests):
                 write(f"{top}/{path}", text)
 
 
-def main():
+SUITES = {
+    "tools": (test_judgement, test_layout, test_products, test_suites, test_gate, test_language, test_tables, *judges.TESTS, *flows.TESTS, *scripts.TESTS),
+    "packages": (installs.test_install, installs.test_needed, installs.test_packages),
+    "toolchain": (test_mutants,),
+}
+
+
+def main(suite="tools"):
     tests = Tests()
-    for test in (test_judgement, test_layout, test_products, test_suites, test_gate, test_language, test_tables, *judges.TESTS,
-                 *flows.TESTS, *scripts.TESTS, installs.test_install, installs.test_needed, installs.test_packages):
+    for test in SUITES[suite]:
         test(tests)
-    if shutil.which("rt"):
-        test_mutants(tests)
-    else:
-        print("skipped: mutants on a small crate: there is no toolchain")
     print(f"{tests.passed} passed, {tests.failed} failed")
     return 1 if tests.failed else 0
 
 
 if __name__ == "__main__":
-    sys.exit(main())
+    sys.exit(main(*sys.argv[1:]))
