@@ -193,6 +193,8 @@ await tried("refused memory leaves the hull as it was", async () => {
     }, faults.NoMemory);
     assert.ok(added > 1000);
     assert.deepEqual([hull.count(), hull.multiplicity(added, (added * added) % 1009)], [added, 0]);
+    assert.deepEqual([serve(hull, `add ${added} ${(added * added) % 1009}`), serve(hull, "add 0 0")], ["nomemory", "again 2"]);
+    hull.remove(0, 0);
     assert.equal(hull.add(0, 0), 2);
     hull.clear();
     assert.equal(hull.add(7, 7), 1);
@@ -201,9 +203,14 @@ await tried("refused memory leaves the hull as it was", async () => {
 await tried("what is no points is refused, and what can be passed over once is read once", () => {
     const hull = new Hull();
     hull.addAll([[1, 2], [3, 4]]);
-    for (const nonsense of [Promise.resolve([]), {}, 5, null, undefined, "ab", [[1]], [5]]) {
-        for (const call of ["load", "addAll", "removeAll", "placeAll"]) assert.throws(() => hull[call](nonsense), faults.HullError, call);
+    const nonsense = { NoPoints: [Promise.resolve([]), {}, 5, null, undefined, "ab", "12", ""], OutOfRange: [[[1]], [5], [[1, 2, 3]], ["123"], [null], [[]]] };
+    for (const [name, all] of Object.entries(nonsense)) {
+        for (const call of ["load", "addAll", "removeAll", "placeAll", "tangentsAll", "extremeAll"]) {
+            for (const it of all) assert.throws(() => hull[call](it), (error) => error.name === name, `${call} of ${String(it)}`);
+        }
+        for (const it of all) for (const make of [(them) => new Polygon(them), Polygon.of]) assert.throws(() => make(it), (error) => error.name === name);
     }
+    for (const point of [[1], [1, 2, 3], [1, 0.5], [2 ** 41, 0], ["1", 2]]) assert.throws(() => hull.loadHeld([{ point, multiplicity: 1 }]), faults.OutOfRange);
     assert.equal(hull.count(), 2);
     assert.deepEqual([...hull.addAll([[1, 2], [5, 6]].values())], [2, 1]);
     assert.equal(hull.removeAll(new Set([[5, 6]])), 1);

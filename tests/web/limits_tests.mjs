@@ -175,6 +175,22 @@ await tried("where memory is refused in a call on many, or in a copy, all is as 
     hull.clear();
     assert.deepEqual([hull.add(5, 5), hull.count()], [1, 1]);
 });
+await tried("in a full memory what was given back is there: an array that grew, and the hull of a copy that was refused", async () => {
+    const { Hull: Small, Polygon: Poly } = await load(bytes, { memory: 3 * 2 ** 20 }), parabola = (count) => Array.from({ length: count }, (_, i) => [i, i * i]);
+    const [few, many] = [512, 4096].map((count) => { const it = new Small(); it.load(parabola(count)); return it; });
+    few.vertexArray(), few.held();
+    const spare = [new Poly(parabola(8192)), new Small()], kept = [];
+    for (let count = 2048; count >= 2; count /= 2) {
+        assert.throws(() => { for (;;) kept.push(new Poly(parabola(count))); }, faults.NoMemory);
+    }
+    spare.pop().free();
+    assert.throws(() => few.copy(), faults.NoMemory);
+    new Small().free();
+    spare.pop().free();
+    assert.equal(many.vertexArray().length, 8192);
+    new Poly(parabola(1024));
+    assert.deepEqual([few.count(), few.vertices().length, kept.length > 9], [512, 512, true]);
+});
 await tried("objects that are freed twice, or forgotten", async () => {
     const { Hull: Small } = await load(bytes, { memory: 4 * 2 ** 20 });
     setFlagsFromString("--expose-gc");
@@ -347,6 +363,8 @@ await tried("journals at the ends of their numbers, and one beyond", () => {
             (error) => error instanceof TextError && error.line === 3 && error.found === line, line);
     }
     assert.throws(() => readJournal(text({ version: 1, lines: [`0 0 add ${2 ** 20 + 1} 0 = added`] })), TextError);
+    for (const more of ["x", "\n", "end 1\n", "1 0 count = count 0\n"]) assert.throws(() => readJournal(text({ lines: ["0 0 count = count 0"] }) + more), TextError, more);
+    assert.throws(() => readJournal(text({}).trimEnd()), TextError);
     assert.deepEqual([numberOf({ first: 2n ** 64n - 1n }, 0), numberOf({ first: 2n ** 64n - 1n }, 1), numberOf({ first: 2n ** 63n }, 5)],
         [2n ** 64n - 1n, 0n, 2n ** 63n + 5n]);
 });

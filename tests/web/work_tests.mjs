@@ -213,6 +213,14 @@ await tried("a new deed ends what could be done again", () => {
     assert.equal(work.deeds.undone.length, 1);
     work.do(["add 3 3"]), work.redo();
     assert.deepEqual([work.deeds.undone.length, [...work.replay.held.keys()]], [0, ["1 1", "3 3"]]);
+    for (const deed of [() => work.go(1), () => work.open(emptyJournal(5)), () => work.openCalls(["add 4 4"], 0), () => work.do(["add 5 5"])]) {
+        work.do(["add 9 9"]), work.undo();
+        assert.equal(work.deeds.undone.length, 1);
+        deed();
+        const after = [...work.replay.held.keys()];
+        work.redo();
+        assert.deepEqual([work.deeds.undone.length, [...work.replay.held.keys()]], [0, after], String(deed));
+    }
 });
 
 await tried("doubles to the lattice, as the table of all languages has them", () => {
@@ -254,6 +262,14 @@ await tried("points as texts", () => {
     assert.equal(writeRows("csv", held, [], 1), "x,y,times\n0,0,3\n2,3,1\n4,0,1\n");
     assert.equal(writeRows("csv", new Map([["1 9", 1], ["1 -9", 2], ["0 5", 1]]), [], 0), "x,y,times\n0,5,1\n1,-9,2\n1,9,1\n");
     assert.deepEqual(readRows(writeRows("geojson", held, [[0, 0], [8, 0], [4, 6]], 0)), [[0, 0, 3], [4, 6, 1], [8, 0, 1]]);
+    const [a, b, c] = [[0, 0], [8, 0], [4, 6]], geometries = [[], [a], [a, b], [a, b, c]].map((it) => JSON.parse(writeRows("geojson", held, it, 1)).features[1].geometry);
+    assert.deepEqual(geometries, [{ type: "GeometryCollection", geometries: [] }, { type: "Point", coordinates: [0, 0] }, { type: "LineString", coordinates: [[0, 0], [4, 0]] },
+        { type: "Polygon", coordinates: [[[0, 0], [4, 0], [2, 3], [0, 0]]] }]);
+    assert.deepEqual(readRows("1,2,65535\n3,4,1"), [[1, 2, 65535], [3, 4, 1]]);
+    for (const times of [0, 65536, -1, 1.5]) assert.throws(() => readRows(`1,2\n3,4,${times}`), TextError);
+    const timed = (times) => JSON.stringify({ type: "Feature", properties: { times }, geometry: { type: "MultiPoint", coordinates: [[1, 2], [3, 4], [1, 2]] } });
+    assert.deepEqual([[65535, 1, 9], [65536, 0, 1], [2], undefined].map((it) => readRows(timed(it))), [[[1, 2, 65535], [3, 4, 1]], [[1, 2, 1], [3, 4, 1]], [[1, 2, 2], [3, 4, 1]],
+        [[1, 2, 1], [3, 4, 1]]]);
 });
 await tried("the power by which numbers are whole", () => {
     assert.deepEqual([[], [1, 2 ** 40], [0.5, 3], [0.1, 100], [2 ** 40 + 1], [5e-324], [-(2 ** 50)], [0.75, -(2 ** -5)]].map(powerFor), [0, 0, 1, 33, -1, 1000, -10, 5]);
