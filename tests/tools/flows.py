@@ -1,6 +1,7 @@
 """Tests tools/mutants.py as it is run, with a stand-in for the toolchain that judges by the texts of the sources: which mutants are refused,
 tried again by themselves, recorded and passed over, and with what status each run ends."""
 import os
+import random
 import tempfile
 
 import kit
@@ -26,6 +27,10 @@ pub fn third() -> u32 {
 RT = """#!/usr/bin/env python3
 import os, re, sys
 words, text = sys.argv[1:], open("src/lib.rt").read()
+named, whole = re.findall(r"(?m)^(\\w+):(.*?)(?: #.*)?$", open("../../crates.txt").read()), os.path.basename(os.getcwd())
+if whole not in [it[0] for it in named] or any(low not in [it[0] for it in named[:at]] for at, it in enumerate(named) for low in it[1].split()):
+    sys.exit(8)
+__import__("atexit").register(lambda: print("rt: it took no time", flush=True))
 with open(os.environ["ASKED"], "a") as asked:
     asked.write(" ".join(words) + "\\n")
 name, only = os.path.basename(os.getcwd()), [words[at + 1] for at, it in enumerate(words[:-1]) if it == "--only"]
@@ -170,6 +175,14 @@ def test_faults_of_runs(tests):
         tests.see("a crate that is not proved", status == 1 and said.endswith("not proved without any change: small\n0 passed, 1 failed\n"), said)
         tests.same("is not recorded", flow.recorded(), [])
         tests.same("--help", flow.run("--help")[0], 0)
+        write(f"{top}/crates/small/src/lib.rt", SOURCE)
+        write(f"{top}/crates/small/mutants/notes.txt", "file: src/lib.rt\nold: one + 1\nnew: WRONG + 1\n")
+        status, said = flow.run("small")
+        tests.see("a file that is no .edit", status == 1 and "small/notes.txt: NOT TRIED: BAD EDIT: no file NAME.edit" in said and said.endswith("\n1 passed, 1 failed\n"), said)
+    with tempfile.TemporaryDirectory() as top:
+        flow = Flow(top, low=[], middle=[], side=[], high=["goal"])
+        write(f"{top}/crates.txt", "# four crates\nlow:\nmiddle: low # below it\n\nside: low\nhigh: side middle\n")
+        tests.accepts("a crate with others below it", top, "tools/mutants.py", "high", env=flow.env)
 
 
 def test_groups(tests):
@@ -192,4 +205,31 @@ def test_groups(tests):
         tests.same("the module of a file", [mutants.module_of(crate, it) for it in ("src/lib.rt", "src/main.rt", "src/a/b.rt")], ["small::", "small::", "small::a::b::"])
 
 
-TESTS = (test_each_outcome, test_records, test_faults_of_runs, test_groups)
+def test_files(tests):
+    """Files in order, links where there are any, the crates of crates.txt, and how many checks run beside one another."""
+    with tempfile.TemporaryDirectory() as top:
+        names = [f"{one}{other}/{last}" for one in "dacb" for other in "fhge" for last in ("z", "y", "x.txt")]
+        random.Random(1).shuffle(names)
+        for it in names:
+            write(f"{top}/{it}", it)
+        tests.same("files below a folder, in order", list(kit.files_below(top)), sorted(names))
+        tests.same("a file that there is not", (kit.text_of(f"{top}/none"), kit.bytes_of(f"{top}/none"), [*kit.files_below(f"{top}/none")]), ("", b"", []))
+        kit.link(f"{top}/de", f"{top}/one"), kit.link(f"{top}/de", f"{top}/one"), kit.link(f"{top}/none", f"{top}/two")
+        tests.same("links", (os.stat(f"{top}/one/z").st_ino, os.path.exists(f"{top}/two")), (os.stat(f"{top}/de/z").st_ino, False))
+        linked, os.link = os.link, lambda *_: (_ for _ in ()).throw(OSError(18, "another file system"))
+        try:
+            kit.link(f"{top}/ae", f"{top}/copied"), kit.link(f"{top}/ae/z", f"{top}/copied.z")
+        finally:
+            os.link = linked
+        tests.same("copies", [kit.text_of(f"{top}/{it}") for it in ("copied/z", "copied/x.txt", "copied.z")], ["ae/z", "ae/x.txt", "ae/z"])
+    before = kit.MEMORY_OF_A_CHECK
+    try:
+        kit.MEMORY_OF_A_CHECK = 1 << 60
+        tests.same("one check at least", kit.lanes(), 1)
+        kit.MEMORY_OF_A_CHECK = 1
+        tests.same("one for each processor at most", kit.lanes(), len(os.sched_getaffinity(0)))
+    finally:
+        kit.MEMORY_OF_A_CHECK = before
+
+
+TESTS = (test_files, test_each_outcome, test_records, test_faults_of_runs, test_groups)

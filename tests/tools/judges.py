@@ -139,6 +139,8 @@ def test_edits(tests):
                 function("moved", "PointDisplay")])
         tests.see("a constant is in no function, and its users show it", constant.is_alone() and constant.witnesses == function("moved",
                 "PointDisplay"), constant)
+        heads = [edit_of(crate, "head", (it, "fn x()")) for it in ("fn second()", "pub fn first() ->", "pub fn moved(self)")]
+        tests.same("a text that begins a function", [it.functions for it in heads], [function("second"), function("first"), function("moved", "Point")])
         tests.same("two changes of one text overlap", mutants.applied(crate, [first, over]), None)
         tests.see("two others are applied", "    four" in mutants.applied(crate, [first,
                 second])["src/lib.rt"] and "    one + 1\n" in mutants.applied(crate, [first, second])["src/lib.rt"])
