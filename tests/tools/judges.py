@@ -486,7 +486,10 @@ def test_made(tests):
 
 
 RELEASE_RT = "#!/bin/sh\n[ \"$1\" = version ] && echo \"${TOOLCHAIN:-kit-1}\"\n"
-RELEASE_TOOL = "#!/bin/sh\n[ \"$1\" != --version ] || echo \"$(basename \"$0\") ${COMPILER:-1}\"\n"
+RELEASE_TOOL = """#!/bin/sh
+case $(basename "$0") in ldd) number=${LIBRARY:-1} ;; *) number=${COMPILER:-1} ;; esac
+[ "$1" != --version ] || echo "$(basename "$0") $number"
+"""
 # makes what MADE says in place of the released bytes
 RELEASE_PRODUCT = """#!/bin/sh
 case $1 in
@@ -525,7 +528,7 @@ def test_release(tests):
             tests.refuses(f"{name} that cannot be made", f"dist/{name}: FAILED, made again", top, "tools/release.sh", "--compare", env={**env,
                     "BROKEN": name})
         for what, more, wanted in (("other sources", {"STALE": names[0]}, [names[0]]), ("another toolchain", {"TOOLCHAIN": "kit-2"}, names[:2]),
-                                   ("another compiler", {"COMPILER": "2"}, names[:2])):
+                                   ("another compiler", {"COMPILER": "2"}, names[:2]), ("another C library", {"LIBRARY": "2"}, names[:2])):
             said = run(top, "tools/release.sh", "--compare", env={**env, **more})[1]
             tests.same(f"not compared with {what}", re.findall("dist/(\\S+): not compared", said), [*wanted])
         with contextlib.suppress(FileNotFoundError):
@@ -544,6 +547,9 @@ def test_release(tests):
         write(f"{top}/dist/SUMS", kit.text_of(f"{top}/dist/SUMS").replace("compiler-x86_64 gcc 1", "compiler-x86_64 gcc 2"))
         said = run(top, "tools/release.sh", "--changed", env=env)[1]
         tests.same("the record is of one compiler", re.findall("dist/(\\S+): was the same", said), [names[2]])
+        write(f"{top}/dist/SUMS", sums.replace("toolchain kit-1", "toolchain kit-2"))
+        said = run(top, "tools/release.sh", "--changed", env=env)[1]
+        tests.same("and of one toolchain", re.findall("dist/(\\S+): was the same", said), [])
         write(f"{top}/dist/SUMS", sums)
         os.remove(f"{top}/web/out/made-of")
         tests.see("the page that was not built", "dist/web/hull.wasm: not compared, web/build.py" in run(top, "tools/release.sh", "--compare",

@@ -19,6 +19,7 @@ from small import TOP, Tests, lay_tools, run, write  # noqa: E402 (the path come
 import flows  # noqa: E402
 import installs  # noqa: E402
 import judges  # noqa: E402
+import made  # noqa: E402
 import mutants  # noqa: E402
 import scripts  # noqa: E402
 
@@ -65,6 +66,7 @@ PLACES = (
     ("a line too many", "rust/hull/src/raw.rs", "OLD: u32 = 69;\n", "OLD: u32 = 69;\n    pub const ONE: u32 = 1;\n", "raw.rs: FAILED, codes: it says"),
     ("a mark that is gone", "web/hull.js", "written by tools/table.py: codes", "", "web/hull.js: FAILED, codes occurs 0 times"),
     ("another version", "rust/hull/Cargo.toml", 'version = "', 'version = "9', "Cargo.toml: FAILED, the version: it says '9"),
+    ("a version that is there twice", "web/package.json", '    "version": "', '    "version": "1",\n    "version": "', "web/package.json: FAILED, the version occurs 2 times"),
     ("a case unlike the others", "crates/hull_reply/src/request.rt", "Call::Place(point_of", "Call::Add(point_of",
      "hull_reply/src/request.rt: FAILED, a case for each kind: it says 'Kind::Place"),
     ("a case that is missing", "crates/hull_reply/specs/Encoded.antt", "Encodes r reply.Absent = IsBare code.Absent r\n", "",
@@ -216,13 +218,16 @@ def test_suites(tests):
         tests.refuses("a name that is no suite", "there is no suite or crate 'other'", top, "bin/test", "other", status=2)
 
 
+# what the gate runs, and a stage that passes
+COMMANDS = ("bin/test", "tools/mutants.py", "tools/release.sh", "path/rt", "tools/product.sh")
+GOOD = "#!/bin/sh\nmkdir -p out/test\n: >out/test/left_out\necho 1 passed, 0 failed\n"
+
+
 def test_gate(tests):
     """.ci/run fails if any of its stages fails, whatever that prints last."""
     with tempfile.TemporaryDirectory() as top:
         lay_tools(top)
-        good = "#!/bin/sh\nmkdir -p out/test\n: >out/test/left_out\necho 1 passed, 0 failed\n"
-        commands = ("bin/test", "tools/mutants.py", "tools/release.sh", "path/rt", "tools/product.sh")
-        env = {"PATH": f"{top}/path:{os.environ['PATH']}"}
+        good, commands, env = GOOD, COMMANDS, {"PATH": f"{top}/path:{os.environ['PATH']}"}
         for it in commands:
             write(f"{top}/{it}", good, 0o755)
         status, said = run(top, ".ci/run", env=env)
@@ -250,6 +255,39 @@ def test_gate(tests):
             write(f"{top}/{it}", good, 0o755)
         write(f"{top}/bin/test", good.replace("echo 1 passed", "echo 'a test: FAILED, 1, not 0'; seq 1000; echo 1 passed").replace("0 failed", "1 failed"), 0o755)
         tests.refuses("the end of its output names the test that failed", "a test: FAILED, 1, not 0\nFAILED: bin/test bin/test, later\n", top, ".ci/run", env=env)
+
+
+def test_gate_after_the_proof(tests):
+    """.ci/run keeps what `rt ci` linked, ends if that fails, and leaves nothing."""
+    with tempfile.TemporaryDirectory() as top:
+        lay_tools(top)
+        env = {"PATH": f"{top}/path:{os.environ['PATH']}"}
+        for it in COMMANDS:
+            write(f"{top}/{it}", GOOD, 0o755)
+        products = lambda: [it.strip() for it in read(f"{top}/asked").splitlines() if it.startswith("tools/product.sh")]
+        for has_object, is_ready in ((True, True), (False, False)):
+            for it in ("hullbook", "hulldraw"):
+                write(f"{top}/crates/{it}/out/{it}", "program\n")
+                write(f"{top}/crates/{it}/out/{it}.o", "object\n") if has_object else os.remove(f"{top}/crates/{it}/out/{it}.o")
+            write(f"{top}/asked", ""), write(f"{top}/tools/product.sh", f"#!/bin/sh\necho tools/product.sh $1 $2 >>asked\n[ $1 != ready ] || {str(is_ready).lower()}\n", 0o755)
+            run(top, ".ci/run", env=env)
+            wanted = [f"made {it}" if has_object else f"make x86_64/{it}" for it in ("hullbook", "hulldraw")]
+            wanted += [f"{word} x86_64/{it}.a" for it in ("libhull", "libhull_shared") for word in ("ready", "make")[: 2 - is_ready]]
+            tests.same(f"what is kept of the proof {'with' if has_object else 'without'} objects", products(), [f"tools/product.sh {it}" for it in wanted])
+        for it in COMMANDS[:4]:
+            failed = "3 passed, 1 failed; exit 1" if it == "path/rt" else "1 passed, 0 failed"
+            write(f"{top}/{it}", f"#!/bin/sh\necho {it} $* >>asked\necho {failed}\n", 0o755), write(f"{top}/asked", "")
+        tests.refuses("a proof that fails", "3 passed, 1 failed", top, ".ci/run", env=env)
+        tests.same("ends the gate", [it.strip() for it in read(f"{top}/asked").splitlines()], ["path/rt version", "bin/test", "path/rt ci"])
+        for it in COMMANDS:
+            write(f"{top}/{it}", GOOD.replace("echo 1", "echo 0"), 0o755)
+        tests.see("a gate with no test", run(top, ".ci/run", env=env)[0] == 1)
+        for it in COMMANDS:
+            write(f"{top}/{it}", GOOD, 0o755)
+        env["TMPDIR"] = f"{top}/temporary"
+        os.makedirs(env["TMPDIR"])
+        tests.accepts("one that passes", top, ".ci/run", env=env)
+        tests.same("leaves nothing", os.listdir(env["TMPDIR"]), [])
 
 
 def test_language(tests):
@@ -295,7 +333,7 @@ def test_tables(tests):
 
 
 SUITES = {
-    "tools": (test_judgement, test_layout, test_products, test_suites, test_gate, test_language, test_tables, *judges.TESTS, *flows.TESTS, *scripts.TESTS),
+    "tools": (test_judgement, test_layout, test_products, test_suites, test_gate, test_gate_after_the_proof, test_language, test_tables, *judges.TESTS, *made.TESTS, *flows.TESTS, *scripts.TESTS),
     "packages": (installs.test_install, installs.test_needed, installs.test_packages),
     "toolchain": (test_mutants,),
 }
