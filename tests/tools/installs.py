@@ -130,6 +130,7 @@ def test_install(tests):
             ("a relative prefix below DESTDIR", ["relative"], {"DESTDIR": f"{room}/staged"}, f"{room}/staged/relative", mine, mine == "x86_64"),
             ("where nothing is readable for others", [f"{room}/masked"], {"UMASK": "077"}, f"{room}/masked", mine, mine == "x86_64"),
         )
+        there, made = set(os.listdir(top)), {"repository", "temporary"}
         for what, words, env, prefix, processor, has_programs in forms:
             status, said = run(top, "sh", "-c", 'umask "${UMASK:-022}"; exec bin/install "$@"', "", *words, env={"TMPDIR": work, **env})
             tests.see(f"{what}: status 0, and nothing is printed", (status, said) == (0, ""), f"{status}: {said}")
@@ -137,6 +138,11 @@ def test_install(tests):
             tests.same(f"{what}: each file has its bytes", has_its_bytes(top, prefix, processor, has_programs), [])
             tests.same(f"{what}: folders are open to all", folders_of(prefix) | {stat.S_IMODE(os.stat(prefix).st_mode)}, {0o755})
             tests.same(f"{what}: nothing temporary is left", os.listdir(work), [])
+            made |= set() if prefix.startswith(top) else {os.path.relpath(prefix, room).partition("/")[0]}
+            tests.same(f"{what}: nothing is made beside it", (set(os.listdir(room)), set(os.listdir(top)) - {"relative"}), (made, there))
+        spaces = f"{room}/a b"
+        tests.same("--uninstall of a prefix with spaces", (run(top, "bin/install", "--uninstall", f"{spaces}/c"), os.listdir(spaces)), ((0, ""), ["c"]))
+        tests.same("it is empty", os.listdir(f"{spaces}/c"), [])
         test_again(tests, top, f"{room}/all", work)
         test_version_file(tests, f"{room}/all")
 
