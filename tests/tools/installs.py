@@ -371,3 +371,16 @@ def test_stale(tests, top, room, names):
     for words, wanted_status in (([], 2), (["a", "b"], 2), (["-x"], 2), (["--test"], 2), (["--help"], 0)):
         status, said = run(top, "bin/package", *words)
         tests.see(f"usage of bin/package: {words}", status == wanted_status and "bin/package [--test] OUT" in said, f"{status}: {said}")
+
+
+def test_package_words(tests):
+    """bin/package finds its tool by a link, passes each word on as one, and says if there is no Python."""
+    with tempfile.TemporaryDirectory() as room:
+        os.makedirs(f"{room}/bin"), os.makedirs(f"{room}/without"), shutil.copy(f"{TOP}/bin/package", f"{room}/bin/package")
+        write(f"{room}/tools/packages.py", "import sys\nprint(sys.argv[1:])\nsys.exit(len(sys.argv))\n")
+        os.symlink(f"{room}/bin/package", f"{room}/linked")
+        for command in ("bin/package", f"{room}/linked"):
+            tests.same(f"{os.path.basename(command)}: words", run(room, command, "--test", "a folder", "*"), (4, "['--test', 'a folder', '*']\n"))
+        for it in ("sh", "dirname", "readlink"):
+            os.symlink(shutil.which(it), f"{room}/without/{it}")
+        tests.same("without Python", run(room, "bin/package", "out", env={"PATH": f"{room}/without"}), (69, "bin/package: it needs Python 3: apt-get install python3\n"))

@@ -7,12 +7,15 @@ that fails without saying so.
 
 Each tool has to refuse the fault with its message and exit status, beside a case that it accepts. The last line is 'N passed, M failed'.
 """
+import contextlib
 import os
 import re
 import shutil
+import signal
 import subprocess
 import sys
 import tempfile
+import time
 
 sys.path.insert(0, os.path.dirname(os.path.abspath(__file__)))
 from small import TOP, Tests, lay_tools, run, write  # noqa: E402 (the path comes first)
@@ -215,7 +218,82 @@ def test_suites(tests):
         status, said = run(top, "bin/test", "--list")
         tests.see("--list", status == 0 and all(re.search(rf"(?m)^{it} .*\(needs: ", said) for it in ("files", "cli", "dist", "tools")), said)
         tests.see("--help", run(top, "bin/test", "--help")[1].startswith("Runs the tests that this machine can run"))
-        tests.refuses("a name that is no suite", "there is no suite or crate 'other'", top, "bin/test", "other", status=2)
+        status, said = run(top, "bin/test", "other")
+        tests.see("a name that is no suite", status == 2 and "there is no suite or crate 'other'" in said and said.endswith("\n0 passed, 1 failed\n"), said)
+
+
+# what bin/test itself calls, and what a suite needs that is not there with it
+CALLED = "awk cat cut date dirname getconf grep head mkdir nproc readlink rm sed seq sh tail tr uname".split()
+REASONS = {"python3": "it needs Python 3: apt-get install python3", "node": "it needs Node: apt-get install nodejs", "rt": "it needs the Rattle toolchain (rt)",
+           "cc": "it needs a C compiler: apt-get install gcc libc6-dev", "linked": "it needs a C compiler: apt-get install gcc libc6-dev",
+           "program": "the proved sources have changed since the release, so it needs the toolchain (rt): tools/release.sh proves them"}
+
+
+def test_left_out(tests):
+    """bin/test leaves out each suite whose needs are not met, with the reason, and runs it when they are; `crates` runs by name only."""
+    with tempfile.TemporaryDirectory() as top:
+        lay_tools(top)
+        for it in CALLED:
+            os.makedirs(f"{top}/path", exist_ok=True), os.symlink(shutil.which(it), f"{top}/path/{it}")
+        env, product = {"PATH": f"{top}/path"}, '#!/bin/sh\ncase " $RIGHT " in *" $1 $2 "*) ;; *) exit 1 ;; esac\n'
+        write(f"{top}/tools/product.sh", product, 0o755)
+        needs = dict(re.findall(r"(?m)^(\S+) .*\(needs: (\w+)\)$", run(top, "bin/test", "--list", env=env)[1]))
+        status, said = run(top, "bin/test", env=env)
+        wanted = "".join(f"{name}: {REASONS[need]}\n" for name, need in needs.items() if name != "crates")
+        tests.same("with nothing all suites but crates are left out", (status, said), (1, f"Left out:\n{wanted}0 passed, 0 failed\n"))
+        tests.same("their names", read(f"{top}/out/test/left_out").split(), [it for it in needs if it != "crates"])
+        for it in ("embed/c", "cli/run", "memory/run", "crates/run"):
+            write(f"{top}/tests/{it}.sh", f"#!/bin/sh\necho {it} $*; echo 1 passed, 0 failed\n", 0o755)
+        mine, changed = os.uname().machine, REASONS["program"]
+        for suite, tools, right, why in (
+            ("c", ["cc"], "", "it needs ar: apt-get install binutils"), ("c", ["cc", "ar"], "", changed),
+            ("c", ["cc", "ar"], f"ready {mine}/libhull.a", changed), ("c", ["cc", "ar"], f"ready {mine}/libhull_shared.a", changed),
+            ("c", ["cc", "ar"], f"ready {mine}/libhull.a ready {mine}/libhull_shared.a", None),
+            ("cli", [], "program hullbook", changed), ("cli", [], "program hulldraw", changed), ("cli", [], "program hullbook program hulldraw", None),
+            ("memory", ["cc"], "", "it needs the program as the toolchain links it here"), ("memory", [], "linked hullbook", REASONS["linked"]),
+            ("memory", ["cc"], "linked hullbook", None), ("crates", [], "", REASONS["rt"]), ("crates", ["rt"], "", None),
+        ):
+            for it in tools:
+                write(f"{top}/path/{it}", "#!/bin/sh\n", 0o755)
+            status, said = run(top, "bin/test", suite, env={**env, "RIGHT": right})
+            is_right = f"Left out:\n{suite}: {why}" in said and status == 1 if why else status == 0 and said.endswith("\n1 passed, 0 failed\n")
+            tests.see(f"{suite} with {tools} and '{right}': {why}", is_right, f"{status}: {said}")
+            for it in tools:
+                os.remove(f"{top}/path/{it}")
+        os.makedirs(f"{top}/crates/small")
+        status, said = run(top, "bin/test", "small", env=env)
+        tests.see("a crate without the toolchain", status == 2 and "there is no suite or crate 'small'" in said and said.endswith("\n0 passed, 1 failed\n"), said)
+        write(f"{top}/path/rt", "#!/bin/sh\n", 0o755)
+        tests.accepts("with it", top, "bin/test", "small", env=env)
+        tests.same("its log", read(f"{top}/out/test/crate-small.log"), "crates/run small\n1 passed, 0 failed\n")
+
+
+def test_reports(tests):
+    """bin/test prints each suite's counts and seconds, and of one that fails the tests that failed and the end; an interrupt ends all suites."""
+    with tempfile.TemporaryDirectory() as top:
+        lay_tools(top)
+        write(f"{top}/tests/files/run.sh", "#!/bin/sh\ncat; echo its errors >&2; echo early: FAILED, why; seq 100 140; echo 5 passed, 1 failed; exit 1\n", 0o755)
+        said = run(top, "sh", "-c", "echo typed | bin/test files")[1]
+        tests.see("the line of a suite", re.search(r"(?m)^files: 5 passed, 1 failed, \d+ s, \d+ s of a processor$", said), said)
+        end = "".join(f"{it}\n" for it in range(130, 141))
+        tests.see("what failed, and the end", f"==== files, the end of out/test/files.log\nearly: FAILED, why\n5 passed, 1 failed\n{end}5 passed, 1 failed\n5 passed, 1 failed\n" in said, said)
+        log = read(f"{top}/out/test/files.log")
+        tests.see("its log has its errors, and it reads nothing", log.startswith("its errors\nearly") and "typed" not in log, log)
+        write(f"{top}/tests/files/run.sh", f"#!/bin/sh\necho $$ >{top}/pid.new && mv {top}/pid.new {top}/pid; sleep 1000 & wait\n", 0o755)
+        for number in (signal.SIGINT, signal.SIGTERM):
+            ran = subprocess.Popen(["bin/test", "files"], cwd=top, stdin=subprocess.DEVNULL, stdout=subprocess.DEVNULL, stderr=subprocess.DEVNULL,
+                                   start_new_session=True, preexec_fn=lambda: signal.signal(signal.SIGINT, signal.SIG_DFL))
+            while not os.path.exists(f"{top}/pid"):
+                time.sleep(0.02)
+            pid, until = read(f"{top}/pid").strip(), time.monotonic() + 60
+            os.kill(ran.pid, number)
+            status = ran.wait(60)
+            while os.path.exists(f"/proc/{pid}/cwd") and time.monotonic() < until:
+                time.sleep(0.02)
+            tests.see(f"{number.name} ends its suites, too", status != 0 and not os.path.exists(f"/proc/{pid}/cwd"), status)
+            os.remove(f"{top}/pid")
+            with contextlib.suppress(ProcessLookupError):
+                os.killpg(ran.pid, signal.SIGKILL)
 
 
 # what the gate runs, and a stage that passes
@@ -333,8 +411,8 @@ def test_tables(tests):
 
 
 SUITES = {
-    "tools": (test_judgement, test_layout, test_products, test_suites, test_gate, test_gate_after_the_proof, test_language, test_tables, *judges.TESTS, *made.TESTS, *flows.TESTS, *scripts.TESTS),
-    "packages": (installs.test_install, installs.test_needed, installs.test_packages),
+    "tools": (test_judgement, test_layout, test_products, test_suites, test_left_out, test_reports, test_gate, test_gate_after_the_proof, test_language, test_tables, *judges.TESTS, *made.TESTS, *flows.TESTS, *scripts.TESTS),
+    "packages": (installs.test_install, installs.test_needed, installs.test_package_words, installs.test_packages),
     "toolchain": (test_mutants,),
 }
 

@@ -87,7 +87,10 @@ def test_programs(tests):
         env = lay(top)
         tests.same("the program's words, output and status", run(top, "bin/hullbook", "a b", "c", env={**env, "STATUS": "3", "ERR": "oh\\n"}),
                    (3, "oh\nsaid a b c by glibc.malloc.hugetlb=1\n"))
-        tests.same("each word as one", run(top, "bin/hullbook", "a b", "", "c", env={**env, "COUNT": "1"})[1].split("\n")[0], "3 words")
+        for name in ("hullbook", "hulldraw"):
+            os.symlink(f"{top}/bin/{name}", f"{top}/linked-{name}")
+            for command in (f"bin/{name}", f"{top}/linked-{name}"):
+                tests.same(f"{os.path.basename(command)}: each word as one", run(top, command, "a b", "", "c", env={**env, "COUNT": "1"})[1].split("\n")[0], "3 words")
         tests.same("the caller's tunables stay", run(top, "bin/hulldraw", env={**env, "GLIBC_TUNABLES": "mine"}), (0, "said  by mine\n"))
         tests.same("its path", run(top, "tools/program.sh", "--path", "hullbook", env=env), (0, f"{top}/tools/stand-in\n"))
         os.symlink(f"{top}/bin/hullbook", f"{top}/linked")
