@@ -207,6 +207,14 @@ def test_completions(tests):
     tests.same("fish: flags", {(program, command): {it[2] for it in fish if it[:2] == (program, command)} for program, command, _ in fish},
                {**{("hullbook", it): flags[it] for it in commands if flags[it]}, ("hulldraw", ""): drawn})
     tests.see("fish: commands", f"complete -c hullbook -n __fish_use_subcommand -a '{' '.join(commands)}'\n" in texts["hullbook.fish"])
+    # (a flag is followed by a file, a number or nothing, as its synopsis says)
+    given = {"after": "file", **{it: "number" for it in ("capacity", "limit", "first", "line", "size")}}
+    kinds = {":journal:_files": "file", ":number:": "number", "": None}
+    tests.same("zsh: what follows a flag", [(name, kinds[more]) for name, more in re.findall(r"'--(\w+)\[[^]]*\]([^']*)'", texts["_hullbook"]) if kinds[more] != given.get(name)], [])
+    fish = re.findall(r"(?m)^complete .* -l (\w+)( -[rx])? -d '[^']+'$", texts["hullbook.fish"])
+    tests.same("fish: what follows a flag", {(name, {" -r": "file", " -x": "number", "": None}[more]) for name, more in fish}, {(name, given.get(name)) for name, _ in fish})
+    tests.same("fish: each flag has a description", len(fish), texts["hullbook.fish"].count(" -l "))
+    tests.see("zsh: files", "'*:file:_files'" in texts["_hullbook"] and "'1:journal:_files'" in texts["_hullbook"])
     bash = shutil.which("bash")
     if not bash:
         print("skipped: completions of bash: there is no bash")
@@ -227,6 +235,10 @@ def test_completions(tests):
         tests.same("bash: flags that begin so", complete("hullbook", "run", "--l"), {"--limit"})
         tests.same("bash: files", [complete("hullbook", "run", "s"), complete("hulldraw", "")], [{"script.txt"}, {"script.txt", "other.txt"}])
         tests.same("bash: flags of hulldraw", complete("hulldraw", "--"), {f"--{it}" for it in drawn})
+        tests.same("bash: a flag is no command", [complete("hullbook", it) for it in ("-", "--l", "--capacity")], [set()] * 3)
+        for it in ("hullbook", "hulldraw"):
+            said = run(top, bash, "-c", f". '{TOP}/tools/completions/hullbook.bash'; complete -p {it}")[1]
+            tests.see(f"bash: names of files for {it}", "-o filenames" in said and said.endswith(f" -F _{it} {it}\n"), said)
 
 
 TESTS = (test_lib, test_programs, test_meanings, test_terminal, test_completions)
