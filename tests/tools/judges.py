@@ -78,6 +78,12 @@ impl fmt::Display for Point {
         LIMIT + twice
     }
 }
+
+use inner::One;
+
+fn last() -> u32 {
+    One + 5
+}
 """
 
 
@@ -103,6 +109,8 @@ def test_outcomes(tests):
     by_error = "proofs/m/b/Answers.antt:3:1: error: this is open\n  in two lines\nfn a::m::b: no proof\nfn a::m::c: not proved\n"
     by_error = by_error.replace("no proof\n", "not proved\n", 1)
     tests.same("an error in its proof is its goal", mutants.goals_of(by_error), {"a::m::b": "this is open in two lines"})
+    free = mutants.Function("a::m::", "moved")
+    tests.same("a function by its module and its name", [free.is_at(it) for it in ("a::m::moved", "a::m::removed", "a::moved", "b::m::moved")], [True, False, False, False])
     method = mutants.Function("a::", "moved", "Point")
     tests.see("a method by its block",
             method.is_at("a::other::Point::moved") and not method.is_at("a::PointDisplay::moved") and not method.is_at("a::moved"))
@@ -133,10 +141,13 @@ def test_edits(tests):
         first, second = edit_of(crate, "first", ("+ second()", "+ 1")), edit_of(crate, "second", ("    three", "    four"))
         again, over, trait = edit_of(crate, "again", ("    one ", "    two ")), edit_of(crate, "over", ("one + sec", "sec")), edit_of(crate, "trait",
                 ("LIMIT + twice", "twice"))
+        last, names = edit_of(crate, "last", ("    One + 5", "    One + 6")), edit_of(crate, "names", ("use inner::One;", "use inner::Two;"))
         constant = edit_of(crate, "constant", ("const LIMIT: u32 = 3", "const LIMIT: u32 = 4"))
         function = lambda name, block="": frozenset([mutants.Function("small::", name, block)])
         tests.same("the function of a mutant", [first.functions, second.functions, trait.functions], [function("first"), function("second"),
                 function("moved", "PointDisplay")])
+        tests.same("a function after a block is in none", last.functions, function("last"))
+        tests.see("a line that brings in names is in no function", names.is_alone() and not names.witnesses, names)
         tests.see("a constant is in no function, and its users show it", constant.is_alone() and constant.witnesses == function("moved",
                 "PointDisplay"), constant)
         heads = [edit_of(crate, "head", (it, "fn x()")) for it in ("fn second()", "pub fn first() ->", "pub fn moved(self)")]
@@ -190,7 +201,9 @@ def test_layouts(tests):
             write(f"{top}/crates/small/{name}", "#[test]\nfn a() {}\n")
         write(f"{top}/crates/small/mutants/one.edit", "file: src/lib.rt\nold: fn a\nnew: fn b\n")
         write(f"{top}/crates/small/out/left.rt", "no check reads it  \n")
+        write(f"{top}/crates.txt", "# the crates\n\nsmall: # alone\n")
         tests.accepts("a layout", top, "tools/layout.py", "--write", env=env)
+        tests.same("a row for each crate", len(kit.text_of(f"{top}/.ci/counts.txt").splitlines()), 2)
         tests.see("its counts", kit.text_of(f"{top}/.ci/counts.txt").endswith("\nsmall 1 1\n"), kit.text_of(f"{top}/.ci/counts.txt"))
         tests.accepts("the same again", top, "tools/layout.py", env=env)
         for name, text, wanted in (("src/lib.rt", "#[test]\nfn a() {}  \n", "src/lib.rt: FAILED, not in the layout of rt fmt"), ("specs/A.antt",
@@ -211,6 +224,9 @@ def test_layouts(tests):
             os.symlink(target, f"{top}/crates/small/{name}")
             tests.refuses(f"a link {name}", f"{name}: FAILED, it is a link", top, "tools/layout.py", env=env)
             os.remove(f"{top}/crates/small/{name}")
+        write(f"{top}/crates.txt", "small:\nabove: small\n"), write(f"{top}/crates/above/src/lib.rt", "#[test]\n#[test]\n")
+        tests.accepts("two crates", top, "tools/layout.py", "--write", env=env)
+        tests.same("in the order of their names", kit.text_of(f"{top}/.ci/counts.txt").splitlines()[1:], ["above 0 2", "small 1 1"])
         write(f"{top}/crates/another/src/lib.rt", "")
         tests.refuses("a crate that crates.txt does not name", "crates/another/src/lib.rt: FAILED, no check reads it there", top, "tools/layout.py",
                 env=env)
@@ -269,7 +285,7 @@ def test_lengths(tests):
         write(f"{top}/crates.txt", "small:\ncalls: small\n")
         write(f"{top}/crates/small/src/lib.rt",
                 "//! What it is about.\n//! In two lines.\n//!\n//! More.\npub use inner::{Two, One};\npub use inner::Three;\nuse other::Four;\n")
-        write(f"{top}/crates/small/specs/Lib.antt", "")
+        write(f"{top}/crates/small/specs/Lib.antt", "-- All names.\n\n-- What only passes on\npub passed : Set\n")
         write(f"{top}/crates/small/specs/Sets.antt", "-- All about sets.\n\n-- What a set is\npub set : Set\n\n-- Hidden.\nhidden : Set\n\n-- Is it one?\npub asked : Set\n\n-- (as before)\nabbrev pub aside : Set\npub beside : Set\n\npub bare : Set\n")
         write(f"{top}/crates/calls/src/lib.rt", "//! Callers.\n")
         write(f"{top}/crates/calls/src/of.rt", "//! A caller of `small`.\nfn call() {}\n")
@@ -288,7 +304,7 @@ def test_lengths(tests):
         text = kit.text_of(f"{top}/out/DEFINITIONS.md")
         tests.see("the definitions that contracts can name",
                 "| `set` | What a set is. |\n" in text and "**Sets.** All about sets.\n" in text and "hidden" not in text
-                and "| `asked` | Is it one? |\n| `aside`, `beside` | (as before) |\n" in text and "bare" not in text, text)
+                and "| `asked` | Is it one? |\n| `aside`, `beside` | (as before) |\n" in text and "bare" not in text and "passed" not in text, text)
         write(f"{top}/crates/calls/src/of.rt", "//! A caller of `small`.\nfn call() { again }\n")
         tests.refuses("a caller that has changed", "crates/small/CALLING.md: FAILED", top, "tools/reference.py")
         run(top, "tools/reference.py", "--write")

@@ -331,8 +331,10 @@ def test_gate(tests):
                 write(f"{top}/{it}", f"#!/bin/sh\nmkdir -p out/test\n: >out/test/left_out\n{text}\n", 0o755)
                 tests.refuses(f"a gate in which {it} {what}", "FAILED:", top, ".ci/run", env=env)
             write(f"{top}/{it}", good, 0o755)
-        write(f"{top}/bin/test", good.replace("echo 1 passed", "echo 'a test: FAILED, 1, not 0'; seq 1000; echo 1 passed").replace("0 failed", "1 failed"), 0o755)
-        tests.refuses("the end of its output names the test that failed", "a test: FAILED, 1, not 0\nFAILED: bin/test bin/test, later\n", top, ".ci/run", env=env)
+        failed = f"a test: FAILED, {'1' * 200}, not 0"
+        write(f"{top}/bin/test", good.replace("echo 1 passed", f"echo '{failed}{'x' * 300}'; echo '{failed}'; seq 1000; echo 1 passed").replace("0 failed", "1 failed"), 0o755)
+        end = f"{(failed + 'x' * 300)[:300]}\n{failed}\nFAILED: bin/test bin/test, later\n"
+        tests.refuses("the end of its output names the test that failed", end, top, ".ci/run", env=env)
 
 
 def test_gate_after_the_proof(tests):

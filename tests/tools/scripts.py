@@ -90,7 +90,7 @@ def test_programs(tests):
         for name in ("hullbook", "hulldraw"):
             os.symlink(f"{top}/bin/{name}", f"{top}/linked-{name}")
             for command in (f"bin/{name}", f"{top}/linked-{name}"):
-                tests.same(f"{os.path.basename(command)}: each word as one", run(top, command, "a b", "", "c", env={**env, "COUNT": "1"})[1].split("\n")[0], "3 words")
+                tests.same(f"{os.path.basename(command)}: each word as one", run(top, command, "a b", "c d", "*", "", env={**env, "COUNT": "1"})[1].split("\n")[0], "4 words")
         tests.same("the caller's tunables stay", run(top, "bin/hulldraw", env={**env, "GLIBC_TUNABLES": "mine"}), (0, "said  by mine\n"))
         tests.same("its path", run(top, "tools/program.sh", "--path", "hullbook", env=env), (0, f"{top}/tools/stand-in\n"))
         os.symlink(f"{top}/bin/hullbook", f"{top}/linked")
@@ -150,6 +150,9 @@ def test_meanings(tests):
         for number, meaning in MEANINGS.items():
             status, shown = on_terminal(top, "bin/hullbook", "check", "text", env={**env, "STATUS": "2", "ERR": f"hullbook: line 2: fault {number}\\n"})
             tests.see(f"fault {number}", status == 2 and f"hullbook: fault {number}: {meaning}" in shown and shown.endswith("hullbook: line 2 is: second\n"), f"{status}: {shown}")
+        write(f"{top}/long", f"first\n{'long ' * 60}\n")
+        shown = on_terminal(top, "bin/hullbook", "check", "long", env={**env, "STATUS": "2", "ERR": "hullbook: line 2: fault 2\\n"})[1]
+        tests.see("a long line is cut", shown.endswith(f"\n{('hullbook: line 2 is: ' + 'long ' * 60)[:200]}\n"), shown)
         for status, text in ((3, "hullbook: b: line 3: fault 5\\n"), (4, "hullbook: line 1: fault 10\\n")):
             came, shown = on_terminal(top, "bin/hullbook", "run", "text", env={**env, "STATUS": str(status), "ERR": text})
             tests.see(f"status {status}", came == status and "hullbook: fault " in shown, f"{came}: {shown}")
@@ -179,6 +182,10 @@ def test_terminal(tests):
                               (("five", "--limit", "2"), ""), (("five", "--capacity", "2", "--after", "other"), ""), (("none", "--capacity", "2"), "")):
             status, shown = on_terminal(top, "bin/hullbook", "run", *words, env=env)
             tests.see(f"a run of {words}", status == 0 and (wanted in shown if wanted else "found the journal" not in shown), f"{status}: {shown}")
+        for count, wanted in ((65536, ""), (65537, "hullbook: 1 of 65537 calls found the journal full")):
+            write(f"{top}/many", "0 count\n" * count)
+            shown = on_terminal(top, "bin/hullbook", "run", "many", env=env)[1]
+            tests.see(f"a run of {count} calls", wanted in shown if wanted else "found the journal" not in shown, shown)
         tests.see("a check of the same", "found the journal" not in on_terminal(top, "bin/hullbook", "check", "five", "--capacity", "2", env=env)[1])
         status, shown = on_terminal(top, "bin/hullbook", "run", "five", env={**env, "SLEEP": "4", "STATUS": "1"})
         tests.see("the seconds of a run, which go when it ends", status == 1 and "\rhullbook: running, 2 s" in shown and shown.endswith("hugetlb=1\n"), f"{status}: {shown!r}")
