@@ -238,6 +238,9 @@ PROSE = {
             'auto a = "{}";\n'),
     "rust/hull/src/b.rs": ("mod b;\n    /// {}\n", "    // {}\n"), "man/a.3": ("{}\n", None), "python/a.py": ('"""{}"""\n', "a = '{}'\n"), "python/README.md": ("{}\n", None), "rust/hull/src/a.rs": ("/// {}\n",
             "// {}\n"),
+    "man/a.1": ("{}\n", None), "web/README.md": ("{}\n", None), "docs/more/B.md": ("{}\n", None), "CONTRIBUTING.md": ("{}\n", None),
+    "python/b.py": ('def f():\n    """{}"""\n', "def f():\n    # {}\n    pass\n"), "python/c.py": ('class C:\n    """{}"""\n', 'class C:\n    a = "{}"\n'),
+    "python/d.py": ('class C:\n    def f(self):\n        """{}"""\n', "x = 1  # {}\n"), "crates/small/src/b.rt": ("    /// {}\n", "    n // {}\n"),
     "web/a.d.ts": ("/** {} */\n", 'type A = "{}";\n'), "crates/small/src/a.rt": ("//! {}\n", "// {}\n"),
 }
 UNREAD = ("CHANGELOG.md", "docs/GLOSSARY.md", "python/a.txt", "c/a.c", "crates/small_tests/src/a.rt", "crates/small/out/a.rt", "tests/a.md")
