@@ -1,6 +1,6 @@
 // hull.js and journal.js in Node: each answer beside the program's stored ones and the plain way's, and each refusal.
 import { strict as assert } from "node:assert";
-import { readFileSync, readdirSync } from "node:fs";
+import { existsSync, readFileSync, readdirSync } from "node:fs";
 import * as faults from "../../web/hull.js";
 import { TextError, judge, readJournal, serve } from "../../web/journal.js";
 import { Plain, random_of } from "./plain.mjs";
@@ -331,6 +331,13 @@ await tried("bytes that are no module, and texts that are no journal", async () 
     await assert.rejects(load(new Response("<h1>not found</h1>", { status: 404 })), faults.Unsupported);
     await assert.rejects(load(Promise.reject(new TypeError("fetch failed"))), faults.Unsupported);
     await assert.rejects(load("http://[wrong"), faults.Unsupported);
+    const reason = new TypeError("no network"), isBy = (test) => (error) => error instanceof faults.Unsupported && test(error.cause) && error.message.includes(error.cause.message);
+    await assert.rejects(load(Promise.reject(reason)), isBy((cause) => cause === reason));
+    await assert.rejects(load(new Uint8Array([1, 2, 3])), isBy((cause) => cause instanceof WebAssembly.CompileError));
+    await assert.rejects(load(new URL("none.wasm", import.meta.url)), isBy((cause) => cause.code === "ENOENT"));
+    // the one that this engine runs, of those beside hull.js
+    const name = WebAssembly.validate(new Uint8Array([0, 97, 115, 109, 1, 0, 0, 0, 5, 3, 1, 4, 1])) ? "hull.wasm" : "hull32.wasm";
+    if (existsSync(new URL(`../../web/out/${name}`, import.meta.url))) assert.equal(new (await load()).Hull().count(), 0);
     await assert.rejects(load(readFileSync(module), { memory: NaN }), faults.OutOfRange);
     await assert.rejects(load(readFileSync(module), { memory: 1 }), faults.NoMemory);
     for (const text of ["", "end 0\n", "hullbook journal 3 first 0 limit 1 capacity 1\nend 1\n"]) assert.throws(() => readJournal(text), TextError);

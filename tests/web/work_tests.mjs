@@ -282,7 +282,22 @@ await tried("an address contains the points, and a wrong or a long one none", ()
     assert.equal(address, "#points=-7,8*12;0,0&power=3");
     assert.deepEqual(readAddress(address), { calls: [...Array(12).fill("add -7 8"), "add 0 0"], power: 3 });
     assert.deepEqual([addressOf(new Map(), 0), addressOf(new Map(Array.from({ length: 9000 }, (_, i) => [`${i} 0`, 1])), 0), readAddress("#proved"), readAddress("")], ["", "", null, null]);
+    assert.deepEqual(["#points=-7%2C8*12%3B0%2C0&power=3", "#points=4,4&power=-12", "#points=-0,-0"].map(readAddress), [readAddress(address), { calls: ["add 4 4"], power: -12 },
+        { calls: ["add 0 0"], power: 0 }]);
     for (const bad of ["#points=1", "#points=1,2*0", "#points=1,1099511627777", "#points=1,2;;3,4", "#points=1,2*70000"]) assert.throws(() => readAddress(bad), TextError, bad);
+});
+await tried("the state changes with the hull or the journal, and only then; questions are written after all calls only", () => {
+    const work = new Work(Hull, { journal: { ...emptyJournal(9), capacity: 6 }, power: 0 });
+    const isChanged = (run) => { const before = work.state; run(); return work.state !== before; };
+    const changes = [() => work.do(["add 1 1", "add 2 2"]), () => work.go(1), () => work.go(2), () => work.ask(["count", "area"]), () => work.go(3)];
+    assert.deepEqual(changes.map(isChanged), Array(5).fill(true));
+    const lines = () => work.replay.journal.lines.map((it) => it.call);
+    assert.deepEqual([isChanged(() => work.ask(["vertices"])), lines()], [false, ["add 1 1", "add 2 2", "count", "area"]]);
+    work.go(4);
+    assert.deepEqual([isChanged(() => work.ask(["count", "count", "count"])), work.message.includes("is full"), lines().length], [false, true, 4]);
+    assert.deepEqual([isChanged(() => work.ask(["count", "place 1 1"])), work.message, lines().length], [true, "5 0 place 1 1 = on", 6]);
+    assert.deepEqual([isChanged(() => work.do(["add 3 3"])), isChanged(() => work.do([])), work.hull.count(), lines().length], [false, false, 2, 6]);
+    assert.deepEqual([() => work.open(emptyJournal(5)), () => work.undo(), () => work.redo()].map(isChanged), [true, true, true]);
 });
 await tried("deeds at random, all undone and all redone", () => {
     const random = random_of(11);
