@@ -258,6 +258,11 @@ await tried("points as texts", () => {
     }
     const geometry = { type: "GeometryCollection", geometries: [{ type: "Point", coordinates: [1, 2, 9] }, { type: "MultiPolygon", coordinates: [[[[0, 0], [5, 0], [0, 5], [0, 0]]]] }] };
     assert.deepEqual(readRows(JSON.stringify(geometry)), [[1, 2, 1], [0, 0, 1], [5, 0, 1], [0, 5, 1]]);
+    const point = { type: "Point", coordinates: [7, 8] }, feature = { type: "Feature", properties: null, geometry: point };
+    for (const it of [[7, 8], [[7, 8]], [[[[7, 8]]]], point, feature, { features: [feature] }, { geometries: [point, point] }, { features: [{ geometry: { geometries: [point] } }] }]) {
+        assert.deepEqual(readRows(` ${JSON.stringify(it)}`), [[7, 8, 1]], JSON.stringify(it));
+    }
+    for (const none of ["[]", "{}", "[[]]", '{"features":[]}', '{"coordinates":[1]}', '{"coordinates":[1,null]}']) assert.throws(() => readRows(none), TextError, none);
     const held = new Map([["4 6", 1], ["0 0", 3], ["8 0", 1]]);
     assert.equal(writeRows("csv", held, [], 1), "x,y,times\n0,0,3\n2,3,1\n4,0,1\n");
     assert.equal(writeRows("csv", new Map([["1 9", 1], ["1 -9", 2], ["0 5", 1]]), [], 0), "x,y,times\n0,5,1\n1,-9,2\n1,9,1\n");
@@ -285,6 +290,19 @@ await tried("an address contains the points, and a wrong or a long one none", ()
     assert.deepEqual(["#points=-7%2C8*12%3B0%2C0&power=3", "#points=4,4&power=-12", "#points=-0,-0"].map(readAddress), [readAddress(address), { calls: ["add 4 4"], power: -12 },
         { calls: ["add 0 0"], power: 0 }]);
     for (const bad of ["#points=1", "#points=1,2*0", "#points=1,1099511627777", "#points=1,2;;3,4", "#points=1,2*70000"]) assert.throws(() => readAddress(bad), TextError, bad);
+});
+await tried("a work that was stored is continued where it was, with its deeds", () => {
+    const work = new Work(Hull), keys = (it) => [...it.replay.held.keys()].sort();
+    work.openCalls(["add 0 0"], 3), work.do(["add 1 1"]), work.do(["add 2 2"]), work.do(["add 3 3"]), work.undo(), work.undo(), work.go(4);
+    const again = new Work(Hull, structuredClone(work.here));
+    again.takeUp(structuredClone(work.deeds));
+    assert.deepEqual([keys(again), again.power, again.replay.at, again.deeds], [keys(work), 3, 4, work.deeds]);
+    for (const turn of ["undo", "undo", "redo", "undo", "undo", "redo", "redo", "redo", "redo", "redo"]) {
+        work[turn](), again[turn]();
+        assert.deepEqual([keys(again), again.power, again.message], [keys(work), work.power, work.message], turn);
+    }
+    work.undo(), again.undo(), work.do(["add 9 9"]), again.do(["add 9 9"]);
+    assert.deepEqual([keys(again), again.replay.journal], [keys(work), work.replay.journal]);
 });
 await tried("the state changes with the hull or the journal, and only then; questions are written after all calls only", () => {
     const work = new Work(Hull, { journal: { ...emptyJournal(9), capacity: 6 }, power: 0 });
