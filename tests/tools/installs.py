@@ -173,6 +173,11 @@ def test_again(tests, top, prefix, work):
     for words in ([], [""], ["-x"], ["--library"], [prefix, prefix], ["--library", "--uninstall"], ["--uninstall"]):
         tests.same(f"usage: {words}", run(top, "bin/install", *words), (2, USAGE))
     tests.same("usage: --help", run(top, "bin/install", "--help"), (0, USAGE))
+    for words, status in (([], 2), (["-x"], 2), (["--help"], 0), (["--uninstall", f"{prefix}.none"], 1)):
+        tests.same(f"{words}: messages are errors", run(top, "sh", "-c", 'bin/install "$@" 2>/dev/null', "", *words), (status, ""))
+    os.symlink(f"{top}/bin/install", f"{work}.link")
+    tests.same("by a link, from another folder", run("/", f"{work}.link", f"{prefix}.linked", env={"TMPDIR": work}), (0, ""))
+    tests.same("all its files", found(f"{prefix}.linked"), wanted(mine, mine == "x86_64"))
     run(top, "bin/install", prefix)
 
 

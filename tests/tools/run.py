@@ -268,6 +268,26 @@ def test_left_out(tests):
         tests.same("its log", read(f"{top}/out/test/crate-small.log"), "crates/run small\n1 passed, 0 failed\n")
 
 
+def test_each_suite(tests):
+    """Each suite that bin/test lists runs a script of tests/ of its own, with its name where several have one."""
+    with tempfile.TemporaryDirectory() as top:
+        lay_tools(top)
+        for at, _, names in os.walk(f"{TOP}/tests"):
+            for it in (os.path.relpath(f"{at}/{it}", TOP) for it in names if os.access(f"{at}/{it}", os.X_OK)):
+                write(f"{top}/{it}", f"#!/bin/sh\necho {it} $*\necho 1 passed, 0 failed\n", 0o755)
+        for it in ("rt", "cc", "ar", "node"):
+            write(f"{top}/path/{it}", "#!/bin/sh\n", 0o755)
+        write(f"{top}/tools/product.sh", "#!/bin/sh\n", 0o755), write(f"{top}/bin/install", "#!/bin/sh\n", 0o755)
+        env = {"PATH": f"{top}/path:{os.environ['PATH']}"}
+        suites = re.findall(r"(?m)^(\S+) .*\(needs: ", run(top, "bin/test", "--list", env=env)[1])
+        status, said = run(top, "bin/test", *suites, env=env)
+        tests.see("each suite runs", status == 0 and said.endswith(f"\n{len(suites)} passed, 0 failed\n") and len(suites) > 25, said)
+        ran = {it: read(f"{top}/out/test/{it}.log").splitlines()[0].strip() for it in suites}
+        tests.same("each its own", len(set(ran.values())), len(suites))
+        named = {it: name for it, name in ran.items() if it not in name and it != "c++"}
+        tests.same("by its name", named, {})
+
+
 def test_reports(tests):
     """bin/test prints each suite's counts and seconds, and of one that fails the tests that failed and the end; an interrupt ends all suites."""
     with tempfile.TemporaryDirectory() as top:
@@ -413,7 +433,7 @@ def test_tables(tests):
 
 
 SUITES = {
-    "tools": (test_judgement, test_layout, test_products, test_suites, test_left_out, test_reports, test_gate, test_gate_after_the_proof, test_language, test_tables, *judges.TESTS, *made.TESTS, *flows.TESTS, *scripts.TESTS),
+    "tools": (test_judgement, test_layout, test_products, test_suites, test_left_out, test_each_suite, test_reports, test_gate, test_gate_after_the_proof, test_language, test_tables, *judges.TESTS, *made.TESTS, *flows.TESTS, *scripts.TESTS),
     "packages": (installs.test_install, installs.test_needed, installs.test_package_words, installs.test_packages),
     "toolchain": (test_mutants,),
 }
