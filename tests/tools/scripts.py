@@ -239,6 +239,9 @@ def test_completions(tests):
         tests.same("bash: commands", [complete("hullbook", it) for it in ("", "c", "x")], [set(commands), {"check", "compact"}, set()])
         for it in commands:
             tests.same(f"bash: flags of {it}", complete("hullbook", it, "-"), {f"--{flag}" for flag in flags[it]})
+        for it in commands:
+            tests.same(f"bash: flags of {it} after a file", complete("hullbook", it, "other.txt", "script.txt", "--"), {f"--{flag}" for flag in flags[it]})
+        tests.same("bash: files after a flag", complete("hullbook", "run", "script.txt", "--after", "o"), {"other.txt"})
         tests.same("bash: flags that begin so", complete("hullbook", "run", "--l"), {"--limit"})
         tests.same("bash: files", [complete("hullbook", "run", "s"), complete("hulldraw", "")], [{"script.txt"}, {"script.txt", "other.txt"}])
         tests.same("bash: flags of hulldraw", complete("hulldraw", "--"), {f"--{it}" for it in drawn})
