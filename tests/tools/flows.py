@@ -179,7 +179,8 @@ def test_faults_of_runs(tests):
         write(f"{top}/crates/small/src/lib.rt", SOURCE)
         write(f"{top}/crates/small/mutants/notes.txt", "file: src/lib.rt\nold: one + 1\nnew: WRONG + 1\n")
         status, said = flow.run("small")
-        tests.see("a file that is no .edit", status == 1 and "small/notes.txt: NOT TRIED: BAD EDIT: no file NAME.edit" in said and said.endswith("\n1 passed, 1 failed\n"), said)
+        tests.see("a file that is no .edit", status == 1 and "small/notes.txt: NOT TRIED: BAD EDIT: no file NAME.edit" in said
+                  and said.endswith("\n1 passed, 1 failed\n"), said)
     with tempfile.TemporaryDirectory() as top:
         flow = Flow(top, low=[], middle=[], side=[], high=["goal"])
         write(f"{top}/crates.txt", "# four crates\nlow:\nmiddle: low # below it\n\nside: low\nhigh: side middle\n")
@@ -214,7 +215,8 @@ def test_files(tests):
         for it in names:
             write(f"{top}/{it}", it)
         tests.same("files below a folder, in order", list(kit.files_below(top)), sorted(names))
-        tests.same("a file that there is not", (kit.text_of(f"{top}/none"), kit.bytes_of(f"{top}/none"), [*kit.files_below(f"{top}/none")]), ("", b"", []))
+        tests.same("a file that there is not", (kit.text_of(f"{top}/none"), kit.bytes_of(f"{top}/none"), [*kit.files_below(f"{top}/none")]),
+            ("", b"", []))
         kit.link(f"{top}/de", f"{top}/one"), kit.link(f"{top}/de", f"{top}/one"), kit.link(f"{top}/none", f"{top}/two")
         tests.same("links", (os.stat(f"{top}/one/z").st_ino, os.path.exists(f"{top}/two")), (os.stat(f"{top}/de/z").st_ino, False))
         linked, os.link = os.link, lambda *_: (_ for _ in ()).throw(OSError(18, "another file system"))

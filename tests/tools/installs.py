@@ -141,7 +141,8 @@ def test_install(tests):
             made |= set() if prefix.startswith(top) else {os.path.relpath(prefix, room).partition("/")[0]}
             tests.same(f"{what}: nothing is made beside it", (set(os.listdir(room)), set(os.listdir(top)) - {"relative"}), (made, there))
         spaces = f"{room}/a b"
-        tests.same("--uninstall of a prefix with spaces", (run(top, "bin/install", "--uninstall", f"{spaces}/c"), os.listdir(spaces)), ((0, ""), ["c"]))
+        tests.same("--uninstall of a prefix with spaces", (run(top, "bin/install", "--uninstall", f"{spaces}/c"), os.listdir(spaces)),
+            ((0, ""), ["c"]))
         tests.same("it is empty", os.listdir(f"{spaces}/c"), [])
         test_again(tests, top, f"{room}/all", work)
         test_version_file(tests, f"{room}/all")
@@ -388,4 +389,5 @@ def test_package_words(tests):
             tests.same(f"{os.path.basename(command)}: words", run(room, command, "--test", "a folder", "*"), (4, "['--test', 'a folder', '*']\n"))
         for it in ("sh", "dirname", "readlink"):
             os.symlink(shutil.which(it), f"{room}/without/{it}")
-        tests.same("without Python", run(room, "bin/package", "out", env={"PATH": f"{room}/without"}), (69, "bin/package: it needs Python 3: apt-get install python3\n"))
+        tests.same("without Python", run(room, "bin/package", "out", env={"PATH": f"{room}/without"}),
+            (69, "bin/package: it needs Python 3: apt-get install python3\n"))

@@ -110,7 +110,8 @@ def test_outcomes(tests):
     by_error = by_error.replace("no proof\n", "not proved\n", 1)
     tests.same("an error in its proof is its goal", mutants.goals_of(by_error), {"a::m::b": "this is open in two lines"})
     free = mutants.Function("a::m::", "moved")
-    tests.same("a function by its module and its name", [free.is_at(it) for it in ("a::m::moved", "a::m::removed", "a::moved", "b::m::moved")], [True, False, False, False])
+    tests.same("a function by its module and its name", [free.is_at(it) for it in ("a::m::moved", "a::m::removed", "a::moved", "b::m::moved")],
+        [True, False, False, False])
     method = mutants.Function("a::", "moved", "Point")
     tests.see("a method by its block",
             method.is_at("a::other::Point::moved") and not method.is_at("a::PointDisplay::moved") and not method.is_at("a::moved"))
@@ -151,7 +152,8 @@ def test_edits(tests):
         tests.see("a constant is in no function, and its users show it", constant.is_alone() and constant.witnesses == function("moved",
                 "PointDisplay"), constant)
         heads = [edit_of(crate, "head", (it, "fn x()")) for it in ("fn second()", "pub fn first() ->", "pub fn moved(self)")]
-        tests.same("a text that begins a function", [it.functions for it in heads], [function("second"), function("first"), function("moved", "Point")])
+        tests.same("a text that begins a function", [it.functions for it in heads],
+            [function("second"), function("first"), function("moved", "Point")])
         tests.same("two changes of one text overlap", mutants.applied(crate, [first, over]), None)
         tests.see("two others are applied", "    four" in mutants.applied(crate, [first,
                 second])["src/lib.rt"] and "    one + 1\n" in mutants.applied(crate, [first, second])["src/lib.rt"])
@@ -239,7 +241,8 @@ PROSE = {
     "rust/hull/src/b.rs": ("mod b;\n    /// {}\n", "    // {}\n"), "man/a.3": ("{}\n", None), "python/a.py": ('"""{}"""\n', "a = '{}'\n"), "python/README.md": ("{}\n", None), "rust/hull/src/a.rs": ("/// {}\n",
             "// {}\n"),
     "man/a.1": ("{}\n", None), "web/README.md": ("{}\n", None), "docs/more/B.md": ("{}\n", None), "CONTRIBUTING.md": ("{}\n", None),
-    "python/b.py": ('def f():\n    """{}"""\n', "def f():\n    # {}\n    pass\n"), "python/c.py": ('class C:\n    """{}"""\n', 'class C:\n    a = "{}"\n'),
+    "python/b.py": ('def f():\n    """{}"""\n', "def f():\n    # {}\n    pass\n"), "python/c.py": ('class C:\n    """{}"""\n',
+        'class C:\n    a = "{}"\n'),
     "python/d.py": ('class C:\n    def f(self):\n        """{}"""\n', "x = 1  # {}\n"), "crates/small/src/b.rt": ("    /// {}\n", "    n // {}\n"),
     "web/a.d.ts": ("/** {} */\n", 'type A = "{}";\n'), "crates/small/src/a.rt": ("//! {}\n", "// {}\n"),
 }

@@ -38,7 +38,9 @@ class Made:
         write(f"{top}/asked", "")
         self.products = [f"{it}/libhull.{end}" for it in (MINE, OTHER) for end in ("a", "so")] + [f"{MINE}/hullbook"]
         library = "hull_c: c/a.c c/b.c include/a.h"
-        write(f"{top}/tools/products.txt", "".join(f"{it} {'hullbook:' if it.endswith('book') else library + ' python/calls.c' * it.endswith('.so')}\n" for it in self.products))
+        more = {"a": f"{library}", "so": f"{library} python/calls.c"}
+        rows = [f"{it} {more.get(it.rpartition('.')[2], 'hullbook:')}\n" for it in self.products]
+        write(f"{top}/tools/products.txt", "".join(rows))
         write(f"{top}/crates.txt", "low:\nhull_c staticlib: low\nhullbook: low\n")
         for crate in ("low", "hull_c", "hullbook"):
             write(f"{top}/crates/{crate}/src/lib.rt", f"{crate}\n")
@@ -72,7 +74,8 @@ def test_compiled(tests):
         archive = f"released {MINE}/libhull.a\nrenamed hull_add hull_proved_add\nobject of c/a.c\nobject of c/b.c\n"
         shared = f"linked -nostdlib soname,libhull.so\nobject of python/calls.c\n{archive}"
         write(f"{top}/python/calls.c", "changed\n")
-        tests.same("a changed file of one library", [it.put(f"{MINE}/libhull.{end}") for end in ("a", "so")], [(0, f"released {MINE}/libhull.a\n", []), (0, shared, [])])
+        tests.same("a changed file of one library", [it.put(f"{MINE}/libhull.{end}") for end in ("a", "so")],
+            [(0, f"released {MINE}/libhull.a\n", []), (0, shared, [])])
         write(f"{top}/c/b.c", "changed\n")
         tests.same("and of both", [it.put(f"{MINE}/libhull.{end}") for end in ("a", "so")], [(0, archive, []), (0, shared, [])])
         os.makedirs(f"{top}/out")
@@ -87,7 +90,8 @@ def test_compiled(tests):
             write(f"{top}/{name}", before)
         write(f"{top}/crates/low/src/lib.rt", "changed\n")
         status = it.put(f"{OTHER}/libhull.a")
-        tests.see("proved code for another machine", status == (69, "", []) and "only tools/release.sh makes it for another machine" in it.said, (status, it.said))
+        tests.see("proved code for another machine", status == (69, "", []) and "only tools/release.sh makes it for another machine" in it.said,
+            (status, it.said))
 
 
 def test_proved(tests):

@@ -69,7 +69,8 @@ PLACES = (
     ("a line too many", "rust/hull/src/raw.rs", "OLD: u32 = 69;\n", "OLD: u32 = 69;\n    pub const ONE: u32 = 1;\n", "raw.rs: FAILED, codes: it says"),
     ("a mark that is gone", "web/hull.js", "written by tools/table.py: codes", "", "web/hull.js: FAILED, codes occurs 0 times"),
     ("another version", "rust/hull/Cargo.toml", 'version = "', 'version = "9', "Cargo.toml: FAILED, the version: it says '9"),
-    ("a version that is there twice", "web/package.json", '    "version": "', '    "version": "1",\n    "version": "', "web/package.json: FAILED, the version occurs 2 times"),
+    ("a version that is there twice", "web/package.json", '    "version": "', '    "version": "1",\n    "version": "',
+     "web/package.json: FAILED, the version occurs 2 times"),
     ("a case unlike the others", "crates/hull_reply/src/request.rt", "Call::Place(point_of", "Call::Add(point_of",
      "hull_reply/src/request.rt: FAILED, a case for each kind: it says 'Kind::Place"),
     ("a case that is missing", "crates/hull_reply/specs/Encoded.antt", "Encodes r reply.Absent = IsBare code.Absent r\n", "",
@@ -219,12 +220,14 @@ def test_suites(tests):
         tests.see("--list", status == 0 and all(re.search(rf"(?m)^{it} .*\(needs: ", said) for it in ("files", "cli", "dist", "tools")), said)
         tests.see("--help", run(top, "bin/test", "--help")[1].startswith("Runs the tests that this machine can run"))
         status, said = run(top, "bin/test", "other")
-        tests.see("a name that is no suite", status == 2 and "there is no suite or crate 'other'" in said and said.endswith("\n0 passed, 1 failed\n"), said)
+        tests.see("a name that is no suite", status == 2 and "there is no suite or crate 'other'" in said
+                  and said.endswith("\n0 passed, 1 failed\n"), said)
 
 
 # what bin/test itself calls, and what a suite needs that is not there with it
 CALLED = "awk cat cut date dirname getconf grep head mkdir nproc readlink rm sed seq sh tail tr uname".split()
-REASONS = {"python3": "it needs Python 3: apt-get install python3", "node": "it needs Node: apt-get install nodejs", "rt": "it needs the Rattle toolchain (rt)",
+REASONS = {"python3": "it needs Python 3: apt-get install python3", "node": "it needs Node: apt-get install nodejs",
+    "rt": "it needs the Rattle toolchain (rt)",
            "cc": "it needs a C compiler: apt-get install gcc libc6-dev", "linked": "it needs a C compiler: apt-get install gcc libc6-dev",
            "program": "the proved sources have changed since the release, so it needs the toolchain (rt): tools/release.sh proves them"}
 
@@ -249,7 +252,8 @@ def test_left_out(tests):
             ("c", ["cc"], "", "it needs ar: apt-get install binutils"), ("c", ["cc", "ar"], "", changed),
             ("c", ["cc", "ar"], f"ready {mine}/libhull.a", changed), ("c", ["cc", "ar"], f"ready {mine}/libhull_shared.a", changed),
             ("c", ["cc", "ar"], f"ready {mine}/libhull.a ready {mine}/libhull_shared.a", None),
-            ("cli", [], "program hullbook", changed), ("cli", [], "program hulldraw", changed), ("cli", [], "program hullbook program hulldraw", None),
+            ("cli", [], "program hullbook", changed), ("cli", [], "program hulldraw", changed), ("cli", [], "program hullbook program hulldraw",
+             None),
             ("memory", ["cc"], "", "it needs the program as the toolchain links it here"), ("memory", [], "linked hullbook", REASONS["linked"]),
             ("memory", ["cc"], "linked hullbook", None), ("crates", [], "", REASONS["rt"]), ("crates", ["rt"], "", None),
         ):
@@ -262,7 +266,8 @@ def test_left_out(tests):
                 os.remove(f"{top}/path/{it}")
         os.makedirs(f"{top}/crates/small")
         status, said = run(top, "bin/test", "small", env=env)
-        tests.see("a crate without the toolchain", status == 2 and "there is no suite or crate 'small'" in said and said.endswith("\n0 passed, 1 failed\n"), said)
+        tests.see("a crate without the toolchain", status == 2 and "there is no suite or crate 'small'" in said
+                  and said.endswith("\n0 passed, 1 failed\n"), said)
         write(f"{top}/path/rt", "#!/bin/sh\n", 0o755)
         tests.accepts("with it", top, "bin/test", "small", env=env)
         tests.same("its log", read(f"{top}/out/test/crate-small.log"), "crates/run small\n1 passed, 0 failed\n")
@@ -292,11 +297,13 @@ def test_reports(tests):
     """bin/test prints each suite's counts and seconds, and of one that fails the tests that failed and the end; an interrupt ends all suites."""
     with tempfile.TemporaryDirectory() as top:
         lay_tools(top)
-        write(f"{top}/tests/files/run.sh", "#!/bin/sh\ncat; echo its errors >&2; echo early: FAILED, why; seq 100 140; echo 5 passed, 1 failed; exit 1\n", 0o755)
+        suite = "cat; echo its errors >&2; echo early: FAILED, why; seq 100 140; echo 5 passed, 1 failed; exit 1"
+        write(f"{top}/tests/files/run.sh", f"#!/bin/sh\n{suite}\n", 0o755)
         said = run(top, "sh", "-c", "echo typed | bin/test files")[1]
         tests.see("the line of a suite", re.search(r"(?m)^files: 5 passed, 1 failed, \d+ s, \d+ s of a processor$", said), said)
         end = "".join(f"{it}\n" for it in range(130, 141))
-        tests.see("what failed, and the end", f"==== files, the end of out/test/files.log\nearly: FAILED, why\n5 passed, 1 failed\n{end}5 passed, 1 failed\n5 passed, 1 failed\n" in said, said)
+        end = f"==== files, the end of out/test/files.log\nearly: FAILED, why\n5 passed, 1 failed\n{end}5 passed, 1 failed\n5 passed, 1 failed\n"
+        tests.see("what failed, and the end", end in said, said)
         log = read(f"{top}/out/test/files.log")
         tests.see("its log has its errors, and it reads nothing", log.startswith("its errors\nearly") and "typed" not in log, log)
         write(f"{top}/tests/files/run.sh", f"#!/bin/sh\necho $$ >{top}/pid.new && mv {top}/pid.new {top}/pid; sleep 1000 & wait\n", 0o755)
@@ -352,7 +359,8 @@ def test_gate(tests):
                 tests.refuses(f"a gate in which {it} {what}", "FAILED:", top, ".ci/run", env=env)
             write(f"{top}/{it}", good, 0o755)
         failed = f"a test: FAILED, {'1' * 200}, not 0"
-        write(f"{top}/bin/test", good.replace("echo 1 passed", f"echo '{failed}{'x' * 300}'; echo '{failed}'; seq 1000; echo 1 passed").replace("0 failed", "1 failed"), 0o755)
+        write(f"{top}/bin/test", good.replace("echo 1 passed",
+            f"echo '{failed}{'x' * 300}'; echo '{failed}'; seq 1000; echo 1 passed").replace("0 failed", "1 failed"), 0o755)
         end = f"{(failed + 'x' * 300)[:300]}\n{failed}\nFAILED: bin/test bin/test, later\n"
         tests.refuses("the end of its output names the test that failed", end, top, ".ci/run", env=env)
 
@@ -369,11 +377,13 @@ def test_gate_after_the_proof(tests):
             for it in ("hullbook", "hulldraw"):
                 write(f"{top}/crates/{it}/out/{it}", "program\n")
                 write(f"{top}/crates/{it}/out/{it}.o", "object\n") if has_object else os.remove(f"{top}/crates/{it}/out/{it}.o")
-            write(f"{top}/asked", ""), write(f"{top}/tools/product.sh", f"#!/bin/sh\necho tools/product.sh $1 $2 >>asked\n[ $1 != ready ] || {str(is_ready).lower()}\n", 0o755)
+            write(f"{top}/asked", ""), write(f"{top}/tools/product.sh",
+                f"#!/bin/sh\necho tools/product.sh $1 $2 >>asked\n[ $1 != ready ] || {str(is_ready).lower()}\n", 0o755)
             run(top, ".ci/run", env=env)
             wanted = [f"made {it}" if has_object else f"make x86_64/{it}" for it in ("hullbook", "hulldraw")]
             wanted += [f"{word} x86_64/{it}.a" for it in ("libhull", "libhull_shared") for word in ("ready", "make")[: 2 - is_ready]]
-            tests.same(f"what is kept of the proof {'with' if has_object else 'without'} objects", products(), [f"tools/product.sh {it}" for it in wanted])
+            tests.same(f"what is kept of the proof {'with' if has_object else 'without'} objects", products(),
+                [f"tools/product.sh {it}" for it in wanted])
         for it in COMMANDS[:4]:
             failed = "3 passed, 1 failed; exit 1" if it == "path/rt" else "1 passed, 0 failed"
             write(f"{top}/{it}", f"#!/bin/sh\necho {it} $* >>asked\necho {failed}\n", 0o755), write(f"{top}/asked", "")
@@ -433,7 +443,8 @@ def test_tables(tests):
 
 
 SUITES = {
-    "tools": (test_judgement, test_layout, test_products, test_suites, test_left_out, test_each_suite, test_reports, test_gate, test_gate_after_the_proof, test_language, test_tables, *judges.TESTS, *made.TESTS, *flows.TESTS, *scripts.TESTS),
+    "tools": (test_judgement, test_layout, test_products, test_suites, test_left_out, test_each_suite, test_reports, test_gate,
+        test_gate_after_the_proof, test_language, test_tables, *judges.TESTS, *made.TESTS, *flows.TESTS, *scripts.TESTS),
     "packages": (installs.test_install, installs.test_needed, installs.test_package_words, installs.test_packages),
     "toolchain": (test_mutants,),
 }

@@ -90,7 +90,8 @@ def test_programs(tests):
         for name in ("hullbook", "hulldraw"):
             os.symlink(f"{top}/bin/{name}", f"{top}/linked-{name}")
             for command in (f"bin/{name}", f"{top}/linked-{name}"):
-                tests.same(f"{os.path.basename(command)}: each word as one", run(top, command, "a b", "c d", "*", "", env={**env, "COUNT": "1"})[1].split("\n")[0], "4 words")
+                tests.same(f"{os.path.basename(command)}: each word as one",
+                    run(top, command, "a b", "c d", "*", "", env={**env, "COUNT": "1"})[1].split("\n")[0], "4 words")
         tests.same("the caller's tunables stay", run(top, "bin/hulldraw", env={**env, "GLIBC_TUNABLES": "mine"}), (0, "said  by mine\n"))
         tests.same("its path", run(top, "tools/program.sh", "--path", "hullbook", env=env), (0, f"{top}/tools/stand-in\n"))
         os.symlink(f"{top}/bin/hullbook", f"{top}/linked")
@@ -217,9 +218,11 @@ def test_completions(tests):
     # (a flag is followed by a file, a number or nothing, as its synopsis says)
     given = {"after": "file", **{it: "number" for it in ("capacity", "limit", "first", "line", "size")}}
     kinds = {":journal:_files": "file", ":number:": "number", "": None}
-    tests.same("zsh: what follows a flag", [(name, kinds[more]) for name, more in re.findall(r"'--(\w+)\[[^]]*\]([^']*)'", texts["_hullbook"]) if kinds[more] != given.get(name)], [])
+    tests.same("zsh: what follows a flag", [(name, kinds[more]) for name,
+        more in re.findall(r"'--(\w+)\[[^]]*\]([^']*)'", texts["_hullbook"]) if kinds[more] != given.get(name)], [])
     fish = re.findall(r"(?m)^complete .* -l (\w+)( -[rx])? -d '[^']+'$", texts["hullbook.fish"])
-    tests.same("fish: what follows a flag", {(name, {" -r": "file", " -x": "number", "": None}[more]) for name, more in fish}, {(name, given.get(name)) for name, _ in fish})
+    tests.same("fish: what follows a flag", {(name, {" -r": "file", " -x": "number", "": None}[more]) for name, more in fish},
+        {(name, given.get(name)) for name, _ in fish})
     tests.same("fish: each flag has a description", len(fish), texts["hullbook.fish"].count(" -l "))
     tests.see("zsh: files", "'*:file:_files'" in texts["_hullbook"] and "'1:journal:_files'" in texts["_hullbook"])
     bash = shutil.which("bash")
@@ -240,7 +243,8 @@ def test_completions(tests):
         for it in commands:
             tests.same(f"bash: flags of {it}", complete("hullbook", it, "-"), {f"--{flag}" for flag in flags[it]})
         for it in commands:
-            tests.same(f"bash: flags of {it} after a file", complete("hullbook", it, "other.txt", "script.txt", "--"), {f"--{flag}" for flag in flags[it]})
+            tests.same(f"bash: flags of {it} after a file", complete("hullbook", it, "other.txt", "script.txt", "--"),
+                {f"--{flag}" for flag in flags[it]})
         tests.same("bash: files after a flag", complete("hullbook", "run", "script.txt", "--after", "o"), {"other.txt"})
         tests.same("bash: flags that begin so", complete("hullbook", "run", "--l"), {"--limit"})
         tests.same("bash: files", [complete("hullbook", "run", "s"), complete("hulldraw", "")], [{"script.txt"}, {"script.txt", "other.txt"}])

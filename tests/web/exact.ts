@@ -29,7 +29,8 @@ same<Line, { number: bigint; seat: number; call: string; reply: string }>();
 same<Journal, { version: number; first: bigint; limit: number; capacity: number; lines: Line[]; segments?: { name: string; from: number }[] }>();
 
 type Questions = "place" | "tangents" | "extreme" | "doubledArea" | "placeAll" | "tangentsAll" | "extremeAll" | "vertices" | "vertexArray" | "free";
-type OfHull = "add" | "remove" | "addAll" | "removeAll" | "multiplicity" | "count" | "limit" | "load" | "held" | "loadHeld" | "copy" | "bridges" | "clear" | "polygon";
+type OfHull = "add" | "remove" | "addAll" | "removeAll" | "multiplicity" | "count" | "limit" | "load"
+    | "held" | "loadHeld" | "copy" | "bridges" | "clear" | "polygon";
 same<keyof Hull, Questions | OfHull>();
 same<Pick<Hull, Questions>, Pick<Polygon, Questions>>();
 same<Hull["place"], Asked<Place, never>>();

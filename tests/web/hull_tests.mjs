@@ -203,14 +203,17 @@ await tried("refused memory leaves the hull as it was", async () => {
 await tried("what is no points is refused, and what can be passed over once is read once", () => {
     const hull = new Hull();
     hull.addAll([[1, 2], [3, 4]]);
-    const nonsense = { NoPoints: [Promise.resolve([]), {}, 5, null, undefined, "ab", "12", ""], OutOfRange: [[[1]], [5], [[1, 2, 3]], ["123"], [null], [[]]] };
+    const nonsense = { NoPoints: [Promise.resolve([]), {}, 5, null, undefined, "ab", "12", ""],
+        OutOfRange: [[[1]], [5], [[1, 2, 3]], ["123"], [null], [[]]] };
     for (const [name, all] of Object.entries(nonsense)) {
         for (const call of ["load", "addAll", "removeAll", "placeAll", "tangentsAll", "extremeAll"]) {
             for (const it of all) assert.throws(() => hull[call](it), (error) => error.name === name, `${call} of ${String(it)}`);
         }
-        for (const it of all) for (const make of [(them) => new Polygon(them), Polygon.of]) assert.throws(() => make(it), (error) => error.name === name);
+        for (const it of all) for (const make of [(them) => new Polygon(them), Polygon.of]) assert.throws(() => make(it),
+            (error) => error.name === name);
     }
-    for (const point of [[1], [1, 2, 3], [1, 0.5], [2 ** 41, 0], ["1", 2]]) assert.throws(() => hull.loadHeld([{ point, multiplicity: 1 }]), faults.OutOfRange);
+    for (const point of [[1], [1, 2, 3], [1, 0.5], [2 ** 41, 0], ["1", 2]]) assert.throws(() => hull.loadHeld([{ point, multiplicity: 1 }]),
+        faults.OutOfRange);
     assert.equal(hull.count(), 2);
     assert.deepEqual([...hull.addAll([[1, 2], [5, 6]].values())], [2, 1]);
     assert.equal(hull.removeAll(new Set([[5, 6]])), 1);
@@ -331,7 +334,8 @@ await tried("bytes that are no module, and texts that are no journal", async () 
     await assert.rejects(load(new Response("<h1>not found</h1>", { status: 404 })), faults.Unsupported);
     await assert.rejects(load(Promise.reject(new TypeError("fetch failed"))), faults.Unsupported);
     await assert.rejects(load("http://[wrong"), faults.Unsupported);
-    const reason = new TypeError("no network"), isBy = (test) => (error) => error instanceof faults.Unsupported && test(error.cause) && error.message.includes(error.cause.message);
+    const reason = new TypeError("no network");
+    const isBy = (test) => (error) => error instanceof faults.Unsupported && test(error.cause) && error.message.includes(error.cause.message);
     await assert.rejects(load(Promise.reject(reason)), isBy((cause) => cause === reason));
     await assert.rejects(load(new Uint8Array([1, 2, 3])), isBy((cause) => cause instanceof WebAssembly.CompileError));
     await assert.rejects(load(new URL("none.wasm", import.meta.url)), isBy((cause) => cause.code === "ENOENT"));

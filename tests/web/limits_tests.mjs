@@ -176,7 +176,8 @@ await tried("where memory is refused in a call on many, or in a copy, all is as 
     assert.deepEqual([hull.add(5, 5), hull.count()], [1, 1]);
 });
 await tried("in a full memory what was given back is there: an array that grew, and the hull of a copy that was refused", async () => {
-    const { Hull: Small, Polygon: Poly } = await load(bytes, { memory: 3 * 2 ** 20 }), parabola = (count) => Array.from({ length: count }, (_, i) => [i, i * i]);
+    const { Hull: Small, Polygon: Poly } = await load(bytes, { memory: 3 * 2 ** 20 }), parabola = (count) => Array.from({ length: count },
+        (_, i) => [i, i * i]);
     const [few, many] = [512, 4096].map((count) => { const it = new Small(); it.load(parabola(count)); return it; });
     few.vertexArray(), few.held();
     const spare = [new Poly(parabola(8192)), new Small()], kept = [];
@@ -363,7 +364,8 @@ await tried("journals at the ends of their numbers, and one beyond", () => {
             (error) => error instanceof TextError && error.line === 3 && error.found === line, line);
     }
     assert.throws(() => readJournal(text({ version: 1, lines: [`0 0 add ${2 ** 20 + 1} 0 = added`] })), TextError);
-    for (const more of ["x", "\n", "end 1\n", "1 0 count = count 0\n"]) assert.throws(() => readJournal(text({ lines: ["0 0 count = count 0"] }) + more), TextError, more);
+    for (const more of ["x", "\n", "end 1\n", "1 0 count = count 0\n"])
+        assert.throws(() => readJournal(text({ lines: ["0 0 count = count 0"] }) + more), TextError, more);
     assert.throws(() => readJournal(text({}).trimEnd()), TextError);
     assert.deepEqual([numberOf({ first: 2n ** 64n - 1n }, 0), numberOf({ first: 2n ** 64n - 1n }, 1), numberOf({ first: 2n ** 63n }, 5)],
         [2n ** 64n - 1n, 0n, 2n ** 63n + 5n]);

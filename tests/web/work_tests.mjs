@@ -259,21 +259,27 @@ await tried("points as texts", () => {
     const geometry = { type: "GeometryCollection", geometries: [{ type: "Point", coordinates: [1, 2, 9] }, { type: "MultiPolygon", coordinates: [[[[0, 0], [5, 0], [0, 5], [0, 0]]]] }] };
     assert.deepEqual(readRows(JSON.stringify(geometry)), [[1, 2, 1], [0, 0, 1], [5, 0, 1], [0, 5, 1]]);
     const point = { type: "Point", coordinates: [7, 8] }, feature = { type: "Feature", properties: null, geometry: point };
-    for (const it of [[7, 8], [[7, 8]], [[[[7, 8]]]], point, feature, { features: [feature] }, { geometries: [point, point] }, { features: [{ geometry: { geometries: [point] } }] }]) {
+    for (const it of [[7, 8], [[7, 8]], [[[[7, 8]]]], point, feature, { features: [feature] }, { geometries: [point, point] },
+        { features: [{ geometry: { geometries: [point] } }] }]) {
         assert.deepEqual(readRows(` ${JSON.stringify(it)}`), [[7, 8, 1]], JSON.stringify(it));
     }
-    for (const none of ["[]", "{}", "[[]]", '{"features":[]}', '{"coordinates":[1]}', '{"coordinates":[1,null]}']) assert.throws(() => readRows(none), TextError, none);
+    for (const none of ["[]", "{}", "[[]]", '{"features":[]}', '{"coordinates":[1]}',
+        '{"coordinates":[1,null]}']) assert.throws(() => readRows(none), TextError, none);
     const held = new Map([["4 6", 1], ["0 0", 3], ["8 0", 1]]);
     assert.equal(writeRows("csv", held, [], 1), "x,y,times\n0,0,3\n2,3,1\n4,0,1\n");
     assert.equal(writeRows("csv", new Map([["1 9", 1], ["1 -9", 2], ["0 5", 1]]), [], 0), "x,y,times\n0,5,1\n1,-9,2\n1,9,1\n");
     assert.deepEqual(readRows(writeRows("geojson", held, [[0, 0], [8, 0], [4, 6]], 0)), [[0, 0, 3], [4, 6, 1], [8, 0, 1]]);
-    const [a, b, c] = [[0, 0], [8, 0], [4, 6]], geometries = [[], [a], [a, b], [a, b, c]].map((it) => JSON.parse(writeRows("geojson", held, it, 1)).features[1].geometry);
-    assert.deepEqual(geometries, [{ type: "GeometryCollection", geometries: [] }, { type: "Point", coordinates: [0, 0] }, { type: "LineString", coordinates: [[0, 0], [4, 0]] },
+    const [a, b, c] = [[0, 0], [8, 0], [4, 6]], geometries = [[], [a], [a, b],
+        [a, b, c]].map((it) => JSON.parse(writeRows("geojson", held, it, 1)).features[1].geometry);
+    assert.deepEqual(geometries, [{ type: "GeometryCollection", geometries: [] }, { type: "Point", coordinates: [0, 0] },
+        { type: "LineString", coordinates: [[0, 0], [4, 0]] },
         { type: "Polygon", coordinates: [[[0, 0], [4, 0], [2, 3], [0, 0]]] }]);
     assert.deepEqual(readRows("1,2,65535\n3,4,1"), [[1, 2, 65535], [3, 4, 1]]);
     for (const times of [0, 65536, -1, 1.5]) assert.throws(() => readRows(`1,2\n3,4,${times}`), TextError);
-    const timed = (times) => JSON.stringify({ type: "Feature", properties: { times }, geometry: { type: "MultiPoint", coordinates: [[1, 2], [3, 4], [1, 2]] } });
-    assert.deepEqual([[65535, 1, 9], [65536, 0, 1], [2], undefined].map((it) => readRows(timed(it))), [[[1, 2, 65535], [3, 4, 1]], [[1, 2, 1], [3, 4, 1]], [[1, 2, 2], [3, 4, 1]],
+    const timed = (times) => JSON.stringify({ type: "Feature", properties: { times },
+        geometry: { type: "MultiPoint", coordinates: [[1, 2], [3, 4], [1, 2]] } });
+    assert.deepEqual([[65535, 1, 9], [65536, 0, 1], [2], undefined].map((it) => readRows(timed(it))),
+        [[[1, 2, 65535], [3, 4, 1]], [[1, 2, 1], [3, 4, 1]], [[1, 2, 2], [3, 4, 1]],
         [[1, 2, 1], [3, 4, 1]]]);
 });
 await tried("the power by which numbers are whole", () => {
@@ -287,7 +293,8 @@ await tried("an address contains the points, and a wrong or a long one none", ()
     assert.equal(address, "#points=-7,8*12;0,0&power=3");
     assert.deepEqual(readAddress(address), { calls: [...Array(12).fill("add -7 8"), "add 0 0"], power: 3 });
     assert.deepEqual([addressOf(new Map(), 0), addressOf(new Map(Array.from({ length: 9000 }, (_, i) => [`${i} 0`, 1])), 0), readAddress("#proved"), readAddress("")], ["", "", null, null]);
-    assert.deepEqual(["#points=-7%2C8*12%3B0%2C0&power=3", "#points=4,4&power=-12", "#points=-0,-0"].map(readAddress), [readAddress(address), { calls: ["add 4 4"], power: -12 },
+    assert.deepEqual(["#points=-7%2C8*12%3B0%2C0&power=3", "#points=4,4&power=-12", "#points=-0,-0"].map(readAddress),
+        [readAddress(address), { calls: ["add 4 4"], power: -12 },
         { calls: ["add 0 0"], power: 0 }]);
     for (const bad of ["#points=1", "#points=1,2*0", "#points=1,1099511627777", "#points=1,2;;3,4", "#points=1,2*70000"]) assert.throws(() => readAddress(bad), TextError, bad);
 });
