@@ -106,6 +106,8 @@ def test_outcomes(tests):
     several = "note: src/lib.rt:1: it is not proved that p\nfn a::b: not proved\nfn a::c: no proof; it calls b\nfn a::d: no proof: the plan did not prove q; it calls b\nfn a::e: proved\n"
     tests.same("each open goal is its own function's", mutants.goals_of(several), {"a::b": "note: src/lib.rt:1: it is not proved that p",
             "a::d": "q"})
+    before = "note: src/lib.rt:1: it is not proved that p\nfn a::b: proved\nfn a::c: not proved\nfn a::d: no proof; it calls c\n"
+    tests.same("what is noted of one function is not said of the next", mutants.goals_of(before), {})
     by_error = "proofs/m/b/Answers.antt:3:1: error: this is open\n  in two lines\nfn a::m::b: no proof\nfn a::m::c: not proved\n"
     by_error = by_error.replace("no proof\n", "not proved\n", 1)
     tests.same("an error in its proof is its goal", mutants.goals_of(by_error), {"a::m::b": "this is open in two lines"})
