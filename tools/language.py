@@ -58,7 +58,7 @@ def main(words):
     if words[:1] == ["--where"] and len(words) == 2:
         pattern = {**RARE, **FREQUENT}.get(words[1], words[1])
         for path, text in texts.items():
-            print(*(f"{path}: {line.strip()[:160]}" for line in text.splitlines() if occurrences(line, pattern)), sep="\n", end="")
+            print("".join(f"{path}: {line.strip()[:160]}\n" for line in text.splitlines() if occurrences(line, pattern)), end="")
         return 0
     whole = "\n".join(texts.values())
     size, counts = len(whole.split()), {name: len(occurrences(whole, pattern)) for name, pattern in RARE.items()}

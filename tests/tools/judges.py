@@ -282,6 +282,11 @@ def test_words(tests):
         tests.see("--write lowers the limits", said[0] == 0 and "\nstands 0\n" in kit.text_of(f"{top}/.ci/language.txt"), said)
         tests.accepts("code is no prose", top, "tools/language.py")
         os.remove(f"{top}/.ci/language.txt")
+        write(f"{top}/README.md", "A table.\n  Two desks, one desk.\nTables\nDESK\n"), write(f"{top}/docs/A.md", "A desk\n")
+        where = [run(top, "tools/language.py", "--where", it) for it in ("desk", "tables?", "shelf")]
+        tests.same("--where prints the lines with a word", where, [(0, "README.md: Two desks, one desk.\nREADME.md: DESK\ndocs/A.md: A desk\n"),
+                                                                  (0, "README.md: A table.\nREADME.md: Tables\n"), (0, "")])
+        write(f"{top}/docs/A.md", "Plain.\n")
         write(f"{top}/README.md", "Two desks.\n")
         tests.refuses("a word with no limit", "'desk': FAILED, 1 times, and .ci/language.txt allows 0", top, "tools/language.py")
 
@@ -294,7 +299,7 @@ def test_lengths(tests):
         write(f"{top}/crates/small/src/lib.rt",
                 "//! What it is about.\n//! In two lines.\n//!\n//! More.\npub use inner::{Two, One};\npub use inner::Three;\nuse other::Four;\n")
         write(f"{top}/crates/small/specs/Lib.antt", "-- All names.\n\n-- What only passes on\npub passed : Set\n")
-        write(f"{top}/crates/small/specs/Sets.antt", "-- All about sets.\n\n-- What a set is\npub set : Set\n\n-- Hidden.\nhidden : Set\n\n-- Is it one?\npub asked : Set\n\n-- (as before)\nabbrev pub aside : Set\npub beside : Set\n\npub bare : Set\n")
+        write(f"{top}/crates/small/specs/Sets.antt", "-- All about sets.\n\n-- What a set is, a | b.\npub set : Set\n\n-- Hidden.\nhidden : Set\n\n-- Is it one?\npub asked : Set\n\n-- (as before)\nabbrev pub aside : Set\npub beside : Set\n\npub bare : Set\n")
         write(f"{top}/crates/calls/src/lib.rt", "//! Callers.\n")
         write(f"{top}/crates/calls/src/of.rt", "//! A caller of `small`.\nfn call() {}\n")
         for page in reference.PARTS:
@@ -311,7 +316,7 @@ def test_lengths(tests):
         run(top, "tools/reference.py", "--definitions")
         text = kit.text_of(f"{top}/out/DEFINITIONS.md")
         tests.see("the definitions that contracts can name",
-                "| `set` | What a set is. |\n" in text and "**Sets.** All about sets.\n" in text and "hidden" not in text
+                "| `set` | What a set is, a \\| b. |\n" in text and "**Sets.** All about sets.\n" in text and "hidden" not in text
                 and "| `asked` | Is it one? |\n| `aside`, `beside` | (as before) |\n" in text and "bare" not in text and "passed" not in text, text)
         write(f"{top}/crates/calls/src/of.rt", "//! A caller of `small`.\nfn call() { again }\n")
         tests.refuses("a caller that has changed", "crates/small/CALLING.md: FAILED", top, "tools/reference.py")
