@@ -69,18 +69,10 @@ class Crate:
         """Returns the crates of the repository below it, each after those below that one."""
         return list(dict.fromkeys(low for it in self.uses for low in [*it.below(), it]))
 
-    def made(self):
-        """Returns the path of the program or archive that is built of it, within its out/."""
-        return self.name if self.is_program else f"lib{self.name}.a"
-
     @functools.lru_cache(maxsize=None)
     def sources(self):
         """Returns the checksum of all files that it and the crates below it are made of."""
         return subprocess.run([f"{TOP}/tools/product.sh", "sum", self.name], capture_output=True, text=True, check=True).stdout.strip()
-
-    def is_made(self):
-        """Returns whether its out/ contains what was built of these very files."""
-        return os.path.exists(f"{self.folder}/out/{self.made()}") and text_of(f"{self.folder}/out/made-of").strip() == self.sources()
 
     def count(self, pattern):
         """Returns how often a pattern occurs in its sources."""

@@ -214,7 +214,7 @@ def test_layouts(tests):
                 "a  \n", "specs/A.antt: FAILED, not in"),
                                    ("tests/a.rt", "", "tests/a.rt: FAILED, no check reads it there"), ("A.antt", "",
                                            "small/A.antt: FAILED, no check reads"),
-                                   ("src/lib.rt", "fn a() {}\n", ".ci/counts.txt: FAILED, it says 'small 1 1'"), ("src/more.rt", "#[test]\n",
+                                   ("src/lib.rt", "fn a() {}\n", ".ci/counts.txt: FAILED, it says 'small 1 1'"), ("src/a/b/c.rt", "#[test]\n#[test]\n", "FAILED, counted 'small 1 3'"), ("src/more.rt", "#[test]\n",
                                            "FAILED, counted 'small 1 2'"),
                                    ("mutants/two.edit", "file: src/lib.rt\nold: fn\nnew: x\n", "FAILED, counted 'small 2 1'"),
                                    ("must-fail/two.edit", "file: src/lib.rt\nold: gone\nnew: x\n", "must-fail/two.edit: FAILED, an 'old:' text")):
