@@ -61,7 +61,6 @@ class Crate:
         self.line, self.name = line, head.split()[0]
         self.folder = os.path.join(TOP, "crates", self.name)
         self.uses = [known[it] for it in uses.split() if it in known]
-        self.is_static = " staticlib" in head
         self.is_program = os.path.exists(f"{self.folder}/src/main.rt")
 
     @functools.lru_cache(maxsize=None)

@@ -60,10 +60,13 @@ def main(words):
         for path, text in texts.items():
             print("".join(f"{path}: {line.strip()[:160]}\n" for line in text.splitlines() if occurrences(line, pattern)), end="")
         return 0
+    if words not in ([], ["--write"]):
+        print(__doc__, file=sys.stderr)
+        return 2
     whole = "\n".join(texts.values())
     size, counts = len(whole.split()), {name: len(occurrences(whole, pattern)) for name, pattern in RARE.items()}
     limits = {it.rpartition(" ")[0]: int(it.rpartition(" ")[2]) for it in kit.text_of(f"{kit.TOP}/{LIMITS}").splitlines() if not it.startswith("#")}
-    if words == ["--write"]:
+    if words:
         limits = {it: min(limits.get(it, counts[it]), counts[it]) for it in RARE}
         with open(f"{kit.TOP}/{LIMITS}", "w", encoding="utf-8") as text:
             text.write(HEAD + "".join(f"{name} {limit}\n" for name, limit in limits.items()))

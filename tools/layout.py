@@ -54,7 +54,10 @@ def counts():
 
 def main(words):
     os.chdir(kit.TOP)
-    if words == ["--write"]:
+    if words not in ([], ["--write"]):
+        print(__doc__, file=sys.stderr)
+        return 2
+    if words:
         with open(COUNTS, "w", encoding="utf-8") as text:
             text.write(counts())
     sources, edits = files_of_crates(".rt", ".antt"), files_of_crates(".edit")

@@ -232,6 +232,10 @@ def test_layouts(tests):
         tests.accepts("two crates", top, "tools/layout.py", "--write", env=env)
         tests.same("in the order of their names", kit.text_of(f"{top}/.ci/counts.txt").splitlines()[1:], ["above 0 2", "small 1 1"])
         write(f"{top}/crates/another/src/lib.rt", "")
+        before = kit.text_of(f"{top}/.ci/counts.txt")
+        os.remove(f"{top}/crates/small/mutants/one.edit")
+        for words in (["--other"], ["--write", "more"], ["small"]):
+            tests.same(f"words that are none: {words}", (run(top, "tools/layout.py", *words, env=env)[0], kit.text_of(f"{top}/.ci/counts.txt")), (2, before))
         tests.refuses("a crate that crates.txt does not name", "crates/another/src/lib.rt: FAILED, no check reads it there", top, "tools/layout.py",
                 env=env)
 
@@ -287,6 +291,9 @@ def test_words(tests):
         tests.same("--where prints the lines with a word", where, [(0, "README.md: Two desks, one desk.\nREADME.md: DESK\ndocs/A.md: A desk\n"),
                                                                   (0, "README.md: A table.\nREADME.md: Tables\n"), (0, "")])
         write(f"{top}/docs/A.md", "Plain.\n")
+        before = kit.text_of(f"{top}/.ci/language.txt")
+        for words in (["--other"], ["--where"], ["--write", "desk"], ["README.md"]):
+            tests.same(f"words that are none: {words}", (run(top, "tools/language.py", *words)[0], kit.text_of(f"{top}/.ci/language.txt")), (2, before))
         write(f"{top}/README.md", "Two desks.\n")
         tests.refuses("a word with no limit", "'desk': FAILED, 1 times, and .ci/language.txt allows 0", top, "tools/language.py")
 
