@@ -214,7 +214,8 @@ def test_layouts(tests):
                 "a  \n", "specs/A.antt: FAILED, not in"),
                                    ("tests/a.rt", "", "tests/a.rt: FAILED, no check reads it there"), ("A.antt", "",
                                            "small/A.antt: FAILED, no check reads"),
-                                   ("src/lib.rt", "fn a() {}\n", ".ci/counts.txt: FAILED, it says 'small 1 1'"), ("src/a/b/c.rt", "#[test]\n#[test]\n", "FAILED, counted 'small 1 3'"), ("src/more.rt", "#[test]\n",
+                                   ("src/lib.rt", "fn a() {}\n", ".ci/counts.txt: FAILED, it says 'small 1 1'"), ("src/a/b/c.rt",
+                                    "#[test]\n#[test]\n", "FAILED, counted 'small 1 3'"), ("src/more.rt", "#[test]\n",
                                            "FAILED, counted 'small 1 2'"),
                                    ("mutants/two.edit", "file: src/lib.rt\nold: fn\nnew: x\n", "FAILED, counted 'small 2 1'"),
                                    ("must-fail/two.edit", "file: src/lib.rt\nold: gone\nnew: x\n", "must-fail/two.edit: FAILED, an 'old:' text")):
@@ -235,7 +236,8 @@ def test_layouts(tests):
         before = kit.text_of(f"{top}/.ci/counts.txt")
         os.remove(f"{top}/crates/small/mutants/one.edit")
         for words in (["--other"], ["--write", "more"], ["small"]):
-            tests.same(f"words that are none: {words}", (run(top, "tools/layout.py", *words, env=env)[0], kit.text_of(f"{top}/.ci/counts.txt")), (2, before))
+            tests.same(f"words that are none: {words}", (run(top, "tools/layout.py", *words, env=env)[0], kit.text_of(f"{top}/.ci/counts.txt")),
+                (2, before))
         tests.refuses("a crate that crates.txt does not name", "crates/another/src/lib.rt: FAILED, no check reads it there", top, "tools/layout.py",
                 env=env)
 
@@ -293,7 +295,8 @@ def test_words(tests):
         write(f"{top}/docs/A.md", "Plain.\n")
         before = kit.text_of(f"{top}/.ci/language.txt")
         for words in (["--other"], ["--where"], ["--write", "desk"], ["README.md"]):
-            tests.same(f"words that are none: {words}", (run(top, "tools/language.py", *words)[0], kit.text_of(f"{top}/.ci/language.txt")), (2, before))
+            tests.same(f"words that are none: {words}", (run(top, "tools/language.py", *words)[0], kit.text_of(f"{top}/.ci/language.txt")),
+                (2, before))
         write(f"{top}/README.md", "Two desks.\n")
         tests.refuses("a word with no limit", "'desk': FAILED, 1 times, and .ci/language.txt allows 0", top, "tools/language.py")
 

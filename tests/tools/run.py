@@ -195,6 +195,8 @@ def test_suites(tests):
         status, said = run(top, "bin/test", "files")
         tests.see("a suite that passes", status == 0 and said.endswith("\n3 passed, 0 failed\n"), said)
         for what, text in (("a status that is not 0", "echo 3 passed, 0 failed; exit 1"), ("no last line", "echo well; exit 0"),
+                           ("half a last line", "echo 3 passed"), ("words for counts", "echo all passed, none failed"), ("no count", "echo passed, 0 failed"),
+                           ("a last line that is not the last", "echo 3 passed, 0 failed; echo well"),
                            ("a failure", "echo it: FAILED; echo 3 passed, 1 failed; exit 1")):
             write(suite, f"#!/bin/sh\n{text}\n", 0o755)
             tests.refuses(f"a suite with {what}", ", 1 failed", top, "bin/test", "files")
@@ -203,6 +205,9 @@ def test_suites(tests):
         write(suite, "#!/bin/sh\necho 'x: skipped, there is no y'; echo 0 passed, 0 failed\n", 0o755)
         status, said = run(top, "bin/test", "files")
         tests.see("nothing that passes is a failure, and what is skipped is named", status == 1 and "files: there is no y\n0 passed, 0 failed\n" in said, said)
+        write(suite, "#!/bin/sh\nfor it in $(seq 60); do echo \"a test: skipped, no $it\"; done; echo 2 passed, 0 failed\n", 0o755)
+        wanted = "".join(f"files: no {it}\n" for it in range(1, 40))
+        tests.see("what is skipped, up to 40 lines", f"for want of a tool:\n{wanted}2 passed, 0 failed\n" in run(top, "bin/test", "files")[1])
         write(suite, "#!/bin/sh\nsleep 0; echo here $PWD; echo 2 passed, 0 failed\n", 0o755)
         write(f"{top}/tests/cli/run.sh", "#!/bin/sh\necho 4 passed, 1 failed; exit 1\n", 0o755)
         write(f"{top}/tools/product.sh", "#!/bin/sh\necho here\n", 0o755)
@@ -218,7 +223,9 @@ def test_suites(tests):
                   and said.endswith("\n2 passed, 0 failed\n") and read(f"{top}/out/test/left_out") == "cli\n", said)
         status, said = run(top, "bin/test", "--list")
         tests.see("--list", status == 0 and all(re.search(rf"(?m)^{it} .*\(needs: ", said) for it in ("files", "cli", "dist", "tools")), said)
-        tests.see("--help", run(top, "bin/test", "--help")[1].startswith("Runs the tests that this machine can run"))
+        text = re.match(r"#!.*\n((?:#.*\n)*)", read(f"{TOP}/bin/test"))[1]
+        for word in ("--help", "-h"):
+            tests.same(word, run(top, "bin/test", word), (0, re.sub(r"(?m)^# ?", "", text)))
         status, said = run(top, "bin/test", "other")
         tests.see("a name that is no suite", status == 2 and "there is no suite or crate 'other'" in said
                   and said.endswith("\n0 passed, 1 failed\n"), said)

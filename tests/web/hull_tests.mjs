@@ -158,7 +158,20 @@ await tried("a freed hull serves nothing", () => {
     polygon.free();
     for (const call of ["add", "remove", "place", "tangents", "extreme", "multiplicity"]) assert.throws(() => hull[call](1, 1), faults.Ended);
     for (const call of ["vertices", "count", "limit", "clear", "doubledArea"]) assert.throws(() => hull[call](), faults.Ended);
-    assert.throws(() => polygon.place(0, 0), faults.Ended);
+    // every method, whatever it is passed
+    const another = new Polygon([[0, 0]]), words = { boundingBox: [], diameter: [], leastWidth: [], polygon: [], vertexArray: [], held: [],
+        copy: [], bridges: [0], loadHeld: [[]] };
+    for (const it of [hull, polygon]) {
+        const names = [...Object.getOwnPropertyNames(Object.getPrototypeOf(Object.getPrototypeOf(it))),
+            ...Object.getOwnPropertyNames(Object.getPrototypeOf(it)),
+            ...Object.getOwnPropertyNames(Object.getPrototypeOf(Object.getPrototypeOf(Object.getPrototypeOf(it))))];
+        for (const name of new Set(names.filter((one) => !one.startsWith("_") && !["constructor", "free"].includes(one)))) {
+            const passed = words[name] ?? (/All$|^load$/.test(name) ? [[[1,
+                2]]] : it[name].length > 0 && name in polygon && /other/.test(String(it[name])) ? [another, 1] : [1, 1, 1, 1, 1]);
+            assert.throws(() => it[name](...passed), faults.Ended, name);
+        }
+    }
+    another.free();
 });
 await tried("ten thousand calls beside the plain way", () => {
     let calls = 0;

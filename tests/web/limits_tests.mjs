@@ -367,6 +367,13 @@ await tried("journals at the ends of their numbers, and one beyond", () => {
     for (const more of ["x", "\n", "end 1\n", "1 0 count = count 0\n"])
         assert.throws(() => readJournal(text({ lines: ["0 0 count = count 0"] }) + more), TextError, more);
     assert.throws(() => readJournal(text({}).trimEnd()), TextError);
+    // the number of the wrong line, counted from 1, and what was found and expected there
+    const lines = ["0 0 count = count 0", "1 0 count = count 0", "2 0 count = count 0"], all = text({ lines }).split("\n");
+    for (const [at, wrong] of [[0, "hullbook"], [1, "no"], [2, "1 0 fold = x"], [3, "2 64 count = count 0"], [4, "end 2"], [4, "end"], [5, "more"]]) {
+        const broken = all.map((it, i) => (i === at ? wrong : it)).join("\n");
+        const isThere = (error) => error.line === at + 1 && error.found === wrong && error.message.startsWith(`line ${at + 1}: `);
+        assert.throws(() => readJournal(broken), isThere, broken);
+    }
     assert.deepEqual([numberOf({ first: 2n ** 64n - 1n }, 0), numberOf({ first: 2n ** 64n - 1n }, 1), numberOf({ first: 2n ** 63n }, 5)],
         [2n ** 64n - 1n, 0n, 2n ** 63n + 5n]);
 });

@@ -181,6 +181,14 @@ await tried("the first lines of a long journal are stored in the database once",
         await keeper.keep(work, {});
     }
     assert.equal(puts.length, 1);
+    // a short journal beside it is stored whole, without the lines of the other
+    const short = new Work(Hull);
+    short.do(["add 5 5", "add 6 6"]);
+    await keeper.keep(short, { more: "words" });
+    const other = await new Keeper().read();
+    assert.deepEqual([other.was.journal.lines.map((it) => it.call), other.base, other.more, other.was.at],
+        [["add 5 5", "add 6 6"], null, "words", 2]);
+    await keeper.keep(work, {});
     const again = await new Keeper().read();
     assert.deepEqual(again.was.journal.lines.map((it) => it.call), work.replay.journal.lines.map((it) => it.call));
     // another tab has what all tabs share; of long journals the last four stay
@@ -297,6 +305,27 @@ await tried("an address contains the points, and a wrong or a long one none", ()
         [readAddress(address), { calls: ["add 4 4"], power: -12 },
         { calls: ["add 0 0"], power: 0 }]);
     for (const bad of ["#points=1", "#points=1,2*0", "#points=1,1099511627777", "#points=1,2;;3,4", "#points=1,2*70000"]) assert.throws(() => readAddress(bad), TextError, bad);
+});
+await tried("what is left out has its default", () => {
+    const empty = { version: 3, first: 0n, limit: 2 ** 20, capacity: 2 ** 24,
+        lines: [] }, square = new Polygon([[0, 0], [4, 0], [4, 4], [0, 4]]), at = [7, 8];
+    assert.deepEqual([emptyJournal(), emptyJournal(7), new Work(Hull).here], [empty, { ...empty, limit: 7 }, { journal: empty, at: 0, power: 0 }]);
+    const replay = new Replay(new Hull(), emptyJournal());
+    assert.deepEqual([replay.call("count"), replay.call("count", 5).seat], [{ number: 0n, seat: 0, call: "count", reply: "count 0" }, 5]);
+    assert.deepEqual([new Hull().limit(), wkt([at]), pairsWithinDistance([square, new Polygon([[4, 4]]), new Polygon([[5, 4]])])],
+        [2 ** 20, "POINT (7 8)", [[0, 1]]]);
+    assert.deepEqual([4, 5].map((it) => [square.withinDistance(new Polygon([at]), it), square.withinDistanceOfPoint(...at, it),
+        square.withinDistanceOfSegment(...at, ...at, it)]),
+        [[false, false, false], [true, true, true]]);
+    const error = new TextError(3, "why");
+    assert.deepEqual([error.line, error.message, error.found, error.expected, error instanceof Error], [3, "line 3: why", "", "", true]);
+});
+await tried("steps in a row are one deed, and none if they end where they began", () => {
+    const work = new Work(Hull), count = () => work.deeds.done.length;
+    work.do(["add 1 1", "add 2 2", "add 3 3"]);
+    assert.deepEqual([[2, 0, 1], [3], [3], [0, 3], [1, 2]].map((steps) => (steps.forEach((it) => work.go(it)), count())), [2, 1, 1, 1, 2]);
+    work.undo();
+    assert.deepEqual([work.replay.at, count(), work.deeds.undone.length], [3, 1, 1]);
 });
 await tried("a work that was stored is continued where it was, with its deeds", () => {
     const work = new Work(Hull), keys = (it) => [...it.replay.held.keys()].sort();
