@@ -200,6 +200,8 @@ def test_suites(tests):
                            ("a failure", "echo it: FAILED; echo 3 passed, 1 failed; exit 1")):
             write(suite, f"#!/bin/sh\n{text}\n", 0o755)
             tests.refuses(f"a suite with {what}", ", 1 failed", top, "bin/test", "files")
+            end = "files: FAILED, exit status 0, with no last line of counts\n"
+            tests.same("its log", read(f"{top}/out/test/files.log").endswith(end), "FAILED" not in text and "exit 1" not in text)
         write(suite, "#!/bin/sh\nkill -9 $PPID; echo 3 passed, 0 failed\n", 0o755)
         tests.refuses("a suite that ends its runner", "0 passed, 1 failed", top, "bin/test", "files")
         write(suite, "#!/bin/sh\necho 'x: skipped, there is no y'; echo 0 passed, 0 failed\n", 0o755)
@@ -216,7 +218,13 @@ def test_suites(tests):
         write(f"{top}/tests/readme/run.sh", "#!/bin/sh\necho 1 passed, 0 failed\n", 0o755)
         status, said = run(top, "bin/test", "cli", "readme", "files")
         tests.see("three of which the first fails", status == 1 and said.endswith("\n7 passed, 1 failed\n"), said)
+        tests.same("which run is said", sorted(re.findall(r"(?m)^(\w+): running$", said)), ["cli", "files", "readme"])
         tests.see("each has its log", read(f"{top}/out/test/files.log") == f"here {top}\n2 passed, 0 failed\n" and "4 passed" in read(f"{top}/out/test/cli.log"))
+        write(f"{top}/tests/readme/run.sh", "#!/bin/sh\necho 1 passed, 3 failed; exit 1\n", 0o755)
+        status, said = run("/", f"{top}/bin/test", "cli", "readme", "files")
+        tests.see("from another folder, with several failures", status == 1 and said.endswith("\n7 passed, 4 failed\n"), said)
+        os.symlink(f"{top}/bin/test", f"{top}/linked")
+        tests.see("by a link", run("/", f"{top}/linked", "files")[1].endswith("\n2 passed, 0 failed\n"))
         write(f"{top}/tools/product.sh", "#!/bin/sh\nexit 1\n", 0o755)
         status, said = run(top, "bin/test", "files", "cli")
         tests.see("one that cannot run is left out, with why", status == 0 and "Left out:\ncli: the proved sources have changed" in said
@@ -286,10 +294,10 @@ def test_each_suite(tests):
         lay_tools(top)
         for at, _, names in os.walk(f"{TOP}/tests"):
             for it in (os.path.relpath(f"{at}/{it}", TOP) for it in names if os.access(f"{at}/{it}", os.X_OK)):
-                write(f"{top}/{it}", f"#!/bin/sh\necho {it} $*\necho 1 passed, 0 failed\n", 0o755)
+                write(f"{top}/{it}", f"#!/bin/sh\necho {it} $*\necho ${{INSTALLED:-}}\necho 1 passed, 0 failed\n", 0o755)
         for it in ("rt", "cc", "ar", "node"):
             write(f"{top}/path/{it}", "#!/bin/sh\n", 0o755)
-        write(f"{top}/tools/product.sh", "#!/bin/sh\n", 0o755), write(f"{top}/bin/install", "#!/bin/sh\n", 0o755)
+        write(f"{top}/tools/product.sh", "#!/bin/sh\n", 0o755), write(f"{top}/bin/install", f"#!/bin/sh\necho $* >>{top}/asked\n", 0o755)
         env = {"PATH": f"{top}/path:{os.environ['PATH']}"}
         suites = re.findall(r"(?m)^(\S+) .*\(needs: ", run(top, "bin/test", "--list", env=env)[1])
         status, said = run(top, "bin/test", *suites, env=env)
@@ -298,6 +306,14 @@ def test_each_suite(tests):
         tests.same("each its own", len(set(ran.values())), len(suites))
         named = {it: name for it, name in ran.items() if it not in name and it != "c++"}
         tests.same("by its name", named, {})
+        tests.same("the libraries are installed once", read(f"{top}/asked"), f"--library {top}/out/test/installed\n")
+        tests.same("for all suites", {read(f"{top}/out/test/{it}.log").splitlines()[1] for it in suites}, {f"{top}/out/test/installed"})
+        write(f"{top}/bin/install", "#!/bin/sh\nexit 1\n", 0o755)
+        run(top, "bin/test", "c", env=env)
+        tests.same("or by each", read(f"{top}/out/test/c.log").splitlines()[1], "")
+        os.remove(f"{top}/asked") if os.path.exists(f"{top}/asked") else None
+        run(top, "bin/test", "files", env=env)
+        tests.see("and for none that needs none", not os.path.exists(f"{top}/asked"))
 
 
 def test_reports(tests):

@@ -224,7 +224,10 @@ def test_completions(tests):
     tests.same("fish: what follows a flag", {(name, {" -r": "file", " -x": "number", "": None}[more]) for name, more in fish},
         {(name, given.get(name)) for name, _ in fish})
     tests.same("fish: each flag has a description", len(fish), texts["hullbook.fish"].count(" -l "))
-    tests.see("zsh: files", "'*:file:_files'" in texts["_hullbook"] and "'1:journal:_files'" in texts["_hullbook"])
+    for service, file in (("hullbook", "*:file:_files"), ("hulldraw", "1:journal:_files")):
+        script = f'_arguments() {{ for it in "$@"; do printf "%s\\n" "$it"; done; }}; service={service}; . "{TOP}/tools/completions/_hullbook"'
+        asked = run(TOP, "sh", "-c", script)[1].splitlines()
+        tests.see(f"zsh: what is completed for {service}", file in asked and {it[2:].partition("[")[0] for it in asked if it.startswith("--")} == zsh[service], asked)
     bash = shutil.which("bash")
     if not bash:
         print("skipped: completions of bash: there is no bash")
