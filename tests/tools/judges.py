@@ -309,7 +309,9 @@ def test_lengths(tests):
         write(f"{top}/crates/small/src/lib.rt",
                 "//! What it is about.\n//! In two lines.\n//!\n//! More.\npub use inner::{Two, One};\npub use inner::Three;\nuse other::Four;\n")
         write(f"{top}/crates/small/specs/Lib.antt", "-- All names.\n\n-- What only passes on\npub passed : Set\n")
-        write(f"{top}/crates/small/specs/Sets.antt", "-- All about sets.\n\n-- What a set is, a | b.\npub set : Set\n\n-- Hidden.\nhidden : Set\n\n-- Is it one?\npub asked : Set\n\n-- (as before)\nabbrev pub aside : Set\npub beside : Set\n\npub bare : Set\n")
+        sets = ("-- All about sets.\n\n-- What a set is, a | b.\npub set : Set\n\n-- Hidden.\nhidden : Set\n\n-- Is it one?\npub asked : Set\n\n"
+                "-- (as before)\nabbrev pub aside : Set\npub beside : Set\n\npub bare : Set\n")
+        write(f"{top}/crates/small/specs/Sets.antt", sets)
         write(f"{top}/crates/calls/src/lib.rt", "//! Callers.\n")
         write(f"{top}/crates/calls/src/of.rt", "//! A caller of `small`.\nfn call() {}\n")
         for page in reference.PARTS:

@@ -195,7 +195,8 @@ def test_suites(tests):
         status, said = run(top, "bin/test", "files")
         tests.see("a suite that passes", status == 0 and said.endswith("\n3 passed, 0 failed\n"), said)
         for what, text in (("a status that is not 0", "echo 3 passed, 0 failed; exit 1"), ("no last line", "echo well; exit 0"),
-                           ("half a last line", "echo 3 passed"), ("words for counts", "echo all passed, none failed"), ("no count", "echo passed, 0 failed"),
+                           ("half a last line", "echo 3 passed"), ("no count", "echo passed, 0 failed"),
+                           ("words for counts", "echo all passed, none failed"),
                            ("a last line that is not the last", "echo 3 passed, 0 failed; echo well"),
                            ("a failure", "echo it: FAILED; echo 3 passed, 1 failed; exit 1")):
             write(suite, f"#!/bin/sh\n{text}\n", 0o755)

@@ -227,7 +227,8 @@ def test_completions(tests):
     for service, file in (("hullbook", "*:file:_files"), ("hulldraw", "1:journal:_files")):
         script = f'_arguments() {{ for it in "$@"; do printf "%s\\n" "$it"; done; }}; service={service}; . "{TOP}/tools/completions/_hullbook"'
         asked = run(TOP, "sh", "-c", script)[1].splitlines()
-        tests.see(f"zsh: what is completed for {service}", file in asked and {it[2:].partition("[")[0] for it in asked if it.startswith("--")} == zsh[service], asked)
+        names = {it[2:].partition("[")[0] for it in asked if it.startswith("--")}
+        tests.see(f"zsh: what is completed for {service}", file in asked and names == zsh[service], asked)
     bash = shutil.which("bash")
     if not bash:
         print("skipped: completions of bash: there is no bash")

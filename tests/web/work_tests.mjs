@@ -416,7 +416,14 @@ await tried("segments of a journal, in any order and round the last number", () 
         assert.deepEqual(joined.lines.map((it) => `${it.call} = ${it.reply}`), lines);
         assert.deepEqual(joined.segments, [{ name: "segment 1", from: 0 }, { name: "segment 2", from: 1 }, { name: "segment 0", from: 3 }]);
         assert.equal(readJournal(journalText(joined)).lines.length, 4);
+        assert.deepEqual({ ...joined, lines: [], segments: [] }, { version: 3, first, limit: 9, capacity: 2 ** 24, lines: [], segments: [] });
     }
+    // (more lines than the capacity of any segment, and segments with none)
+    const full = segments.map(({ name, journal }) => ({ name, journal: { ...journal, capacity: 2 } })), all = joinJournals(full), replay = new Replay(new Hull(9), all);
+    assert.deepEqual([replay.go(4), replay.wrong, replay.call("count").reply], [4, null, "count 3"]);
+    const bare = (name) => ({ name, journal: segment(0, 0) });
+    assert.deepEqual([joinJournals([bare("a")]), joinJournals([bare("a"), bare("b")])].map((it) => [it.first, it.lines, it.segments[0]]), Array(2).fill([first, [],
+        { name: "a", from: 0 }]));
     assert.throws(() => joinJournals([segments[0], segments[1]]), RangeError);
     assert.throws(() => joinJournals([segments[1], { ...segments[2], journal: { ...segments[2].journal, limit: 8 } }]), /another version or limit/);
     assert.throws(() => joinJournals([segments[1], { ...segments[2], journal: { ...segments[2].journal, capacity: 1 } }]), /more lines than its capacity/);
