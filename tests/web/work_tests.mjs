@@ -282,6 +282,15 @@ await tried("points as texts", () => {
     assert.deepEqual(geometries, [{ type: "GeometryCollection", geometries: [] }, { type: "Point", coordinates: [0, 0] },
         { type: "LineString", coordinates: [[0, 0], [4, 0]] },
         { type: "Polygon", coordinates: [[[0, 0], [4, 0], [2, 3], [0, 0]]] }]);
+    // (y goes down in a drawing)
+    const drawn = writeRows("svg", held, [a, b, c], 1), circles = [...drawn.matchAll(/<circle cx="(.*?)" cy="(.*?)" r="(.*?)"( data-times="\d+")?\/>\n/g)];
+    assert.deepEqual(circles.map((it) => [it[1], it[2], it[4]]), [["0", "0", ' data-times="3"'], ["2", "-3", undefined], ["4", "0", undefined]]);
+    assert.deepEqual([/<polygon points="(.*?)"/.exec(drawn)[1],
+        /viewBox="(.*?)"/.exec(drawn)[1].split(" ").map((it) => Number(Number(it).toFixed(9)))],
+        ["0,0 4,0 2,-3", [-0.2, -3.2, 4.4, 4.4]]);
+    assert.ok(circles.every((it) => Math.abs(Number(it[3]) - 4 / 150) < 1e-12) && drawn.startsWith('<svg xmlns="http://www.w3.org/2000/svg" ') && drawn.endsWith("</svg>\n"));
+    assert.deepEqual([/viewBox="(.*?)"/.exec(writeRows("svg", new Map(), [], 0))[1], writeRows("svg", new Map(), [], 0).includes("circle")],
+        ["0 0 1 1", false]);
     assert.deepEqual(readRows("1,2,65535\n3,4,1"), [[1, 2, 65535], [3, 4, 1]]);
     for (const times of [0, 65536, -1, 1.5]) assert.throws(() => readRows(`1,2\n3,4,${times}`), TextError);
     const timed = (times) => JSON.stringify({ type: "Feature", properties: { times },
@@ -419,10 +428,12 @@ await tried("segments of a journal, in any order and round the last number", () 
         assert.deepEqual({ ...joined, lines: [], segments: [] }, { version: 3, first, limit: 9, capacity: 2 ** 24, lines: [], segments: [] });
     }
     // (more lines than the capacity of any segment, and segments with none)
-    const full = segments.map(({ name, journal }) => ({ name, journal: { ...journal, capacity: 2 } })), all = joinJournals(full), replay = new Replay(new Hull(9), all);
+    const full = segments.map(({ name, journal }) => ({ name,
+        journal: { ...journal, capacity: 2 } })), all = joinJournals(full), replay = new Replay(new Hull(9), all);
     assert.deepEqual([replay.go(4), replay.wrong, replay.call("count").reply], [4, null, "count 3"]);
     const bare = (name) => ({ name, journal: segment(0, 0) });
-    assert.deepEqual([joinJournals([bare("a")]), joinJournals([bare("a"), bare("b")])].map((it) => [it.first, it.lines, it.segments[0]]), Array(2).fill([first, [],
+    assert.deepEqual([joinJournals([bare("a")]), joinJournals([bare("a"), bare("b")])].map((it) => [it.first, it.lines, it.segments[0]]),
+        Array(2).fill([first, [],
         { name: "a", from: 0 }]));
     assert.throws(() => joinJournals([segments[0], segments[1]]), RangeError);
     assert.throws(() => joinJournals([segments[1], { ...segments[2], journal: { ...segments[2].journal, limit: 8 } }]), /another version or limit/);
