@@ -283,12 +283,14 @@ await tried("points as texts", () => {
         { type: "LineString", coordinates: [[0, 0], [4, 0]] },
         { type: "Polygon", coordinates: [[[0, 0], [4, 0], [2, 3], [0, 0]]] }]);
     // (y goes down in a drawing)
-    const drawn = writeRows("svg", held, [a, b, c], 1), circles = [...drawn.matchAll(/<circle cx="(.*?)" cy="(.*?)" r="(.*?)"( data-times="\d+")?\/>\n/g)];
+    const drawn = writeRows("svg", held, [a, b, c], 1);
+    const circles = [...drawn.matchAll(/<circle cx="(.*?)" cy="(.*?)" r="(.*?)"( data-times="\d+")?\/>\n/g)];
     assert.deepEqual(circles.map((it) => [it[1], it[2], it[4]]), [["0", "0", ' data-times="3"'], ["2", "-3", undefined], ["4", "0", undefined]]);
     assert.deepEqual([/<polygon points="(.*?)"/.exec(drawn)[1],
         /viewBox="(.*?)"/.exec(drawn)[1].split(" ").map((it) => Number(Number(it).toFixed(9)))],
         ["0,0 4,0 2,-3", [-0.2, -3.2, 4.4, 4.4]]);
-    assert.ok(circles.every((it) => Math.abs(Number(it[3]) - 4 / 150) < 1e-12) && drawn.startsWith('<svg xmlns="http://www.w3.org/2000/svg" ') && drawn.endsWith("</svg>\n"));
+    assert.ok(circles.every((it) => Math.abs(Number(it[3]) - 4 / 150) < 1e-12));
+    assert.ok(drawn.startsWith('<svg xmlns="http://www.w3.org/2000/svg" ') && drawn.endsWith("</svg>\n"));
     assert.deepEqual([/viewBox="(.*?)"/.exec(writeRows("svg", new Map(), [], 0))[1], writeRows("svg", new Map(), [], 0).includes("circle")],
         ["0 0 1 1", false]);
     assert.deepEqual(readRows("1,2,65535\n3,4,1"), [[1, 2, 65535], [3, 4, 1]]);
