@@ -246,6 +246,10 @@ def test_completions(tests):
         tests.same("bash: commands", [complete("hullbook", it) for it in ("", "c", "x")], [set(commands), {"check", "compact"}, set()])
         for it in commands:
             tests.same(f"bash: flags of {it}", complete("hullbook", it, "-"), {f"--{flag}" for flag in flags[it]})
+        write(f"{top}/two words.txt", "")
+        tests.same("bash: a file with a space", [complete(it, *words, "tw") for it, words in (("hullbook", ["run"]), ("hulldraw", []))],
+            [{"two words.txt"}] * 2)
+        os.remove(f"{top}/two words.txt")
         for it in commands:
             tests.same(f"bash: flags of {it} after a file", complete("hullbook", it, "other.txt", "script.txt", "--"),
                 {f"--{flag}" for flag in flags[it]})

@@ -158,6 +158,9 @@ await tried("a freed hull serves nothing", () => {
     polygon.free();
     for (const call of ["add", "remove", "place", "tangents", "extreme", "multiplicity"]) assert.throws(() => hull[call](1, 1), faults.Ended);
     for (const call of ["vertices", "count", "limit", "clear", "doubledArea"]) assert.throws(() => hull[call](), faults.Ended);
+    const used = new Hull();
+    used[Symbol.dispose ?? Symbol.for("Symbol.dispose")]();
+    assert.throws(() => used.count(), faults.Ended);
     // every method, whatever it is passed
     const another = new Polygon([[0, 0]]), words = { boundingBox: [], diameter: [], leastWidth: [], polygon: [], vertexArray: [], held: [],
         copy: [], bridges: [0], loadHeld: [[]] };

@@ -203,6 +203,30 @@ await tried("the first lines of a long journal are stored in the database once",
         assert.deepEqual([bases.size, (await new Keeper().read()).was.journal.lines.length], [Math.min(k + 2, 4), 20002 + k]);
     }
 });
+await tried("a browser that stores nothing, or not so much, is no fault", async () => {
+    const kept = new Map(), warned = [], before = { ...console };
+    const storage = (most) => ({ setItem: (name, text) => { if (text.length > most) throw new RangeError("no space"); kept.set(name, text); },
+        getItem: (name) => kept.get(name) ?? null });
+    const work = new Work(Hull);
+    work.do(["add 1 1"]), work.open(emptyJournal(5)), work.do(["add 2 2"]);
+    console.warn = (text) => warned.push(text);
+    try {
+        const found = [];
+        let whole = 0; // the length of all that is stored
+        for (const limits of [() => [1e6, 1e6], () => [1e6, 0], () => [whole - 1, whole - 1], () => [0, 0]]) {
+            const [here, all] = limits();
+            kept.clear();
+            Object.assign(globalThis, { sessionStorage: storage(here), localStorage: storage(all) });
+            await new Keeper().keep(work, {});
+            const read = await new Keeper().read();
+            whole = Math.max(whole, ...[...kept.values()].map((it) => it.length));
+            found.push([read && read.was.journal.lines.length, read && read.deeds.done.length, warned.splice(0).length]);
+        }
+        assert.deepEqual(found, [[1, 3, 0], [1, 3, 1], [1, 0, 0], [null, null, 1]]);
+    } finally {
+        console.warn = before.warn;
+    }
+});
 await tried("a deed that a full journal has no space for stays to be undone", () => {
     const work = new Work(Hull, { journal: { ...emptyJournal(9), capacity: 3 }, power: 0 });
     work.do(["add 1 1", "add 2 2"]);
