@@ -261,7 +261,7 @@ def test_left_out(tests):
         wanted = "".join(f"{name}: {REASONS[need]}\n" for name, need in needs.items() if name != "crates")
         tests.same("with nothing all suites but crates are left out", (status, said), (1, f"Left out:\n{wanted}0 passed, 0 failed\n"))
         tests.same("their names", read(f"{top}/out/test/left_out").split(), [it for it in needs if it != "crates"])
-        for it in ("embed/c", "cli/run", "memory/run", "crates/run"):
+        for it in ("embed/c", "cli/run", "memory/run", "crates/run", "web/run", "files/run", "refused/run"):
             write(f"{top}/tests/{it}.sh", f"#!/bin/sh\necho {it} $*; echo 1 passed, 0 failed\n", 0o755)
         mine, changed = os.uname().machine, REASONS["program"]
         for suite, tools, right, why in (
@@ -272,6 +272,7 @@ def test_left_out(tests):
              None),
             ("memory", ["cc"], "", "it needs the program as the toolchain links it here"), ("memory", [], "linked hullbook", REASONS["linked"]),
             ("memory", ["cc"], "linked hullbook", None), ("crates", [], "", REASONS["rt"]), ("crates", ["rt"], "", None),
+            ("web", ["node"], "", None), ("files", ["python3"], "", None), ("refused", ["rt"], "", None),
         ):
             for it in tools:
                 write(f"{top}/path/{it}", "#!/bin/sh\n", 0o755)
