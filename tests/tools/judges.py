@@ -553,6 +553,7 @@ def test_release(tests):
         status, said = run(top, "tools/release.sh", env={**env, "BROKEN": "x86_64/hullbook"})
         tests.see("a file that cannot be made leaves dist/ as it was", status == 70 and "version" not in kit.text_of(f"{top}/dist/SUMS"),
                 f"{status}: {said}")
+        write(f"{top}/dist/x86_64/older", "of a release before\n")
         status, said = run(top, "tools/release.sh", env=env)
         names, sums = ("x86_64/libhull.a", "x86_64/hullbook", "web/hull.wasm"), kit.text_of(f"{top}/dist/SUMS")
         rows = "".join(f"file {it} sha256={sum_of(f'{top}/dist/{it}')} bytes={os.path.getsize(f'{top}/dist/{it}')} crate={crate} "

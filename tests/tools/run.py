@@ -331,6 +331,11 @@ def test_reports(tests):
         tests.see("what failed, and the end", end in said, said)
         log = read(f"{top}/out/test/files.log")
         tests.see("its log has its errors, and it reads nothing", log.startswith("its errors\nearly") and "typed" not in log, log)
+        busy = "import time\nwhile time.process_time() < 2.2: pass\n"
+        write(f"{top}/tests/files/run.sh", f"#!/bin/sh\n{sys.executable} -c '{busy}'\necho 1 passed, 0 failed\n", 0o755)
+        said = run(top, "bin/test", "files")[1]
+        seconds = [int(it) for it in re.search(r"(?m)^files: 1 passed, 0 failed, (\d+) s, (\d+) s of a processor$", said).groups()]
+        tests.see("its seconds", 1 <= seconds[0] < 3600 and 2 <= seconds[1] < 60, seconds)
         write(f"{top}/tests/files/run.sh", f"#!/bin/sh\necho $$ >{top}/pid.new && mv {top}/pid.new {top}/pid; sleep 1000 & wait\n", 0o755)
         for number in (signal.SIGINT, signal.SIGTERM):
             ran = subprocess.Popen(["bin/test", "files"], cwd=top, stdin=subprocess.DEVNULL, stdout=subprocess.DEVNULL, stderr=subprocess.DEVNULL,
