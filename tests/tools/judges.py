@@ -229,7 +229,7 @@ def test_layouts(tests):
             os.symlink(target, f"{top}/crates/small/{name}")
             tests.refuses(f"a link {name}", f"{name}: FAILED, it is a link", top, "tools/layout.py", env=env)
             os.remove(f"{top}/crates/small/{name}")
-        write(f"{top}/crates.txt", "small:\nabove: small\n"), write(f"{top}/crates/above/src/lib.rt", "#[test]\n#[test]\n")
+        write(f"{top}/crates.txt", "small:\nabove: small\n"), write(f"{top}/crates/above/src/lib.rt", "#[test]\n// [test]\n#[test]\n")
         tests.accepts("two crates", top, "tools/layout.py", "--write", env=env)
         tests.same("in the order of their names", kit.text_of(f"{top}/.ci/counts.txt").splitlines()[1:], ["above 0 2", "small 1 1"])
         write(f"{top}/crates/another/src/lib.rt", "")
