@@ -26,7 +26,7 @@ pub fn third() -> u32 {
 # of a crate: each function is proved, but for those whose text has WRONG; MISSING is no name, and HIDDEN refuses the whole crate alone
 RT = """#!/usr/bin/env python3
 import os, re, sys
-words, text = sys.argv[1:], open("src/lib.rt").read()
+words, text = sys.argv[1:], open(f"src/{'main' if os.path.exists('src/main.rt') else 'lib'}.rt").read()
 named, whole = re.findall(r"(?m)^(\\w+):(.*?)(?: #.*)?$", open("../../crates.txt").read()), os.path.basename(os.getcwd())
 if whole not in [it[0] for it in named] or any(low not in [it[0] for it in named[:at]] for at, it in enumerate(named) for low in it[1].split()):
     sys.exit(8)
@@ -185,6 +185,9 @@ def test_faults_of_runs(tests):
         flow = Flow(top, low=[], middle=[], side=[], high=["goal"])
         write(f"{top}/crates.txt", "# four crates\nlow:\nmiddle: low # below it\n\nside: low\nhigh: side middle\n")
         tests.accepts("a crate with others below it", top, "tools/mutants.py", "high", env=flow.env)
+        os.rename(f"{top}/crates/high/src/lib.rt", f"{top}/crates/high/src/main.rt")
+        write(f"{top}/crates/high/mutants/goal.edit", "file: src/main.rt\nold: three + 3\nnew: WRONG + 3\n")
+        tests.accepts("a program", top, "tools/mutants.py", "high", env=flow.env)
 
 
 def test_groups(tests):
