@@ -219,8 +219,9 @@ def test_archive(tests, out, name, prefix, processor):
     tests.same(f"{name}: modes", {it: modes.get(top + it) for it in installed}, installed)
     more = {f"share/doc/hullbook/{it}.md" for it in ("EMBEDDING", "PLANNERS", "SHARED", "PROGRAM", "FORMATS")} | {"LICENSE", "CHANGELOG.md",
             "README.md"}
+    more |= {f"share/doc/hullbook/examples/{os.path.relpath(f'{at}/{it}', f'{TOP}/examples')}" for at, _, them in os.walk(f"{TOP}/examples") for it in them}
     rest = {it.removeprefix(top) for it in texts} - set(installed)
-    tests.see(f"{name}: documents and examples", more <= rest and all(it in more or it.startswith("share/doc/hullbook/examples/") for it in rest),
+    tests.see(f"{name}: documents and examples", rest == more,
             rest ^ more)
     tests.same(f"{name}: what it is of", texts[f"{top}lib/libhull.a"].decode(), f"product {processor}/libhull.a\n")
     tests.same(f"{name}: its page", texts[f"{top}README.md"], contents(f"{prefix}/share/doc/hullbook/README.md"))
@@ -352,7 +353,9 @@ def test_packages(tests):
             test_wheel(tests, out, f"hullbook-7.8.9-py3-none-manylinux2014_{processor}.musllinux_1_1_{processor}.whl", processor)
         test_sources(tests, top, out)
         test_deb(tests, room, out)
+        write(f"{room}/again/{MADE[0]}", "an older one\n"), write(f"{room}/again/others", "of others\n")
         run(top, "bin/package", f"{room}/again", env={"DESTDIR": f"{room}/elsewhere"})
+        tests.same("in a folder that is there, beside the files of others", sorted(os.listdir(f"{room}/again")), sorted([*names, "others"]))
         tests.same("the same bytes again", [it for it in names if contents(f"{out}/{it}") != contents(f"{room}/again/{it}")], [])
         test_stale(tests, top, room, names)
 
