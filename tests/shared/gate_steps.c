@@ -142,6 +142,27 @@ static void check_giving_up_when_designated(void) {
     check("the gate is open to the others", gate->state, 2 * PARKED + 1);
 }
 
+static unsigned steps_taken;
+
+/* Before the second step on the word of the gate another caller enters, and before the third it leaves. */
+static void enter_and_leave(const volatile void *word) {
+    if (word == &gate->state) {
+        steps_taken++;
+        gate->state += steps_taken == 2 ? 1u : steps_taken == 3 ? ~0u : 0;
+    }
+}
+
+/* A designated caller that gives up while another enters and leaves: it finds the gate open, and enters, since nobody else would look. */
+static void check_giving_up_beside_another(void) {
+    park_three();
+    leave(gate);
+    steps_taken = 0;
+    before_step = enter_and_leave;
+    check("it enters", (uint64_t)enter_or_resign(gate), 1);
+    before_step = NULL;
+    check("and is inside", gate->state, 1 + 2 * PARKED);
+}
+
 /* If several may be inside, the designated caller designates the next as long as the gate is not full. */
 static void check_several_inside(void) {
     enter_all(2);
@@ -314,11 +335,16 @@ static void look_around(void *context, const hull_shared_segment *segment) {
     errno = 5;
 }
 
+static void other_hook(void *context, const hull_shared_segment *segment) {
+    check("a hook that has no place any more", context == NULL && segment == NULL, 1);
+}
+
 /* A hull of eight lines is drained at each fourth, by the thread that made that call. */
 static void check_hook(void) {
     int state;
     open_all(8, 1);
-    check("hook", (uint64_t)hull_shared_gate_on_half_full(&storage, look_around, &hooks), 1);
+    check("a hook", (uint64_t)hull_shared_gate_on_half_full(&storage, other_hook, NULL), 1);
+    check("another in its place", (uint64_t)hull_shared_gate_on_half_full(&storage, look_around, &hooks), 1);
     for (uint32_t k = 0; k < 12; k++) {
         const unsigned before = hooks;
         const uint32_t held = hull_shared_stats(&storage).held;
@@ -452,6 +478,7 @@ int main(void) {
     check_order();
     check_giving_up();
     check_giving_up_when_designated();
+    check_giving_up_beside_another();
     check_several_inside();
     check_deadlines();
     check_numbers();

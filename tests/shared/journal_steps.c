@@ -34,6 +34,7 @@ enum { MOST_STEPS = 100, MOST_FILES = 1024 };
 static char steps[MOST_STEPS][128]; /* what was called */
 static long step_count, refused_step = -1, request_count, refused_request = -1, blocks;
 static int why, reads_nothing, is_watching;
+static int why_later; /* all calls after the refused one are refused with this, if it is not 0 */
 static char labels[MOST_FILES][64];
 
 /* Notes a call; returns whether it is to be refused. */
@@ -48,8 +49,9 @@ static int refuse(const char *format, ...) {
         vsnprintf(steps[at], sizeof steps[at], format, words);
     }
     va_end(words);
-    errno = at == refused_step ? why : errno;
-    return at == refused_step;
+    const int is_later = why_later != 0 && refused_step >= 0 && at > refused_step;
+    errno = at == refused_step ? why : is_later ? why_later : errno;
+    return at == refused_step || is_later;
 }
 
 static const char *label(int file) {
@@ -403,6 +405,9 @@ static hull_reply run(size_t at, long step, long request) {
     check("open files", entries_of("/proc/self/fd"), files);
     check("memory", (uint64_t)(blocks - before), 0);
     const int is_done = reply.code == HULL_OPEN || reply.code == HULL_DURABLE;
+    if (why_later != 0) { /* what it made could not be removed */
+        return reply;
+    }
     check_files(at, is_done);
     hull_reply again = do_open();
     check("it is opened again", again.code, HULL_OPEN);
@@ -410,9 +415,22 @@ static hull_reply run(size_t at, long step, long request) {
     return reply;
 }
 
+/* The errno of a reply, or the number of another. */
+static uint64_t reason_of(hull_reply reply) {
+    return reply.code == HULL_NO_FILE && reply.number != (uint64_t)why && reply.high > 1 ? reply.high : reply.number;
+}
+
 static void print_reply(hull_reply reply) {
-    const uint64_t reason = reply.code == HULL_NO_FILE && reply.number != (uint64_t)why && reply.high > 1 ? reply.high : reply.number;
-    printf("%s %llu %d\n", hull_code_name(reply.code), (unsigned long long)reason, reply.high == 1);
+    printf("%s %llu %d\n", hull_code_name(reply.code), (unsigned long long)reason_of(reply), reply.high == 1);
+}
+
+/* The device is gone: all calls after the refused one are refused, too. The reason that is reported is the first. */
+static void check_first_reason(size_t at, long step, hull_reply alone) {
+    why_later = EROFS;
+    const hull_reply reply = run(at, step, -1);
+    check("a call, and all after it", reply.code, alone.code);
+    check("the first reason", reason_of(reply), reason_of(alone));
+    why_later = 0;
 }
 
 /* Refuses each call in turn. */
@@ -431,6 +449,9 @@ static void refuse_calls(size_t at) {
                 printf("    %s: ", steps[step]);
                 print_reply(reply);
             }
+            if (reply.code == HULL_NO_FILE) {
+                check_first_reason(at, step, reply);
+            }
         }
         why = EIO;
         if (strncmp(steps[step], "read ", 5) == 0 || strncmp(steps[step], "write ", 6) == 0) { /* it is made again */
@@ -447,6 +468,19 @@ static void refuse_calls(size_t at) {
             reads_nothing = 0;
         }
     }
+}
+
+/* Refuses each call in turn in a process that has closed its input, so that the first file that is opened has the number 0. */
+static void refuse_calls_without_input(size_t at) {
+    const int input = dup(0);
+    close(0);
+    run(at, -1, -1);
+    const long count = step_count;
+    for (long step = 0; step < count; step++) {
+        run(at, step, -1);
+    }
+    check("a file with the number 0", (uint64_t)dup2(input, 0), 0);
+    close(input);
 }
 
 /* Refuses each request for memory in turn. */
@@ -470,6 +504,7 @@ int main(int count, char **words) {
     snprintf(path, sizeof path, "%s/zone", folder);
     for (size_t at = 0; at < sizeof scenarios / sizeof *scenarios; at++) {
         refuse_calls(at);
+        refuse_calls_without_input(at);
         refuse_requests(at);
     }
     empty_folder(NULL);

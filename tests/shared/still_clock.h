@@ -1,5 +1,5 @@
 /* The clock, sleeping and waking for a test that runs the waiting code (c/sleep.h) by one thread: time passes only in a sleep with a deadline,
- * which lasts until then, or as the test says. What is slept on and woken is noted. */
+ * which lasts until then, or as the test says. What is slept on and woken is noted. Other threads may take steps before an atomic operation. */
 #ifndef STILL_CLOCK_H
 #define STILL_CLOCK_H
 
@@ -19,6 +19,17 @@ static struct {
     int many;
     unsigned count;
 } woken;
+
+static void (*before_step)(const volatile void *word); /* what other threads do before this one loads a word or compares and exchanges it */
+
+static inline void take_step(const volatile void *word) {
+    if (before_step != NULL) {
+        before_step(word);
+    }
+}
+
+#define __atomic_load_n(word, order) (take_step(word), __atomic_load_n(word, order))
+#define __atomic_compare_exchange_n(word, ...) (take_step(word), __atomic_compare_exchange_n(word, __VA_ARGS__))
 
 static inline uint64_t hull_now(void) {
     return still_now;
