@@ -243,6 +243,8 @@ static void check_no_space(void) {
         check("a segment that is too small", hull_shared_call_into(&storage, seats[1], HULL_KIND_COUNT, 0, 0, to, until).answer.code, HULL_NO_SPACE);
         check("took no number", hull_shared_look(seats[1]).answer.code, HULL_NO_NUMBER);
     }
+    check("nor by a drain", hull_shared_drain(&storage, seats[1], segment, HULL_KIND_COUNT, 0, 0).answer.code, HULL_NO_SPACE);
+    check("which took no number", hull_shared_look(seats[1]).answer.code, HULL_NO_NUMBER);
     check("nor does it stop others", hull_shared_call(&storage, seats[2], HULL_KIND_COUNT, 0, 0).turn, turn + SEATS);
     hull_shared_segment_end(segment);
     hull_shared_segment_free(segment);

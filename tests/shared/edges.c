@@ -42,6 +42,8 @@ static unsigned long syncs_made;
 static int is_extended_at_sync; /* the file gets another byte while it is synced */
 static int logs, syncs_do_nothing, folder_syncs_fail, writes_fail, syncs_take, threads_fail;
 static int syncs_wait; /* a sync waits as long as this is set */
+static int syncs_wait_for_sleeper; /* or until the thread whose sleep is noted sleeps */
+static const uint32_t *slept_on;
 static unsigned long reads_made;
 static uint64_t bytes_written;
 
@@ -102,6 +104,9 @@ int __wrap_fsync(int file) {
     while (__atomic_load_n(&syncs_wait, __ATOMIC_SEQ_CST)) {
         sched_yield();
     }
+    while (syncs_wait_for_sleeper && __atomic_load_n(&slept_on, __ATOMIC_SEQ_CST) == NULL) {
+        sched_yield();
+    }
     return syncs_do_nothing ? 0 : __real_fsync(file);
 }
 
@@ -149,12 +154,26 @@ static int wakes_late;
 static unsigned sleepers;
 /* This thread falls asleep a tenth of a second late, if that is wanted: what it sleeps for has come by then. */
 static __thread int falls_asleep_late;
+/* The word that this thread sleeps on, and what it was then, if that is wanted; and how often it was woken while the word was still that. */
+static __thread int notes_sleep;
+static uint32_t slept_for;
+static unsigned early_wakes;
 long __real_syscall(long number, ...);
 long __wrap_syscall(long number, long a, long b, long c, const struct timespec *deadline, long e, long f) {
     if (number == SYS_futex && (b & FUTEX_CMD_MASK) == FUTEX_WAIT_BITSET && deadline != NULL && __atomic_load_n(&are_sleeps_skipped, __ATOMIC_SEQ_CST)) {
         const uint64_t until = (uint64_t)deadline->tv_sec * SECOND + (uint64_t)deadline->tv_nsec, now = hull_shared_now();
         __atomic_fetch_add(&skipped, until > now ? until - now : 0, __ATOMIC_SEQ_CST);
         return 0;
+    }
+    if (number == SYS_futex && (b & FUTEX_CMD_MASK) == FUTEX_WAKE && __atomic_load_n(&slept_on, __ATOMIC_SEQ_CST) == (uint32_t *)a) {
+        early_wakes += __atomic_load_n((uint32_t *)a, __ATOMIC_SEQ_CST) == slept_for;
+    }
+    if (number == SYS_futex && (b & FUTEX_CMD_MASK) == FUTEX_WAIT_BITSET && notes_sleep) {
+        slept_for = (uint32_t)c;
+        __atomic_store_n(&slept_on, (uint32_t *)a, __ATOMIC_SEQ_CST);
+        const long result = __real_syscall(number, a, b, c, deadline, e, f);
+        __atomic_store_n(&slept_on, NULL, __ATOMIC_SEQ_CST);
+        return result;
     }
     if (number == SYS_futex && (b & FUTEX_CMD_MASK) == FUTEX_WAIT_BITSET && falls_asleep_late) {
         const struct timespec tenth = {0, 100000000};
@@ -490,6 +509,19 @@ static void wakes_who_falls_asleep_late(void) {
     }
     falls_asleep_late = 0;
     stop(journal, HULL_CLOSED);
+}
+
+/* The word that a waiting thread sleeps on is changed before the thread is woken: else one that falls asleep in between is not woken. */
+static void wakes_after_the_change(void) {
+    for (int k = 0; k < 10; k++) {
+        unlink(path);
+        hull_shared_journal *journal = start(0, 1000);
+        notes_sleep = syncs_wait_for_sleeper = 1;
+        check("durable", add_durably(journal, k, 1).code, HULL_DURABLE);
+        notes_sleep = syncs_wait_for_sleeper = 0;
+        stop(journal, HULL_CLOSED);
+    }
+    check("wakes before the change", early_wakes, 0);
 }
 
 /* A wait ends at its deadline, neither before nor after. */
@@ -1437,6 +1469,7 @@ static const struct {
     {"syncs_before_it_reports", syncs_before_it_reports},
     {"answers_all_waiters", answers_all_waiters},
     {"wakes_who_falls_asleep_late", wakes_who_falls_asleep_late},
+    {"wakes_after_the_change", wakes_after_the_change},
     {"gives_up_at_its_deadline", gives_up_at_its_deadline},
     {"waits_for_nothing", waits_for_nothing},
     {"takes_no_signals", takes_no_signals},
