@@ -193,6 +193,42 @@ static void check_deadlines(void) {
     check("no time passed", still_now, begun + 5000000);
 }
 
+static uint32_t lock;
+
+static void release_lock(void) {
+    check("the thread that has the lock wakes another", lock, 2);
+    hull_unlock(&lock);
+}
+
+static void release_at_third_step(const volatile void *word) {
+    if (word == &lock && ++steps_taken == 3) {
+        lock = 0;
+    }
+}
+
+/* A thread acquires the lock of the queue once no other has it: at once, at a later look, or after a sleep. */
+static void check_lock(void) {
+    hull_lock(&lock);
+    check("at once", lock, 1);
+    in_sleep = release_lock;
+    woken.count = slept.count = 0;
+    hull_lock(&lock);
+    in_sleep = NULL;
+    check("after a sleep", slept.count, 1);
+    check("on the lock", slept.word == &lock && woken.word == &lock && woken.count == 1, 1);
+    check("others may sleep, too", lock, 2);
+    hull_unlock(&lock);
+    check("one is woken", woken.count == 2 && woken.many == 1, 1);
+    hull_lock(&lock);
+    steps_taken = 0;
+    before_step = release_at_third_step;
+    hull_lock(&lock);
+    before_step = NULL;
+    check("at the third look", steps_taken == 3 && slept.count == 1, 1);
+    hull_unlock(&lock);
+    check("none is woken if none sleeps", woken.count, 2);
+}
+
 /* Numbers continue with 0 after 2^64 - 1; of two that are stored by several threads the later one stays. */
 static void check_numbers(void) {
     enter_all(2);
@@ -481,6 +517,7 @@ int main(void) {
     check_giving_up_beside_another();
     check_several_inside();
     check_deadlines();
+    check_lock();
     check_numbers();
     check_sleep_for_space();
     check_holders();
