@@ -758,6 +758,45 @@ static void cuts_only_what_a_crash_leaves(void) {
     check("what is left", has_only(path, SEGMENT), 1);
 }
 
+/* The code of an opening of these bytes; the copy of what it cut off is removed. */
+static uint32_t code_of(const char *bytes, size_t count) {
+    hull_shared_journal *journal;
+    put(path, bytes, count);
+    const hull_reply r = hull_shared_journal_open(path, &journal);
+    if (r.code == HULL_OPEN) {
+        hull_shared_journal_close(journal);
+        unlink(beside(".torn"));
+    }
+    return r.code;
+}
+
+/* A file is read in pieces: the begin of another segment is noticed in any of them, between zeros, and across two after a piece of zeros. */
+static void notices_damage_in_each_piece(void) {
+    enum { PIECE = 1 << 16, SIZE = 5 * PIECE };
+    char *bytes = calloc(SIZE + 64, 1), *at = bytes;
+    strcpy(bytes, SEGMENT);
+    check("zeros", code_of(bytes, SIZE), HULL_OPEN);
+    for (size_t from = PIECE; from < SIZE; from += PIECE) {
+        memcpy(bytes + from + 1024, "hullbook", 8);
+        check("another segment between zeros", code_of(bytes, SIZE), HULL_DAMAGED);
+        memset(bytes + from, 0, PIECE);
+    }
+    at += sprintf(at, SEGMENT "hullbook journal 3 first 6 limit 3 capacity 90000\n");
+    for (unsigned k = 6; at < bytes + SIZE; k++) {
+        at += sprintf(at, "%u 0 count = count 1\n", k);
+    }
+    memset(bytes + PIECE, 0, PIECE);
+    check("a piece that was not written", code_of(bytes, SIZE), HULL_OPEN);
+    for (size_t from = 3 * PIECE; from < SIZE; from += PIECE) {
+        char right[8];
+        memcpy(right, bytes + from - 4, 8);
+        memcpy(bytes + from - 4, "hullbook", 8);
+        check("another segment across two pieces", code_of(bytes, SIZE), HULL_DAMAGED);
+        memcpy(bytes + from - 4, right, 8);
+    }
+    free(bytes);
+}
+
 /* A history that can't be is reported with the line of the file. */
 static void reports_the_line_of_the_file(void) {
     static const struct {
@@ -1477,6 +1516,7 @@ static const struct {
     {"waits_past_the_last_number", waits_past_the_last_number},
     {"bears_changed_bytes", bears_changed_bytes},
     {"cuts_only_what_a_crash_leaves", cuts_only_what_a_crash_leaves},
+    {"notices_damage_in_each_piece", notices_damage_in_each_piece},
     {"reports_the_line_of_the_file", reports_the_line_of_the_file},
     {"continues_at_each_limit", continues_at_each_limit},
     {"reads_what_it_wrote", reads_what_it_wrote},

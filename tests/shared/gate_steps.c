@@ -142,6 +142,18 @@ static void check_giving_up_when_designated(void) {
     check("the gate is open to the others", gate->state, 2 * PARKED + 1);
 }
 
+/* A caller that gives up while the gate is closed for the designated one leaves all as it was. */
+static void check_giving_up_at_closed_gate(void) {
+    park_three();
+    set_turn_over(1);
+    leave(gate);
+    check("closed for the designated one", gate->state, DESIGNATED + CLOSED + 2 * PARKED);
+    check("in time", (uint64_t)enter(gate, 9, hull_now() + 1000), 0);
+    check("it is still closed", gate->state, DESIGNATED + CLOSED + 2 * PARKED);
+    check("the queue is as it was", gate->first == 5 && gate->last == 6, 1);
+    check("the designated one enters", (uint64_t)try_enter(gate, 1), 1);
+}
+
 static unsigned steps_taken;
 
 /* Before the second step on the word of the gate another caller enters, and before the third it leaves. */
@@ -174,6 +186,26 @@ static void check_several_inside(void) {
     check("the designated one enters", (uint64_t)try_enter(gate, 1), 1);
     check("and designates the next", gate->state, 1 + DESIGNATED);
     check("the second", gate->nodes[4].is_designated, 1);
+}
+
+/* Before this thread has the lock of the queue another call leaves. */
+static void leave_before(const volatile void *word) {
+    if (word == &gate->queue_lock) {
+        before_step = NULL;
+        leave(gate);
+    }
+}
+
+/* Two calls leave at once: each is counted, and only one of them designates the first caller. */
+static void check_leaving_beside_another(void) {
+    enter_all(2);
+    check("two callers park", (uint64_t)try_park(gate, 4, 0) + (uint64_t)try_park(gate, 5, 0), 2);
+    set_turn_over(0);
+    before_step = leave_before;
+    leave(gate);
+    check("none is inside, and one is designated", gate->state, DESIGNATED + PARKED);
+    check("the first", gate->nodes[3].is_designated, 1);
+    check("not the second", gate->nodes[4].is_designated, 0);
 }
 
 /* A call that gives up does so at its deadline, neither before nor after; one that does not wait looks at nothing but whether another is
@@ -335,6 +367,7 @@ static void open_all(uint32_t capacity, uint32_t inside) {
 static void close_all(void) {
     const hull_shared_state before = hull_shared_stats(&storage);
     check("none is inside", before.inside + before.sleepers + before.for_space, 0);
+    check("no seat is reported", before.seat, HULL_SHARED_SEATS_MAX);
     for (uint32_t k = 0; k < SEATS; k++) {
         check("all that are out", hull_shared_stats(&storage).out, SEATS - k);
         check("release", hull_shared_release_seat(shared, seats[k]), HULL_RELEASED);
@@ -442,6 +475,10 @@ static void check_refused(void) {
         }
         check("take", hull_shared_take(seats[2], HULL_KIND_COUNT, 0, 0).answer.code, HULL_TAKEN);
         check("a seat that waits", hull_shared_call(&storage, seats[2], HULL_KIND_COUNT, 0, 0).answer.code, HULL_WAITING);
+        check("it is not released", hull_shared_release_seat(shared, seats[2]), HULL_WAITING);
+        check("nor is one that is in use acquired", hull_shared_acquire_seat(shared, &storage, seats[2], 2), HULL_STORAGE_IN_USE);
+        check("all are still out", hull_shared_stats(&storage).out, SEATS);
+        check("it is still at its gate", hull_seat_count(seats[2]).answer.code, HULL_WAITING);
         const hull_shared_state after = hull_shared_stats(&storage);
         check("the number that is served, and the lines", after.turn == before.turn && after.held == before.held, 1);
         check("nothing was drained", hooks, 0);
@@ -480,6 +517,33 @@ static void serve_last(void) {
     check("its thread sleeps", (uint64_t)notify(node, IS_SERVED), 1);
 }
 
+/* A thread serves two seats that are posted, of which one looks and one sleeps: both are counted, and only the sleeper is woken. */
+static void check_serving(void) {
+    static const hull_shared_target nowhere = {NULL, 0, NULL};
+    struct call calls[3];
+    open_all(100, SEATS);
+    const uint64_t first = hull_shared_take(seats[0], HULL_KIND_COUNT, 0, 0).turn;
+    for (uint32_t k = 0; k < 3; k++) {
+        calls[k] = (struct call){gate, seats[k], k + 1, HULL_KIND_COUNT, 0, 0, HULL_NEVER};
+        if (k > 0) {
+            check("take", hull_shared_take(seats[k], HULL_KIND_COUNT, 0, 0).turn, first + k);
+            announce(&calls[k], first + k, &nowhere);
+            check("posted", (uint64_t)post(&calls[k], first + k), 1);
+        }
+    }
+    gate->nodes[2].notice = SLEEPS;
+    woken.count = 0;
+    check("a look", hull_shared_look(seats[0]).answer.code, HULL_NUMBER);
+    serve_next(&calls[0], first + 1, 1);
+    check("two were served for others", hull_shared_stats(&storage).combined, 2);
+    check("one is woken", woken.count == 1 && woken.word == &gate->nodes[2].notice && woken.many == 1, 1);
+    for (uint32_t k = 1; k < 3; k++) {
+        check("its notice", gate->nodes[k].notice, IS_SERVED);
+        check("its reply", binding_of(seats[k])->reply.turn, first + k);
+    }
+    close_all();
+}
+
 /* A call that another thread serves. */
 static void check_served(void) {
     hull_point out[2] = {{5, 5}, {5, 5}};
@@ -490,6 +554,9 @@ static void check_served(void) {
     in_sleep = NULL;
     check("its reply", reply.answer.code, HULL_ADDED);
     check("its number", reply.turn, first_number + 1);
+    gate->nodes[38].since = 3, gate->nodes[5].since = 9; /* its next call is inside, and has no number yet */
+    check_holder("the oldest", 38, 3);
+    gate->nodes[38].since = gate->nodes[5].since = 0;
     check("vertices", hull_seat_vertices(seats[38], out, 2).answer.code == HULL_VERTICES && out[0].x == 3 && out[0].y == 4, 1);
     for (int64_t k = 0; k < 5; k++) {
         hull_point all[8];
@@ -514,8 +581,10 @@ int main(void) {
     check_order();
     check_giving_up();
     check_giving_up_when_designated();
+    check_giving_up_at_closed_gate();
     check_giving_up_beside_another();
     check_several_inside();
+    check_leaving_beside_another();
     check_deadlines();
     check_lock();
     check_numbers();
@@ -525,6 +594,7 @@ int main(void) {
     check_full();
     check_refused();
     check_time_of_serving();
+    check_serving();
     check_served();
     for (int k = 0; k < SEATS; k++) {
         hull_shared_seat_free(seats[k]);

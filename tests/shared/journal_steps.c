@@ -37,7 +37,7 @@ static int why, reads_nothing, is_watching;
 static int why_later; /* all calls after the refused one are refused with this, if it is not 0 */
 static char labels[MOST_FILES][64];
 
-/* Notes a call; returns whether it is to be refused. */
+/* Notes a call; returns whether it is to be refused. One that is not leaves another errno, as a call that succeeds may. */
 static int refuse(const char *format, ...) {
     if (!is_watching) {
         return 0;
@@ -50,7 +50,7 @@ static int refuse(const char *format, ...) {
     }
     va_end(words);
     const int is_later = why_later != 0 && refused_step >= 0 && at > refused_step;
-    errno = at == refused_step ? why : is_later ? why_later : errno;
+    errno = at == refused_step ? why : is_later ? why_later : EXDEV;
     return at == refused_step || is_later;
 }
 
@@ -494,6 +494,20 @@ static void refuse_requests(size_t at) {
     }
 }
 
+/* What is no regular file is refused, with the same reason whatever errno was before. */
+static void refuse_others(void) {
+    hull_shared_journal *journal;
+    scenario = "no regular file";
+    empty_folder(NULL);
+    check("a pipe", (uint64_t)mkfifo(path, 0600), 0);
+    refused_step = refused_request = -1;
+    is_watching = 1;
+    check("a pipe", hull_shared_journal_open(path, &journal).number, EINVAL);
+    check("a device", hull_shared_journal_open("/dev/null", &journal).number, EINVAL);
+    check("a folder", hull_shared_journal_open(folder, &journal).number, EISDIR);
+    is_watching = 0;
+}
+
 int main(int count, char **words) {
     if (count != 2) {
         return 2;
@@ -507,6 +521,7 @@ int main(int count, char **words) {
         refuse_calls_without_input(at);
         refuse_requests(at);
     }
+    refuse_others();
     empty_folder(NULL);
     return bad;
 }
