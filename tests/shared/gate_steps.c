@@ -66,7 +66,7 @@ static void check_designation(void) {
     leave(gate);
     check("no other is designated", gate->state, DESIGNATED + 2 * PARKED);
     check("not the second", gate->nodes[4].is_designated, 0);
-    check("another passes", (uint64_t)try_enter(gate, 0), 1);
+    check("one that does not wait passes, too", (uint64_t)enter_at_once(gate), 1);
     set_turn_over(1);
     leave(gate);
     check("the turn is over", gate->state, DESIGNATED + CLOSED + 2 * PARKED);
@@ -376,6 +376,7 @@ static void close_all(void) {
     const hull_shared_state state = hull_shared_stats(&storage);
     check("no number is served", state.turn, 0);
     check("none was served for others", state.combined, 0);
+    check("no lines are held", state.held, 0);
     check("close", hull_shared_close(shared), HULL_CLOSED);
     check("end", hull_shared_end(shared), HULL_ENDED);
     hull_shared_gate_end(&storage);

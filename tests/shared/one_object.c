@@ -210,6 +210,7 @@ static void check_numbers(hull_service *service, uint32_t seat_count, uint32_t r
     hull_shared_seat *seats[HULL_SHARED_SEATS_MAX];
     hull_shared_reader *readers[HULL_SHARED_READERS_MAX];
     for (uint32_t k = 0; k < seat_count; k++) {
+        check("seats that are out", hull_service_stats(service).out, k);
         check("a seat", (seats[k] = hull_service_acquire_seat(service)) != NULL, 1);
     }
     for (uint32_t k = 0; k < reader_count; k++) {

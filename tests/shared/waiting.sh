@@ -23,7 +23,7 @@ waits() {
     build "$here/waits.c" -Wl,--wrap=malloc && "$room/waits"
     count "errno, deadlines, other gates, threads that are cancelled or die" $?
     # shellcheck disable=SC2046 # the flags are separated by spaces
-    build_by_pthreads "$here/waits.c" $(wrap malloc clock_gettime) && "$room/waits"
+    build_by_pthreads "$here/waits.c" $(wrap malloc clock_gettime pthread_cond_timedwait) && "$room/waits"
     count "the same without futex" $?
     # shellcheck disable=SC2046
     build "$here/deadlines.c" $(wrap malloc realloc) && "$room/deadlines" ${long:+3000}

@@ -36,6 +36,19 @@ int __wrap_clock_gettime(clockid_t clock, struct timespec *t) {
     t->tv_sec += clock == CLOCK_REALTIME ? 3600 : 0;
     return result;
 }
+
+/* And pthread_cond_timedwait: a thread that looked at its word, and has the lock, falls asleep some milliseconds later, if that is wanted. */
+static __thread int falls_asleep_late;
+static int is_late;
+int __real_pthread_cond_timedwait(pthread_cond_t *changed, pthread_mutex_t *lock, const struct timespec *until);
+int __wrap_pthread_cond_timedwait(pthread_cond_t *changed, pthread_mutex_t *lock, const struct timespec *until) {
+    const struct timespec moment = {0, 20000000};
+    if (falls_asleep_late) {
+        __atomic_store_n(&is_late, 1, __ATOMIC_SEQ_CST);
+        nanosleep(&moment, NULL);
+    }
+    return __real_pthread_cond_timedwait(changed, lock, until);
+}
 #endif
 
 /* The linker sends malloc here (--wrap): the thread that is to die in it ends without notice; it may be refused; and what it returns is not
@@ -115,13 +128,63 @@ static void check_sleep(void) {
     check("half a millisecond", HULL_SHARED_TURN, 500000);
 }
 
+/* Sleeps on a word as long as it is 0, and for 20 seconds at most. */
+static void *sleep_on(void *word) {
+    const uint64_t until = hull_now() + 20000 * MILLISECOND;
+    while (__atomic_load_n((uint32_t *)word, __ATOMIC_SEQ_CST) == 0 && hull_now() < until) {
+        hull_sleep((uint32_t *)word, 0, until);
+    }
+    check("it is woken", hull_now() < until, 1);
+    return NULL;
+}
+
+static void change_and_wake(uint32_t *word) {
+    __atomic_store_n(word, 1, __ATOMIC_SEQ_CST);
+    hull_wake(word, 1);
+}
+
+/* Threads that sleep on several words: each is woken by its own, whoever fell asleep before. */
+static void check_several_words(void) {
+    static uint32_t words[3];
+    pthread_t threads[3];
+    for (int k = 0; k < 3; k++) {
+        pthread_create(&threads[k], NULL, sleep_on, &words[k]);
+        nap(5 * MILLISECOND); /* it sleeps by now, or will not */
+    }
+    for (int k = 2; k >= 0; k--) {
+        change_and_wake(&words[k]);
+        pthread_join(threads[k], NULL);
+    }
+}
+
+#ifdef HULL_SHARED_BY_PTHREADS
+static void *sleep_late_on(void *word) {
+    falls_asleep_late = 1;
+    return sleep_on(word);
+}
+
+/* A thread looked at its word, and it is changed before the thread sleeps. */
+static void check_late_sleep(void) {
+    static uint32_t word;
+    pthread_t thread;
+    pthread_create(&thread, NULL, sleep_late_on, &word);
+    while (!__atomic_load_n(&is_late, __ATOMIC_SEQ_CST)) {
+        nap(MILLISECOND / 10);
+    }
+    change_and_wake(&word);
+    pthread_join(thread, NULL);
+}
+#endif
+
 /* One gate for two shared hulls, and calls at a gate that is not the seat's. */
 static void check_other_gates(void) {
     static hull_shared_gate other;
-    hull_shared *second = hull_shared_new();
+    hull_shared *second = hull_shared_new(), *unopened = hull_shared_new();
     hull_shared_seat *seat = hull_shared_seat_new();
     open_all(100, 1);
     check("open", hull_shared_open(second, 10, 0, 10, 1), HULL_OPEN);
+    check("a shared hull that is not open", hull_shared_acquire_seat(unopened, &other, seat, 0), HULL_NOT_OPEN);
+    hull_shared_free(unopened);
     check("one gate for two shared hulls", hull_shared_acquire_seat(second, &gate, seat, 0), HULL_OTHER_GATE);
     check("storage with no seat", hull_shared_call(&gate, seat, HULL_KIND_COUNT, 0, 0).answer.code, HULL_VACANT);
     check("no seat", hull_shared_acquire_seat(second, &other, seat, 5), HULL_NO_SEAT);
@@ -394,6 +457,10 @@ int main(void) {
     }
     check("a gate of 65", (uint64_t)hull_shared_gate_init(&gate, HULL_SHARED_SEATS_MAX + 1), 0);
     check_sleep();
+    check_several_words();
+#ifdef HULL_SHARED_BY_PTHREADS
+    check_late_sleep();
+#endif
     check_other_gates();
     check_deadlines();
     check_waiting_for_space();
