@@ -1,7 +1,6 @@
-/* one_object FILE: a service (include/hull_service.h) returns every code of every call, IN_USE excepted, which needs a call that is under way;
- * keeps each option at both of its ends; leaves nothing when it cannot be opened, with each request for memory and the thread refused in
- * turn; gives a seat and a reader to one thread at a time; and continues its file. FILE is made and removed. The status is 0 only if it
- * is so; valgrind finds memory that is not freed. */
+/* one_object FILE: a service (include/hull_service.h) returns every code of every call; keeps each option at both of its ends; leaves nothing
+ * when it cannot be opened, with each request for memory and the thread refused in turn; gives a seat and a reader to one thread at a time;
+ * and continues its file. FILE is made and removed. The status is 0 only if it is so; valgrind finds memory that is not freed. */
 #include "hull_service.h"
 #include "refusing.h"
 
@@ -44,6 +43,13 @@ int __wrap_flock(int file, int how) {
         }
     }
     return __real_flock(file, how);
+}
+
+/* A call on the shared hull is under way while it is closed, if that is wanted. */
+static int is_in_use;
+uint32_t __real_hull_shared_close(hull_shared *shared);
+uint32_t __wrap_hull_shared_close(hull_shared *shared) {
+    return is_in_use ? HULL_IN_USE : __real_hull_shared_close(shared);
 }
 
 int __wrap_pthread_create(pthread_t *thread, const pthread_attr_t *how, void *(*begin)(void *), void *context) {
@@ -252,7 +258,8 @@ static void at_limits(const char *path) {
     check("no file was made", is_there(path), 0);
 }
 
-static void *count_by(void *seat) {
+static void *ask_by(void *seat) {
+    check("a list that waited", hull_seat_vertices((hull_shared_seat *)seat, NULL, 0).answer.code, HULL_VERTICES);
     check("a call that waited", hull_seat_count((hull_shared_seat *)seat).answer.code, HULL_NUMBER);
     return NULL;
 }
@@ -269,7 +276,7 @@ static void admits(uint32_t inside, uint32_t wanted) {
     }
     hull_shared_reply taken = hull_shared_take(seats[0], HULL_KIND_COUNT, 0, 0);
     for (int k = 0; k < 2; k++) {
-        pthread_create(&threads[k], NULL, count_by, seats[k + 1]);
+        pthread_create(&threads[k], NULL, ask_by, seats[k + 1]);
     }
     do {
         sched_yield();
@@ -410,6 +417,28 @@ static void with_file(const char *path) {
     unlink(path);
 }
 
+/* A close that is refused while a call is under way leaves all open: seats, readers and the file are there as before. */
+static void closes_beside_a_call(const char *path) {
+    hull_service *service = open_with("open", (hull_service_options){.seats = 3, .readers = 2, .path = path, .every = HULL_SHARED_NEVER});
+    for (int again = 0; again < 2; again++) {
+        is_in_use = 1;
+        check("a call is under way", hull_service_close(service).code, HULL_IN_USE);
+        is_in_use = 0;
+        check_numbers(service, 3, 2);
+        hull_shared_seat *seat = hull_service_acquire_seat(service);
+        check("a call", hull_seat_add(seat, again, 7).answer.code, HULL_ADDED);
+        check("sync", hull_service_sync(service, HULL_SHARED_NEVER).code, path == NULL ? HULL_NO_FILE : HULL_DURABLE);
+        hull_shared_reader *reader = hull_service_acquire_reader(service);
+        check("its snapshot", hull_shared_read(reader).count, (uint64_t)again + 1);
+        check("release", hull_service_release_reader(service, reader), HULL_RELEASED);
+        check("release", hull_service_release_seat(service, seat), HULL_RELEASED);
+    }
+    close_it("close", service);
+    if (path != NULL) {
+        unlink(path);
+    }
+}
+
 /* Lines become durable after a time, and when half of the capacity is used. */
 static void when_durable(const char *path) {
     hull_service *service = open_with("each ten milliseconds", (hull_service_options){.path = path});
@@ -536,6 +565,8 @@ int main(int count, char **words) {
     admits(0, 1), admits(HULL_SHARED_SEATS_MAX, 2), admits(2, 2);
     with_threads(0), with_threads(HULL_SHARED_SEATS_MAX);
     with_file(words[1]);
+    closes_beside_a_call(NULL);
+    closes_beside_a_call(words[1]);
     when_durable(words[1]);
     other_process(words[1]);
     failures(words[1]);

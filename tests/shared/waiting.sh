@@ -45,12 +45,12 @@ races() {
 # a service: its seats and readers are in pools
 services() {
     # shellcheck disable=SC2046 # the flags are separated by spaces
-    build "$here/one_object.c" $(wrap malloc realloc calloc strdup flock pthread_create) && "$room/one_object" "$room/one.journal"
+    build "$here/one_object.c" $(wrap malloc realloc calloc strdup flock pthread_create hull_shared_close) && "$room/one_object" "$room/one.journal"
     count "a service: every code, each option at its ends, each request refused, 64 threads, and its file" $?
     if is_there valgrind; then by_valgrind one_object "$room/one_object" "$room/valgrind.journal"; else skip "a service by valgrind" valgrind; fi
     # shellcheck disable=SC2046,SC2086
     build "$here/one_object.c" -O1 $sanitizers "$top/c/service.c" "$top/c/gate.c" "$top/c/journal.c" "$top/c/shared_exports.c" \
-        $(wrap malloc realloc calloc strdup flock pthread_create) && "$room/one_object" "$room/one.journal"
+        $(wrap malloc realloc calloc strdup flock pthread_create hull_shared_close) && "$room/one_object" "$room/one.journal"
     count "sanitizers find nothing in a service, its gate and its file" $?
 }
 

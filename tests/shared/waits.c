@@ -340,6 +340,32 @@ static void count_hook(void *context, const hull_shared_segment *segment) {
     errno = 5;
 }
 
+/* Only a seat of the gate drains for its hook. */
+static void check_drain_at_other_gate(void) {
+    static hull_shared_gate other;
+    hull_shared *second = hull_shared_new();
+    hull_shared_seat *seat = hull_shared_seat_new();
+    open_all(100, 1);
+    check("hook", (uint64_t)hull_shared_gate_on_half_full(&gate, count_hook, NULL), 1);
+    check("open", hull_shared_open(second, 10, 0, 100, 1), HULL_OPEN);
+    for (int has_gate = 0; has_gate < 2; has_gate++) {
+        check("acquire", hull_shared_acquire_seat(second, has_gate ? &other : NULL, seat, 0), HULL_ACQUIRED);
+        check("a seat of no gate, or of another", (uint64_t)hull_shared_gate_drain(&gate, seat), 0);
+        check("release", hull_shared_release_seat(second, seat), HULL_RELEASED);
+    }
+    check("no seat", (uint64_t)hull_shared_gate_drain(&gate, seat), 0);
+    check("none drained", (uint64_t)hooks, 0);
+    check("a seat of the gate", (uint64_t)hull_shared_gate_drain(&gate, seats[0]), 1);
+    check("drained", (uint64_t)hooks, 1);
+    hooks = 0;
+    close_all();
+    hull_shared_gate_end(&gate);
+    check("close", hull_shared_close(second), HULL_CLOSED);
+    check("end", hull_shared_end(second), HULL_ENDED);
+    hull_shared_seat_free(seat);
+    hull_shared_free(second);
+}
+
 static void *fill(void *seat) {
     in_hook = pthread_self();
     for (int k = 0; k < 3; k++) {
@@ -470,6 +496,7 @@ int main(void) {
     check_cancelled(1);
     check_cancelled(2);
     check_cancelled(SEATS);
+    check_drain_at_other_gate();
     check_cancelled_in_hook();
     check_refused_hook();
     check_errno();
