@@ -222,6 +222,8 @@ static void check_deadlines(void) {
     check("at once", hull_shared_try_call(&gate, seats[1], HULL_KIND_COUNT, 0, 0).answer.code, HULL_BUSY);
     check("its turn", hull_shared_try_call(&gate, seats[1], HULL_KIND_COUNT, 0, 0).turn, 0);
     check("by a deadline that has passed", hull_shared_call_until(&gate, seats[1], HULL_KIND_COUNT, 0, 0, begun).answer.code, HULL_BUSY);
+    check("at once, by the seat only", hull_seat_call_until(seats[1], HULL_KIND_COUNT, 0, 0, 0).answer.code, HULL_BUSY);
+    check("by a deadline that has passed", hull_seat_call_until(seats[1], HULL_KIND_COUNT, 0, 0, begun).answer.code, HULL_BUSY);
     check("they did not wait", hull_shared_now() - begun < 20000 * MILLISECOND, 1);
     begun = hull_shared_now();
     check("in time", hull_shared_call_until(&gate, seats[1], HULL_KIND_COUNT, 0, 0, begun + 30 * MILLISECOND).answer.code, HULL_BUSY);
