@@ -568,6 +568,11 @@ static void check_served(void) {
     check("vertices of no array", hull_seat_vertices(seats[38], NULL, 0).answer.code, HULL_TOO_SMALL);
     check("vertices of no array", hull_shared_vertices(&storage, seats[38], NULL, 0).answer.code, HULL_TOO_SMALL);
     check("a call that does not wait", hull_seat_call_until(seats[38], HULL_KIND_COUNT, 0, 0, 0).answer.number, 6);
+    gate->state++; /* another call is inside */
+    check("not beside another", hull_shared_try_call(&storage, seats[38], HULL_KIND_COUNT, 0, 0).answer.code, HULL_BUSY);
+    check("not beside another", hull_seat_call_until(seats[38], HULL_KIND_COUNT, 0, 0, 0).answer.code, HULL_BUSY);
+    check("one that waits is made", hull_seat_call_until(seats[38], HULL_KIND_COUNT, 0, 0, 1).answer.code, HULL_NUMBER);
+    gate->state--;
     close_all();
 }
 

@@ -203,6 +203,7 @@ static void without_file(void) {
     check("durable with no file", reply.code, HULL_NO_FILE);
     check("its reason", reply.high, ENOENT);
     check("wait with no file", hull_service_wait(service, 70, HULL_SHARED_NEVER).code, HULL_NO_FILE);
+    check("its reason", hull_service_wait(service, 70, 0).high, ENOENT);
     check("sync with no file", hull_service_sync(service, HULL_SHARED_NEVER).high, ENOENT);
     check("its shared hull is open", hull_shared_end(hull_service_shared(service)), HULL_NOT_CLOSED);
     close_it("close", service);
