@@ -113,7 +113,6 @@ export interface Hull extends Questions {
     polygon(): Polygon;
 }
 
-/** A convex polygon: the vertices of a hull, which answers as that hull did then. */
 /** The hull of points that are only added: it keeps only its vertices, so nothing can be removed from it, and multiplicities are not kept. */
 export interface GrowingHull extends Questions {
     /** Adds the point; returns its place before: the hull has grown if it was "outside", and is unchanged else. TooMany, NoMemory. */
@@ -124,6 +123,7 @@ export interface GrowingHull extends Questions {
     polygon(): Polygon;
 }
 
+/** A convex polygon: the vertices of a hull, which answers as that hull did then. */
 export interface Polygon extends Questions {
     /** Returns how many vertices there are. */
     count(): number;

@@ -3,7 +3,7 @@ import * as hulls from "hullbook";
 import * as exchange from "hullbook/exchange.js";
 import * as journals from "hullbook/journal.js";
 import * as many from "hullbook/many.js";
-import type { Bridges, Fraction, Held, Hit, Hull, Library, Place, Point, Points, Polygon, Relation, Source, Tangents, Witness } from "hullbook";
+import type { Bridges, Fraction, GrowingHull, Held, Hit, Hull, Library, Place, Point, Points, Polygon, Relation, Source, Tangents, Witness } from "hullbook";
 import type { Journal, Line, Replay } from "hullbook/journal.js";
 import type { Motion } from "hullbook/many.js";
 
@@ -92,7 +92,16 @@ interface OfPolygon {
 }
 same<keyof Polygon, Questions | keyof OfPolygon>();
 same<Pick<Polygon, keyof OfPolygon>, Pick<OfPolygon, keyof OfPolygon>>();
-same<keyof Library, "Hull" | "Polygon">();
+interface OfGrowingHull {
+    add(x: number, y: number): Place;
+    addAll(points: Points): (Place | null)[];
+    polygon(): Polygon;
+}
+same<keyof GrowingHull, Questions | keyof OfGrowingHull>();
+same<Pick<GrowingHull, keyof OfGrowingHull>, OfGrowingHull>();
+same<keyof Library, "Hull" | "GrowingHull" | "Polygon">();
+same<ConstructorParameters<Library["GrowingHull"]>, []>();
+same<InstanceType<Library["GrowingHull"]>, GrowingHull>();
 same<ConstructorParameters<Library["Hull"]>, [limit?: number]>();
 same<InstanceType<Library["Hull"]>, Hull>();
 same<ConstructorParameters<Library["Polygon"]>, [vertices: Points]>();
