@@ -36,13 +36,13 @@ outcome() {
     done
     words=$(head_of "$1" words | sed 's#INPUT#input#g; s#JOURNAL#journal#g; s#PART#part#g; s#ABSENT#absent#g; s#FOLDER#folder#g')
     words="${words%% *} $2 ${words#"${words%% *}"}"
-    told="$room/output.output"
+    report="$room/output.output"
     if [ "$(head_of "$1" device)" = full ]; then
-        told=/dev/full
+        report=/dev/full
     fi
     : >"$room/output.output"
     # shellcheck disable=SC2086 # the words stand apart by spaces
-    (cd "$room" && "$hullbook" $words) >"$told" 2>"$room/output.error"
+    (cd "$room" && "$hullbook" $words) >"$report" 2>"$room/output.error"
     status=$?
     if [ "$status" != "$(head_of "$1" status)" ]; then
         echo "status $status"
@@ -57,7 +57,7 @@ outcome() {
     fi
     case "$(head_of "$1" device) $status $words" in
         ' 0 compact '* | ' 0 run '*--journal*)
-            "$hullbook" check "$told" >"$room/output.check" 2>&1 || echo "check: $(head -n 3 "$room/output.check")"
+            "$hullbook" check "$report" >"$room/output.check" 2>&1 || echo "check: $(head -n 3 "$room/output.check")"
             ;;
     esac
 }

@@ -164,7 +164,7 @@ static void enter_and_leave(const volatile void *word) {
     }
 }
 
-/* A designated caller that gives up while another enters and leaves: it finds the gate open, and enters, since nobody else would look. */
+/* A designated caller that gives up while another enters and leaves: it finds the gate open, and enters, since no other would. */
 static void check_giving_up_beside_another(void) {
     park_three();
     leave(gate);

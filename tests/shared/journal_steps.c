@@ -494,7 +494,7 @@ static void refuse_requests(size_t at) {
     }
 }
 
-/* What is no regular file is refused, with the same reason whatever errno was before. */
+/* A file that is not a regular one is refused, with the same reason whatever errno was before. */
 static void refuse_others(void) {
     hull_shared_journal *journal;
     scenario = "no regular file";

@@ -1,5 +1,5 @@
 /* The clock, sleeping and waking for a test that runs the waiting code (c/sleep.h) by one thread: time passes only in a sleep with a deadline,
- * which lasts until then, or as the test says. What is slept on and woken is noted. Other threads may take steps before an atomic operation. */
+ * which lasts until then, or as the test says. Each sleep and each wake-up is noted. Other threads may take steps before an atomic operation. */
 #ifndef STILL_CLOCK_H
 #define STILL_CLOCK_H
 

@@ -143,7 +143,7 @@ static void change_and_wake(uint32_t *word) {
     hull_wake(word, 1);
 }
 
-/* Threads that sleep on several words: each is woken by its own, whoever fell asleep before. */
+/* Threads that sleep on several words: each is woken by its own, in whatever order they fell asleep. */
 static void check_several_words(void) {
     static uint32_t words[3];
     pthread_t threads[3];

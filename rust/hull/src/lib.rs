@@ -151,7 +151,7 @@ impl Hull {
         }
         // SAFETY: the layout has a size of more than 0.
         let storage = NonNull::new(unsafe { alloc(Self::layout()) }).ok_or(Fault::NoMemory)?;
-        // SAFETY: the storage has the size and the alignment that the library asks for, and is nobody else's.
+        // SAFETY: the storage has the size and the alignment that the library asks for, and only this hull uses it.
         unsafe { raw::hull_make(limit, storage.as_ptr()) };
         Ok(Hull { storage })
     }
