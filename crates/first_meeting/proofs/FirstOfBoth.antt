@@ -8,17 +8,18 @@ use Rattle.std.proofs.Math.Nat.{mul-le-mul_right}
 use Rattle.lattice.specs.Covers.{Covers, IsBetween, IsExtreme, Member, OnSegment, InTriangle}
 use Rattle.lattice.specs.Plane.{IsZero, Pair, orient, product}
 use Rattle.lattice.specs.Polynomials.{difference-eq, as_difference, difference_rules}
-use Rattle.lattice.specs.Signs.{product_pp}
+use Rattle.lattice.specs.Signs.{le_or_lt, product_nn, product_pp}
 use Rattle.lattice.proofs.Order.{same_pair}
 use Rattle.hull_polygon.specs.Closest.{magnified}
-use Rattle.hull_polygon.specs.Meetings.{AreDisjoint, Reaches, IsReached}
+use Rattle.hull_polygon.specs.Meetings.{AreDisjoint, Reaches, IsReached, StayApart}
 use Rattle.hull_polygon.specs.Polygons.{IsPolygonOf}
 use Rattle.hull_polygon.specs.Raycasts.{IsHit, moved, on_way}
 use Rattle.hull_polygon.specs.Rounds.{IsSeparated}
 use Rattle.hull_polygon.specs.Steps.{backward}
 use Rattle.hull_polygon.specs.declared.raycasts.Hit.{Hit}
 use Rattle.hull_polygon.proofs.Casting.{enters_there}
-use Rattle.hull_polygon.proofs.SeparatedLists.{never_both}
+use Rattle.hull_polygon.proofs.Neighbours.{disjoint_first}
+use Rattle.hull_polygon.proofs.SeparatedLists.{never_both, product_ns}
 use Rattle.first_meeting.specs.Arrivals.{ArrivesFirst, CoversAfter, NoneArrives, ReturnsFirst, ReturnsSooner}
 use Rattle.first_meeting.specs.FirstMeetings.{carried, IsArrival, IsFirstMeeting, MeetAfter, NeverMeet, ReturnsArrival}
 use Rattle.first_meeting.specs.declared.arrivals.Arrival.{Arrival}
@@ -30,7 +31,7 @@ use Rattle.first_meeting.proofs.Sooner.{NoneSooner, before_beyond, between_fract
 -- ---- they meet
 
 -- a vertex of S arrives
-reached : (S T : List Pair) (d v : Pair) (n k : ℕ) → Contains S v → CoversAfter T d v n k → MeetAfter S T d n k
+pub reached : (S T : List Pair) (d v : Pair) (n k : ℕ) → Contains S v → CoversAfter T d v n k → MeetAfter S T d n k
 reached S T d v n k m c =
     IsReached (carried_point k n d v) (carried_there S v k n d m) (subst (Covers (magnified k T)) same c)
   where
@@ -105,7 +106,7 @@ reaches S T d v n k m c =
     same = same_pair _ _ (at v.x d.x) (at v.y d.y)
 
 -- where a ray hits, its point is covered
-covered_at : (T : List Pair) (d v : Pair) (hit : Hit) → IsHit T v (moved v d) hit
+pub covered_at : (T : List Pair) (d v : Pair) (hit : Hit) → IsHit T v (moved v d) hit
     → CoversAfter T d v hit.numerator hit.denominator
 covered_at T d v hit h = enters_there T v (moved v d) hit.place hit.denominator hit.numerator h.entry h.part h.whole
 
@@ -216,27 +217,48 @@ no_way e d z = rw (z.0, z.1) (nothing e.x e.y)
     nothing : (x y : ℤ) → x *ℤ pos 0 +ℤ y *ℤ pos 0 ≡ pos 0
     nothing x y = omega (arith, ints)
 
--- without a motion, disjoint sets never meet
-pub stays_apart : (S T : List Pair) (d : Pair) → IsZero d → AreDisjoint S T → NeverMeet S T d
-stays_apart S T d z (e, h) n k hk l meet =
-    never_both (carried k n d S) (magnified k T) meet (e, λ s t ms mt. parted s t (image_of (carried_point k n d) S s ms) (image_of (times k) T t mt))
+-- sets that a direction separates before and after the motion never meet
+pub never_apart : (S T : List Pair) (d : Pair) → StayApart S T d → NeverMeet S T d
+never_apart S T d (e, h) n k hk l meet =
+    never_both (carried k n d S) (magnified k T) meet (
+      e,
+      λ s t ms mt. parted s t (image_of (carried_point k n d) S s ms) (image_of (times k) T t mt),
+    )
   where
-    less : (x y u v w : ℤ) → x <ℤ y → w ≡ pos 0 → u ≡ pos k *ℤ x +ℤ pos n *ℤ w → v ≡ pos k *ℤ y → u <ℤ v
-    less x y u v w h z e f =
+    less : (x y u v w : ℤ) → x <ℤ y → (x +ℤ w) <ℤ y → u ≡ pos k *ℤ x +ℤ pos n *ℤ w → v ≡ pos k *ℤ y → u <ℤ v
+    less x y u v w h i e f =
         let p = product_pp (pos k) (y -ℤ x) (omega (arith, ints)) (omega (arith, ints)) in
-        let m : pos n *ℤ w ≡ pos 0 = ap (λ (t : ℤ). pos n *ℤ t) z ∙ nothing (pos n) in
-        omega (arith, ints, spread (pos k) y x, e, f, m)
+        let q = product_pp (pos k) ((y -ℤ x) -ℤ w) (omega (arith, ints)) (omega (arith, ints)) in
+        elim (le_or_lt w (pos 0)) [
+          | inl g ↦ let r = product_ns (pos n) w (omega (arith, ints)) g in omega (arith, ints, spread (pos k) y x, p, r, e, f)
+          | inr g ↦ let r = product_nn (pos k -ℤ pos n) w (omega (arith, ints)) (omega (arith, ints)) in
+              omega (arith, ints, spread (pos k) y x, spread (pos k) (y -ℤ x) w, part (pos k) (pos n) w, q, r, e, f)
+        ]
       where
-        nothing : (n : ℤ) → n *ℤ pos 0 ≡ pos 0
-        nothing n = omega (arith, ints)
-
         spread : (k u v : ℤ) → k *ℤ (u -ℤ v) ≡ k *ℤ u -ℤ k *ℤ v
         spread k u v = rw (as_difference k, as_difference u, as_difference v)
+            (simp difference_rules (difference-eq _ _ _ _ (omega arith)))
+
+        part : (k n w : ℤ) → (k -ℤ n) *ℤ w ≡ k *ℤ w -ℤ n *ℤ w
+        part k n w = rw (as_difference k, as_difference n, as_difference w)
             (simp difference_rules (difference-eq _ _ _ _ (omega arith)))
 
     parted : (s t : Pair) → ((a : Pair) × Contains S a × (s ≡ carried_point k n d a))
         → ((b : Pair) × Contains T b × (t ≡ times k b)) → product e s <ℤ product e t
     parted s t (a, ma, i) (b, mb, j) =
+        let c = h a b ma mb in
         subst (λ (z : Pair). product e z <ℤ product e t) (sym i)
         (subst (λ (z : Pair). product e (carried_point k n d a) <ℤ product e z) (sym j)
-        (less _ _ _ _ _ (h a b ma mb) (no_way e d z) (product_carried k n e d a) (product_times k e b)))
+        (less _ _ _ _ _ c.0 c.1 (product_carried k n e d a) (product_times k e b)))
+
+-- without a motion, disjoint sets stay apart
+pub stays_apart : (S T : List Pair) (d : Pair) → IsZero d → AreDisjoint S T → NeverMeet S T d
+stays_apart S T d z (e, h) =
+    never_apart S T d (e, λ s t ms mt. (h s t ms mt, still _ _ _ (h s t ms mt) (no_way e d z)))
+  where
+    still : (x y w : ℤ) → x <ℤ y → w ≡ pos 0 → (x +ℤ w) <ℤ y
+    still x y w h e = omega (arith, ints)
+
+-- sets that stay apart are disjoint and never meet
+pub apart_and_never : (S T : List Pair) (d : Pair) → StayApart S T d → AreDisjoint S T × NeverMeet S T d
+apart_and_never S T d h = (disjoint_first S T d h, never_apart S T d h)

@@ -70,7 +70,7 @@ never_covered T d a n k (e, near, far) hk c =
 -- ---- a ray that hits
 
 -- a member of one is that
-only_one : (v a : Pair) → Contains (v ∷ []) a → a ≡ v
+pub only_one : (v a : Pair) → Contains (v ∷ []) a → a ≡ v
 only_one v a (zero, l, e) = sym e
 only_one v a (suc i, l, e) = absurd (omega (arith, l))
 

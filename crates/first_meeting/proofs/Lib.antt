@@ -7,3 +7,4 @@ pub mod Hits
 pub mod PassedBy
 pub mod Sooner
 pub mod FirstOfBoth
+pub mod Leading

@@ -109,7 +109,7 @@ sooner_first T d V U X (Some a) (Some b) r parts left right hf hg (inr e) =
 -- ---- one vertex after the other
 
 -- the first vertices and one more
-one_more : (V : List Pair) (i : ℕ) (v : Pair) → i < length V → v ≡ get_or V i v → take (i + 1) V ≡ take i V ++ (v ∷ [])
+pub one_more : (V : List Pair) (i : ℕ) (v : Pair) → i < length V → v ≡ get_or V i v → take (i + 1) V ≡ take i V ++ (v ∷ [])
 one_more V i v l e = take_more V i v l ∙ ap (λ (z : Pair). take i V ++ (z ∷ [])) (sym e)
 
 -- the first arrival of the first vertices and that of one more

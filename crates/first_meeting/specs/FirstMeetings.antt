@@ -1,11 +1,13 @@
 -- The first part of a straight motion of the hull of a set S after which it intersects the hull of another set T.
-use Rattle.std.specs.Prelude.{ℕ, ◌*◌, ◌<◌, ◌≤◌, pos, ◌+ℤ◌, ◌*ℤ◌, List, map, Bool, true, false, Option, Some, None}
-use Rattle.lattice.specs.Plane.{Pair}
+use Rattle.std.specs.Prelude.{◌≡◌, ℕ, ◌*◌, ◌<◌, ◌≤◌, pos, ◌+ℤ◌, ◌*ℤ◌, ◌≤ℤ◌, List, map, Bool, true, false, Option, Some, None}
+use Rattle.std.specs.List.{All}
+use Rattle.lattice.specs.Plane.{Pair, orient}
 use Rattle.lattice.specs.Covers.{IsExtreme}
 use Rattle.hull_polygon.specs.Closest.{magnified}
 use Rattle.hull_polygon.specs.Meetings.{AreDisjoint, Intersects}
 use Rattle.hull_polygon.specs.Raycasts.{IsHit, moved}
 use Rattle.hull_polygon.specs.Steps.{backward}
+use Rattle.hull_polygon.specs.declared.raycasts.Entry.TheVariants.{Edge}
 use Rattle.first_meeting.specs.declared.arrivals.Arrival.{Arrival}
 use Rattle.first_meeting.specs.declared.meeting.FirstMeeting.{FirstMeeting}
 use Rattle.first_meeting.specs.declared.meeting.FirstMeeting.TheVariants.{AtStart, Later}
@@ -34,6 +36,10 @@ pub record IsFirstMeeting (S T : List Pair) (d : Pair) (r : Arrival) : Type 0 wh
   pub within : r.hit.numerator ≤ r.hit.denominator
   pub meet : MeetAfter S T d r.hit.numerator r.hit.denominator
   pub first : (n k : ℕ) → 0 < k → MeetAfter S T d n k → r.hit.numerator * k ≤ n * r.hit.denominator
+
+-- the vertex enters across an edge, and no point of S lies farther to the left of the edge's line than the vertex
+abbrev pub Leads : List Pair → Arrival → Type 0
+Leads S r = (p q : Pair) × (r.hit.place ≡ Edge p q) × All (λ s. orient p q s ≤ℤ orient p q r.vertex) S
 
 -- the first meeting of two that are disjoint at the start, or they never meet
 abbrev pub ReturnsArrival : List Pair → List Pair → Pair → Option Arrival → Type 0

@@ -19,6 +19,7 @@ pub mod Shields
 pub mod Cones
 pub mod NearestOf
 pub mod Separated
+pub mod Neighbours
 pub mod Distances
 pub mod Differences
 pub mod Passing

@@ -110,16 +110,15 @@ same_beside V j l few = grind (arith, common_steps, previous_at, next_at, vertex
 no_more : (x y : ℤ) → (x -ℤ y) ≤ℤ pos 0 → x ≤ℤ y
 no_more x y h = omega (arith, ints)
 
--- in the direction from there to q no point lies farther
-pub farthest_from : (S V : List Pair) (last j : ℕ) (q : Pair) → IsPolygonOf S V → IsSeparated V last → j < length V
-    → IsTurnedFrom (previous V j) (vertex V j) (vertex V (j + 1)) q
-    → IsFarthest S (step (vertex V j) q) (vertex V j)
-farthest_from S V last j q o p l t = elim (cases_lt 2 (length V)) [
+-- in a direction in which neither of the vertices beside a vertex lies farther, no point does
+pub farthest_here : (S V : List Pair) (last j : ℕ) (f : Pair) → IsPolygonOf S V → IsSeparated V last → j < length V
+    → (product f (previous V j) -ℤ product f (vertex V j)) ≤ℤ pos 0
+    → (product f (vertex V (j + 1)) -ℤ product f (vertex V j)) ≤ℤ pos 0 → IsFarthest S f (vertex V j)
+farthest_here S V last j f o p l fp fn = elim (cases_lt 2 (length V)) [
   | inl many ↦ all_of (λ s. product f s ≤ℤ product f c) S (λ s m. no_more _ _
       (no_farther_in_cone f (previous V j) c (vertex V (j + 1)) s (bends_at S V j o.1 l many)
       (All-contains (λ u. pos 0 ≤ℤ orient (previous V j) c u) S s (left_before S V j o.1 l) m)
-      (All-contains (λ u. pos 0 ≤ℤ orient c (vertex V (j + 1)) u) S s (next_left S V j (j + 1) o.1 refl l) m)
-      (not_onward c (vertex V (j + 1)) q t.1) (not_onward c (previous V j) q t.0)))
+      (All-contains (λ u. pos 0 ≤ℤ orient c (vertex V (j + 1)) u) S s (next_left S V j (j + 1) o.1 refl l) m) fn fp))
   | inr few ↦
       let r = farthest_vertex S V last f o p (omega (arith, l)) in
       all_of (λ s. product f s ≤ℤ product f c) S (λ s m. le_trans _ _ _
@@ -129,13 +128,10 @@ farthest_from S V last j q o p l t = elim (cases_lt 2 (length V)) [
     c : Pair
     c = vertex V j
 
-    f : Pair
-    f = step (vertex V j) q
-
     behind : (i k : ℕ) → vertex V i ≡ vertex V k → k ≡ (next_at V j l).0 → product f (vertex V i) ≤ℤ product f c
     behind i k e g =
         subst (λ (z : Pair). product f z ≤ℤ product f c) (sym (e ∙ ap (vertex V) g ∙ sym (next_at V j l).3))
-        (no_more _ _ (not_onward c (vertex V (j + 1)) q t.1))
+        (no_more _ _ fn)
 
     one : (i : ℕ) → length V ≤ 2 → product f (vertex V i) ≤ℤ product f c
     one i few =
@@ -149,6 +145,14 @@ farthest_from S V last j q o p l t = elim (cases_lt 2 (length V)) [
                 (le_itself (product f c))
           ]
         ]
+
+-- in the direction from there to q no point lies farther
+pub farthest_from : (S V : List Pair) (last j : ℕ) (q : Pair) → IsPolygonOf S V → IsSeparated V last → j < length V
+    → IsTurnedFrom (previous V j) (vertex V j) (vertex V (j + 1)) q
+    → IsFarthest S (step (vertex V j) q) (vertex V j)
+farthest_from S V last j q o p l t =
+    farthest_here S V last j (step (vertex V j) q) o p l (not_onward (vertex V j) (previous V j) q t.0)
+    (not_onward (vertex V j) (vertex V (j + 1)) q t.1)
 
 -- ---- if no edge is seen, q is covered
 

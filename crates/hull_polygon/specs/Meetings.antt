@@ -1,6 +1,6 @@
 -- The hulls of two finite sets of points intersect, or a direction separates them: each is the opposite of the other. A
 -- segment is the set of its two ends, which may be one point.
-use Rattle.std.specs.Prelude.{pos, ◌<ℤ◌, List, [], ◌∷◌, Bool, true, false}
+use Rattle.std.specs.Prelude.{pos, ◌+ℤ◌, ◌<ℤ◌, List, [], ◌∷◌, Bool, true, false}
 use Rattle.std.specs.List.{Contains}
 use Rattle.lattice.specs.Plane.{Pair, orient, product}
 use Rattle.lattice.specs.Covers.{Covers}
@@ -12,6 +12,12 @@ Parts d S T = (s t : Pair) → Contains S s → Contains T t → product d s <�
 -- some direction, of whole numbers of any size, separates S from T
 abbrev pub AreDisjoint : List Pair → List Pair → Type 0
 AreDisjoint S T = (d : Pair) × Parts d S T
+
+-- some direction separates S from T, and S after a step along m too
+abbrev pub StayApart : List Pair → List Pair → Pair → Type 0
+StayApart S T m =
+    (d : Pair) × ((s t : Pair) → Contains S s → Contains T t
+    → (product d s <ℤ product d t) × ((product d s +ℤ product d m) <ℤ product d t))
 
 -- the segments ab and cd cross between their ends: c lies right of ab and d left of it, a left of cd and b right of it
 abbrev pub IsCrossing : Pair → Pair → Pair → Pair → Type 0

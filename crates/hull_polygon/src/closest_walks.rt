@@ -3,7 +3,7 @@ ghost use Rattle.std.specs.Prelude.{◌<◌, length};
 ghost use Rattle.hull_polygon.specs.Lent.{vertices_of};
 
 use super::offsets::{
-    Bracket, DifferenceVertex, Feature, Offset, edge_from, farthest_across, first_turned,
+    Bracket, Closest, DifferenceVertex, Feature, Offset, edge_from, farthest_across, first_turned,
     index_round, offset_at, offset_of, vertex_round,
 };
 use super::polygon::Polygon;
@@ -154,8 +154,37 @@ fn closest_of_edges(this: &Polygon, other: &Polygon, edges: Bracket) -> Feature
     }
 }
 
+/// Returns the closest vertex, if the point of the difference nearest to the origin is this vertex of it.
+pub(crate) fn closest_at(at: DifferenceVertex) -> Closest {
+    Closest {
+        vertex: Feature::OfOther(at.other),
+        place: at.this,
+    }
+}
+
+/// Returns the closest vertex, if the point of the difference nearest to the origin is between the ends of this edge of it.
+pub(crate) fn closest_within(this: &Polygon, other: &Polygon, edge: Bracket) -> Closest
+    requires this { 0 < length (vertices_of this.now) }
+    requires that { 0 < length (vertices_of other.now) }
+{
+    let ours = edge.start.this < edge.end.this;
+    let theirs = edge.start.other < edge.end.other;
+    let vertex = if ours && theirs {
+        closest_of_edges(this, other, edge)
+    } else if ours {
+        Feature::OfOther(edge.start.other)
+    } else {
+        Feature::OfThis(edge.start.this)
+    };
+    let place = match vertex {
+        Feature::OfOther(_) => edge.start.this,
+        Feature::OfThis(_) => edge.start.other,
+    };
+    Closest { vertex, place }
+}
+
 /// Returns the closest vertex, if the point of the difference nearest to the origin is on this edge of it.
-fn closest_of_edge(this: &Polygon, other: &Polygon, edge: Bracket) -> Feature
+fn closest_of_edge(this: &Polygon, other: &Polygon, edge: Bracket) -> Closest
     requires this { 0 < length (vertices_of this.now) }
     requires that { 0 < length (vertices_of other.now) }
 {
@@ -163,19 +192,11 @@ fn closest_of_edge(this: &Polygon, other: &Polygon, edge: Bracket) -> Feature
     let way = offset_at(this, other, edge.end).minus(start);
     let along = start.back().dot(way);
     if along <= 0 {
-        return Feature::OfOther(edge.start.other);
-    }
-    if along >= way.dot(way) {
-        return Feature::OfOther(edge.end.other);
-    }
-    let ours = edge.start.this < edge.end.this;
-    let theirs = edge.start.other < edge.end.other;
-    if ours && theirs {
-        closest_of_edges(this, other, edge)
-    } else if ours {
-        Feature::OfOther(edge.start.other)
+        closest_at(edge.start)
+    } else if along >= way.dot(way) {
+        closest_at(edge.end)
     } else {
-        Feature::OfThis(edge.start.this)
+        closest_within(this, other, edge)
     }
 }
 
@@ -184,7 +205,7 @@ fn closest_of_edge(this: &Polygon, other: &Polygon, edge: Bracket) -> Feature
 ///
 /// The bracket begins with all vertices of the difference on the line's side. At the one farthest across its chord the
 /// two adjacent edges tell on which side of it the distance from the origin falls.
-pub(crate) fn guess_closest(this: &Polygon, other: &Polygon, way: Offset) -> Option<Feature>
+pub(crate) fn guess_closest(this: &Polygon, other: &Polygon, way: Offset) -> Option<Closest>
     requires this { 0 < length (vertices_of this.now) }
     requires that { 0 < length (vertices_of other.now) }
 {
@@ -196,7 +217,7 @@ pub(crate) fn guess_closest(this: &Polygon, other: &Polygon, way: Offset) -> Opt
         } else if is_rising_before(this, other, bracket, vertex) {
             bracket.end = vertex;
         } else {
-            return Some(Feature::OfOther(vertex.other));
+            return Some(closest_at(vertex));
         }
         let start = offset_at(this, other, bracket.start);
         let chord = offset_at(this, other, bracket.end).minus(start);

@@ -11,10 +11,11 @@ ghost use Rattle.hull_polygon.specs.Lent.{vertices_of};
 
 use super::closest_walks::guess_closest;
 use super::extreme::{farthest, is_nearer};
-use super::nearest::{Nearest, nearest_outside};
-use super::offsets::{Feature, index_round};
+use super::nearest::{Nearest, is_farthest_at, nearest_outside, nearest_there};
+use super::offsets::{Closest, Feature, index_round};
 use super::polygon::Polygon;
 use super::rounds::vertex_at;
+use super::steps::guess_by_steps;
 use super::vector::Vector;
 use super::walks::{Guess, guess_relation};
 use lattice::Point;
@@ -108,6 +109,53 @@ impl<'a> Polygon<'a> {
         None
     }
 
+    /// Returns the vertex of this hull at `i` and the vertex of `other` at `k` or the edge from it, if no two points of the
+    /// hulls are closer to one another: the adjacent vertices show that.
+    fn closest_there(&self, other: &Polygon, i: usize, k: usize) -> Option<(Point, Nearest)>
+        requires this { i < length (vertices_of self.now) }
+        requires that { k < length (vertices_of other.now) }
+        ensures { HoldsOfBoth (vertices_of self.now) (vertices_of other.now)
+            (λ S T. IfSome result (λ found. IsClosest S T found.0 found.1)) }
+    {
+        let c = vertex_at(self.vertices, i);
+        let place = nearest_there(other.vertices, other.last, k, c)?;
+        if is_farthest_at(self.vertices, self.last, i, way_to(c, &place)) {
+            Some((c, place))
+        } else {
+            None
+        }
+    }
+
+    /// Returns the nearest points of this hull and `other` by the closest vertex and the nearest feature that a walk
+    /// guesses, if they are those.
+    fn distance_there(&self, other: &Polygon, closest: Closest) -> Option<Distance>
+        requires this { 0 < length (vertices_of self.now) }
+        requires that { 0 < length (vertices_of other.now) }
+        ensures { HoldsOfBoth (vertices_of self.now) (vertices_of other.now)
+            (λ S T. IfSome result (λ found. IsDistance S T found)) }
+    {
+        match closest.vertex {
+            Feature::OfOther(i) => {
+                let at = index_round(other.vertices, i);
+                let found = other.closest_there(
+                    self,
+                    at,
+                    index_round(self.vertices, closest.place),
+                )?;
+                Some(by_other(found.0, found.1))
+            }
+            Feature::OfThis(i) => {
+                let at = index_round(self.vertices, i);
+                let found = self.closest_there(
+                    other,
+                    at,
+                    index_round(other.vertices, closest.place),
+                )?;
+                Some(by_this(found.0, found.1))
+            }
+        }
+    }
+
     /// Returns the vertex of this hull at `i` and the nearest feature of `other`, if no point of this hull is closer to it.
     fn closest_at(&self, other: &Polygon, i: usize) -> Option<(Point, Nearest)>
         requires within { i < length (vertices_of self.now) }
@@ -122,7 +170,7 @@ impl<'a> Polygon<'a> {
         }
     }
 
-    /// Returns the nearest points of this hull and `other` by the vertex that a walk guesses, if it is the closest.
+    /// Returns the nearest points of this hull and `other` by the closest vertex that a walk guesses, if it is that.
     fn distance_at(&self, other: &Polygon, closest: Feature) -> Option<Distance>
         requires this { 0 < length (vertices_of self.now) }
         requires that { 0 < length (vertices_of other.now) }
@@ -143,6 +191,32 @@ impl<'a> Polygon<'a> {
         }
     }
 
+    /// Returns the nearest points of this hull and `other`, both of few vertices, if the steps from a vertex of their
+    /// difference to the nearest one find them.
+    fn distance_by_steps(&self, other: &Polygon) -> Option<Distance>
+        requires this { 0 < length (vertices_of self.now) }
+        requires that { 0 < length (vertices_of other.now) }
+        ensures { HoldsOfBoth (vertices_of self.now) (vertices_of other.now)
+            (λ S T. IfSome result (λ found. IsDistance S T found)) }
+    {
+        let closest = guess_by_steps(self, other)?;
+        self.distance_there(other, closest)
+    }
+
+    /// Returns the nearest points of this hull and `other` by a guess, if they are those.
+    fn distance_of_guess(&self, other: &Polygon, guess: Option<Closest>) -> Option<Distance>
+        requires this { 0 < length (vertices_of self.now) }
+        requires that { 0 < length (vertices_of other.now) }
+        ensures { HoldsOfBoth (vertices_of self.now) (vertices_of other.now)
+            (λ S T. IfSome result (λ found. IsDistance S T found)) }
+    {
+        let closest = guess?;
+        if let Some(found) = self.distance_there(other, closest) {
+            return Some(found);
+        }
+        self.distance_at(other, closest.vertex)
+    }
+
     /// Returns the nearest points of this hull and `other` by walks over their difference, if a few bisections confirm
     /// them.
     fn distance_by_walk(&self, other: &Polygon) -> Option<Distance>
@@ -151,6 +225,9 @@ impl<'a> Polygon<'a> {
         ensures { HoldsOfBoth (vertices_of self.now) (vertices_of other.now)
             (λ S T. IfSome result (λ found. IsDistance S T found)) }
     {
+        if let Some(found) = self.distance_by_steps(other) {
+            return Some(found);
+        }
         if let Some(_first) = self.meeting_at_first(other) {
             return Some(Distance::Zero);
         }
@@ -159,10 +236,7 @@ impl<'a> Polygon<'a> {
                 Some(_common) => Some(Distance::Zero),
                 None => None,
             },
-            Guess::Apart(_, way) => match guess_closest(self, other, way) {
-                Some(closest) => self.distance_at(other, closest),
-                None => None,
-            },
+            Guess::Apart(_, way) => self.distance_of_guess(other, guess_closest(self, other, way)),
             Guess::Unknown => None,
         }
     }

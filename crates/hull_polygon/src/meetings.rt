@@ -167,13 +167,20 @@ impl<'a> Polygon<'a> {
         None
     }
 
-    /// Returns a common point of this hull and `other`, if there is one; both have at least one vertex.
+    /// Returns a common point of this hull and `other`, if there is one; both have at least one vertex. If `other` is a point or
+    /// a segment, its edges are asked at once.
     pub(crate) fn meeting(&self, other: &Polygon) -> Option<Meeting>
         requires this { 0 < length (vertices_of self.now) }
         requires that { 0 < length (vertices_of other.now) }
         ensures { HoldsOfBoth (vertices_of self.now) (vertices_of other.now)
             (λ S T. MatchOption result (AreDisjoint S T) (λ m. IsMeeting S T m)) }
     {
+        if other.vertices.len() < 3 {
+            return self.meeting_by_edges(other);
+        }
+        if self.is_parted(other) {
+            return None;
+        }
         match self.witness_by_walk(other) {
             Some((found, _)) => meeting_of(found),
             None => self.meeting_by_edges(other),
@@ -183,7 +190,7 @@ impl<'a> Polygon<'a> {
     /// Whether this hull and `other` share a point, boundaries included. A walk over their Minkowski difference guesses: of
     /// at most 64 steps, each of which asks for a support point of both, as that of Gilbert, Johnson and Keerthi (1988),
     /// here between two indices. A few bisections confirm the guess. If they did not, a question of a segment for each edge
-    /// of `other` would decide, which tests have seen only for points and segments.
+    /// of `other` would decide, which tests have not seen. If `other` is a point or a segment, such a question decides.
     pub fn intersects(&self, other: &Polygon) -> bool
         ensures { HoldsOfBoth (vertices_of self.now) (vertices_of other.now) (λ S T. ReturnsMeeting result S T) }
     {

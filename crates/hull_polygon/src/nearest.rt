@@ -1,7 +1,8 @@
 //! The nearest point of a hull: one of its vertices, or a point of one of its edges.
-ghost use Rattle.std.specs.Prelude.{◌≡◌, ◌↔◌, IsTrue, ◌<◌, ◌+◌, length, pos, ◌<ℤ◌, MatchOption, []};
+ghost use Rattle.std.specs.Prelude.{◌≡◌, ◌↔◌, IsTrue, ◌<◌, ◌+◌, length, pos, ◌<ℤ◌, MatchOption, IfSome, []};
 ghost use Rattle.lattice.specs.Plane as plane;
 ghost use Rattle.lattice.specs.Covers.{Covers};
+ghost use Rattle.lattice.specs.Places.{IsFarthest};
 ghost use Rattle.hull_polygon.specs.Nearest.{ComesNearer, IsNearest, IsPassedOver};
 ghost use Rattle.hull_polygon.specs.Nearest.{IsOnward, IsBeside, IsTurnedFrom, previous};
 ghost use Rattle.hull_polygon.specs.Polygons.{HoldsOfSetsOf};
@@ -9,6 +10,7 @@ ghost use Rattle.hull_polygon.specs.Rounds.{vertex, IsSeparated};
 ghost use Rattle.hull_polygon.specs.Lent.{vertices_of};
 
 use super::bisection::{first_failing_on, is_along};
+use super::extreme::is_nearer;
 use super::polygon::Polygon;
 use super::rounds::vertex_at;
 use super::vector::Vector;
@@ -105,6 +107,41 @@ fn nearest_at(vertices: &[Point], last: usize, i: usize, q: Point) -> Option<Nea
         return Some(Nearest::Edge(vertex_at(vertices, i), vertex_at(vertices, i + 1)));
     }
     None
+}
+
+/// Returns the vertex at `i` or the edge from it, if it is the nearest to `q`; else `None`, also if `q` is that vertex.
+pub(crate) fn nearest_there(vertices: &[Point], last: usize, i: usize, q: Point) -> Option<Nearest>
+    requires within { i < length vertices.now }
+    requires separated { IsSeparated vertices.now last }
+    ensures { HoldsOfSetsOf vertices.now (λ S. IfSome result (λ found. IsNearest S q found)) }
+{
+    let c = vertex_at(vertices, i);
+    if c == q {
+        return None;
+    }
+    if is_nearest_at(vertices, i, q) {
+        return Some(Nearest::Vertex(c));
+    }
+    if is_beside_at(vertices, i, q) {
+        return Some(Nearest::Edge(c, vertex_at(vertices, i + 1)));
+    }
+    None
+}
+
+/// Whether no point of the hull lies farther in a direction than the vertex at `i`, since neither adjacent vertex does.
+pub(crate) fn is_farthest_at(vertices: &[Point], last: usize, i: usize, d: Vector) -> bool
+    requires within { i < length vertices.now }
+    requires separated { IsSeparated vertices.now last }
+    ensures { HoldsOfSetsOf vertices.now (λ S. IsTrue result → IsFarthest S d (vertex vertices.now i)) }
+{
+    let c = vertex_at(vertices, i);
+    if is_nearer(d, c, vertex_before(vertices, i)) {
+        return false;
+    }
+    if is_nearer(d, c, vertex_at(vertices, i + 1)) {
+        return false;
+    }
+    true
 }
 
 /// Returns the vertex or the edge nearest to `q`, which the hull does not cover, in one pass.

@@ -30,6 +30,14 @@ impl Offset {
         }
     }
 
+    /// Returns the sum of this and another.
+    pub(crate) fn plus(self, other: Offset) -> Offset {
+        Offset {
+            x: self.x.wrapping_add(other.x),
+            y: self.y.wrapping_add(other.y),
+        }
+    }
+
     /// Returns the opposite.
     pub(crate) fn back(self) -> Offset {
         Offset {
@@ -110,6 +118,16 @@ pub(crate) enum Feature {
     OfThis(usize),
     /// One of the other.
     OfOther(usize),
+}
+
+/// A vertex of one polygon that is closest to the other, and the vertex of the other that is nearest to it or at which the
+/// nearest edge begins.
+#[derive(Clone, Copy)]
+pub(crate) struct Closest {
+    /// The vertex.
+    pub(crate) vertex: Feature,
+    /// The index of the other polygon's vertex.
+    pub(crate) place: usize,
 }
 
 /// The vertices of the difference counterclockwise from one to another.

@@ -1,5 +1,5 @@
 //! Comparison of fractions whose numbers do not fit in 128 bits.
-ghost use Rattle.std.specs.Prelude.{◌≡◌, ◌↔◌, IsTrue, IfSome, ◌<◌, ◌≤◌, ◌+◌, ◌*◌, ◌^◌};
+ghost use Rattle.std.specs.Prelude.{◌≡◌, ◌↔◌, IsTrue, ◌<◌, ◌≤◌, ◌+◌, ◌*◌, ◌^◌};
 ghost use Rattle.hull_polygon.specs.Wide.{HasDigits, base, number_of};
 
 /// 2^42: two digits to this base are one to the base 2^84.
@@ -59,6 +59,37 @@ pub(crate) fn three_digits(a: u128, b: u128, c: u128) -> Wide
     }
 }
 
+/// Returns the square of a number of at most 54 bits times a digit.
+pub(crate) fn square_times(root: u128, by: u128) -> Wide
+    requires short { root < 2 ^ 54 }
+    requires digit { by < base }
+    ensures value { number_of result ≡ root * root * by }
+    ensures digits { HasDigits result }
+{
+    let square = root * root;
+    let (above, low) = two_digits(square % BASE, by);
+    let middle = half_product(square / BASE, by) + above;
+    Wide {
+        high: middle / BASE,
+        middle: middle % BASE,
+        low,
+    }
+}
+
+/// Returns 2^104 times a digit.
+pub(crate) fn full_times(by: u128) -> Wide
+    requires digit { by < base }
+    ensures value { number_of result ≡ 2 ^ 104 * by }
+    ensures digits { HasDigits result }
+{
+    let shifted = by * 1048576;
+    Wide {
+        high: shifted / BASE,
+        middle: shifted % BASE,
+        low: 0,
+    }
+}
+
 /// Returns four times a number.
 pub(crate) fn four_times(w: Wide) -> Wide
     requires digits { HasDigits w }
@@ -72,26 +103,6 @@ pub(crate) fn four_times(w: Wide) -> Wide
         high: 4 * w.high + middle / BASE,
         middle: middle % BASE,
         low: low % BASE,
-    }
-}
-
-/// Returns a number times a half digit, or `None` if the product has more than three digits.
-pub(crate) fn times(w: Wide, factor: u128) -> Option<Wide>
-    requires digits { HasDigits w }
-    requires half { factor < 2 ^ 42 }
-    ensures { IfSome result (λ product. (number_of product ≡ number_of w * factor) × HasDigits product) }
-{
-    let low = half_product(factor, w.low);
-    let middle = half_product(factor, w.middle) + low / BASE;
-    let high = half_product(factor, w.high) + middle / BASE;
-    if high < BASE {
-        Some(Wide {
-            high,
-            middle: middle % BASE,
-            low: low % BASE,
-        })
-    } else {
-        None
     }
 }
 

@@ -1,6 +1,8 @@
 //! Raycasts: the first point of a hull on a ray or a segment, the last one on a ray, and how far along these are.
 ghost use Rattle.std.specs.Prelude.{◌≡◌, ◌↔◌, IsTrue, ◌<◌, ◌≤◌, ◌+◌, ◌*◌, length, pos, ◌-ℤ◌, ◌≤ℤ◌, ◌<ℤ◌, MatchOption};
+ghost use Rattle.lattice.specs.Covers.{Covers};
 ghost use Rattle.lattice.specs.Plane.{orient, product, widest_side, IsWithin};
+ghost use Rattle.lattice.specs.Vertices.{IsLeftOf};
 ghost use Rattle.hull_polygon.specs.Raycasts.{IsCrossed, IsFarthestOn, IsHit, IsKept, IsLast, IsNearestBack, IsUncrossed, MissesRay};
 ghost use Rattle.hull_polygon.specs.Raycasts.{ReturnsHit, ReturnsLast, moved};
 ghost use Rattle.hull_polygon.specs.Meetings.{AreDisjoint, segment};
@@ -8,6 +10,7 @@ ghost use Rattle.hull_polygon.specs.Polygons.{HoldsOfSetsOf};
 ghost use Rattle.hull_polygon.specs.Rounds.{vertex, IsSeparated};
 ghost use Rattle.hull_polygon.specs.Steps.{backward};
 ghost use Rattle.hull_polygon.specs.Lent.{vertices_of};
+ghost use Rattle.hull_polygon.specs.declared.raycasts.Entry.TheVariants.{Start};
 
 use super::extreme::{farthest_place, is_nearer};
 use super::nearest::is_right;
@@ -54,6 +57,17 @@ fn excess(a: i128, b: i128) -> u128
     ensures size { result ≤ 4 * widest_side }
 {
     (a - b) as u128
+}
+
+/// Returns the entry of a path whose start the hull covers.
+fn hit_at_start() -> Hit
+    ensures { result ≡ record { place = Start; numerator = 0; denominator = 1 } }
+{
+    Hit {
+        place: Entry::Start,
+        numerator: 0,
+        denominator: 1,
+    }
 }
 
 impl Way {
@@ -258,6 +272,18 @@ impl Way {
 }
 
 impl<'a> Polygon<'a> {
+    /// Whether the hull covers the start of a path, whose line crosses the edge from `p` to `q`: it does not if the start
+    /// lies right of that edge.
+    fn covers_start(&self, way: &Way, p: Point, q: Point) -> bool
+        ensures { HoldsOfSetsOf (vertices_of self.now)
+            (λ S. IsLeftOf S p q → (IsTrue result ↔ Covers S way.now.start)) }
+    {
+        if is_right(p, q, way.start) {
+            return false;
+        }
+        self.covers(way.start)
+    }
+
     /// Returns the entry of a path into the hull, which has at least one vertex.
     fn hit(&self, way: &Way) -> Option<Hit>
         requires { 0 < length (vertices_of self.now) }
@@ -265,16 +291,17 @@ impl<'a> Polygon<'a> {
             (MissesRay S way.now.start (moved way.now.start way.now.along))
             (λ found. IsHit S way.now.start (moved way.now.start way.now.along) found)) }
     {
-        if self.covers(way.start) {
-            return Some(Hit {
-                place: Entry::Start,
-                numerator: 0,
-                denominator: 1,
-            });
-        }
         match crossing(self.vertices, self.last, way) {
-            Some((p, q)) => way.across(p, q),
+            Some((p, q)) => {
+                if self.covers_start(way, p, q) {
+                    return Some(hit_at_start());
+                }
+                way.across(p, q)
+            }
             None => {
+                if self.covers(way.start) {
+                    return Some(hit_at_start());
+                }
                 let place = farthest_place(self.vertices, self.last, way.along.back());
                 way.up_to(vertex_at(self.vertices, place))
             }

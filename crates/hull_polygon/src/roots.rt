@@ -1,13 +1,11 @@
-//! A guess at the root of a quotient, in whole numbers. Nothing is proved of it: the caller tests it by products.
-ghost use Rattle.std.specs.Prelude.{◌<◌, ◌≤◌, ◌^◌};
+//! A guess at the root of a quotient. Nothing is proved of it: the caller tests it by products.
+ghost use Rattle.std.specs.Prelude.{◌<◌, ◌≤◌};
 
 use super::ratios::{Wide, quotient_by_power};
+use std::num::{nearest_i64_to_f64, saturating_f64_to_u64};
 
 /// 2^64.
 const WORD: u128 = 18446744073709551616;
-
-/// 2^32, the root of that.
-const HALF_WORD: u128 = 4294967296;
 
 /// Returns a divisor of at most 84 bits, scaled to 64 bits and made odd, and how many bits it had.
 fn normalized(divisor: u128) -> (u128, u32)
@@ -29,36 +27,39 @@ fn normalized(divisor: u128) -> (u128, u32)
     (scaled / 2 * 2 + 1, bits)
 }
 
-/// Returns the highest bits of the quotient of a number and a divisor, which is from 2^104 to 2^106: it, divided by
-/// 2^42.
-fn leading_quotient(number: Wide, divisor: u128) -> u64 {
-    let (scaled, bits) = normalized(divisor);
-    (quotient_by_power(number, bits).wrapping_shl(22) / scaled % WORD) as u64
+/// Returns the double nearest to a number of 63 bits.
+fn double_of(number: u64) -> f64 {
+    nearest_i64_to_f64(number.cast_signed())
 }
 
-/// Returns the next approximation of the root of a word after this one, by Newton's method.
-fn next_short(square: u64, root: u64) -> u64
-    requires { 0 < root }
-    ensures { 0 < result }
-{
-    root / 2 + square / root / 2 + 1
+/// Returns about the root of the quotient of two numbers of 63 bits, times 2^53.
+fn rough_root(number: u64, divisor: u64) -> u64 {
+    let quotient = double_of(number) / double_of(divisor);
+    saturating_f64_to_u64(quotient.sqrt() * 9007199254740992.0)
 }
 
-/// Returns about the root of a word from 2^62 on, in 32 bits. A line is off by at most 4 percent; each step halves the
-/// square of the error.
-fn short_root(square: u64) -> u64
-    ensures { 0 < result }
-{
-    let line = (square >> 33) + (square >> 35) + 1503238553;
-    let first = next_short(square, line);
-    let second = next_short(square, first);
-    next_short(square, second)
+/// Returns how much a root is above the rough one, plus 8, rounded down, by the remainder that the square of that leaves, divided
+/// by 2^64, and the divisor. (The added fraction keeps a whole number from being rounded to the one below it.)
+fn excess_over(rough: u64, remainder: i64, divisor: u64) -> u64 {
+    let slope = double_of(rough) * (double_of(divisor) / 4611686018427387904.0);
+    saturating_f64_to_u64(nearest_i64_to_f64(remainder) / slope + 8.00390625)
 }
 
-/// Returns about the number nearest to the root of a quotient, which is from 2^52 to 2^53. (Newton's method, its last
-/// step in 128 bits.)
+/// Returns about the greatest whole number that is at most the root of a quotient, which is from 2^52 to 2^53: a root in doubles,
+/// and one step of Newton's method with the remainder in whole numbers.
 pub(crate) fn guess_root(number: Wide, divisor: u128) -> u128 {
-    let square = leading_quotient(number, divisor);
-    let root = u128::from(short_root(square)) * HALF_WORD;
-    ((root + u128::from(square) * WORD / root) / 2 + 1024) / 2048
+    let (scaled, bits) = normalized(divisor);
+    let leading = quotient_by_power(number, bits);
+    let half = (scaled / 2 % WORD) as u64;
+    let rough = rough_root((leading / 8796093022208 % WORD) as u64, half);
+    let square = u128::from(rough).wrapping_mul(u128::from(rough));
+    let remainder = leading
+        .wrapping_mul(WORD)
+        .wrapping_sub(square.wrapping_mul(scaled));
+    let excess = excess_over(
+        rough,
+        ((remainder / WORD % WORD) as u64).cast_signed(),
+        half,
+    );
+    u128::from(rough.wrapping_add(excess).wrapping_sub(8))
 }

@@ -1,16 +1,19 @@
 //! A distance, which is a root, exactly enclosed by the two doubles next to it.
-ghost use Rattle.std.specs.Prelude.{◌≡◌, ℕ, ◌<◌, ◌≤◌, ◌+◌, ◌*◌, ◌^◌};
+ghost use Rattle.std.specs.Prelude.{◌≡◌, ◌<◌, ◌≤◌, ◌+◌, ◌*◌, ◌^◌, IfSome};
 ghost use Rattle.hull_polygon.specs.Roundings.{IsRounded, IsRoundedRoot, full};
 ghost use Rattle.hull_polygon.specs.Squares.{AreSmall};
 ghost use Rattle.hull_polygon.specs.Wide.{HasDigits, base, number_of};
 
 use super::distance::Distance;
 use super::factors::Factors;
-use super::ratios::{Wide, four_times, is_less, three_digits, times};
+use super::ratios::{Wide, four_times, full_times, is_less, square_times, three_digits};
 use super::roots::guess_root;
 
 /// 2^52, the least number of 53 bits, which is the precision of a double.
 const FULL: u128 = 4503599627370496;
+
+/// How many bits a digit has.
+const DIGIT_BITS: u32 = 84;
 
 /// The least shift that is greater than any distance needs: the squares of two distances that are not 0 differ by less than a
 /// factor of 4^95.
@@ -28,59 +31,73 @@ pub struct Rounded {
     pub shift: u32,
 }
 
-/// 4^20, a long step towards the shift that is needed.
-const LONG_STEP: u128 = 1099511627776;
-
-/// 4^4, a short one.
-const SHORT_STEP: u128 = 256;
-
-/// Returns a number times the factor as often as it stays below the limit, at most four times, and the shift with the
-/// factor's exponent added as often.
-fn raised(number: Wide, shift: u32, factor: u128, step: u32, limit: Wide) -> (Wide, u32)
-    requires digits { HasDigits number }
-    requires below { number_of number < number_of limit }
-    requires limited { HasDigits limit }
-    requires half { factor < 2 ^ 42 }
-    requires power { factor ≡ 4 ^ step }
-    requires short { step ≤ 20 }
-    requires from { shift ≤ 80 }
-    ensures value { (n : ℕ) → number_of number ≡ n * 4 ^ shift → number_of result.0 ≡ n * 4 ^ result.1 }
-    ensures digits { HasDigits result.0 }
-    ensures to { number_of result.0 < number_of limit }
-    ensures most { result.1 ≤ shift + 4 * step }
+/// Returns a number times a power of two, as high a one as keeps it below 2^84, at most the given one, and the exponent that is
+/// left.
+fn raised(number: u128, exponent: u32) -> (u128, u32)
+    requires { number < base }
+    ensures value { result.0 * 2 ^ result.1 ≡ number * 2 ^ exponent }
+    ensures digit { result.0 < base }
 {
-    let mut number = number;
-    let mut shift = shift;
-    for round in 0..4u32 {
-        match times(number, factor) {
-            Some(next) => {
-                if !is_less(next, limit) {
-                    return (number, shift);
-                }
-                number = next;
-                shift += step;
-            }
-            None => return (number, shift),
-        }
+    let room = number.leading_zeros().saturating_sub(128 - DIGIT_BITS);
+    let taken = exponent.min(room);
+    if taken < DIGIT_BITS && number >> (DIGIT_BITS - taken) == 0 {
+        (number << taken, exponent - taken)
+    } else {
+        (number, exponent)
     }
-    (number, shift)
 }
 
-/// Returns a number times a power of four, by long and short steps, below the limit, and the exponent of that power.
-fn start_of(number: Wide, limit: Wide) -> (Wide, u32)
-    requires digits { HasDigits number }
-    requires below { number_of number < number_of limit }
+/// Returns the square of a distance times a power of four with this exponent, if it is below the limit.
+fn raised_square(factors: Factors, shift: u32, limit: Wide) -> Option<Wide>
+    requires small { AreSmall factors }
     requires limited { HasDigits limit }
-    ensures value { number_of result.0 ≡ number_of number * 4 ^ result.1 }
+    requires few { shift ≤ 95 }
+    ensures { IfSome result (λ number. (number_of number ≡ factors.first * factors.second * 4 ^ shift) × HasDigits number
+        × (number_of number < number_of limit)) }
+{
+    let (first, after_first) = raised(factors.first, 2 * shift);
+    let (second, after_second) = raised(factors.second, after_first);
+    let (power, rest) = raised(1, after_second);
+    let number = three_digits(first, second, power);
+    if rest == 0 && is_less(number, limit) {
+        Some(number)
+    } else {
+        None
+    }
+}
+
+/// Returns how many bits a number has.
+fn bits_of(number: u128) -> u32 {
+    128u32.wrapping_sub(number.leading_zeros())
+}
+
+/// Returns a guess at the exponent of the power of four times which the square has a root of 53 bits, or at the one before it.
+fn guess_shift(factors: Factors) -> u32
+    ensures { result ≤ 95 }
+{
+    let bits = bits_of(factors.first).wrapping_add(bits_of(factors.second));
+    bits_of(factors.divisor)
+        .wrapping_add(105)
+        .saturating_sub(bits)
+        .min(190)
+        / 2
+}
+
+/// Returns a square times a power of four, below the limit, and the exponent of that power.
+fn start_of(factors: Factors, limit: Wide) -> (Wide, u32)
+    requires small { AreSmall factors }
+    requires below { factors.first * factors.second < number_of limit }
+    requires limited { HasDigits limit }
+    ensures value { number_of result.0 ≡ factors.first * factors.second * 4 ^ result.1 }
     ensures digits { HasDigits result.0 }
     ensures to { number_of result.0 < number_of limit }
     ensures most { result.1 ≤ 95 }
 {
-    let (long, shift) = raised(number, 0, LONG_STEP, 20, limit);
-    if shift > 79 {
-        return (long, shift);
+    let shift = guess_shift(factors);
+    match raised_square(factors, shift, limit) {
+        Some(number) => (number, shift),
+        None => (three_digits(factors.first, factors.second, 1), 0),
     }
-    raised(long, shift, SHORT_STEP, 4, limit)
 }
 
 /// Returns a square times a power of four, so large that its quotient by the divisor has a root of 53 bits, and the
@@ -93,9 +110,8 @@ fn scaled(factors: Factors) -> (Wide, u32)
     ensures from { full * full * factors.divisor ≤ number_of result.0 }
     ensures to { number_of result.0 < 4 * (full * full * factors.divisor) }
 {
-    let least = three_digits(FULL, FULL, factors.divisor);
-    let square = three_digits(factors.first, factors.second, 1);
-    let (mut number, start) = start_of(square, four_times(least));
+    let least = full_times(factors.divisor);
+    let (mut number, start) = start_of(factors, four_times(least));
     for shift in start..SHIFTS {
         if !is_less(number, least) {
             return (number, shift);
@@ -122,10 +138,14 @@ fn bracket(number: Wide, divisor: u128) -> (u128, u128)
     if guess <= FULL || guess >= 2 * FULL {
         return (FULL, 2 * FULL);
     }
-    if is_less(number, three_digits(guess - 1, guess - 1, divisor)) {
-        (FULL, guess - 1)
-    } else if is_less(number, three_digits(guess + 1, guess + 1, divisor)) {
-        (guess - 1, guess + 1)
+    if is_less(number, square_times(guess, divisor)) {
+        if is_less(number, square_times(guess - 1, divisor)) {
+            (FULL, guess - 1)
+        } else {
+            (guess - 1, guess)
+        }
+    } else if is_less(number, square_times(guess + 1, divisor)) {
+        (guess, guess + 1)
     } else {
         (guess + 1, 2 * FULL)
     }
@@ -146,7 +166,7 @@ fn root(number: Wide, divisor: u128) -> u64
     let (mut low, mut high) = bracket(number, divisor);
     while low + 1 < high {
         let middle = low + (high - low) / 2;
-        if is_less(number, three_digits(middle, middle, divisor)) {
+        if is_less(number, square_times(middle, divisor)) {
             high = middle;
         } else {
             low = middle;
@@ -163,7 +183,7 @@ fn rounded_root(factors: Factors) -> Rounded
 {
     let (number, shift) = scaled(factors);
     let lower = root(number, factors.divisor);
-    let square = three_digits(u128::from(lower), u128::from(lower), factors.divisor);
+    let square = square_times(u128::from(lower), factors.divisor);
     if is_less(square, number) {
         Rounded {
             lower,
@@ -180,8 +200,8 @@ fn rounded_root(factors: Factors) -> Rounded
 }
 
 impl Distance {
-    /// Returns this distance between the two doubles next to it. Newton's method guesses the root in whole numbers, and
-    /// some 20 products of 252 bits confirm it.
+    /// Returns this distance between the two doubles next to it. A root in doubles and one step of Newton's method in whole
+    /// numbers guess it, and two or three products of 252 bits confirm it.
     pub fn rounded(&self) -> Rounded
         ensures { IsRounded self.now result }
     {

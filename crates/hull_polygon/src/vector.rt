@@ -1,5 +1,5 @@
 //! Steps from one point to another, as directions with components up to 2^41.
-ghost use Rattle.std.specs.Prelude.{◌≡◌, ◌*◌, ◌*ℤ◌, ◌+ℤ◌, pos, neg_ℤ};
+ghost use Rattle.std.specs.Prelude.{◌≡◌, ◌↔◌, ◌*◌, ◌*ℤ◌, ◌+ℤ◌, pos, neg_ℤ, IsTrue, MatchOption};
 ghost use Rattle.lattice.specs.Plane as plane;
 ghost use Rattle.lattice.specs.Plane.{IsWithin, widest, widest_side};
 ghost use Rattle.hull_polygon.specs.Steps.{step, left_of, turned_left, backward};
@@ -27,7 +27,29 @@ impl Model for Vector {
     ghost invariant = { λ v. IsWithin (2 * widest) v.dx × IsWithin (2 * widest) v.dy };
 }
 
+/// The largest size of a component, 2^41.
+const LARGEST: i64 = 2199023255552;
+
+/// Whether a component is not too large.
+fn is_component(component: i64) -> bool
+    ensures { IsTrue result ↔ IsWithin (2 * widest) component }
+{
+    -LARGEST <= component && component <= LARGEST
+}
+
 impl Vector {
+    /// Returns the direction with these components, or `None` if one is larger than 2^41.
+    pub(crate) fn of(dx: i64, dy: i64) -> Option<Vector>
+        ensures { MatchOption result (¬ (IsWithin (2 * widest) dx × IsWithin (2 * widest) dy))
+            (λ d. d ≡ record { x = dx; y = dy }) }
+    {
+        if is_component(dx) && is_component(dy) {
+            Some(Vector { dx, dy })
+        } else {
+            None
+        }
+    }
+
     /// Returns the same direction.
     pub(crate) fn along(d: Direction) -> Vector
         ensures { result ≡ d }
@@ -36,6 +58,13 @@ impl Vector {
             dx: d.x(),
             dy: d.y(),
         }
+    }
+
+    /// Returns the vector of no length.
+    pub(crate) fn zero() -> Vector
+        ensures { result ≡ record { x = pos 0; y = pos 0 } }
+    {
+        Vector { dx: 0, dy: 0 }
     }
 
     /// Returns the direction down.

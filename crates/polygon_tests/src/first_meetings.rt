@@ -52,3 +52,29 @@ fn a_diamond_moves_to_a_square(rt: HostRuntime) -> Result<(), Fail> {
     assert!(rt; first_meeting(&square, &square, west) == Some(FirstMeeting::AtStart));
     Ok(())
 }
+
+#[test]
+fn a_diamond_stays_apart_from_a_square(rt: HostRuntime) -> Result<(), Fail> {
+    let vertices = [
+        Point::new(0, 0)?,
+        Point::new(4, 0)?,
+        Point::new(4, 4)?,
+        Point::new(0, 4)?,
+    ];
+    let others = [
+        Point::new(8, 2)?,
+        Point::new(9, 1)?,
+        Point::new(10, 2)?,
+        Point::new(9, 3)?,
+    ];
+    let square = polygon_of(&rt, &vertices);
+    let diamond = polygon_of(&rt, &others);
+    assert!(rt; diamond.is_found_apart_during(&square, Point::new(-3, 0)?));
+    assert!(rt; diamond.is_found_apart_during(&square, Point::new(900, -7)?));
+    assert!(rt; diamond.is_found_apart_during(&square, Point::new(-20, 40)?));
+    assert!(rt; square.is_found_apart_during(&diamond, Point::new(3, 0)?));
+    assert!(rt; !diamond.is_found_apart_during(&square, Point::new(-4, 0)?));
+    assert!(rt; !square.is_found_apart_during(&diamond, Point::new(20, 1)?));
+    assert!(rt; !square.is_found_apart_during(&square, Point::new(900, 0)?));
+    Ok(())
+}

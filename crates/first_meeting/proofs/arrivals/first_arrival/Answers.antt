@@ -1,10 +1,10 @@
 -- one more vertex arrives, or does not; at the end all were tried
-use Rattle.std.proofs.Common.{◌≡◌, subst, sym, List, Option}
+use Rattle.std.proofs.Common.{◌≡◌, subst, sym, List, Option, take}
 use Rattle.std.proofs.lemmas.List.{take_all}
 use Rattle.lattice.specs.Plane.{Pair}
 use Rattle.first_meeting.specs.Arrivals.{ReturnsFirst, ReturnsSooner}
 use Rattle.first_meeting.specs.declared.arrivals.Arrival.{Arrival}
-use Rattle.first_meeting.proofs.Sooner.{one_more_first, sooner_keeps, sooner_none}
+use Rattle.first_meeting.proofs.Sooner.{one_more, one_more_first, sooner_keeps, sooner_none}
 use Rattle.first_meeting.proofs.arrivals.first_arrival.Goals as goal
 use Rattle.first_meeting.proofs.arrivals.first_arrival.Goals.{in-Some, in_default}
 
@@ -13,6 +13,15 @@ sooner_of : (f g h r s : Option Arrival) → g ≡ h → r ≡ s → ReturnsSoon
 sooner_of f g h r s e i k =
     subst (λ (z : Option Arrival). ReturnsSooner f z r) (sym e)
     (subst (λ (z : Option Arrival). ReturnsSooner f h z) (sym i) k)
+
+pub loop-vertex-preserved-then-comes_no_sooner : goal.loop-vertex-preserved-then-comes_no_sooner
+loop-vertex-preserved-then-comes_no_sooner c = record {
+  first = λ S o. subst (λ (z : List Pair). ReturnsFirst S c.args.direction z c.loop-vertex.found)
+      (sym (one_more c.args.vertices.now c.loop-vertex.vertex-index c.vertex-item.result c.loop-vertex-test.true c.vertex-item.is))
+      (c.comes_no_sooner.ensures c.if-comes_no_sooner.true S (take c.loop-vertex.vertex-index c.args.vertices.now)
+      c.args.direction (c.loop-vertex.invariant.first S o));
+  moves = c.loop-vertex.invariant.moves;
+}
 
 pub loop-vertex-preserved : goal.loop-vertex-preserved
 loop-vertex-preserved c = record {

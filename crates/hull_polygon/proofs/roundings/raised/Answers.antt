@@ -1,15 +1,13 @@
--- the product, which is below the limit, and the exponent with the step added
-use Rattle.std.proofs.Common.{◌∙◌, arith}
-use Rattle.hull_polygon.proofs.Scaled.{raised_more}
-use Rattle.lattice.proofs.Tests.{passed}
+-- the bits that there is room for, and those that are left
+use Rattle.std.proofs.Common.{arith}
+use Rattle.hull_polygon.proofs.Scaled.{moved_below, moved_up}
 use Rattle.hull_polygon.proofs.roundings.raised.Goals as goal
 
-pub loop-round-preserved : goal.loop-round-preserved
-loop-round-preserved c = record {
-  value = λ n e. c.in-Some.ensures.0
-      ∙ raised_more n _ c.args.factor c.loop-round.shift c.args.step (c.loop-round.invariant.value n e) c.requires.power;
-  digits = c.in-Some.ensures.1;
-  to = passed _ _ c.if-not-is_less.false c.is_less.ensures;
-  most = omega (arith, c.loop-round.invariant.most);
-  few = omega (arith, c.loop-round.invariant.few, c.requires.short);
-}
+pub returns-then-number-taken-eq0-clause-value : goal.returns-then-number-taken-eq0-clause-value
+returns-then-number-taken-eq0-clause-value c =
+    moved_up c.args.number c.args.exponent c.min-taken.result (omega (arith, c.min-taken.ensures))
+    c.if-taken-lt-DIGIT_BITS.true c.if-number-taken-eq0.true
+
+pub returns-then-number-taken-eq0-clause-digit : goal.returns-then-number-taken-eq0-clause-digit
+returns-then-number-taken-eq0-clause-digit c =
+    moved_below c.args.number c.min-taken.result c.if-taken-lt-DIGIT_BITS.true c.if-number-taken-eq0.true

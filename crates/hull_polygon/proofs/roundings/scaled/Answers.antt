@@ -11,7 +11,7 @@ loop-shift-preserved c = record {
   to = omega (
     arith,
     c.four_times-number.ensures.value,
-    c.three_digits-least.ensures.value,
+    c.full_times-least.ensures.value,
     passed _ _ c.if-not-is_less.false c.is_less.ensures,
   );
 }

@@ -10,23 +10,33 @@ use Rattle.lattice.proofs.Tests.{passed, failed}
 use Rattle.hull_polygon.proofs.polygon.Polygon.hit.Goals as goal
 
 pub returns-then-covers : goal.returns-then-covers
-returns-then-covers c = λ S o. record {
-  entry = passed _ _ c.if-covers.true (c.covers.ensures S o);
-  part = refl;
-  whole = refl;
-}
+returns-then-covers c = λ S o.
+    rw (c.hit_at_start-then-covers.ensures) record {
+      entry = passed _ _ c.if-covers.true (c.covers.ensures S o);
+      part = refl;
+      whole = refl;
+    }
+
+pub returns-then-covers_start : goal.returns-then-covers_start
+returns-then-covers_start c = λ S o.
+    rw (c.hit_at_start.ensures) record {
+      entry = passed _ _ c.if-covers_start.true (c.covers_start.ensures S o (c.in-Some.ensures S o).left);
+      part = refl;
+      whole = refl;
+    }
 
 pub across-requires : goal.across-requires
 across-requires c =
     let (S, o) = separated_is_polygon c.args.self.now.vertices.now c.args.self.now.last c.args.self.now.separated in
     goes_over S _ _ _ _ (c.in-Some.ensures S o)
 
-pub returns-in-Some : goal.returns-in-Some
-returns-in-Some c = λ S o.
-    c.across.ensures S o.0 (failed _ _ c.if-covers.false (c.covers.ensures S o)) (c.in-Some.ensures S o)
+pub returns-else-covers_start : goal.returns-else-covers_start
+returns-else-covers_start c = λ S o.
+    c.across.ensures S o.0
+    (failed _ _ c.if-covers_start.false (c.covers_start.ensures S o (c.in-Some.ensures S o).left)) (c.in-Some.ensures S o)
 
-pub returns-in-None : goal.returns-in-None
-returns-in-None c = λ S o.
+pub returns-else-covers : goal.returns-else-covers
+returns-else-covers c = λ S o.
     let V = c.args.self.now.vertices.now in
     let i = c.farthest_place-place.result in
     c.up_to.ensures S o.0 (failed _ _ c.if-covers.false (c.covers.ensures S o)) (
