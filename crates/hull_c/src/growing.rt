@@ -4,34 +4,24 @@ ghost use Rattle.lattice.specs.Plane.{Pair};
 ghost use Rattle.hull_plain.specs.Growth.{IsHullOf};
 ghost use Rattle.hull_reply.specs.declared.request.Request.TheVariants as request;
 ghost use Rattle.hull_c.specs.Allowed.{IsAllowedFor};
-ghost use Rattle.hull_c.specs.Growing.{AreGrowingVertices, IsAdded, IsGrowingCall, IsGrowingKind, IsGrowingServed, IsRefusedPoint, IsWhyRefused};
+ghost use Rattle.hull_c.specs.Growing.{AreGrowingVertices, IsAdded, IsGrowingCall, IsGrowingKind, IsGrowingServed, IsRefusedPoint};
 
 use super::calls::encoded_place;
 use super::polygon::is_polygon_kind;
 use heap::Heap;
 use hull_plain::{GrowFault, GrowingHull};
 use hull_reply::{Code, HullPoint, HullReply, Kind, Request, encoded, put_vertices, request_of};
-use hull_set::{Call, Place, Reply, extreme_reply, tangents_reply};
+use hull_set::{Call, Reply, extreme_reply, tangents_reply};
 use lattice::{Direction, Point};
 
-/// Adds a point that lies outside.
-fn grow(hull: &mut GrowingHull, p: Point) -> HullReply
-    ensures { IsAdded p hull.old hull.new result ⊎ ((hull.new ≡ hull.old) × IsWhyRefused hull.old result) }
+/// Adds a point.
+fn add(hull: &mut GrowingHull, p: Point) -> HullReply
+    ensures { IsAdded p hull.old hull.new result ⊎ IsRefusedPoint p hull.old hull.new result }
 {
     match hull.add(p) {
         Ok(place) => encoded_place(place),
         Err(GrowFault::TooMany) => HullReply::bare(Code::TooMany),
         Err(GrowFault::NoMemory) => HullReply::bare(Code::NoMemory),
-    }
-}
-
-/// Adds a point. One that the hull covers changes nothing, so it is only located.
-fn add(hull: &mut GrowingHull, p: Point) -> HullReply
-    ensures { IsAdded p hull.old hull.new result ⊎ IsRefusedPoint p hull.old hull.new result }
-{
-    match hull.place(p) {
-        Place::Outside => grow(hull, p),
-        place => encoded_place(place),
     }
 }
 

@@ -36,8 +36,10 @@ pub(crate) trait Server {
 fn count_question(hull: &mut Hull, kind: u32)
     ensures { hull.new ≡ hull.old }
 {
-    if let Some(Kind::Place | Kind::Tangents | Kind::Extreme | Kind::Area) = Kind::of(kind) {
-        hull.set.prepare();
+    match Kind::of(kind) {
+        None | Some(Kind::Add | Kind::Remove | Kind::Vertices | Kind::Count | Kind::Multiplicity) =>
+            {}
+        Some(_) => hull.set.prepare(),
     }
 }
 

@@ -6,3 +6,4 @@ pub mod Farthest
 pub mod Multiplicities
 pub mod PlainSets
 mod Growth
+pub mod Covered

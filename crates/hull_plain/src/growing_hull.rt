@@ -1,17 +1,20 @@
 //! The hull of points that are only added.
-ghost use Rattle.std.specs.Prelude.{◌≡◌, ◌+◌, ◌≤◌, [], List, IfErr, IfOk, OnOk, OnErr, length, pos};
+ghost use Rattle.std.specs.Prelude.{◌≡◌, ◌≢◌, ◌+◌, ◌≤◌, [], List, IfErr, IfOk, OnOk, OnErr, length, pos};
 ghost use Rattle.lattice.specs.Plane.{Pair};
 ghost use Rattle.lattice.specs.Vertices.{IsVertexList, IsDoubledArea};
+ghost use Rattle.lattice.specs.Places.{IsOutside};
 ghost use Rattle.hull_geometry.specs.Monotone.{IsStrict, IsChainOf};
+ghost use Rattle.hull_geometry.specs.Positions.{IsPositionOf};
 ghost use Rattle.lattice.specs.Covers.{with_point};
 ghost use Rattle.hull_plain.specs.Drafts.{ScratchChainHasSpace, IsAsRoomy};
 ghost use Rattle.hull_plain.specs.Growth.{IsHullOf, HasGrownBy, IsWhyNotGrown};
+ghost use Rattle.hull_set.specs.declared.set.Place.TheVariants.{Outside};
 ghost use Rattle.hull_set.specs.Replies.{LiesAt, AnswersExtreme, AnswersTangents, reply_to_extreme, reply_to_tangents};
 
 use super::extremes::extreme_of;
-use super::locations::place_of;
+use super::locations::{place_by, place_of};
 use super::positions::position_of;
-use super::repairing::put_in;
+use super::repairing::put_in_at;
 use super::scratch_chain::ScratchChain;
 use super::tangents::tangents_from;
 use super::vertices::{doubled_area_of, vertices_of};
@@ -32,8 +35,9 @@ pub enum GrowFault {
 
 /// The hull of the points that were added so far, which keeps only its vertices: a point that it covers is dropped, and none can be removed.
 ///
-/// Adding a point that it covers takes two bisections; adding another also moves the vertices of one block for each chain, at most the square root of
-/// their number, and removes those that it covers (Preparata, 1979, for the order of his points; here the chains are lists in blocks).
+/// Adding a point takes a bisection of each chain, and nothing else if it is covered; one that is outside also moves vertices of one block for each chain,
+/// at most the square root of their number, and removes those that it covers (Preparata, 1979, for the order of his points; here the chains are lists in
+/// blocks).
 #[derive(Drop)]
 pub struct GrowingHull {
     lower: TieredList,
@@ -51,9 +55,16 @@ impl Model for GrowingHull {
     ghost invariant = { λ h. IsGrowingHull (record { lower = h.lower.items; upper = h.upper.items }) };
 }
 
-/// Adds a point to a chain.
-fn grow(side: Side, chain: &mut TieredList, scratch_chain: &mut ScratchChain, p: Point)
+/// Adds a point that has the position `at` in a chain.
+fn grow(
+    side: Side,
+    chain: &mut TieredList,
+    scratch_chain: &mut ScratchChain,
+    at: Result<usize, usize>,
+    p: Point,
+)
     requires strict { IsStrict side chain.old.items }
+    requires position { IsPositionOf chain.old.items p at }
     requires space { length chain.old.items + 1 ≤ chain.old.space }
     requires scratch_chain_space { ScratchChainHasSpace scratch_chain.old (length chain.old.items + 1) }
     ensures chain { (S : List Pair) → IsChainOf side S chain.old.items
@@ -61,10 +72,10 @@ fn grow(side: Side, chain: &mut TieredList, scratch_chain: &mut ScratchChain, p:
     ensures few { length chain.new.items ≤ length chain.old.items + 1 }
     ensures space { IsAsRoomy scratch_chain.old scratch_chain.new }
 {
-    let Err(_) = position_of(chain, p) else {
+    let Err(i) = at else {
         return;
     };
-    put_in(side, chain, scratch_chain, p);
+    put_in_at(side, chain, scratch_chain, i, p);
 }
 
 impl GrowingHull {
@@ -83,14 +94,22 @@ impl GrowingHull {
     ///
     /// # Errors
     ///
-    /// Fails with [`GrowFault::TooMany`] if a chain has [`POINT_LIMIT`] vertices, and with [`GrowFault::NoMemory`] if memory was refused. The hull is
-    /// unchanged then.
+    /// Fails with [`GrowFault::TooMany`] if the point is outside and a chain has [`POINT_LIMIT`] vertices, and with [`GrowFault::NoMemory`] if it is
+    /// outside and memory was refused. The hull is unchanged then.
     pub fn add(&mut self, p: Point) -> Result<Place, GrowFault>
         ensures grown { OnOk result (HasGrownBy p self.old self.new) }
         ensures place { IfOk result (λ place. (S : List Pair) → IsHullOf S self.old → LiesAt S p place) }
+        ensures covered { IfOk result (λ place. place ≢ Outside → self.new ≡ self.old) }
         ensures refused { OnErr result (self.new ≡ self.old) }
+        ensures outside { OnErr result ((S : List Pair) → IsHullOf S self.old → IsOutside S p) }
         ensures fault { IfErr result (λ fault. IsWhyNotGrown fault self.old) }
     {
+        let below = position_of(&self.lower, p);
+        let above = position_of(&self.upper, p);
+        match place_by(&self.lower, &self.upper, below, Some(above), p) {
+            Place::Outside => (),
+            place => return Ok(place),
+        }
         if self.lower.len() >= POINT_LIMIT as usize || self.upper.len() >= POINT_LIMIT as usize {
             return Err(GrowFault::TooMany);
         }
@@ -101,10 +120,10 @@ impl GrowingHull {
         {
             return Err(GrowFault::NoMemory);
         }
-        let place = place_of(&self.lower, &self.upper, p);
-        grow(Side::Lower, &mut self.lower, &mut self.scratch_chain, p);
-        grow(Side::Upper, &mut self.upper, &mut self.scratch_chain, p);
-        Ok(place)
+        let scratch_chain = &mut self.scratch_chain;
+        grow(Side::Lower, &mut self.lower, scratch_chain, below, p);
+        grow(Side::Upper, &mut self.upper, scratch_chain, above, p);
+        Ok(Place::Outside)
     }
 
     /// Returns the place of `q`.

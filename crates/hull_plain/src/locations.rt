@@ -1,8 +1,9 @@
 //! The location of a point relative to a hull, by the edges of its chains between whose ends it is.
-ghost use Rattle.std.specs.Prelude.{◌<◌, List, Err, length};
+ghost use Rattle.std.specs.Prelude.{◌<◌, IfSome, List, Err, length};
+ghost use Rattle.lattice.specs.Covers.{IsPointSet};
 ghost use Rattle.lattice.specs.Plane.{Pair};
 ghost use Rattle.hull_plain.specs.ChainLocations.{IsSeen};
-ghost use Rattle.hull_geometry.specs.Monotone.{IsStrict, IsChainOf, AreChainsOf, AreChains};
+ghost use Rattle.hull_geometry.specs.Monotone.{IsChainOf, AreChainsOf, AreChains};
 ghost use Rattle.hull_geometry.specs.Positions.{IsPositionOf, first_of, last_of};
 ghost use Rattle.hull_geometry.specs.Locations.{IsLocationOf};
 ghost use Rattle.hull_set.specs.Replies.{LiesAt};
@@ -49,14 +50,62 @@ fn look_from(side: Side, chain: &TieredList, i: usize, q: Point) -> ChainLocatio
     }
 }
 
-/// Returns the location of `q` relative to this chain of a hull.
-fn look_on(side: Side, chain: &TieredList, q: Point) -> ChainLocation
-    requires { IsStrict side chain.now.items }
+/// Returns the location of a point that has the position `at` in this chain of a hull.
+fn look_on(side: Side, chain: &TieredList, at: Result<usize, usize>, q: Point) -> ChainLocation
+    requires { IsPositionOf chain.now.items q at }
     ensures { (S : List Pair) → IsChainOf side S chain.now.items → IsSeen side S q result }
 {
-    match position_of(chain, q) {
+    match at {
         Ok(_) => ChainLocation::Touching,
         Err(i) => look_from(side, chain, i, q),
+    }
+}
+
+/// Returns the position of `q` in a list: the one that is known, or else by a bisection.
+fn known_or_found(
+    points: &TieredList,
+    known: Option<Result<usize, usize>>,
+    q: Point,
+) -> Result<usize, usize>
+    requires ordered { IsPointSet points.now.items }
+    requires known { IfSome known (IsPositionOf points.now.items q) }
+    ensures { IsPositionOf points.now.items q result }
+{
+    match known {
+        Some(at) => at,
+        None => position_of(points, q),
+    }
+}
+
+/// Returns the location of `q` relative to the hull of these two chains, which are not empty, by its position in the
+/// lower one. The upper one is bisected only if that is needed and its position there is not known.
+fn look_from_lower(
+    lower: &TieredList,
+    upper: &TieredList,
+    below: Result<usize, usize>,
+    above: Option<Result<usize, usize>>,
+    q: Point,
+) -> Location
+    requires some { 0 < length lower.now.items }
+    requires chains { AreChains lower.now.items upper.now.items }
+    requires below { IsPositionOf lower.now.items q below }
+    requires above { IfSome above (IsPositionOf upper.now.items q) }
+    ensures { (S : List Pair) → AreChainsOf S lower.now.items upper.now.items
+        → IsLocationOf (first_of lower.now.items) (last_of lower.now.items) S q result }
+{
+    match look_on(Side::Lower, lower, below, q) {
+        ChainLocation::Before => Location::Before,
+        ChainLocation::After => Location::After,
+        ChainLocation::Outwards => Location::Below,
+        ChainLocation::Touching => Location::Touching,
+        ChainLocation::Inwards => {
+            let at = known_or_found(upper, above, q);
+            match look_on(Side::Upper, upper, at, q) {
+                ChainLocation::Outwards => Location::Above,
+                ChainLocation::Inwards => Location::Within,
+                _ => Location::Touching,
+            }
+        }
     }
 }
 
@@ -67,17 +116,27 @@ pub(crate) fn look(lower: &TieredList, upper: &TieredList, q: Point) -> Location
     ensures { (S : List Pair) → AreChainsOf S lower.now.items upper.now.items
         → IsLocationOf (first_of lower.now.items) (last_of lower.now.items) S q result }
 {
-    match look_on(Side::Lower, lower, q) {
-        ChainLocation::Before => Location::Before,
-        ChainLocation::After => Location::After,
-        ChainLocation::Outwards => Location::Below,
-        ChainLocation::Touching => Location::Touching,
-        ChainLocation::Inwards => match look_on(Side::Upper, upper, q) {
-            ChainLocation::Outwards => Location::Above,
-            ChainLocation::Inwards => Location::Within,
-            _ => Location::Touching,
-        },
+    look_from_lower(lower, upper, position_of(lower, q), None, q)
+}
+
+/// Returns the place of a point that has these positions in the two chains of a hull. If the one in the upper chain is not
+/// known, that chain is bisected if need be.
+pub(crate) fn place_by(
+    lower: &TieredList,
+    upper: &TieredList,
+    below: Result<usize, usize>,
+    above: Option<Result<usize, usize>>,
+    q: Point,
+) -> Place
+    requires chains { AreChains lower.now.items upper.now.items }
+    requires below { IsPositionOf lower.now.items q below }
+    requires above { IfSome above (IsPositionOf upper.now.items q) }
+    ensures { (S : List Pair) → AreChainsOf S lower.now.items upper.now.items → LiesAt S q result }
+{
+    if lower.is_empty() {
+        return Place::Outside;
     }
+    Place::of_location(look_from_lower(lower, upper, below, above, q))
 }
 
 /// Returns the place of `q` relative to the hull of these two chains.
@@ -85,8 +144,5 @@ pub(crate) fn place_of(lower: &TieredList, upper: &TieredList, q: Point) -> Plac
     requires { AreChains lower.now.items upper.now.items }
     ensures { (S : List Pair) → AreChainsOf S lower.now.items upper.now.items → LiesAt S q result }
 {
-    if lower.is_empty() {
-        return Place::Outside;
-    }
-    Place::of_location(look(lower, upper, q))
+    place_by(lower, upper, position_of(lower, q), None, q)
 }

@@ -1,11 +1,12 @@
 //! Repair of the chain of a set that changed: it is rebuilt from where it changed up to where it is as it was.
-ghost use Rattle.std.specs.Prelude.{◌≡◌, ◌+◌, ◌-◌, ◌<◌, ◌≤◌, ◌⊎◌, ◌++◌, List, IsTrue, ◌↔◌, length, take, drop, slice_range};
+ghost use Rattle.std.specs.Prelude.{◌≡◌, ◌+◌, ◌-◌, ◌<◌, ◌≤◌, ◌⊎◌, ◌++◌, Err, List, IsTrue, ◌↔◌, length, take, drop, slice_range};
 ghost use Rattle.std.specs.List.{All, Contains};
 ghost use Rattle.lattice.specs.Plane.{Pair, IsBefore};
 ghost use Rattle.lattice.specs.Covers.{IsPointSet, with_point, without_point};
 ghost use Rattle.hull_plain.specs.Drafts.{ScratchChainHasSpace, IsAsRoomy};
 ghost use Rattle.hull_geometry.specs.Monotone.{IsStrict, IsChainOf, IsCandidateListOf};
 ghost use Rattle.hull_geometry.specs.Mending.{IsOverEdge, IsBetween};
+ghost use Rattle.hull_geometry.specs.Positions.{IsPositionOf};
 ghost use Rattle.hull_plain.specs.Bounds.{IsBehind, IsAhead};
 
 use super::monotone::{extend, pass_over, take_up};
@@ -104,7 +105,34 @@ fn between(points: &TieredList, chain: &TieredList, i: usize) -> (usize, usize)
     (from, to)
 }
 
-/// Updates the chain after a new point `p` was added to its set: the points that no longer lie outwards are removed.
+/// Updates the chain after a new point `p`, which has the position `i` in it, was added to its set: the points that no
+/// longer lie outwards are removed.
+pub(crate) fn put_in_at(
+    side: Side,
+    chain: &mut TieredList,
+    scratch_chain: &mut ScratchChain,
+    i: usize,
+    p: Point,
+)
+    requires strict { IsStrict side chain.old.items }
+    requires position { IsPositionOf chain.old.items p (Err i) }
+    requires space { length chain.old.items + 1 ≤ chain.old.space }
+    requires scratch_chain_space { ScratchChainHasSpace scratch_chain.old (length chain.old.items + 1) }
+    ensures chain { (S : List Pair) → IsChainOf side S chain.old.items
+        → IsChainOf side (with_point p S) chain.new.items }
+    ensures chain_space { chain.new.space ≡ chain.old.space }
+    ensures space { IsAsRoomy scratch_chain.old scratch_chain.new }
+{
+    if is_inwards(side, chain, i, p) {
+        return;
+    }
+    scratch_chain.start(i);
+    let _stays = extend(side, chain, scratch_chain, p);
+    let to = take_up(side, chain, scratch_chain, i);
+    scratch_chain.write(chain, to);
+}
+
+/// Updates the chain after a new point `p` was added to its set.
 pub(crate) fn put_in(side: Side, chain: &mut TieredList, scratch_chain: &mut ScratchChain, p: Point)
     requires strict { IsStrict side chain.old.items }
     requires absent { ¬ Contains chain.old.items p }
@@ -118,13 +146,7 @@ pub(crate) fn put_in(side: Side, chain: &mut TieredList, scratch_chain: &mut Scr
     let Err(i) = position_of(chain, p) else {
         unreachable!()
     };
-    if is_inwards(side, chain, i, p) {
-        return;
-    }
-    scratch_chain.start(i);
-    let _stays = extend(side, chain, scratch_chain, p);
-    let to = take_up(side, chain, scratch_chain, i);
-    scratch_chain.write(chain, to);
+    put_in_at(side, chain, scratch_chain, i, p);
 }
 
 /// Updates the chain after `p` was removed from its set `S`, which now has this candidate list. If `p` was on the

@@ -65,8 +65,26 @@ impl TieredList {
         exchanged.saturating_mul(self.len() / BLOCK + 16) > self.len().saturating_sub(from)
     }
 
+    /// Returns the number of last points that a slice has in common with the points from index `from` up to `to`.
+    fn common_end(&self, from: usize, to: usize, points: &[Point]) -> usize
+        requires order { from ≤ to }
+        requires within { to ≤ length self.now.items }
+        ensures inside { result ≤ to - from }
+        ensures few { result ≤ length points.now }
+        ensures common { drop (length points.now - result) points.now ++ drop to self.now.items
+            ≡ drop (to - result) self.now.items }
+    {
+        let most = points.len().min(to - from);
+        let mut count = 0;
+        while count < most && points[points.len() - count - 1] == self.get(to - count - 1) {
+            count += 1;
+        }
+        count
+    }
+
     /// Replaces the points from index `from` up to `to`, exclusive, by these points. Does not allocate: the list has
-    /// the capacity for them, and `spare` for the points from `to` on. The contents of `spare` are lost.
+    /// the capacity for them, and `spare` for the points from `to` on. The contents of `spare` are lost. Points that both
+    /// have at their ends are not moved.
     pub fn splice(&mut self, from: usize, to: usize, points: &[Point], spare: &mut Vec<Point, Heap>)
         requires order { from ≤ to }
         requires within { to ≤ length self.old.items }
@@ -76,15 +94,18 @@ impl TieredList {
         ensures space { self.new.space ≡ self.old.space }
         ensures spare_space { vec_capacity spare.new ≡ vec_capacity spare.old }
     {
-        if self.is_more_than_the_rest((to - from).saturating_add(points.len()), from) {
+        let common = self.common_end(from, to, points);
+        let end = to - common;
+        let fresh = &points[..points.len() - common];
+        if self.is_more_than_the_rest((end - from).saturating_add(fresh.len()), from) {
             self.copy_rest(to, spare);
             self.truncate(from);
             self.put_in(from, points);
             let len = self.len();
             self.put_in(len, spare);
         } else {
-            self.drain(from, to);
-            self.put_in(from, points);
+            self.drain(from, end);
+            self.put_in(from, fresh);
         }
     }
 

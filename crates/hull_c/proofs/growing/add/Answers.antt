@@ -1,23 +1,32 @@
--- a point outside is added or refused; another leaves the hull that of the set with it
-use Rattle.std.proofs.Common.{inl, inr}
+-- the point is added with its place, or is outside and refused for the fault's reason
+use Rattle.std.proofs.Common.{inl, inr, subst}
+use Rattle.hull_plain.specs.Growth.{IsWhyNotGrown}
+use Rattle.hull_plain.specs.declared.growing_hull.GrowFault.{GrowFault}
 use Rattle.hull_set.specs.declared.reply.Reply.TheVariants.{Lies}
-use Rattle.hull_c.proofs.Grown.{covered, keeps}
 use Rattle.hull_c.proofs.growing.add.Goals as goal
 
-pub returns-in-Outside : goal.returns-in-Outside
-returns-in-Outside c =
-    elim c.grow.ensures [
-      | inl added ↦ inl added
-      | inr refused ↦ inr (refused.0, c.in-Outside.ensures, refused.1)
-    ]
-
-pub returns-in_default : goal.returns-in_default
-returns-in_default c =
+pub returns-in-Ok : goal.returns-in-Ok
+returns-in-Ok c =
     inl (
       record {
-        reply = Lies c.place.result;
+        reply = Lies c.in-Ok.place;
         reports = c.encoded_place.ensures;
-        allowed = λ held limit of. c.place.ensures held.points of;
+        allowed = λ held limit of. c.in-Ok.ensures.place held.points of;
       },
-      keeps c.args.p c.args.hull.now (λ S k. covered S c.args.p c.place.result c.in_default.not-Outside (c.place.ensures S k)),
+      c.in-Ok.ensures.grown,
     )
+
+pub returns-in-Err-TooMany : goal.returns-in-Err-TooMany
+returns-in-Err-TooMany c =
+    inr (
+      c.in-Err-TooMany.ensures.refused,
+      c.in-Err-TooMany.ensures.outside,
+      inl (
+        subst (λ (fault : GrowFault). IsWhyNotGrown fault c.args.hull.now) c.in-Err-TooMany.field-0-is c.in-Err-TooMany.ensures.fault,
+        c.bare.ensures,
+      ),
+    )
+
+pub returns-in-Err-NoMemory : goal.returns-in-Err-NoMemory
+returns-in-Err-NoMemory c =
+    inr (c.in-Err-NoMemory.ensures.refused, c.in-Err-NoMemory.ensures.outside, inr c.bare-in-Err-NoMemory.ensures)

@@ -1,11 +1,13 @@
--- both chains grow by the point, whatever the set
+-- a covered point changes nothing; by one outside both chains grow, whatever the set
 use Rattle.std.proofs.Common.{sym, ap, subst, arith, length, List}
 use Rattle.lattice.specs.Covers.{with_point}
 use Rattle.lattice.specs.Plane.{Pair}
 use Rattle.lattice.specs.declared.side.Side.TheVariants.{Lower, Upper}
 use Rattle.hull_geometry.specs.Monotone.{AreChainsOf, IsChainOf}
 use Rattle.hull_geometry.proofs.SetLaws.{ordered_with}
+use Rattle.hull_set.specs.Replies.{LiesAt}
 use Rattle.hull_plain.specs.Growth.{Chains, IsHullOf}
+use Rattle.hull_plain.proofs.Covered.{keeps, covered}
 use Rattle.hull_plain.proofs.growing_hull.GrowingHull.add.Goals as goal
 
 -- the chains of a set become those of the set with the point
@@ -32,8 +34,23 @@ pub returns-clause-grown : goal.returns-clause-grown
 returns-clause-grown c = λ S k. (ordered_with c.args.p S k.0, grown c S (seen c S k))
 
 pub returns-clause-place : goal.returns-clause-place
-returns-clause-place c = λ S k.
-    c.place_of-place.ensures S (record {
-      below = subst (IsChainOf Lower S) (sym c.reserve.ensures.items) (seen c S k).below;
-      above = subst (IsChainOf Upper S) (sym c.reserve-else-is_err.ensures.items) (seen c S k).above;
-    })
+returns-clause-place c = λ S k. c.in-Outside.ensures S (seen c S k)
+
+pub returns-then-len-clause-outside : goal.returns-then-len-clause-outside
+returns-then-len-clause-outside c = λ S k.
+    c.in-Outside.ensures S (subst (λ (h : Chains). AreChainsOf S h.lower h.upper) (sym c.self.view_is) k.1)
+
+pub returns-then-is_err-clause-outside : goal.returns-then-is_err-clause-outside
+returns-then-is_err-clause-outside c = λ S k.
+    c.in-Outside.ensures S (subst (λ (h : Chains). AreChainsOf S h.lower h.upper) (sym c.self.view_is) k.1)
+
+-- where a point that is not outside lies
+lies : (c : goal.In_default) (S : List Pair) → IsHullOf S c.args.self.now → LiesAt S c.args.p c.place_by.result
+lies c S k = c.place_by.ensures S (subst (λ (h : Chains). AreChainsOf S h.lower h.upper) (sym c.self.view_is) k.1)
+
+pub returns-in_default-clause-grown : goal.returns-in_default-clause-grown
+returns-in_default-clause-grown c =
+    keeps c.args.p c.args.self.now (λ S k. covered S c.args.p c.place_by.result c.in_default.not-Outside (lies c S k))
+
+pub returns-in_default-clause-place : goal.returns-in_default-clause-place
+returns-in_default-clause-place c = lies c

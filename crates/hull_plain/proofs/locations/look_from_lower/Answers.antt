@@ -2,7 +2,7 @@
 use Rattle.lattice.specs.declared.side.Side.TheVariants.{Lower, Upper}
 use Rattle.hull_geometry.proofs.ChainPlaces.{are_ends}
 use Rattle.hull_plain.proofs.Looks.{edge_within, outwards_right, locations_inside, location_touching}
-use Rattle.hull_plain.proofs.locations.look.Goals as goal
+use Rattle.hull_plain.proofs.locations.look_from_lower.Goals as goal
 
 pub returns-in-Before : goal.returns-in-Before
 returns-in-Before c = λ S k.

@@ -10,57 +10,57 @@ use Rattle.hull_plain.proofs.Drafts.{started, as_roomy}
 use Rattle.hull_geometry.proofs.Mended.{put_in_same, put_in_new, before_and, before_and_after}
 use Rattle.hull_geometry.proofs.Passes.{convex_take, convex_drop, passed_set, passed_through}
 use Rattle.hull_geometry.proofs.PointLists.{take_few}
-use Rattle.hull_plain.proofs.repairing.put_in.Goals as goal
+use Rattle.hull_plain.proofs.repairing.put_in_at.Goals as goal
 
 pub returns-then-is_inwards-clause-chain : goal.returns-then-is_inwards-clause-chain
 returns-then-is_inwards-clause-chain c = λ S k.
-    put_in_same c.args.side S c.args.chain.now.items c.args.p c.in-Err.i c.in-Err.ensures.position
+    put_in_same c.args.side S c.args.chain.now.items c.args.p c.args.i c.requires.position
     (c.is_inwards.ensures.0 c.if-is_inwards.true) k
 
 pub extend-stays-requires-clause-within : goal.extend-stays-requires-clause-within
-extend-stays-requires-clause-within c = omega (arith, c.start.ensures.kept, c.in-Err.ensures.position.0)
+extend-stays-requires-clause-within c = omega (arith, c.start.ensures.kept, c.requires.position.0)
 
 pub extend-stays-requires-clause-set : goal.extend-stays-requires-clause-set
 extend-stays-requires-clause-set c =
     subst (λ (z : List Pair). IsPointSet (z ++ c.args.p ∷ []))
-    (sym (started c.args.chain.now.items c.start.new.self c.in-Err.i c.start.ensures.kept c.start.ensures.none))
-    (before_and c.args.side c.args.chain.now.items c.args.p c.in-Err.i c.requires.strict.ordered
-    c.in-Err.ensures.position)
+    (sym (started c.args.chain.now.items c.start.new.self c.args.i c.start.ensures.kept c.start.ensures.none))
+    (before_and c.args.side c.args.chain.now.items c.args.p c.args.i c.requires.strict.ordered
+    c.requires.position)
 
 pub extend-stays-requires-clause-convex : goal.extend-stays-requires-clause-convex
 extend-stays-requires-clause-convex c =
     subst (IsConvex c.args.side)
-    (sym (started c.args.chain.now.items c.start.new.self c.in-Err.i c.start.ensures.kept c.start.ensures.none))
-    (convex_take c.args.side c.in-Err.i c.args.chain.now.items c.requires.strict.convex)
+    (sym (started c.args.chain.now.items c.start.new.self c.args.i c.start.ensures.kept c.start.ensures.none))
+    (convex_take c.args.side c.args.i c.args.chain.now.items c.requires.strict.convex)
 
 pub extend-stays-requires-clause-space : goal.extend-stays-requires-clause-space
 extend-stays-requires-clause-space c =
-    let n = ap length (started c.args.chain.now.items c.start.new.self c.in-Err.i c.start.ensures.kept
+    let n = ap length (started c.args.chain.now.items c.start.new.self c.args.i c.start.ensures.kept
     c.start.ensures.none) in
-    let few = take_few c.in-Err.i c.args.chain.now.items in
-    omega (arith, n, few, c.in-Err.ensures.position.0, c.start.ensures.space.fresh, c.requires.scratch_chain_space.fresh)
+    let few = take_few c.args.i c.args.chain.now.items in
+    omega (arith, n, few, c.requires.position.0, c.start.ensures.space.fresh, c.requires.scratch_chain_space.fresh)
 
 pub take_up-to-requires-clause-set : goal.take_up-to-requires-clause-set
 take_up-to-requires-clause-set c =
-    passed_set c.args.side (take c.in-Err.i c.args.chain.now.items ++ c.args.p ∷ [])
-    (drafted c.args.chain.now.items c.extend-stays.new.scratch_chain) (drop c.in-Err.i c.args.chain.now.items)
+    passed_set c.args.side (take c.args.i c.args.chain.now.items ++ c.args.p ∷ [])
+    (drafted c.args.chain.now.items c.extend-stays.new.scratch_chain) (drop c.args.i c.args.chain.now.items)
     (subst (λ (z : List Pair). IsPassed c.args.side (z ++ c.args.p ∷ [])
     (drafted c.args.chain.now.items c.extend-stays.new.scratch_chain))
-    (started c.args.chain.now.items c.start.new.self c.in-Err.i c.start.ensures.kept c.start.ensures.none)
+    (started c.args.chain.now.items c.start.new.self c.args.i c.start.ensures.kept c.start.ensures.none)
     c.extend-stays.ensures.passed)
-    (before_and_after c.args.chain.now.items c.args.p c.in-Err.i c.requires.strict.ordered c.in-Err.ensures.position)
+    (before_and_after c.args.chain.now.items c.args.p c.args.i c.requires.strict.ordered c.requires.position)
 
 pub take_up-to-requires-clause-rest_convex : goal.take_up-to-requires-clause-rest_convex
 take_up-to-requires-clause-rest_convex c =
-    convex_drop c.args.side c.in-Err.i c.args.chain.now.items c.requires.strict.convex
+    convex_drop c.args.side c.args.i c.args.chain.now.items c.requires.strict.convex
 
 pub take_up-to-requires-clause-space : goal.take_up-to-requires-clause-space
 take_up-to-requires-clause-space c =
-    let n = ap length (started c.args.chain.now.items c.start.new.self c.in-Err.i c.start.ensures.kept
+    let n = ap length (started c.args.chain.now.items c.start.new.self c.args.i c.start.ensures.kept
     c.start.ensures.none) in
-    let few = take_few c.in-Err.i c.args.chain.now.items in
+    let few = take_few c.args.i c.args.chain.now.items in
     let both = length-append (drafted c.args.chain.now.items c.start.new.self) (c.args.p ∷ []) in
-    let rest = length-drop c.in-Err.i c.args.chain.now.items in
+    let rest = length-drop c.args.i c.args.chain.now.items in
     omega (
       arith,
       n,
@@ -68,7 +68,7 @@ take_up-to-requires-clause-space c =
       both,
       rest,
       c.extend-stays.ensures.passed.short,
-      c.in-Err.ensures.position.0,
+      c.requires.position.0,
       c.extend-stays.ensures.space.fresh,
       c.start.ensures.space.fresh,
       c.requires.scratch_chain_space.fresh,
@@ -76,7 +76,7 @@ take_up-to-requires-clause-space c =
 
 pub take_up-to-requires-clause-within : goal.take_up-to-requires-clause-within
 take_up-to-requires-clause-within c =
-    omega (arith, c.extend-stays.ensures.within, c.start.ensures.kept, c.in-Err.ensures.position.0)
+    omega (arith, c.extend-stays.ensures.within, c.start.ensures.kept, c.requires.position.0)
 
 pub write-requires-clause-order : goal.write-requires-clause-order
 write-requires-clause-order c =
@@ -91,11 +91,11 @@ write-requires-clause-order c =
 pub write-requires-clause-space : goal.write-requires-clause-space
 write-requires-clause-space c =
     let L : List Pair = c.args.chain.now.items in
-    let n = ap length (started L c.start.new.self c.in-Err.i c.start.ensures.kept c.start.ensures.none) in
-    let few = take_few c.in-Err.i L in
+    let n = ap length (started L c.start.new.self c.args.i c.start.ensures.kept c.start.ensures.none) in
+    let few = take_few c.args.i L in
     let with_p = length-append (drafted L c.start.new.self) (c.args.p ∷ []) in
-    let rest = length-drop c.in-Err.i L in
-    let front = length-append (drafted L c.extend-stays.new.scratch_chain) (drop c.in-Err.i L) in
+    let rest = length-drop c.args.i L in
+    let front = length-append (drafted L c.extend-stays.new.scratch_chain) (drop c.args.i L) in
     let new = length-append (drafted L c.take_up-to.new.scratch_chain) (drop c.take_up-to.result L) in
     omega (
       arith,
@@ -107,7 +107,7 @@ write-requires-clause-space c =
       new,
       c.extend-stays.ensures.passed.short,
       c.take_up-to.ensures.passed.short,
-      c.in-Err.ensures.position.0,
+      c.requires.position.0,
       c.requires.space,
     )
 
@@ -125,13 +125,13 @@ pub returns-clause-chain : goal.returns-clause-chain
 returns-clause-chain c = λ S k.
     let L : List Pair = c.args.chain.now.items in
     let new : List Pair = drafted L c.take_up-to.new.scratch_chain ++ drop c.take_up-to.result L in
-    put_in_new c.args.side S L c.write.new.list.items c.args.p c.in-Err.i c.in-Err.ensures.position
+    put_in_new c.args.side S L c.write.new.list.items c.args.p c.args.i c.requires.position
     (λ o. false≢true (sym c.if-is_inwards.false ∙ c.is_inwards.ensures.1 o))
-    (subst (IsPassed c.args.side (take c.in-Err.i L ++ c.args.p ∷ [] ++ drop c.in-Err.i L)) (sym c.write.ensures.items)
-    (passed_through c.args.side (take c.in-Err.i L ++ c.args.p ∷ []) (drafted L c.extend-stays.new.scratch_chain)
-    (drop c.in-Err.i L) new
+    (subst (IsPassed c.args.side (take c.args.i L ++ c.args.p ∷ [] ++ drop c.args.i L)) (sym c.write.ensures.items)
+    (passed_through c.args.side (take c.args.i L ++ c.args.p ∷ []) (drafted L c.extend-stays.new.scratch_chain)
+    (drop c.args.i L) new
     (subst (λ (z : List Pair). IsPassed c.args.side (z ++ c.args.p ∷ []) (drafted L c.extend-stays.new.scratch_chain))
-    (started L c.start.new.self c.in-Err.i c.start.ensures.kept c.start.ensures.none) c.extend-stays.ensures.passed)
+    (started L c.start.new.self c.args.i c.start.ensures.kept c.start.ensures.none) c.extend-stays.ensures.passed)
     c.take_up-to.ensures.passed)) k
 
 pub returns-clause-space : goal.returns-clause-space
