@@ -94,7 +94,7 @@ impl<S: HullSet + Drop> DeferringSet<S> {
     }
 
     /// Removes the points that wait for it if the set has as many points as its limit.
-    fn make_space(&mut self)
+    fn carry_out_at_limit(&mut self)
         ensures held { held_in S.HullSet self.new ≡ held_in S.HullSet self.old }
         ensures same_limit { limit_of S.HullSet self.new ≡ limit_of S.HullSet self.old }
         ensures space { length (S.held self.new.set).points ≡ S.bound self.new.set → self.new.removed ≡ [] }
@@ -106,7 +106,7 @@ impl<S: HullSet + Drop> DeferringSet<S> {
     }
 
     /// Removes the points that wait for it if no more can.
-    fn make_room(&mut self)
+    fn carry_out_when_full(&mut self)
         ensures held { held_in S.HullSet self.new ≡ held_in S.HullSet self.old }
         ensures same_limit { limit_of S.HullSet self.new ≡ limit_of S.HullSet self.old }
         ensures room { length self.new.removed < DEFERRED_LIMIT }
@@ -130,7 +130,7 @@ impl<S: HullSet + Drop> DeferringSet<S> {
                 AddReply::Added
             }
             None => {
-                self.make_space();
+                self.carry_out_at_limit();
                 self.defers |= self.last_to_leave == Some(p);
                 self.last_added = Some(p);
                 self.set.add(p)
@@ -152,7 +152,7 @@ impl<S: HullSet + Drop> DeferringSet<S> {
         ensures effect { held_in S.HullSet self.new ≡ after (held_in S.HullSet self.old) (Call.Remove p) (reply_to_remove result) }
         ensures same_limit { limit_of S.HullSet self.new ≡ limit_of S.HullSet self.old }
     {
-        self.make_room();
+        self.carry_out_when_full();
         self.defers |= self.last_added == Some(p);
         match index_of(self.removed.as_slice(), p) {
             Some(_) => RemoveReply::Absent,

@@ -38,22 +38,22 @@ carried : (g : Over) (c : goal.After-add g) → Carries c.self-in-None.inside.re
     (g.S.HullSet.held c.self-in-None.inside.set) (g.S.HullSet.bound c.self-in-None.inside.set) (Add c.args.p) (reply_to_add c.add.result)
 carried g c =
     let absent = rw c.as_slice.ensures.value at c.in-None.ensures.absent in
-    let fewer = rw (← c.self.view_is, ← c.self-in-None.view_is) at c.make_space.ensures.fewer in
+    let fewer = rw (← c.self.view_is, ← c.self-in-None.view_is) at c.carry_out_at_limit.ensures.fewer in
     adds _ _ _ c.args.p c.add.result c.self-in-None.invariant (fewer c.args.p absent)
-    (rw (← c.self-in-None.view_is) at c.make_space.ensures.space) c.add.ensures.reply
+    (rw (← c.self-in-None.view_is) at c.carry_out_at_limit.ensures.space) c.add.ensures.reply
 
 pub invariant_of-self-in-None : goal.invariant_of-self-in-None
 invariant_of-self-in-None g c = rw c.add.ensures.effect (carried g c).deferred
 
 pub returns-in-None-clause-reply : goal.returns-in-None-clause-reply
 returns-in-None-clause-reply g c =
-    let held = rw (← c.self-in-None.view_is) at c.make_space.ensures.held in
-    let limit = rw (← c.self-in-None.view_is) at c.make_space.ensures.same_limit in
+    let held = rw (← c.self-in-None.view_is) at c.carry_out_at_limit.ensures.held in
+    let limit = rw (← c.self-in-None.view_is) at c.carry_out_at_limit.ensures.same_limit in
     subst (λ (z : Held × ℕ). Answers Counted z.0 z.1 (Add c.args.p) (reply_to_add c.add.result)) (λ i. (held i, limit i))
     (carried g c).answers
 
 pub returns-in-None-clause-effect : goal.returns-in-None-clause-effect
 returns-in-None-clause-effect g c =
-    let held = rw (← c.self-in-None.view_is) at c.make_space.ensures.held in
+    let held = rw (← c.self-in-None.view_is) at c.carry_out_at_limit.ensures.held in
     ap (without_all c.self-in-None.inside.removed.items) c.add.ensures.effect
     ∙ ((carried g c).effect ∙ ap (λ (z : Held). after z (Add c.args.p) (reply_to_add c.add.result)) held)

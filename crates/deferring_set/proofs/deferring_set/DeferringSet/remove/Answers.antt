@@ -13,7 +13,7 @@ use Rattle.deferring_set.proofs.deferring_set.DeferringSet.remove.Goals as goal
 
 pub returns-in-Some-clause-reply : goal.returns-in-Some-clause-reply
 returns-in-Some-clause-reply g c =
-    let held = rw (← c.self.view_is) at c.make_room.ensures.held in
+    let held = rw (← c.self.view_is) at c.carry_out_when_full.ensures.held in
     let waits : Contains c.self.inside.removed.items c.args.p = (
       c.in-Some.field-0,
       rw c.as_slice.ensures.value at c.in-Some.ensures.inside,
@@ -33,7 +33,7 @@ invariant_of-self-then-is_deferrable g c =
 pub returns-then-is_deferrable-clause-reply : goal.returns-then-is_deferrable-clause-reply
 returns-then-is_deferrable-clause-reply g c =
     let absent = rw c.as_slice.ensures.value at c.in-None.ensures.absent in
-    let held = rw (← c.self.view_is) at c.make_room.ensures.held in
+    let held = rw (← c.self.view_is) at c.carry_out_when_full.ensures.held in
     let all = members_all c.self.inside.removed.items _ c.args.p c.self.invariant.in_order in
     subst (λ (z : Held). Contains z.points c.args.p × (Counted ≡ Counted → z.multiplicities c.args.p ≡ 1)) held (
       all.1 (c.is_deferrable.ensures.live c.if-is_deferrable.true, absent),
@@ -43,7 +43,7 @@ returns-then-is_deferrable-clause-reply g c =
 
 pub returns-then-is_deferrable-clause-effect : goal.returns-then-is_deferrable-clause-effect
 returns-then-is_deferrable-clause-effect g c =
-    let held = rw (← c.self.view_is) at c.make_room.ensures.held in
+    let held = rw (← c.self.view_is) at c.carry_out_when_full.ensures.held in
     rw c.push.ensures.items (without_push c.args.p c.self.inside.removed.items _ ∙ ap (with_none c.args.p) held)
 
 -- the call on the set with the points that wait
@@ -58,13 +58,13 @@ invariant_of-self-else-is_deferrable g c = rw c.remove.ensures.effect (carried g
 
 pub returns-else-is_deferrable-clause-reply : goal.returns-else-is_deferrable-clause-reply
 returns-else-is_deferrable-clause-reply g c =
-    let held = rw (← c.self.view_is) at c.make_room.ensures.held in
-    let limit = rw (← c.self.view_is) at c.make_room.ensures.same_limit in
+    let held = rw (← c.self.view_is) at c.carry_out_when_full.ensures.held in
+    let limit = rw (← c.self.view_is) at c.carry_out_when_full.ensures.same_limit in
     subst (λ (z : Held × ℕ). Answers Counted z.0 z.1 (Remove c.args.p) (reply_to_remove c.remove.result))
     (λ i. (held i, limit i)) (carried g c).answers
 
 pub returns-else-is_deferrable-clause-effect : goal.returns-else-is_deferrable-clause-effect
 returns-else-is_deferrable-clause-effect g c =
-    let held = rw (← c.self.view_is) at c.make_room.ensures.held in
+    let held = rw (← c.self.view_is) at c.carry_out_when_full.ensures.held in
     ap (without_all c.self.inside.removed.items) c.remove.ensures.effect
     ∙ ((carried g c).effect ∙ ap (λ (z : Held). after z (Remove c.args.p) (reply_to_remove c.remove.result)) held)
