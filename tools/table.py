@@ -4,8 +4,8 @@
     tools/table.py [--write]
 
 Each place is a marked stretch of a file, between the comments 'written by tools/table.py: WHAT' and 'end of what tools/table.py writes'; or a
-line with the version. In a stretch 'a case for each call' (or kind, or reply) of a file of Rattle, calls with the same operands have cases that
-differ only by their names: each is written like the case of the first of them, if that has one. Without --write it prints what would change.
+line with the version. In a stretch 'a case for each call' (or question, kind or reply) of a file of Rattle, calls with the same operands have cases
+that differ only by their names: each is written like the case of the first of them, if that has one. Without --write it prints what would change.
 Each file is counted, and the tables too; the numbers of a list must be consecutive; the last line is 'N passed, M failed'.
 """
 import os
@@ -20,7 +20,7 @@ import kit  # noqa: E402
 TABLE = "tables/calls.txt"
 LINE = re.compile(r"(\w+) (?:(\d+) )?(\w+)(?: \((.*?)\))?: (.*)")
 STRETCH = r"(?ms)^[^\n]*written by tools/table\.py: %s\b[^\n]*\n(.*?)^[^\n]*end of what tools/table\.py writes"
-CASES = re.compile(r"written by tools/table\.py: (a case for each (call|kind|reply)( word)?\b.*)")
+CASES = re.compile(r"written by tools/table\.py: (a case for each (call|question|kind|reply)( word)?\b.*)")
 FIELDS = {"x", "y", "other_x", "other_y", "number", "high"}
 # the places of the version: file, and a pattern that occurs once, with the version as its group
 VERSIONS = {
@@ -62,7 +62,8 @@ def table():
             kind, number, name, mark, said = LINE.fullmatch(line).groups()
             group = Row(None, name, mark, said, None) if kind == "group" else group
             lists.setdefault(kind, []).append(group if kind == "group" else Row(int(number), name, mark, said, group))
-    return lists
+    lists = {kind: rows if kind == "group" else sorted(rows, key=lambda it: it.number) for kind, rows in lists.items()}
+    return {**lists, "question": [it for it in lists["call"] if it.group.name == "answers"]}
 
 
 def faults_in(lists):
@@ -155,11 +156,14 @@ def words_table(lists):
 
 def stretches(lists):
     """Yields each marked stretch: its file, its mark, and its text."""
-    kinds, codes, relations, calls, replies = (lists[it] for it in ("kind", "code", "relation", "call", "reply"))
+    codes, relations, calls, replies = (lists[it] for it in ("code", "relation", "call", "reply"))
+    kinds = [it._replace(group=None) for it in lists["kind"]]
     proved, numbered = [it for it in codes if "in C" not in (it.mark, it.group.mark)], lambda it: f"{it.camel()} = {it.number},"
     quoted = [f'"{it.small()}"' for it in relations]
     object_of = lambda fields: interface.wrapped(", ".join(fields) + ",", 140, "    ", "    ")
     asked = [it._replace(said=it.said.partition(":")[0]) for it in kinds]
+    made = {it.name: it.said.partition("; ")[2] or next(kind.said for kind in asked if kind.name == it.name) for it in calls}
+    operand = {it.name: {"X": "(Point)", "DX": "(Direction)"}.get("".join(it.words()[1:2]), "") for it in calls}
     yield "include/hull_common.h", "kinds", header(kinds, "KIND_")
     yield "include/hull_common.h", "codes", header(codes, "")
     yield "include/hull_common.h", "names", "".join(f'    case HULL_{it.name}: return "HULL_{it.name}";\n' for it in codes)
@@ -177,6 +181,8 @@ def stretches(lists):
     yield "web/hull.js", "kinds", object_of(f"{it.small()}: {it.number}" for it in kinds)
     yield "web/hull.js", "codes", object_of(f"{it.small()}: {it.number}" for it in codes if it.group.name in ("sets", "polygons"))
     yield "man/hull.3", "refusals", manual([it for it in codes if it.mark == "refuses"])
+    forms = [f'"{it}"' if " " in it else it for it in (row.said.partition(":")[0] for row in calls)]
+    yield "man/hullbook.1", "calls", f""".BR {' ", " '.join(forms[:-1])} " or " {forms[-1]} ;\n"""
     yield "docs/FORMATS.md", "words", words_table(lists)
     for path, what, rows, module in (
         ("hull_reply/specs/Encoded", "code", proved, "code"),
@@ -186,6 +192,8 @@ def stretches(lists):
         yield f"crates/{path}.antt", f"{what}s", equations(rows, f"{what}_number", lambda it: it.number, module) + "\n"
     yield "crates/hull_reply/src/code.rt", "codes", documented(proved, "    /// ", 120, numbered)
     yield "crates/hull_reply/src/kind.rt", "kinds", documented(asked, "    /// ", 120, numbered)
+    variants = documented([it._replace(said=made[it.name]) for it in calls], "    /// ", 120, lambda it: f"{it.camel()}{operand[it.name]},")
+    yield "crates/hull_set/src/call.rt", "calls", variants
     yield "crates/hull_reply/src/kind.rt", "numbers", "".join(f"            {it.number} => Some(Kind::{it.camel()}),\n" for it in kinds)
     yield "crates/hull_c/src/pairs.rt", "relations", "".join(f"        Relation::{it.camel()} => {it.number},\n" for it in relations)
     changes, answered = ([it for it in replies if it.group.name == name] for name in ("changes", "answers"))
@@ -208,9 +216,9 @@ def form(row, lists):
 
 def cases(text, rows, name, lists):
     """Returns a stretch with a case for each row, those present first: each like the case of the first row of its form, except for layout."""
-    bare = lambda case: re.sub(r",(?=[)}])|\s", "", case)
+    bare = lambda case: re.sub(r",(?=\s*[)}])|\s", "", case)
     indent = " " * min(len(it) - len(it.lstrip()) for it in text.splitlines() if it)
-    known, present, first, found = {name(it): it for it in reversed(rows)}, {}, {}, ""
+    known, present, first, found = {name(it): it for it in rows}, {}, {}, ""
     for case in re.split(rf"(?m)^(?={indent}[^\s}}])", text.rstrip("\n") + "\n")[1:]:
         key = next((it for it in re.findall(r"(?:\.|::)(\w+)", case) if it in known), "")
         present[key] = present.get(key, "") + case
@@ -218,7 +226,8 @@ def cases(text, rows, name, lists):
         first.setdefault(form(known[key], lists), known[key])
     for key in dict.fromkeys([*(it for it in present if it), *map(name, rows)]):
         row, alike = known[key], first[form(known[key], lists)]
-        names = {alike.in_set(): row.in_set(), alike.camel(): row.camel()}
+        spellings = lambda it: (it.in_set(), it.camel(), f"Answers{it.camel()}", f"one_reply_to_{it.name.lower()}")
+        names = dict(zip(spellings(alike), spellings(row)))
         wanted = re.sub(r"\b\w+\b", lambda it: names.get(it[0], it[0]), present.get(name(alike), ""))
         case = present.get(key, "")
         found += case if bare(case) == bare(wanted) else wanted

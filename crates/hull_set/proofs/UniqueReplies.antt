@@ -12,8 +12,8 @@ use Rattle.hull_set.specs.Laws.{AgreesWith}
 use Rattle.hull_set.specs.declared.TheConstants.{MULTIPLICITY_LIMIT}
 use Rattle.hull_set.specs.declared.rules.Rules.{Rules}
 use Rattle.hull_set.specs.declared.rules.Rules.TheVariants.{Set, Counted}
-use Rattle.hull_set.specs.Replies.{AnswersAdd, AnswersRemove, AnswersExtreme, LiesAt, AnswersTangents, AnswersVertices}
-use Rattle.hull_set.specs.Replies.{Answers}
+use Rattle.hull_set.specs.Replies.{AnswersAdd, AnswersRemove, AnswersExtreme, AnswersPlace, LiesAt, AnswersTangents}
+use Rattle.hull_set.specs.Replies.{AnswersVertices, AnswersArea, AnswersCount, Answers}
 use Rattle.hull_geometry.specs.Tangents.{IsFirstFarthest, IsNoMore, IsTangent, IsLeftTangent, IsRightTangent}
 use Rattle.hull_geometry.specs.declared.hand.Hand.{Hand}
 use Rattle.hull_geometry.specs.declared.hand.Hand.TheVariants.{Left as LeftHand, Right as RightHand}
@@ -171,15 +171,15 @@ added held limit rules p reply.TooMany n e (inr b) = absurd (n b.1)
 added held limit rules p _ n e b = absurd b
 
 -- `add p` has only one reply
-add_unique : (held : Held) (limit : ℕ) (rules : Rules) (p : Pair) (r s : Reply) → AnswersAdd rules held limit p r
+one_reply_to_add : (held : Held) (limit : ℕ) (rules : Rules) (p : Pair) (r s : Reply) → AnswersAdd rules held limit p r
     → AnswersAdd rules held limit p s → AgreesWith r s
-add_unique held limit rules p reply.Added s a b = added held limit rules p s a.0 a.1 b
-add_unique held limit rules p reply.NoMemory s a b = inr (inl refl)
-add_unique held limit rules p reply.Already s a b = already held limit rules p s a.0 a.1 b
-add_unique held limit rules p (reply.Again n) s a b = again held limit rules p n s a.0 a.1 a.2 a.4 b
-add_unique held limit rules p reply.TooMany s (inl a) b = full held limit rules p s a.0 a.1 b
-add_unique held limit rules p reply.TooMany s (inr a) b = most held limit rules p s a.0 a.1 a.2 b
-add_unique held limit rules p _ s a b = absurd a
+one_reply_to_add held limit rules p reply.Added s a b = added held limit rules p s a.0 a.1 b
+one_reply_to_add held limit rules p reply.NoMemory s a b = inr (inl refl)
+one_reply_to_add held limit rules p reply.Already s a b = already held limit rules p s a.0 a.1 b
+one_reply_to_add held limit rules p (reply.Again n) s a b = again held limit rules p n s a.0 a.1 a.2 a.4 b
+one_reply_to_add held limit rules p reply.TooMany s (inl a) b = full held limit rules p s a.0 a.1 b
+one_reply_to_add held limit rules p reply.TooMany s (inr a) b = most held limit rules p s a.0 a.1 a.2 b
+one_reply_to_add held limit rules p _ s a b = absurd a
 
 -- the reply to `remove p` is `removed` if p has multiplicity 1, or is not counted
 removed : (held : Held) (rules : Rules) (p : Pair) (r : Reply) → Contains held.points p
@@ -209,12 +209,12 @@ absent held rules p reply.Absent a b = inl refl
 absent held rules p _ a b = absurd b
 
 -- `remove p` has only one reply
-remove_unique : (held : Held) (rules : Rules) (p : Pair) (r s : Reply) → AnswersRemove rules held p r
+one_reply_to_remove : (held : Held) (rules : Rules) (p : Pair) (r s : Reply) → AnswersRemove rules held p r
     → AnswersRemove rules held p s → AgreesWith r s
-remove_unique held rules p reply.Removed s a b = removed held rules p s a.0 a.1 b
-remove_unique held rules p (reply.Left n) s a b = left held rules p n s a.0 a.1 a.2 a.3 b
-remove_unique held rules p reply.Absent s a b = absent held rules p s a b
-remove_unique held rules p _ s a b = absurd a
+one_reply_to_remove held rules p reply.Removed s a b = removed held rules p s a.0 a.1 b
+one_reply_to_remove held rules p (reply.Left n) s a b = left held rules p n s a.0 a.1 a.2 a.3 b
+one_reply_to_remove held rules p reply.Absent s a b = absent held rules p s a b
+one_reply_to_remove held rules p _ s a b = absurd a
 
 -- the empty list has no member
 pub no_member : (S : List Pair) (t : Pair) → S ≡ [] → Contains S t → ⊥
@@ -234,10 +234,10 @@ no_farthest S d reply.Empty a b = inl refl
 no_farthest S d _ a b = absurd b
 
 -- `extreme d` has only one reply
-extreme_unique : (S : List Pair) (d : Pair) (r s : Reply) → AnswersExtreme S d r → AnswersExtreme S d s → AgreesWith r s
-extreme_unique S d (reply.Farthest t) s a b = farthest_point S d t s a b
-extreme_unique S d reply.Empty s a b = no_farthest S d s a b
-extreme_unique S d _ s a b = absurd a
+one_reply_to_extreme : (S : List Pair) (d : Pair) (r s : Reply) → AnswersExtreme S d r → AnswersExtreme S d s → AgreesWith r s
+one_reply_to_extreme S d (reply.Farthest t) s a b = farthest_point S d t s a b
+one_reply_to_extreme S d reply.Empty s a b = no_farthest S d s a b
+one_reply_to_extreme S d _ s a b = absurd a
 
 -- a set with a tangent point of q is not empty and does not cover q
 no_both : (S : List Pair) (q l : Pair) → ¬ Covers S q → Contains S l → ¬ ((S ≡ []) ⊎ Covers S q)
@@ -262,11 +262,11 @@ no_tangent S q reply.NoTangent a b = inl refl
 no_tangent S q _ a b = absurd b
 
 -- `tangents q` has only one reply
-tangents_unique : (S : List Pair) (q : Pair) (r s : Reply) → AnswersTangents S q r → AnswersTangents S q s
+one_reply_to_tangents : (S : List Pair) (q : Pair) (r s : Reply) → AnswersTangents S q r → AnswersTangents S q s
     → AgreesWith r s
-tangents_unique S q (reply.TangentPoints l r) s a b = tangent_points S q l r s a b
-tangents_unique S q reply.NoTangent s a b = no_tangent S q s a b
-tangents_unique S q _ s a b = absurd a
+one_reply_to_tangents S q (reply.TangentPoints l r) s a b = tangent_points S q l r s a b
+one_reply_to_tangents S q reply.NoTangent s a b = no_tangent S q s a b
+one_reply_to_tangents S q _ s a b = absurd a
 
 -- the reply to `vertices` with a list is that list, unless memory is refused
 listed : (S vertices : List Pair) (r : Reply) → IsVertexList S vertices → AnswersVertices S r
@@ -276,32 +276,45 @@ listed S vertices reply.NoMemory a b = inr (inr refl)
 listed S vertices _ a b = absurd b
 
 -- `vertices` has only one reply
-vertices_unique : (S : List Pair) (r s : Reply) → AnswersVertices S r → AnswersVertices S s → AgreesWith r s
-vertices_unique S (reply.VertexList vertices) s a b = listed S vertices s a b
-vertices_unique S reply.NoMemory s a b = inr (inl refl)
-vertices_unique S _ s a b = absurd a
+one_reply_to_vertices : (S : List Pair) (r s : Reply) → AnswersVertices S r → AnswersVertices S s → AgreesWith r s
+one_reply_to_vertices S (reply.VertexList vertices) s a b = listed S vertices s a b
+one_reply_to_vertices S reply.NoMemory s a b = inr (inl refl)
+one_reply_to_vertices S _ s a b = absurd a
 
 -- naturals that are equal as whole numbers are equal
 same_natural : (m n : ℕ) → pos m ≡ pos n → m ≡ n
 same_natural m n e = omega (arith, ints)
 
+-- `place q` has only one reply
+one_reply_to_place : (S : List Pair) (q : Pair) (r s : Reply) → AnswersPlace S q r → AnswersPlace S q s → AgreesWith r s
+one_reply_to_place S q (reply.Lies m) (reply.Lies n) a b = inl (ap reply.Lies (place_unique S q m n a b))
+one_reply_to_place S q (reply.Lies m) _ a b = absurd b
+one_reply_to_place S q _ s a b = absurd a
+
+-- `area` has only one reply
+one_reply_to_area : (S : List Pair) (r s : Reply) → AnswersArea S r → AnswersArea S s → AgreesWith r s
+one_reply_to_area S (reply.DoubledArea m) (reply.DoubledArea n) a b =
+    inl (ap reply.DoubledArea (same_natural m n (doubled_area_unique S (pos m) (pos n) a b)))
+one_reply_to_area S (reply.DoubledArea m) _ a b = absurd b
+one_reply_to_area S _ s a b = absurd a
+
+-- `count` has only one reply
+one_reply_to_count : (S : List Pair) (r s : Reply) → AnswersCount S r → AnswersCount S s → AgreesWith r s
+one_reply_to_count S (reply.PointCount m) (reply.PointCount n) a b = inl (ap reply.PointCount (a ∙ sym b))
+one_reply_to_count S (reply.PointCount m) _ a b = absurd b
+one_reply_to_count S _ s a b = absurd a
+
 -- a call has only one possible reply, except that memory may be refused
 pub replies_unique : (rules : Rules) (held : Held) (limit : ℕ) (asked : Call) (r s : Reply)
     → Answers rules held limit asked r → Answers rules held limit asked s → AgreesWith r s
-replies_unique rules held limit (call.Add p) r s a b = add_unique held limit rules p r s a b
-replies_unique rules held limit (call.Remove p) r s a b = remove_unique held rules p r s a b
-replies_unique rules held limit (call.Extreme d) r s a b = extreme_unique held.points d r s a b
-replies_unique rules held limit (call.Tangents q) r s a b = tangents_unique held.points q r s a b
-replies_unique rules held limit call.Vertices r s a b = vertices_unique held.points r s a b
-replies_unique rules held limit (call.Place q) (reply.Lies m) (reply.Lies n) a b =
-    inl (ap reply.Lies (place_unique held.points q m n a b))
-replies_unique rules held limit (call.Place q) (reply.Lies m) _ a b = absurd b
-replies_unique rules held limit (call.Place q) _ s a b = absurd a
-replies_unique rules held limit call.Area (reply.DoubledArea m) (reply.DoubledArea n) a b =
-    inl (ap reply.DoubledArea (same_natural m n (doubled_area_unique held.points (pos m) (pos n) a b)))
-replies_unique rules held limit call.Area (reply.DoubledArea m) _ a b = absurd b
-replies_unique rules held limit call.Area _ s a b = absurd a
-replies_unique rules held limit call.Count (reply.PointCount m) (reply.PointCount n) a b =
-    inl (ap reply.PointCount (a ∙ sym b))
-replies_unique rules held limit call.Count (reply.PointCount m) _ a b = absurd b
-replies_unique rules held limit call.Count _ s a b = absurd a
+replies_unique rules held limit (call.Add p) r s a b = one_reply_to_add held limit rules p r s a b
+replies_unique rules held limit (call.Remove p) r s a b = one_reply_to_remove held rules p r s a b
+-- written by tools/table.py: a case for each question
+replies_unique rules held limit (call.Extreme d) r s a b = one_reply_to_extreme held.points d r s a b
+replies_unique rules held limit (call.Place q) r s a b = one_reply_to_place held.points q r s a b
+replies_unique rules held limit (call.Tangents q) r s a b = one_reply_to_tangents held.points q r s a b
+replies_unique rules held limit call.Vertices r s a b = one_reply_to_vertices held.points r s a b
+replies_unique rules held limit call.Area r s a b = one_reply_to_area held.points r s a b
+replies_unique rules held limit call.Count r s a b = one_reply_to_count held.points r s a b
+
+-- end of what tools/table.py writes

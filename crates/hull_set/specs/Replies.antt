@@ -87,12 +87,15 @@ AnswersCount S _ = ⊥
 abbrev pub Answers : Rules → Held → ℕ → Call → Reply → Type 0
 Answers rules held limit (call.Add p) reply = AnswersAdd rules held limit p reply
 Answers rules held limit (call.Remove p) reply = AnswersRemove rules held p reply
+-- written by tools/table.py: a case for each question
 Answers rules held limit (call.Extreme d) reply = AnswersExtreme held.points d reply
 Answers rules held limit (call.Place q) reply = AnswersPlace held.points q reply
 Answers rules held limit (call.Tangents q) reply = AnswersTangents held.points q reply
 Answers rules held limit call.Vertices reply = AnswersVertices held.points reply
 Answers rules held limit call.Area reply = AnswersArea held.points reply
 Answers rules held limit call.Count reply = AnswersCount held.points reply
+
+-- end of what tools/table.py writes
 
 -- the contents after the reply to `add p`
 abbrev pub after_add : Held → Pair → Reply → Held

@@ -3,20 +3,22 @@ use lattice::{Direction, Point};
 /// A call on a set of points: a change or a question.
 #[derive(Clone, Copy, PartialEq, Eq, Debug)]
 pub enum Call {
-    /// Adds a point to the set, once.
+    // written by tools/table.py: calls
+    /// Adds the point, or 1 to its multiplicity.
     Add(Point),
-    /// Removes a point from the set, once.
+    /// Takes 1 from the multiplicity of the point.
     Remove(Point),
-    /// Asks for the first of the points that lie farthest in a direction.
+    /// The first of the farthest points in the direction.
     Extreme(Direction),
-    /// Asks whether a point lies inside the hull, on its boundary or outside.
+    /// The location of the point.
     Place(Point),
-    /// Asks for the two points that the tangents from a point touch.
+    /// The tangent points seen from the point.
     Tangents(Point),
-    /// Asks for the vertices of the hull.
+    /// The vertices of the hull.
     Vertices,
-    /// Asks for the doubled area of the hull.
+    /// Twice the area.
     Area,
-    /// Asks for the number of different points.
+    /// How many different points there are.
     Count,
+    // end of what tools/table.py writes
 }
