@@ -60,6 +60,9 @@ size_t hull_proved_polygon_indices(const hull_point *vertices, size_t count, con
 /* end of what tools/table.py writes */
 hull_reply hull_proved_polygon_translate_in_place(hull_point *vertices, size_t count, int64_t dx, int64_t dy);
 
+/* a function that is called only if arrays are tested, apart from the way of other calls */
+#define CHECKED __attribute__((noinline, cold))
+
 /* whether arrays of vertices are tested, as hull_check_arrays decides */
 static int is_checked;
 
@@ -67,13 +70,13 @@ void hull_check_arrays(int is_on) {
     __atomic_store_n(&is_checked, is_on, __ATOMIC_RELAXED);
 }
 
-/* returns why an array may not be asked, if arrays are tested, else HULL_OK */
+static inline int is_checking(void) {
+    return __builtin_expect(__atomic_load_n(&is_checked, __ATOMIC_RELAXED), 0);
+}
+
+/* returns why an array may not be asked, else HULL_OK */
 static uint32_t fault_of(const hull_point *vertices, size_t count) {
-    hull_reply r;
-    if (!__atomic_load_n(&is_checked, __ATOMIC_RELAXED)) {
-        return HULL_OK;
-    }
-    r = hull_proved_is_polygon(hull_array(vertices, count), count);
+    const hull_reply r = hull_proved_is_polygon(hull_array(vertices, count), count);
     return r.code == HULL_NO_MEMORY ? HULL_NO_MEMORY : r.code == HULL_NUMBER && r.number == 1 ? HULL_OK : HULL_NO_POLYGON;
 }
 
@@ -161,7 +164,7 @@ hull_reply hull_polygon_of(const hull_point *points, size_t count, hull_point *o
     return hull_proved_polygon_of(hull_array(points, count), count, hull_array(out, capacity), capacity);
 }
 
-hull_reply hull_polygon_call(const hull_point *vertices, size_t count, uint32_t kind, int64_t x, int64_t y) {
+static CHECKED hull_reply checked_polygon_call(const hull_point *vertices, size_t count, uint32_t kind, int64_t x, int64_t y) {
     const uint32_t fault = fault_of(vertices, count);
     if (fault != HULL_OK) {
         return hull_refusal(fault);
@@ -169,7 +172,15 @@ hull_reply hull_polygon_call(const hull_point *vertices, size_t count, uint32_t 
     return hull_proved_polygon_call(hull_array(vertices, count), count, kind, x, y);
 }
 
-hull_reply hull_polygon_intersects_segment(const hull_point *vertices, size_t count, int64_t ax, int64_t ay, int64_t bx, int64_t by) {
+hull_reply hull_polygon_call(const hull_point *vertices, size_t count, uint32_t kind, int64_t x, int64_t y) {
+    if (is_checking()) {
+        return checked_polygon_call(vertices, count, kind, x, y);
+    }
+    return hull_proved_polygon_call(hull_array(vertices, count), count, kind, x, y);
+}
+
+static CHECKED hull_reply checked_polygon_intersects_segment(const hull_point *vertices, size_t count, int64_t ax, int64_t ay, int64_t bx,
+                                                             int64_t by) {
     const uint32_t fault = fault_of(vertices, count);
     if (fault != HULL_OK) {
         return hull_refusal(fault);
@@ -177,7 +188,15 @@ hull_reply hull_polygon_intersects_segment(const hull_point *vertices, size_t co
     return hull_proved_polygon_intersects_segment(hull_array(vertices, count), count, ax, ay, bx, by);
 }
 
-hull_reply hull_polygon_separation(const hull_point *vertices, size_t count, int64_t ax, int64_t ay, int64_t bx, int64_t by) {
+hull_reply hull_polygon_intersects_segment(const hull_point *vertices, size_t count, int64_t ax, int64_t ay, int64_t bx, int64_t by) {
+    if (is_checking()) {
+        return checked_polygon_intersects_segment(vertices, count, ax, ay, bx, by);
+    }
+    return hull_proved_polygon_intersects_segment(hull_array(vertices, count), count, ax, ay, bx, by);
+}
+
+static CHECKED hull_reply checked_polygon_separation(const hull_point *vertices, size_t count, int64_t ax, int64_t ay, int64_t bx,
+                                                     int64_t by) {
     const uint32_t fault = fault_of(vertices, count);
     if (fault != HULL_OK) {
         return hull_refusal(fault);
@@ -185,7 +204,14 @@ hull_reply hull_polygon_separation(const hull_point *vertices, size_t count, int
     return hull_proved_polygon_separation(hull_array(vertices, count), count, ax, ay, bx, by);
 }
 
-hull_reply hull_polygon_nearest(const hull_point *vertices, size_t count, int64_t x, int64_t y) {
+hull_reply hull_polygon_separation(const hull_point *vertices, size_t count, int64_t ax, int64_t ay, int64_t bx, int64_t by) {
+    if (is_checking()) {
+        return checked_polygon_separation(vertices, count, ax, ay, bx, by);
+    }
+    return hull_proved_polygon_separation(hull_array(vertices, count), count, ax, ay, bx, by);
+}
+
+static CHECKED hull_reply checked_polygon_nearest(const hull_point *vertices, size_t count, int64_t x, int64_t y) {
     const uint32_t fault = fault_of(vertices, count);
     if (fault != HULL_OK) {
         return hull_refusal(fault);
@@ -193,7 +219,14 @@ hull_reply hull_polygon_nearest(const hull_point *vertices, size_t count, int64_
     return hull_proved_polygon_nearest(hull_array(vertices, count), count, x, y);
 }
 
-hull_reply hull_polygon_box(const hull_point *vertices, size_t count) {
+hull_reply hull_polygon_nearest(const hull_point *vertices, size_t count, int64_t x, int64_t y) {
+    if (is_checking()) {
+        return checked_polygon_nearest(vertices, count, x, y);
+    }
+    return hull_proved_polygon_nearest(hull_array(vertices, count), count, x, y);
+}
+
+static CHECKED hull_reply checked_polygon_box(const hull_point *vertices, size_t count) {
     const uint32_t fault = fault_of(vertices, count);
     if (fault != HULL_OK) {
         return hull_refusal(fault);
@@ -201,7 +234,14 @@ hull_reply hull_polygon_box(const hull_point *vertices, size_t count) {
     return hull_proved_polygon_box(hull_array(vertices, count), count);
 }
 
-hull_reply hull_polygon_width(const hull_point *vertices, size_t count, int64_t dx, int64_t dy) {
+hull_reply hull_polygon_box(const hull_point *vertices, size_t count) {
+    if (is_checking()) {
+        return checked_polygon_box(vertices, count);
+    }
+    return hull_proved_polygon_box(hull_array(vertices, count), count);
+}
+
+static CHECKED hull_reply checked_polygon_width(const hull_point *vertices, size_t count, int64_t dx, int64_t dy) {
     const uint32_t fault = fault_of(vertices, count);
     if (fault != HULL_OK) {
         return hull_refusal(fault);
@@ -209,7 +249,14 @@ hull_reply hull_polygon_width(const hull_point *vertices, size_t count, int64_t 
     return hull_proved_polygon_width(hull_array(vertices, count), count, dx, dy);
 }
 
-hull_reply hull_polygon_diameter(const hull_point *vertices, size_t count) {
+hull_reply hull_polygon_width(const hull_point *vertices, size_t count, int64_t dx, int64_t dy) {
+    if (is_checking()) {
+        return checked_polygon_width(vertices, count, dx, dy);
+    }
+    return hull_proved_polygon_width(hull_array(vertices, count), count, dx, dy);
+}
+
+static CHECKED hull_reply checked_polygon_diameter(const hull_point *vertices, size_t count) {
     const uint32_t fault = fault_of(vertices, count);
     if (fault != HULL_OK) {
         return hull_refusal(fault);
@@ -217,7 +264,14 @@ hull_reply hull_polygon_diameter(const hull_point *vertices, size_t count) {
     return hull_proved_polygon_diameter(hull_array(vertices, count), count);
 }
 
-hull_witness hull_polygon_least_width(const hull_point *vertices, size_t count) {
+hull_reply hull_polygon_diameter(const hull_point *vertices, size_t count) {
+    if (is_checking()) {
+        return checked_polygon_diameter(vertices, count);
+    }
+    return hull_proved_polygon_diameter(hull_array(vertices, count), count);
+}
+
+static CHECKED hull_witness checked_polygon_least_width(const hull_point *vertices, size_t count) {
     const uint32_t fault = fault_of(vertices, count);
     if (fault != HULL_OK) {
         return witness_refusal(fault);
@@ -225,7 +279,15 @@ hull_witness hull_polygon_least_width(const hull_point *vertices, size_t count) 
     return hull_proved_polygon_least_width(hull_array(vertices, count), count);
 }
 
-hull_reply hull_polygon_intersects(const hull_point *vertices, size_t count, const hull_point *others, size_t other_count) {
+hull_witness hull_polygon_least_width(const hull_point *vertices, size_t count) {
+    if (is_checking()) {
+        return checked_polygon_least_width(vertices, count);
+    }
+    return hull_proved_polygon_least_width(hull_array(vertices, count), count);
+}
+
+static CHECKED hull_reply checked_polygon_intersects(const hull_point *vertices, size_t count, const hull_point *others,
+                                                     size_t other_count) {
     const uint32_t fault = fault_of_both(vertices, count, others, other_count);
     if (fault != HULL_OK) {
         return hull_refusal(fault);
@@ -233,7 +295,14 @@ hull_reply hull_polygon_intersects(const hull_point *vertices, size_t count, con
     return hull_proved_polygon_intersects(hull_array(vertices, count), count, hull_array(others, other_count), other_count);
 }
 
-hull_reply hull_polygon_contains(const hull_point *vertices, size_t count, const hull_point *others, size_t other_count) {
+hull_reply hull_polygon_intersects(const hull_point *vertices, size_t count, const hull_point *others, size_t other_count) {
+    if (is_checking()) {
+        return checked_polygon_intersects(vertices, count, others, other_count);
+    }
+    return hull_proved_polygon_intersects(hull_array(vertices, count), count, hull_array(others, other_count), other_count);
+}
+
+static CHECKED hull_reply checked_polygon_contains(const hull_point *vertices, size_t count, const hull_point *others, size_t other_count) {
     const uint32_t fault = fault_of_both(vertices, count, others, other_count);
     if (fault != HULL_OK) {
         return hull_refusal(fault);
@@ -241,7 +310,15 @@ hull_reply hull_polygon_contains(const hull_point *vertices, size_t count, const
     return hull_proved_polygon_contains(hull_array(vertices, count), count, hull_array(others, other_count), other_count);
 }
 
-hull_reply hull_polygon_contains_inside(const hull_point *vertices, size_t count, const hull_point *others, size_t other_count) {
+hull_reply hull_polygon_contains(const hull_point *vertices, size_t count, const hull_point *others, size_t other_count) {
+    if (is_checking()) {
+        return checked_polygon_contains(vertices, count, others, other_count);
+    }
+    return hull_proved_polygon_contains(hull_array(vertices, count), count, hull_array(others, other_count), other_count);
+}
+
+static CHECKED hull_reply checked_polygon_contains_inside(const hull_point *vertices, size_t count, const hull_point *others,
+                                                          size_t other_count) {
     const uint32_t fault = fault_of_both(vertices, count, others, other_count);
     if (fault != HULL_OK) {
         return hull_refusal(fault);
@@ -249,7 +326,14 @@ hull_reply hull_polygon_contains_inside(const hull_point *vertices, size_t count
     return hull_proved_polygon_contains_inside(hull_array(vertices, count), count, hull_array(others, other_count), other_count);
 }
 
-hull_reply hull_polygon_relation(const hull_point *vertices, size_t count, const hull_point *others, size_t other_count) {
+hull_reply hull_polygon_contains_inside(const hull_point *vertices, size_t count, const hull_point *others, size_t other_count) {
+    if (is_checking()) {
+        return checked_polygon_contains_inside(vertices, count, others, other_count);
+    }
+    return hull_proved_polygon_contains_inside(hull_array(vertices, count), count, hull_array(others, other_count), other_count);
+}
+
+static CHECKED hull_reply checked_polygon_relation(const hull_point *vertices, size_t count, const hull_point *others, size_t other_count) {
     const uint32_t fault = fault_of_both(vertices, count, others, other_count);
     if (fault != HULL_OK) {
         return hull_refusal(fault);
@@ -257,8 +341,15 @@ hull_reply hull_polygon_relation(const hull_point *vertices, size_t count, const
     return hull_proved_polygon_relation(hull_array(vertices, count), count, hull_array(others, other_count), other_count);
 }
 
-hull_reply hull_polygon_within_distance(const hull_point *vertices, size_t count, const hull_point *others, size_t other_count,
-                                        uint64_t numerator, uint32_t denominator) {
+hull_reply hull_polygon_relation(const hull_point *vertices, size_t count, const hull_point *others, size_t other_count) {
+    if (is_checking()) {
+        return checked_polygon_relation(vertices, count, others, other_count);
+    }
+    return hull_proved_polygon_relation(hull_array(vertices, count), count, hull_array(others, other_count), other_count);
+}
+
+static CHECKED hull_reply checked_polygon_within_distance(const hull_point *vertices, size_t count, const hull_point *others,
+                                                          size_t other_count, uint64_t numerator, uint32_t denominator) {
     const uint32_t fault = fault_of_both(vertices, count, others, other_count);
     if (fault != HULL_OK) {
         return hull_refusal(fault);
@@ -267,7 +358,17 @@ hull_reply hull_polygon_within_distance(const hull_point *vertices, size_t count
                                                denominator);
 }
 
-hull_witness hull_polygon_witness(const hull_point *vertices, size_t count, const hull_point *others, size_t other_count) {
+hull_reply hull_polygon_within_distance(const hull_point *vertices, size_t count, const hull_point *others, size_t other_count,
+                                        uint64_t numerator, uint32_t denominator) {
+    if (is_checking()) {
+        return checked_polygon_within_distance(vertices, count, others, other_count, numerator, denominator);
+    }
+    return hull_proved_polygon_within_distance(hull_array(vertices, count), count, hull_array(others, other_count), other_count, numerator,
+                                               denominator);
+}
+
+static CHECKED hull_witness checked_polygon_witness(const hull_point *vertices, size_t count, const hull_point *others,
+                                                    size_t other_count) {
     const uint32_t fault = fault_of_both(vertices, count, others, other_count);
     if (fault != HULL_OK) {
         return witness_refusal(fault);
@@ -275,7 +376,15 @@ hull_witness hull_polygon_witness(const hull_point *vertices, size_t count, cons
     return hull_proved_polygon_witness(hull_array(vertices, count), count, hull_array(others, other_count), other_count);
 }
 
-hull_witness hull_polygon_distance(const hull_point *vertices, size_t count, const hull_point *others, size_t other_count) {
+hull_witness hull_polygon_witness(const hull_point *vertices, size_t count, const hull_point *others, size_t other_count) {
+    if (is_checking()) {
+        return checked_polygon_witness(vertices, count, others, other_count);
+    }
+    return hull_proved_polygon_witness(hull_array(vertices, count), count, hull_array(others, other_count), other_count);
+}
+
+static CHECKED hull_witness checked_polygon_distance(const hull_point *vertices, size_t count, const hull_point *others,
+                                                     size_t other_count) {
     const uint32_t fault = fault_of_both(vertices, count, others, other_count);
     if (fault != HULL_OK) {
         return witness_refusal(fault);
@@ -283,7 +392,15 @@ hull_witness hull_polygon_distance(const hull_point *vertices, size_t count, con
     return hull_proved_polygon_distance(hull_array(vertices, count), count, hull_array(others, other_count), other_count);
 }
 
-hull_distance_bounds hull_polygon_distance_bounds(const hull_point *vertices, size_t count, const hull_point *others, size_t other_count) {
+hull_witness hull_polygon_distance(const hull_point *vertices, size_t count, const hull_point *others, size_t other_count) {
+    if (is_checking()) {
+        return checked_polygon_distance(vertices, count, others, other_count);
+    }
+    return hull_proved_polygon_distance(hull_array(vertices, count), count, hull_array(others, other_count), other_count);
+}
+
+static CHECKED hull_distance_bounds checked_polygon_distance_bounds(const hull_point *vertices, size_t count, const hull_point *others,
+                                                                    size_t other_count) {
     const uint32_t fault = fault_of_both(vertices, count, others, other_count);
     if (fault != HULL_OK) {
         return distance_bounds_refusal(fault);
@@ -291,8 +408,15 @@ hull_distance_bounds hull_polygon_distance_bounds(const hull_point *vertices, si
     return hull_proved_polygon_distance_bounds(hull_array(vertices, count), count, hull_array(others, other_count), other_count);
 }
 
-hull_distance_bounds hull_polygon_distance_bounds_to_segment(const hull_point *vertices, size_t count, int64_t ax, int64_t ay, int64_t bx,
-                                                             int64_t by) {
+hull_distance_bounds hull_polygon_distance_bounds(const hull_point *vertices, size_t count, const hull_point *others, size_t other_count) {
+    if (is_checking()) {
+        return checked_polygon_distance_bounds(vertices, count, others, other_count);
+    }
+    return hull_proved_polygon_distance_bounds(hull_array(vertices, count), count, hull_array(others, other_count), other_count);
+}
+
+static CHECKED hull_distance_bounds checked_polygon_distance_bounds_to_segment(const hull_point *vertices, size_t count, int64_t ax,
+                                                                               int64_t ay, int64_t bx, int64_t by) {
     const uint32_t fault = fault_of(vertices, count);
     if (fault != HULL_OK) {
         return distance_bounds_refusal(fault);
@@ -300,8 +424,16 @@ hull_distance_bounds hull_polygon_distance_bounds_to_segment(const hull_point *v
     return hull_proved_polygon_distance_bounds_to_segment(hull_array(vertices, count), count, ax, ay, bx, by);
 }
 
-hull_reply hull_polygon_within_distance_of_segment(const hull_point *vertices, size_t count, int64_t ax, int64_t ay, int64_t bx, int64_t by,
-                                                   uint64_t numerator, uint32_t denominator) {
+hull_distance_bounds hull_polygon_distance_bounds_to_segment(const hull_point *vertices, size_t count, int64_t ax, int64_t ay, int64_t bx,
+                                                             int64_t by) {
+    if (is_checking()) {
+        return checked_polygon_distance_bounds_to_segment(vertices, count, ax, ay, bx, by);
+    }
+    return hull_proved_polygon_distance_bounds_to_segment(hull_array(vertices, count), count, ax, ay, bx, by);
+}
+
+static CHECKED hull_reply checked_polygon_within_distance_of_segment(const hull_point *vertices, size_t count, int64_t ax, int64_t ay,
+                                                                     int64_t bx, int64_t by, uint64_t numerator, uint32_t denominator) {
     const uint32_t fault = fault_of(vertices, count);
     if (fault != HULL_OK) {
         return hull_refusal(fault);
@@ -309,7 +441,16 @@ hull_reply hull_polygon_within_distance_of_segment(const hull_point *vertices, s
     return hull_proved_polygon_within_distance_of_segment(hull_array(vertices, count), count, ax, ay, bx, by, numerator, denominator);
 }
 
-hull_reply hull_polygon_relation_to_segment(const hull_point *vertices, size_t count, int64_t ax, int64_t ay, int64_t bx, int64_t by) {
+hull_reply hull_polygon_within_distance_of_segment(const hull_point *vertices, size_t count, int64_t ax, int64_t ay, int64_t bx, int64_t by,
+                                                   uint64_t numerator, uint32_t denominator) {
+    if (is_checking()) {
+        return checked_polygon_within_distance_of_segment(vertices, count, ax, ay, bx, by, numerator, denominator);
+    }
+    return hull_proved_polygon_within_distance_of_segment(hull_array(vertices, count), count, ax, ay, bx, by, numerator, denominator);
+}
+
+static CHECKED hull_reply checked_polygon_relation_to_segment(const hull_point *vertices, size_t count, int64_t ax, int64_t ay, int64_t bx,
+                                                              int64_t by) {
     const uint32_t fault = fault_of(vertices, count);
     if (fault != HULL_OK) {
         return hull_refusal(fault);
@@ -317,7 +458,14 @@ hull_reply hull_polygon_relation_to_segment(const hull_point *vertices, size_t c
     return hull_proved_polygon_relation_to_segment(hull_array(vertices, count), count, ax, ay, bx, by);
 }
 
-hull_hit hull_polygon_raycast(const hull_point *vertices, size_t count, int64_t x, int64_t y, int64_t dx, int64_t dy) {
+hull_reply hull_polygon_relation_to_segment(const hull_point *vertices, size_t count, int64_t ax, int64_t ay, int64_t bx, int64_t by) {
+    if (is_checking()) {
+        return checked_polygon_relation_to_segment(vertices, count, ax, ay, bx, by);
+    }
+    return hull_proved_polygon_relation_to_segment(hull_array(vertices, count), count, ax, ay, bx, by);
+}
+
+static CHECKED hull_hit checked_polygon_raycast(const hull_point *vertices, size_t count, int64_t x, int64_t y, int64_t dx, int64_t dy) {
     const uint32_t fault = fault_of(vertices, count);
     if (fault != HULL_OK) {
         return hit_refusal(fault);
@@ -325,7 +473,15 @@ hull_hit hull_polygon_raycast(const hull_point *vertices, size_t count, int64_t 
     return hull_proved_polygon_raycast(hull_array(vertices, count), count, x, y, dx, dy);
 }
 
-hull_hit hull_polygon_raycast_exit(const hull_point *vertices, size_t count, int64_t x, int64_t y, int64_t dx, int64_t dy) {
+hull_hit hull_polygon_raycast(const hull_point *vertices, size_t count, int64_t x, int64_t y, int64_t dx, int64_t dy) {
+    if (is_checking()) {
+        return checked_polygon_raycast(vertices, count, x, y, dx, dy);
+    }
+    return hull_proved_polygon_raycast(hull_array(vertices, count), count, x, y, dx, dy);
+}
+
+static CHECKED hull_hit checked_polygon_raycast_exit(const hull_point *vertices, size_t count, int64_t x, int64_t y, int64_t dx,
+                                                     int64_t dy) {
     const uint32_t fault = fault_of(vertices, count);
     if (fault != HULL_OK) {
         return hit_refusal(fault);
@@ -333,7 +489,15 @@ hull_hit hull_polygon_raycast_exit(const hull_point *vertices, size_t count, int
     return hull_proved_polygon_raycast_exit(hull_array(vertices, count), count, x, y, dx, dy);
 }
 
-hull_hit hull_polygon_raycast_segment(const hull_point *vertices, size_t count, int64_t ax, int64_t ay, int64_t bx, int64_t by) {
+hull_hit hull_polygon_raycast_exit(const hull_point *vertices, size_t count, int64_t x, int64_t y, int64_t dx, int64_t dy) {
+    if (is_checking()) {
+        return checked_polygon_raycast_exit(vertices, count, x, y, dx, dy);
+    }
+    return hull_proved_polygon_raycast_exit(hull_array(vertices, count), count, x, y, dx, dy);
+}
+
+static CHECKED hull_hit checked_polygon_raycast_segment(const hull_point *vertices, size_t count, int64_t ax, int64_t ay, int64_t bx,
+                                                        int64_t by) {
     const uint32_t fault = fault_of(vertices, count);
     if (fault != HULL_OK) {
         return hit_refusal(fault);
@@ -341,11 +505,26 @@ hull_hit hull_polygon_raycast_segment(const hull_point *vertices, size_t count, 
     return hull_proved_polygon_raycast_segment(hull_array(vertices, count), count, ax, ay, bx, by);
 }
 
-hull_motion hull_polygon_first_meeting(const hull_point *vertices, size_t count, const hull_point *others, size_t other_count, int64_t dx,
-                                       int64_t dy) {
+hull_hit hull_polygon_raycast_segment(const hull_point *vertices, size_t count, int64_t ax, int64_t ay, int64_t bx, int64_t by) {
+    if (is_checking()) {
+        return checked_polygon_raycast_segment(vertices, count, ax, ay, bx, by);
+    }
+    return hull_proved_polygon_raycast_segment(hull_array(vertices, count), count, ax, ay, bx, by);
+}
+
+static CHECKED hull_motion checked_polygon_first_meeting(const hull_point *vertices, size_t count, const hull_point *others,
+                                                         size_t other_count, int64_t dx, int64_t dy) {
     const uint32_t fault = fault_of_both(vertices, count, others, other_count);
     if (fault != HULL_OK) {
         return motion_refusal(fault);
+    }
+    return hull_proved_polygon_first_meeting(hull_array(vertices, count), count, hull_array(others, other_count), other_count, dx, dy);
+}
+
+hull_motion hull_polygon_first_meeting(const hull_point *vertices, size_t count, const hull_point *others, size_t other_count, int64_t dx,
+                                       int64_t dy) {
+    if (is_checking()) {
+        return checked_polygon_first_meeting(vertices, count, others, other_count, dx, dy);
     }
     return hull_proved_polygon_first_meeting(hull_array(vertices, count), count, hull_array(others, other_count), other_count, dx, dy);
 }
@@ -353,7 +532,7 @@ hull_motion hull_polygon_first_meeting(const hull_point *vertices, size_t count,
 
 size_t hull_polygon_calls(const hull_point *vertices, size_t count, const hull_request *requests, size_t request_count,
                           hull_reply *replies, size_t reply_capacity) {
-    const uint32_t fault = fault_of(vertices, count);
+    const uint32_t fault = is_checking() ? fault_of(vertices, count) : HULL_OK;
     if (fault != HULL_OK) {
         size_t made = request_count < reply_capacity ? request_count : reply_capacity, i;
         for (i = 0; i < made; i++) {

@@ -29,8 +29,13 @@ void hull_python_free(hull_python *h) {
 
 /* Makes a call; before a question that the vertices answer, prepares them. */
 static hull_reply hull_prepared_call(hull_set *h, uint32_t kind, int64_t x, int64_t y) {
-    if (kind >= HULL_KIND_PLACE && kind <= HULL_KIND_AREA && kind != HULL_KIND_VERTICES) {
-        hull_prepare(h);
+    switch (kind) {
+    case HULL_KIND_ADD:
+    case HULL_KIND_REMOVE:
+    case HULL_KIND_VERTICES:
+    case HULL_KIND_COUNT:
+    case HULL_KIND_MULTIPLICITY: break;
+    default: hull_prepare(h);
     }
     return hull_call(h, kind, x, y);
 }

@@ -24,12 +24,14 @@ def aligned(rows):
 
 def fitted(line):
     """Returns a line of code in lines of at most WIDTH, each after the first below what follows the outermost bracket that is open there."""
+    if len(line) <= WIDTH:
+        return line
     opened, commas = [len(line) - len(line.lstrip())], []
     for column, sign in enumerate(line[:WIDTH]):
         opened = [*opened, column + 1] if sign in "([{" else opened[:-1] or opened if sign in ")]}" else opened
         commas += [(len(opened), -column, opened[-1])] * (sign == ",")
     _, at, indent = min(commas, default=(0, 0, 0))
-    return line if len(line) <= WIDTH or at == 0 else f"{line[:1 - at]}\n{fitted(' ' * indent + line[2 - at:])}"
+    return f"{line[:1 - at]}\n{fitted(' ' * indent + line[2 - at:])}" if at else line
 
 
 def in_camels(name):
@@ -86,7 +88,7 @@ class Item(dict):
         pairs, gives = [(type, name) for type, name, _ in self.parameters()], self["gives"]
         lengths = {name: length for (type, name), (_, length) in zip(pairs, pairs[1:]) if "*" in type and re.search("count|capacity|length", length)}
         return {"also": "", **self, "name": self.name, "gives": gives + " " * (gives[-1:] != "*"), "comment": self.comment("C"),
-                "parameters": ", ".join(f"{type}{name}" for type, name in pairs), "refusal": f"{gives[5:].replace('reply', 'hull')}_refusal",
+                "parameters": ", ".join(f"{type}{name}" for type, name in pairs), "names": ", ".join(name for _, name in pairs), "refusal": f"{gives[5:].replace('reply', 'hull')}_refusal",
                 "short": self.name[5:], "arrays": ", ".join(f"hull_array({name}, {lengths[name]})" if name in lengths else name for _, name in pairs),
                 "fault": "fault_of(vertices, count)" if "other" not in self.words("takes") else "fault_of_both(vertices, count, others, other_count)"}
 

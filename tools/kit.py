@@ -73,9 +73,13 @@ class Crate:
         """Returns the checksum of all files that it and the crates below it are made of."""
         return subprocess.run([f"{TOP}/tools/product.sh", "sum", self.name], capture_output=True, text=True, check=True).stdout.strip()
 
+    def texts(self):
+        """Yields the path within the crate and the text of each file of its code, in order."""
+        yield from ((f"src/{it}", text_of(f"{self.folder}/src/{it}")) for it in files_below(f"{self.folder}/src") if it.endswith(".rt"))
+
     def count(self, pattern):
-        """Returns how often a pattern occurs in its sources."""
-        return sum(len(re.findall(pattern, text_of(f"{self.folder}/src/{it}"))) for it in files_below(f"{self.folder}/src") if it.endswith(".rt"))
+        """Returns how often a pattern occurs in its code."""
+        return sum(len(re.findall(pattern, text)) for _, text in self.texts())
 
 
 @functools.lru_cache(maxsize=None)

@@ -3,7 +3,7 @@
 
     tools/language.py [--write] [--where WORD]
 
-It reads README and the other pages, the headers, the manual pages, the docstrings of Python, Rust and JavaScript, and the public comments of
+It reads README and the other pages, the headers, the manual pages, the docstrings of Python and Rust, the types of JavaScript, and the public comments of
 Rattle. For each word of .ci/language.txt it prints the count and the count per 1,000 words; more than that file says is a failure. --write
 lowers the numbers of that file to what is there, and never raises one. --where prints the lines with a word. docs/GLOSSARY.md says what to
 write instead. The last line is 'N passed, M failed'.
@@ -34,7 +34,7 @@ def comments_of(path, text):
         return "\n".join(ast.get_docstring(it) or "" for it in nodes)
     if path.endswith((".rs", ".rt")):
         return "\n".join(re.findall(r"(?m)^\s*//[/!] ?(.*)", text))
-    if path.endswith((".h", ".hpp", ".js", ".ts", ".c")):
+    if path.endswith((".h", ".hpp", ".ts")):
         return "\n".join(re.findall(r"(?s)/\*.*?\*/|//[^\n]*", text))
     return text
 

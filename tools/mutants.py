@@ -43,8 +43,6 @@ BLOCK = re.compile(r"""^(?:unsafe\ )?impl(?:<[^{}]*?>)?\ (?:(?:\w+::)*(?P<trait>
 CALL = re.compile(r"(?:\b(\w+)::|(\.))?\b(\w+)(?:::<[^>]*>)?\(")
 # a line that brings names in
 IMPORTS = re.compile(r"\s*(?:pub |ghost )?use ")
-# whether a crate is proved without any change, for the crates that were asked
-PASSES = {}
 # what antt says of a proof file that names something removed; not what it says of how it shows a type
 NAMES_WHAT_WENT = re.compile(r"has no field|is not in scope(?! here, so what is shown)|has no `|was not admitted")
 # what rattle says of an unproved goal, above the line of its function
@@ -101,10 +99,6 @@ class Kind(Enum):
     UNSURE = "NOT TRIED"
 
 
-# the outcome of a mutant of a crate that is refused without it
-REFUSED_ANYHOW = Kind.UNSURE, "the crate is refused without any change"
-
-
 @dataclass(frozen=True)
 class Outcome:
     """The outcome of a mutant, and the prover's message."""
@@ -126,8 +120,7 @@ def functions_at(crate, file, old):
     """Returns the functions that a text in a file belongs to: those that begin in it, else the one that contains it."""
     if not file.startswith("src/"):
         return []
-    with open(f"{crate.folder}/{file}", encoding="utf-8") as source:
-        text = source.read()
+    text = kit.text_of(f"{crate.folder}/{file}")
     start = text.find(old)
     opened = [it for it in FUNCTION.finditer(text, start) if it.start() < start + len(old)]
     before = [*FUNCTION.finditer(text, 0, start)]
@@ -155,13 +148,10 @@ def functions_naming(crate, old):
     if not names:
         return []
     found, named = [], re.compile(rf"\b(?:{'|'.join(names)})\b")
-    for at, _, files in os.walk(f"{crate.folder}/src"):
-        for file in (f"{at}/{it}" for it in sorted(files) if it.endswith(".rt")):
-            with open(file, encoding="utf-8") as source:
-                text = source.read()
-            module, starts = module_of(crate, os.path.relpath(file, crate.folder)), [*FUNCTION.finditer(text)]
-            ends = [it.start() for it in starts[1:]] + [len(text)]
-            found += [Function(module, it[1], block_at(text, it.start())) for it, end in zip(starts, ends) if named.search(text, it.end(), end)]
+    for file, text in crate.texts():
+        module, starts = module_of(crate, file), [*FUNCTION.finditer(text)]
+        ends = [it.start() for it in starts[1:]] + [len(text)]
+        found += [Function(module, it[1], block_at(text, it.start())) for it, end in zip(starts, ends) if named.search(text, it.end(), end)]
     return [it for it in found if "::laws::" in it.module] or found
 
 
@@ -205,9 +195,7 @@ def applied(crate, edits):
     texts = {}
     for edit in edits:
         for file, old, new in edit.changes:
-            if file not in texts:
-                with open(f"{crate.folder}/{file}", encoding="utf-8") as text:
-                    texts[file] = text.read()
+            texts.setdefault(file, kit.text_of(f"{crate.folder}/{file}"))
             if texts[file].count(old) != 1:
                 return None
             texts[file] = texts[file].replace(old, new)
@@ -218,19 +206,14 @@ def calls_in(crate):
     """Returns the crate's functions, each an `impl` block or none and a name, with those that it seems to call: by a path those of that
     type, by a dot any methods of that name, and otherwise functions outside such blocks."""
     said = {}
-    for at, _, files in os.walk(f"{crate.folder}/src"):
-        for file in (f"{at}/{it}" for it in files if it.endswith(".rt")):
-            with open(file, encoding="utf-8") as source:
-                text = source.read()
-            starts = [*FUNCTION.finditer(text), None]
-            for begun, then in zip(starts, starts[1:]):
-                body = text[begun.end() : then.start() if then else len(text)]
-                said.setdefault((block_at(text, begun.start()), begun[1]), set()).update(CALL.findall(body))
+    for _, text in crate.texts():
+        starts = [*FUNCTION.finditer(text), None]
+        for begun, then in zip(starts, starts[1:]):
+            body = text[begun.end() : then.start() if then else len(text)]
+            said.setdefault((block_at(text, begun.start()), begun[1]), set()).update(CALL.findall(body))
 
     def can_be(block, call, at):
-        kind, of_method, name = call
-        if name != at[1]:
-            return False
+        kind, of_method, _ = call
         if kind[:1].isupper():
             return bool(at[0]) and (block if kind == "Self" else at[0]).startswith(at[0] if kind == "Self" else kind)
         return bool(at[0]) == bool(of_method)
@@ -351,25 +334,11 @@ def check(crate, texts, kept, only=()):
         return workspace.rt("check", "--jobs", "1", *only)
 
 
-def checked(crate, texts, kept, only):
-    """Checks the crate with these texts. Returns the run, and whether a refusal means something: the check proved some function too, or
-    the crate is proved without any change."""
-    ran = check(crate, texts, kept, only)
-    if PROVED.search(ran.said):
-        return ran, True
-    if crate.name not in PASSES:
-        PASSES[crate.name] = bool(functions_of(crate, kept))
-    return ran, PASSES[crate.name]
-
-
 def tried_alone(crate, edit, kept, paths):
     """Returns the outcome of one mutant in a check of its own: of the functions that it changes, else of the whole crate."""
     texts, only = applied(crate, [edit]), only_of(paths, edit.functions or edit.witnesses)
     for words in [only, []] if only else [[]]:
-        ran, is_telling = checked(crate, texts, kept, words)
-        if not is_telling:
-            return Outcome(edit.name, *REFUSED_ANYHOW)
-        kind, said = outcome_of(ran, texts)
+        kind, said = outcome_of(check(crate, texts, kept, words), texts)
         if kind in (Kind.BY_GOAL, Kind.BY_SHAPE):
             break
     return Outcome(edit.name, kind, said)
@@ -379,8 +348,7 @@ def functions_of(crate, kept):
     """Returns the paths of the crate's functions, from a check that reuses what is kept and only adds a comment; none if that
     refuses the crate, since then no refusal means anything. If nothing is kept yet, its work is kept."""
     top = "src/main.rt" if crate.is_program else "src/lib.rt"
-    with open(f"{crate.folder}/{top}", encoding="utf-8") as text:
-        texts = {top: text.read().replace("#![tactic(auto)]", "#![tactic(auto)] // unchanged", 1)}
+    texts = {top: kit.text_of(f"{crate.folder}/{top}").replace("#![tactic(auto)]", "#![tactic(auto)] // unchanged", 1)}
     with kit.Workspace(crate, texts, kept) as workspace:
         ran = workspace.rt("check", "--jobs", "1")
     return PROVED.findall(ran.said) if outcome_of(ran, texts)[0] is Kind.MISSED else []
@@ -391,11 +359,8 @@ def tried(crate, group, kept, paths):
     if len(group) == 1:
         return [tried_alone(crate, group[0], kept, paths)]
     only = only_of(paths, frozenset().union(*(it.functions for it in group)))
-    ran, is_telling = checked(crate, applied(crate, group), kept, only)
-    if not is_telling:
-        return [Outcome(it.name, *REFUSED_ANYHOW) for it in group]
-    reached = ran.status == 1 and ran.last().startswith(NOT_PROVED)
-    if not reached:
+    ran = check(crate, applied(crate, group), kept, only)
+    if ran.status != 1 or not ran.last().startswith(NOT_PROVED):
         half = len(group) // 2
         return tried(crate, group[:half], kept, paths) + tried(crate, group[half:], kept, paths)
     goals, outcomes = goals_of(ran.said), []

@@ -183,7 +183,6 @@ def make_deb(out):
         for at, folders, names in os.walk(work):
             for it in [*folders, *names]:
                 os.chmod(f"{at}/{it}", 0o755 if it in folders or os.access(f"{at}/{it}", os.X_OK) and "/bin" in at else 0o644)
-                os.utime(f"{at}/{it}", (MEMBER_TIME, MEMBER_TIME))
         call = ["dpkg-deb", "--build", "--root-owner-group", work, f"{out}/hullbook_{version()}_amd64.deb"]
         subprocess.run(call, check=True, stdout=subprocess.DEVNULL, env={**os.environ, "SOURCE_DATE_EPOCH": str(MEMBER_TIME)})
 

@@ -17,8 +17,14 @@
 # proof is needed and the toolchain is not installed, with 70 if the proof failed, and with 71 if the C has to be compiled and cannot be.
 set -u
 top=$(cd "$(dirname "$(readlink -f "$0")")/.." && pwd)
+caller=$(pwd)
 cd "$top" || exit 1
 export LC_ALL=C
+
+# prints the whole path of a file that the caller named
+path_of() {
+    (cd "$caller" && readlink -m "$1")
+}
 
 # prints the lines of crates.txt for a crate and all crates below it
 lines_below() {
@@ -291,13 +297,12 @@ case "${1:-} $#" in
 'program 2') find_program "$2" ;;
 'linked 2') find_linked "$2" ;;
 'ready 2') is_ready "$2" ;;
-'put 3') put "$2" "$(readlink -m "$3")" ;;
-'make 3') make "$2" "$(readlink -m "$3")" ;;
+'put 3') put "$2" "$(path_of "$3")" ;;
+'make 3') make "$2" "$(path_of "$3")" ;;
 'made 2') keep_made "$2" "$(uname -m)" ;;
 'check 1') check ;;
 *)
     sed -n '2,20s/^# \{0,1\}//p' "$0" >&2
     [ "${1:-}" = --help ]
-    exit
     ;;
 esac

@@ -52,7 +52,7 @@ PARTS = {
 def comment_above(lines, at):
     """The comment whose last line is above that one, as one text."""
     found = []
-    while at > 0 and re.match(r"--(?!-)", lines[at - 1]):
+    while at > 0 and lines[at - 1].startswith("--"):
         at -= 1
         found.insert(0, lines[at][2:].strip())
     return " ".join(found)
@@ -60,7 +60,7 @@ def comment_above(lines, at):
 
 def cell(text):
     """A text as a cell of a table: with its first letter unchanged, and one stop at its end."""
-    text = text.replace("|", "\\|").strip()
+    text = text.replace("|", "\\|")
     return text if not text or text.endswith((".", "?", ")")) else f"{text}."
 
 
@@ -71,7 +71,7 @@ def definitions_in(path):
         name = DEFINITION.match(line)
         if name:
             said = comment_above(lines, at)
-            if not said and found and not lines[at - 1].strip() == "":
+            if not said and found and lines[at - 1]:
                 found[-1][0].append(name[1])
             else:
                 found.append(([name[1]], said))
@@ -81,7 +81,7 @@ def definitions_in(path):
 def head_of(path):
     """The comment at the head of a file, as one text."""
     lines = kit.text_of(path).splitlines()
-    end = next((at for at, it in enumerate(lines) if not re.match(r"--(?!-)", it)), len(lines))
+    end = next((at for at, it in enumerate(lines) if not it.startswith("--")), len(lines))
     return comment_above(lines, end)
 
 
@@ -117,10 +117,10 @@ def callers():
     """The files that are examples for callers of a crate, by that crate's name: the first line of a file says so."""
     found = {}
     for crate in kit.crates().values():
-        for it in kit.files_below(f"{crate.folder}/src"):
-            said = re.match(r"//! A caller of `(\w+)`|//! .*: an example to copy\.", kit.text_of(f"{crate.folder}/src/{it}"))
+        for file, text in crate.texts():
+            said = re.match(r"//! A caller of `(\w+)`|//! .*: an example to copy\.", text)
             if said:
-                found[said[1] or crate.name] = f"crates/{crate.name}/src/{it}"
+                found[said[1] or crate.name] = f"crates/{crate.name}/{file}"
     return found
 
 

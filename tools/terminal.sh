@@ -64,15 +64,17 @@ count_refused() {
     [ "$calls" -le "$capacity" ] || echo "hullbook: $((calls - capacity)) of $calls calls found the journal full: see --capacity" >&2
 }
 
-# shows how long a program runs, from its second second on
+# shows how long a program runs, from its second second on, in a line of its own above what the program writes
 show_time() {
     seconds=0
-    while kill -0 "$1" 2>/dev/null; do
-        sleep 1
+    format='hullbook: running, %s s\n'
+    while sleep 1 && kill -0 "$1" 2>/dev/null; do
         seconds=$((seconds + 1))
-        [ "$seconds" -lt 2 ] || printf '\rhullbook: running, %s s ' "$seconds" >&2
+        [ "$seconds" -ge 2 ] || continue
+        # shellcheck disable=SC2059 # the format is the one above or below
+        printf "$format" "$seconds" >&2
+        format='\033[A\rhullbook: running, %s s\n'
     done
-    [ "$seconds" -lt 2 ] || printf '\r\033[K' >&2
 }
 
 # runs the program with these words, and exits with its status
@@ -85,7 +87,8 @@ run_on_terminal() {
         # (a program in the background does not get the terminal's interrupt, and ignores one that it is sent)
         interrupted=
         trap 'interrupted=yes; kill -TERM $child 2>/dev/null' INT
-        show_time $child &
+        # (a `sleep` of it may outlast the program, and would keep a pipe open that the output goes to)
+        show_time $child >/dev/null &
         watcher=$!
         wait $child 2>/dev/null
         status=$?

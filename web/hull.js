@@ -333,6 +333,7 @@ class Questions {
 
     /** Makes one kind of call at each of the points; passes index, code, number and points of each reply to `read`. */
     _serve(kind, coordinates, read) {
+        this._live(); // (also if there are no points)
         const count = coordinates.length / 2;
         for (let from = 0; from < count; from += REQUESTS_AT_ONCE) {
             this.#serveSome(kind, coordinates, from, Math.min(REQUESTS_AT_ONCE, count - from), read);
@@ -484,6 +485,11 @@ class HullOfInstance extends Questions {
         return there;
     }
 
+    /** Returns, for many.js, the instance and the address. */
+    _hullWords() {
+        return { instance: this._live(), words: [this.#at] };
+    }
+
     _callAll(requests, count, replies, capacity) {
         this._live().call("hull_calls", this.#at, requests, count, replies, capacity);
     }
@@ -563,13 +569,6 @@ class PolygonOfInstance extends Questions {
         return this._live().ask(name, this.#address, this.#length, ...words);
     }
 
-    /** Returns the vertices that a call of this polygon and two integers writes, one for each of its own. */
-    _moved(name, a, b) {
-        const instance = this._live(), out = instance.outOf(this.#count * POINT.size);
-        this.#found(name, BigInt(a), BigInt(b), BigInt(out), this.#length);
-        return Array.from({ length: this.#count }, (_, i) => instance.point(out + i * POINT.size));
-    }
-
     /** Returns what a call of this polygon returns, as a value. */
     #asked(answer, name, ...words) {
         const code = this.#found(name, ...words);
@@ -580,6 +579,12 @@ class PolygonOfInstance extends Questions {
     #wordsOf(other) {
         if (!(other instanceof PolygonOfInstance) || other._live() !== this._live()) throw new NoPolygon("the other one is no polygon of the same module");
         return [other.#address, other.#length];
+    }
+
+    /** Returns, for many.js, the instance, and the address and the length of a polygon, which must be of the same module. */
+    _polygonWords(polygon) {
+        const words = this.#wordsOf(polygon);
+        return { instance: this._live(), words };
     }
 
     // written by tools/table.py: questions
@@ -773,6 +778,9 @@ class Answers {
         return { part: { numerator: it.words(HIT.high, 2), denominator: it.words(HIT.divisorHigh, 2) }, points: it.pointsOf(FEATURE[code]) };
     }
 }
+
+/** How many.js reads results; no part of what the package offers. */
+export const _results = { Answers, RELATIONS, POINT, HIT };
 
 /** Whether the engine has 64-bit memories, tested by a module with nothing else. */
 const HAS_WIDE_MEMORY = globalThis.WebAssembly?.validate(new Uint8Array([0, 97, 115, 109, 1, 0, 0, 0, 5, 3, 1, 4, 1]));

@@ -269,8 +269,8 @@ def try_install(tries):
         tries.lay("meson", user__c=C_PROGRAM, meson__build=MESON)
         tries.prints("Meson", "1", "sh", "-c", "meson setup out >log 2>&1 && ninja -C out >>log 2>&1 && out/user || cat log", at="meson", env=here)
     tries.prints("Python beside its shared objects", "200 INSIDE", "python3", "-c", PYTHON, env={"PYTHONPATH": f"{tries.room}/prefix/lib/hull"})
-    status, told = tries.run("bin/install", "/usr", at="clone", env={"DESTDIR": f"{tries.room}/staged"})
-    tries.see("bin/install below DESTDIR", status == 0 and os.path.exists(f"{tries.room}/staged/usr/lib/libhull.a"), told)
+    status, told = tries.run("bin/install", f"{tries.room}/usr", at="clone", env={"DESTDIR": f"{tries.room}/staged"})
+    tries.see("bin/install below DESTDIR", status == 0 and os.path.exists(f"{tries.room}/staged{tries.room}/usr/lib/libhull.a"), told)
 
 
 def try_uninstall(tries):

@@ -97,18 +97,24 @@ def run_counted(test):
 
 
 class Timer:
-    """A signal that comes again and again, each time so long after the one before, with what its handler does."""
+    """A signal that comes so long after its handler's last call has ended (so that calls of the handler do not nest), and what the handler does."""
 
     def __init__(self, handler, seconds):
         self.handler, self.seconds = handler, seconds
 
     def __enter__(self):
-        signal.signal(signal.SIGALRM, self.handler)
-        signal.setitimer(signal.ITIMER_REAL, self.seconds, self.seconds)
+        signal.signal(signal.SIGALRM, self.call_handler)
+        signal.setitimer(signal.ITIMER_REAL, self.seconds)
 
     def __exit__(self, *_):
-        signal.setitimer(signal.ITIMER_REAL, 0)
         signal.signal(signal.SIGALRM, lambda *_: None)  # one may be on its way
+        signal.setitimer(signal.ITIMER_REAL, 0)
+
+    def call_handler(self, *how):
+        try:
+            self.handler(*how)
+        finally:
+            signal.setitimer(signal.ITIMER_REAL, self.seconds)
 
 
 class Interrupted(Exception):

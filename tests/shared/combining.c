@@ -274,6 +274,24 @@ static void check_hook(void) {
     hull_shared_gate_end(&storage);
 }
 
+/* A thread whose own call left half of the lines serves none: it drains. */
+static void check_hook_after_own_call(void) {
+    open_all(4);
+    hooks = 0;
+    hull_shared_gate_wait_for_space(&storage, 1);
+    check("hook", (uint64_t)hull_shared_gate_on_half_full(&storage, note_hook, NULL), 1);
+    start_all();
+    look_first(HULL_NUMBER);
+    join(1);
+    check("the next looks by itself", served_by[0] == 1 && served_by[1] == 2, 1);
+    check("it is drained", hooks > 0, 1);
+    for (unsigned k = 1; k < SEATS; k++) {
+        check("each call is made", replies[k].answer.code, HULL_ADDED);
+    }
+    close_all();
+    hull_shared_gate_end(&storage);
+}
+
 /* Calls that others serve and that find no space wait for it, and are made after a drain. */
 static void check_space(void) {
     hull_shared_segment *segment = hull_shared_segment_new();
@@ -376,6 +394,7 @@ int main(void) {
     check_targets();
     check_no_space();
     check_hook();
+    check_hook_after_own_call();
     check_space();
     check_dead_while_posted();
     check_cancelled();

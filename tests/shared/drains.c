@@ -102,7 +102,6 @@ int main(int count, char **words) {
     hull_shared_gate_init(&gate, count > 5 ? (uint32_t)strtoul(words[5], NULL, 10) : 1);
     has_journal = strcmp(folder, "-") != 0;
     others = threads - 1;
-    hull_shared_gate_init(&gate, 1);
     shared = hull_shared_new();
     if (shared == NULL) {
         return 2;

@@ -6,6 +6,13 @@
 
 static int bad;
 
+/* The linker sends malloc here (--wrap): it may be refused. */
+static int is_refused;
+void *__real_malloc(size_t size);
+void *__wrap_malloc(size_t size) {
+    return is_refused ? NULL : __real_malloc(size);
+}
+
 static void check(const char *what, uint64_t got, uint64_t wanted) {
     if (got != wanted) {
         fprintf(stderr, "%s: %llu, not %llu\n", what, (unsigned long long)got, (unsigned long long)wanted);
@@ -188,6 +195,29 @@ static void check_several_inside(void) {
     check("the second", gate->nodes[4].is_designated, 1);
 }
 
+/* Before the fourth step on the word of the gate another caller enters. */
+static void enter_at_fourth_step(const volatile void *word) {
+    if (word == &gate->state && ++steps_taken == 4) {
+        gate->state++;
+    }
+}
+
+/* The designated caller enters, and another one before it designates the next: the gate is full then, and the next stays in the queue. */
+static void check_designating_beside_another(void) {
+    enter_all(2);
+    check("two callers park", (uint64_t)try_park(gate, 4, 0) + (uint64_t)try_park(gate, 5, 0), 2);
+    set_turn_over(0);
+    leave(gate);
+    leave(gate);
+    steps_taken = 0;
+    before_step = enter_at_fourth_step;
+    check("the designated one enters", (uint64_t)try_enter(gate, 1), 1);
+    before_step = NULL;
+    check("two are inside, and none is designated", gate->state, 2 + PARKED);
+    check("the next is in the queue", gate->first == 5 && gate->last == 5 && gate->nodes[4].is_queued, 1);
+    check("and asleep", gate->nodes[4].is_designated, 0);
+}
+
 /* Before this thread has the lock of the queue another call leaves. */
 static void leave_before(const volatile void *word) {
     if (word == &gate->queue_lock) {
@@ -356,15 +386,20 @@ enum { SEATS = 40 };
 static hull_shared *shared;
 static hull_shared_seat *seats[SEATS];
 
-static void open_all(uint32_t capacity, uint32_t inside) {
-    check("gate", (uint64_t)hull_shared_gate_init(&storage, inside), 1);
+static void open_at_gate(uint32_t capacity) {
     check("open", hull_shared_open(shared, 1000, 7, capacity, SEATS), HULL_OPEN);
     for (uint32_t k = 0; k < SEATS; k++) {
         check("acquire", hull_shared_acquire_seat(shared, &storage, seats[k], k), HULL_ACQUIRED);
     }
 }
 
-static void close_all(void) {
+static void open_all(uint32_t capacity, uint32_t inside) {
+    check("gate", (uint64_t)hull_shared_gate_init(&storage, inside), 1);
+    open_at_gate(capacity);
+}
+
+/* Closes the shared hull; the gate stays, for another one. */
+static void close_hull(void) {
     const hull_shared_state before = hull_shared_stats(&storage);
     check("none is inside", before.inside + before.sleepers + before.for_space, 0);
     check("no seat is reported", before.seat, HULL_SHARED_SEATS_MAX);
@@ -379,6 +414,10 @@ static void close_all(void) {
     check("no lines are held", state.held, 0);
     check("close", hull_shared_close(shared), HULL_CLOSED);
     check("end", hull_shared_end(shared), HULL_ENDED);
+}
+
+static void close_all(void) {
+    close_hull();
     hull_shared_gate_end(&storage);
 }
 
@@ -399,6 +438,7 @@ static void look_around(void *context, const hull_shared_segment *segment) {
     pthread_setcancelstate(PTHREAD_CANCEL_DISABLE, &before);
     check("it is not cancelled", (uint64_t)before, PTHREAD_CANCEL_DISABLE);
     still_now += 3000000;
+    check("no other is to drain", (uint64_t)is_drain_due(&(struct call){.gate = gate, .seat = seats[0]}, 8), 0);
     check("the seat that drains", hull_shared_stats(&storage).drainer, drainer);
     check("how long", hull_shared_stats(&storage).drains_for, 3000000);
     check("another call", count_by(20), HULL_NUMBER);
@@ -426,6 +466,9 @@ static void check_hook(void) {
         check("no memory was refused", gate->refused, 0);
         check("the line of the hook's own call", hull_shared_stats(&storage).held, held + 1 == 4 ? 1 : held + 1);
     }
+    for (uint32_t held = 0; held <= 8; held++) {
+        check("a drain is due from half of the lines on", (uint64_t)is_drain_due(&(struct call){.gate = gate, .seat = seats[0]}, held), held >= 4);
+    }
     drainer = 30, hooks = 0, errno = 77;
     check("now", (uint64_t)hull_shared_gate_drain(&storage, seats[30]), 1);
     check("by its hook", hooks, 1);
@@ -435,6 +478,67 @@ static void check_hook(void) {
     check("the thread can be cancelled again", (uint64_t)state, PTHREAD_CANCEL_ENABLE);
     close_all();
     check("no hook", (uint64_t)hull_shared_gate_drain(&storage, seats[30]), 0);
+}
+
+static void count_hook(void *context, const hull_shared_segment *segment) {
+    check("no context", context == NULL && segment != NULL, 1);
+    hooks++;
+}
+
+/* A hook drains one shared hull after the other, also one of more lines. */
+static void check_hook_of_two(void) {
+    open_all(4, 1);
+    hooks = 0;
+    check("a hook", (uint64_t)hull_shared_gate_on_half_full(&storage, count_hook, NULL), 1);
+    check("it drains", (uint64_t)hull_shared_gate_drain(&storage, seats[0]), 1);
+    close_hull();
+    open_at_gate(9);
+    check("another one", (uint64_t)hull_shared_gate_drain(&storage, seats[0]), 1);
+    check("by the hook", hooks, 2);
+    close_all();
+}
+
+static void end_other_drain(void) {
+    in_sleep = NULL;
+    check("none has run its hook", hooks, 0);
+    gate->drainer = 0;
+    announce_space(gate);
+}
+
+/* A drain waits for the one that is under way, and is made then. */
+static void check_drain_after_another(void) {
+    open_all(8, 1);
+    hooks = 0;
+    check("a hook", (uint64_t)hull_shared_gate_on_half_full(&storage, count_hook, NULL), 1);
+    gate->drainer = 31;
+    in_sleep = end_other_drain;
+    check("it drains", (uint64_t)hull_shared_gate_drain(&storage, seats[0]), 1);
+    check("it slept", in_sleep == NULL && slept.word == &gate->drains, 1);
+    check("its hook has run", hooks, 1);
+    close_all();
+}
+
+/* A drain that is refused memory takes no number, and the first of several in a row wakes those that wait for space. */
+static void check_refused_drains(void) {
+    open_all(4, 1);
+    check("a hook", (uint64_t)hull_shared_gate_on_half_full(&storage, count_hook, NULL), 1);
+    check("a call", count_by(0), HULL_NUMBER);
+    gate->for_space = 2;
+    woken.count = hooks = 0;
+    is_refused = 1;
+    check("refused", (uint64_t)hull_shared_gate_drain(&storage, seats[1]), 0);
+    check("took no number", hull_shared_look(seats[1]).answer.code, HULL_NO_NUMBER);
+    check("all that wait are woken", woken.count == 1 && woken.word == &gate->drains && woken.many > 1000, 1);
+    check("half of the lines", count_by(2), HULL_NUMBER);
+    check("refused again", gate->refused, 1);
+    check("none is woken", woken.count, 1);
+    check("no hook", hooks, 0);
+    is_refused = 0;
+    check("at the next call", count_by(3), HULL_NUMBER);
+    check("it is drained", hooks == 1 && gate->refused == 0, 1);
+    check("by the drain and after the hook all are woken", woken.count, 3);
+    gate->for_space = 0;
+    close_all();
 }
 
 /* A full journal: a call waits for space if the gate does, until its deadline. */
@@ -576,6 +680,23 @@ static void check_served(void) {
     close_all();
 }
 
+static void look_and_leave(void) {
+    in_sleep = NULL;
+    still_now += 5000000;
+    check("it sleeps outside", hull_shared_stats(&storage).sleepers, 1);
+    check("no call is admitted by a seat", hull_shared_stats(&storage).seat, HULL_SHARED_SEATS_MAX);
+    leave(gate);
+}
+
+/* A caller that sleeps outside is not reported as admitted. */
+static void check_parked(void) {
+    open_all(100, 1);
+    gate->state++; /* another call is inside */
+    in_sleep = look_and_leave;
+    check("once it is admitted", count_by(5), HULL_NUMBER);
+    close_all();
+}
+
 int main(void) {
     alarm(300);
     shared = hull_shared_new();
@@ -590,6 +711,7 @@ int main(void) {
     check_giving_up_at_closed_gate();
     check_giving_up_beside_another();
     check_several_inside();
+    check_designating_beside_another();
     check_leaving_beside_another();
     check_deadlines();
     check_lock();
@@ -597,11 +719,15 @@ int main(void) {
     check_sleep_for_space();
     check_holders();
     check_hook();
+    check_hook_of_two();
+    check_drain_after_another();
+    check_refused_drains();
     check_full();
     check_refused();
     check_time_of_serving();
     check_serving();
     check_served();
+    check_parked();
     for (int k = 0; k < SEATS; k++) {
         hull_shared_seat_free(seats[k]);
     }

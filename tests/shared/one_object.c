@@ -1,6 +1,7 @@
 /* one_object FILE: a service (include/hull_service.h) returns every code of every call; keeps each option at both of its ends; leaves nothing
  * when it cannot be opened, with each request for memory and the thread refused in turn; gives a seat and a reader to one thread at a time;
- * and continues its file. FILE is made and removed. The status is 0 only if it is so; valgrind finds memory that is not freed. */
+ * and continues its file. FILE is made and removed. The status is 0 only if it is so; a hang ends the program after five minutes. valgrind
+ * finds memory that is not freed. */
 #include "hull_service.h"
 #include "refusing.h"
 
@@ -30,9 +31,10 @@ char *__wrap_strdup(const char *text) {
     return refuse_next() ? NULL : __real_strdup(text);
 }
 
-/* Another process locks the file just before this one would, if that is wanted. */
+/* Another process locks the file just before this one would, if that is wanted; and before the next lock it writes to the file and closes it. */
 static const char *locked_path;
 static int locked = -1;
+static int is_written;
 int __real_flock(int file, int how);
 int __wrap_flock(int file, int how) {
     if (locked_path != NULL) {
@@ -41,6 +43,9 @@ int __wrap_flock(int file, int how) {
         if (locked < 0 || __real_flock(locked, LOCK_EX) != 0) {
             exit(3);
         }
+    } else if (is_written) {
+        is_written = 0;
+        check("another process writes to the file", write(locked, "x", 1) == 1 && close(locked) == 0, 1);
     }
     return __real_flock(file, how);
 }
@@ -456,6 +461,7 @@ static void when_durable(const char *path) {
     static uint8_t bytes[LONGEST];
     bytes[read_file(path, bytes)] = 0;
     check("as many points as there may be", strstr((char *)bytes, " limit 1048576 capacity ") != NULL, 1);
+    refuses("a limit, beside that of the file", (hull_service_options){.limit = HULL_LIMIT_MAX + 1, .path = path}, HULL_OUT_OF_LIMITS, 0);
     refuses("64 seats with no file", (hull_service_options){.seats = HULL_SHARED_SEATS_MAX}, HULL_OUT_OF_LIMITS, 0);
     unlink(path);
     service = open_with("four lines", (hull_service_options){.path = path, .capacity = 4, .every = HULL_SHARED_NEVER});
@@ -477,6 +483,12 @@ static void other_process(const char *path) {
     check("the file stays", is_there(path), 1);
     close(locked);
     close_it("close", open_with("it is free", (hull_service_options){.path = path}));
+    unlink(path);
+    locked_path = path;
+    is_written = 1;
+    refuses("a file that another process has", (hull_service_options){.path = path}, HULL_NO_FILE, EWOULDBLOCK);
+    check("it has written to it", (uint64_t)is_written, 0);
+    check("the file stays", is_there(path), 1);
     unlink(path);
 }
 
@@ -560,6 +572,7 @@ int main(int count, char **words) {
     if (count != 2) {
         return 2;
     }
+    alarm(300);
     unlink(words[1]);
     without_file();
     at_limits(words[1]);

@@ -1,8 +1,8 @@
 #!/bin/sh
-# Tests the code that waits (c/gate.c, c/sleep.h, c/pool.h, c/service.c): each step (gate_steps.c), calls that the threads of others serve
-# (combining.c), what calls promise while they wait (waits.c), deadlines (deadlines.c), a service (one_object.c), every order of the gate's
-# steps by a few threads (gate_orders.sh), its races (gate_races.c), and that no wake-up is lost (lost_wakeups.sh). The last line is
-# 'N passed, M failed'.
+# Tests the code that waits (c/gate.c, c/sleep.h, c/pool.h, c/service.c): each step (gate_steps.c), every order of the gate's steps by a few
+# threads (gate_orders.sh), calls that the threads of others serve (combining.c), what calls promise while they wait (waits.c), deadlines
+# (deadlines.c), a service (one_object.c), races of the gate (gate_races.c), and that no wake-up is lost (lost_wakeups.sh). The last line
+# is 'N passed, M failed'.
 #
 #     tests/shared/waiting.sh [long]    with `long`, more random orders, storms and calls, as `.ci/run --all-mutants` tries them
 set -u
@@ -11,23 +11,36 @@ here=$(cd "$(dirname "$0")" && pwd)
 . "$here/../libraries.sh"
 long=${1:-}
 
+# counts what the code that follows rests on: NAME STATUS. If it failed, this is the end, since threads may hang there for minutes
+needs() {
+    count "$1" "$2"
+    [ "$failed" -eq 0 ] || end
+}
+
+# each step of the gate by one thread, and every order of the steps of a few
+steps() {
+    build "$here/gate_steps.c" -I"$here" -Wl,--wrap=malloc && "$room/gate_steps"
+    needs "each step of the gate" $?
+    # shellcheck disable=SC2086 # the flags are separated by spaces
+    build "$here/gate_steps.c" -O1 -I"$here" -Wl,--wrap=malloc $sanitizers && "$room/gate_steps"
+    needs "sanitizers find nothing in the steps of the gate" $?
+    # shellcheck disable=SC2086 # no word if there is none
+    counted "every order of the steps of the gate" "$here/gate_orders.sh" "$prefix" right ${long:+1000000 more}
+    [ "$failed" -eq 0 ] || end
+}
+
 # what calls at a gate promise beside their answers
 waits() {
-    build "$here/gate_steps.c" -I"$here" && "$room/gate_steps"
-    count "each step of the gate" $?
-    # shellcheck disable=SC2086 # the flags are separated by spaces
-    build "$here/gate_steps.c" -O1 -I"$here" $sanitizers && "$room/gate_steps"
-    count "sanitizers find nothing in the steps of the gate" $?
-    build "$here/combining.c" && "$room/combining"
-    count "calls that the threads of others serve: limits, deadlines, drains, hooks, threads that are cancelled or die" $?
     build "$here/waits.c" -Wl,--wrap=malloc && "$room/waits"
-    count "errno, deadlines, other gates, threads that are cancelled or die" $?
+    needs "errno, deadlines, other gates, threads that are cancelled or die" $?
     # shellcheck disable=SC2046 # the flags are separated by spaces
     build_by_pthreads "$here/waits.c" $(wrap malloc clock_gettime pthread_cond_timedwait) && "$room/waits"
-    count "the same without futex" $?
+    needs "the same without futex" $?
+    build "$here/combining.c" && "$room/combining"
+    needs "calls that the threads of others serve: limits, deadlines, drains, hooks, threads that are cancelled or die" $?
     # shellcheck disable=SC2046
     build "$here/deadlines.c" $(wrap malloc realloc) && "$room/deadlines" ${long:+3000}
-    count "16 threads whose calls give up after 0 to 300 microseconds: each line is that of a call, and all is idle in the end" $?
+    needs "16 threads whose calls give up after 0 to 300 microseconds: each line is that of a call, and all is idle in the end" $?
 }
 
 # the waiting code by ThreadSanitizer (gcc's does not see copies of structs)
@@ -55,10 +68,9 @@ services() {
 }
 
 install_libraries
+steps
 waits
 services
-# shellcheck disable=SC2086 # no word if there is none
-counted "every order of the steps of the gate" "$here/gate_orders.sh" "$prefix" right ${long:+1000000 more}
 races
 # shellcheck disable=SC2086
 attempt "no wake-up is lost by threads that are delayed" "$here/lost_wakeups.sh" "$prefix" ${long:+60}

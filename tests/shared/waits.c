@@ -37,12 +37,19 @@ int __wrap_clock_gettime(clockid_t clock, struct timespec *t) {
     return result;
 }
 
-/* And pthread_cond_timedwait: a thread that looked at its word, and has the lock, falls asleep some milliseconds later, if that is wanted. */
+/* And pthread_cond_timedwait: a thread that looked at its word, and has the lock, falls asleep some milliseconds later, if that is wanted. It
+ * can't be cancelled there: the lock would never be free again, and all others would hang. */
 static __thread int falls_asleep_late;
 static int is_late;
 int __real_pthread_cond_timedwait(pthread_cond_t *changed, pthread_mutex_t *lock, const struct timespec *until);
 int __wrap_pthread_cond_timedwait(pthread_cond_t *changed, pthread_mutex_t *lock, const struct timespec *until) {
     const struct timespec moment = {0, 20000000};
+    int before;
+    pthread_setcancelstate(PTHREAD_CANCEL_DISABLE, &before);
+    if (before != PTHREAD_CANCEL_DISABLE) {
+        fprintf(stderr, "a sleep is a cancellation point\n");
+        exit(1);
+    }
     if (falls_asleep_late) {
         __atomic_store_n(&is_late, 1, __ATOMIC_SEQ_CST);
         nanosleep(&moment, NULL);
@@ -153,6 +160,21 @@ static void check_several_words(void) {
     }
     for (int k = 2; k >= 0; k--) {
         change_and_wake(&words[k]);
+        pthread_join(threads[k], NULL);
+    }
+}
+
+/* Threads that sleep on one word: all are woken. */
+static void check_one_word(void) {
+    static uint32_t word;
+    pthread_t threads[3];
+    for (int k = 0; k < 3; k++) {
+        pthread_create(&threads[k], NULL, sleep_on, &word);
+    }
+    nap(15 * MILLISECOND); /* they sleep by now, or will not */
+    __atomic_store_n(&word, 1, __ATOMIC_SEQ_CST);
+    hull_wake(&word, 0x7fffffff);
+    for (int k = 0; k < 3; k++) {
         pthread_join(threads[k], NULL);
     }
 }
@@ -484,11 +506,17 @@ int main(void) {
         seats[k] = hull_shared_seat_new();
     }
     check("a gate of 65", (uint64_t)hull_shared_gate_init(&gate, HULL_SHARED_SEATS_MAX + 1), 0);
+    alarm(30); /* a sleep of 30 milliseconds, which with a wrong deadline lasts for hours */
     check_sleep();
+    alarm(300);
     check_several_words();
+    check_one_word();
 #ifdef HULL_SHARED_BY_PTHREADS
     check_late_sleep();
 #endif
+    if (bad) {
+        return bad; /* what follows may hang */
+    }
     check_other_gates();
     check_deadlines();
     check_waiting_for_space();

@@ -1,8 +1,10 @@
 """Tests bin/install and bin/package in a small repository, whose products a stand-in for tools/product.sh makes: each installed file with
 its mode and its bytes, what is left out and removed again, and each package with its members, sums and descriptions."""
 import base64
+import contextlib
 import gzip
 import hashlib
+import io
 import json
 import os
 import shutil
@@ -16,10 +18,11 @@ import zipfile
 from small import TOP, lay_tools, run, write
 import packages
 
-# the products are texts with their names; PRODUCT_STATUS is the status of a product that cannot be had, STALE names those of other sources
+# the products are texts with their names; PRODUCT_STATUS is the status of a product that cannot be had, CANNOT names a processor that has
+# none, STALE those of other sources
 PRODUCT = """#!/bin/sh
 case $1 in
-put) [ -z "${PRODUCT_STATUS:-}" ] || exit "$PRODUCT_STATUS"; echo "product $2" >"$3"; chmod 600 "$3" ;;
+put) [ -z "${PRODUCT_STATUS:-}" ] || exit "$PRODUCT_STATUS"; [ "${2%/*}" != "${CANNOT:-}" ] || exit 69; echo "product $2" >"$3"; chmod 600 "$3" ;;
 find) case " ${STALE:-} " in *" $2 "*) exit 1 ;; esac; [ "${DAMAGED:-}" != "$2" ] || exit 2; echo "$0" ;;
 *) exit 99 ;;
 esac
@@ -74,8 +77,9 @@ def lay(top):
         for it in ("libhull.a", "hull.wasm", "hull32.wasm"):
             write(f"{top}/dist/{processor}/{it}", f"released {processor} {it}\n")
     write(f"{top}/dist/SUMS", "sums\n")
-    subprocess.run(["find", top, "-type", "f", "!", "-perm", "/100", "-exec", "chmod", "640", "{}", "+"],
-            check=True)  # (not those that are installed)
+    # (nothing is for others, but what is installed)
+    for mode, which in (("640", ["!", "-perm", "/100"]), ("750", ["-perm", "/100"])):
+        subprocess.run(["find", top, "-type", "f", *which, "-exec", "chmod", mode, "{}", "+"], check=True)
 
 
 def contents(path):
@@ -105,7 +109,7 @@ def has_its_bytes(top, prefix, processor, has_programs):
     wrong += [it for it, name in made.items() if contents(f"{prefix}/{it}").decode() != f"product {processor}/{name}\n"]
     wrong += [it for it, text in PCS.items() if contents(f"{prefix}/lib/pkgconfig/{it}.pc").decode() != text]
     listed = contents(f"{prefix}/share/hullbook/installed").decode().splitlines()
-    wrong += [] if sorted(listed) == sorted(found(prefix)) and len(listed) == len(set(listed)) else ["share/hullbook/installed"]
+    wrong += [] if listed == sorted(found(prefix)) else ["share/hullbook/installed"]
     return wrong + (["lib/hull/hull/py.typed"] if contents(f"{prefix}/lib/hull/hull/py.typed") else [])
 
 
@@ -113,37 +117,47 @@ def folders_of(prefix):
     return {stat.S_IMODE(os.stat(os.path.join(at, it)).st_mode) for at, names, _ in os.walk(prefix) for it in names}
 
 
+def forms_of(room):
+    """Returns the forms of an installation: a name, the words, the environment, the prefix, the processor, and whether programs are installed."""
+    staged, mine = f"{room}/staged files", "x86_64"
+    return (
+        ("an installation", [f"{room}/all"], {}, f"{room}/all", mine, True),
+        ("on another machine", [f"{room}/mine"], {"MACHINE": "aarch64"}, f"{room}/mine", "aarch64", False),
+        ("with no processor's name", [f"{room}/empty"], {"HULL_PROCESSOR": ""}, f"{room}/empty", mine, True),
+        ("the libraries only", ["--library", f"{room}/only"], {}, f"{room}/only", mine, False),
+        ("for x86-64", [f"{room}/here"], {"HULL_PROCESSOR": "x86_64", "MACHINE": "aarch64"}, f"{room}/here", mine, True),
+        ("for another processor", [f"{room}/other"], {"HULL_PROCESSOR": "aarch64"}, f"{room}/other", "aarch64", False),
+        ("a prefix with spaces", [f"{room}/a b/c"], {}, f"{room}/a b/c", mine, True),
+        ("below DESTDIR", [f"{room}/whole"], {"DESTDIR": staged}, f"{staged}{room}/whole", mine, True),
+        ("a relative prefix", ["relative"], {"DESTDIR": ""}, f"{room}/a caller/relative", mine, True),
+        ("a relative prefix below DESTDIR", ["relative"], {"DESTDIR": staged}, f"{staged}/relative", mine, True),
+        ("where nothing is readable for others", [f"{room}/masked"], {"UMASK": "077"}, f"{room}/masked", mine, True),
+    )
+
+
 def test_install(tests):
-    """What bin/install puts below a prefix, in each of its forms, is each file with its mode and bytes."""
+    """What bin/install puts below a prefix, in each of its forms, is each file with its mode and bytes, and --uninstall removes it."""
     with tempfile.TemporaryDirectory() as room:
-        top, work = f"{room}/repository", f"{room}/temporary"
-        lay(top), os.makedirs(work)
-        mine = os.uname().machine
-        forms = (  # a name, the words, the environment, the prefix, the processor, and whether the programs are installed
-            ("an installation", [f"{room}/all"], {}, f"{room}/all", mine, mine == "x86_64"),
-            ("the libraries only", ["--library", f"{room}/only"], {}, f"{room}/only", mine, False),
-            ("for x86-64", [f"{room}/here"], {"HULL_PROCESSOR": "x86_64"}, f"{room}/here", "x86_64", True),
-            ("for another processor", [f"{room}/other"], {"HULL_PROCESSOR": "aarch64"}, f"{room}/other", "aarch64", False),
-            ("a prefix with spaces", [f"{room}/a b/c"], {}, f"{room}/a b/c", mine, mine == "x86_64"),
-            ("below DESTDIR", ["/usr"], {"DESTDIR": f"{room}/staged"}, f"{room}/staged/usr", mine, mine == "x86_64"),
-            ("a relative prefix", ["relative"], {"DESTDIR": ""}, f"{top}/relative", mine, mine == "x86_64"),
-            ("a relative prefix below DESTDIR", ["relative"], {"DESTDIR": f"{room}/staged"}, f"{room}/staged/relative", mine, mine == "x86_64"),
-            ("where nothing is readable for others", [f"{room}/masked"], {"UMASK": "077"}, f"{room}/masked", mine, mine == "x86_64"),
-        )
-        there, made = set(os.listdir(top)), {"repository", "temporary"}
-        for what, words, env, prefix, processor, has_programs in forms:
-            status, said = run(top, "sh", "-c", 'umask "${UMASK:-022}"; exec bin/install "$@"', "", *words, env={"TMPDIR": work, **env})
-            tests.see(f"{what}: status 0, and nothing is printed", (status, said) == (0, ""), f"{status}: {said}")
+        top, work, caller = f"{room}/the repository", f"{room}/temporary files", f"{room}/a caller"
+        lay(top), os.makedirs(work), os.makedirs(caller)
+        write(f"{room}/path/uname", "#!/bin/sh\n[ $1 = -m ] && echo ${MACHINE:-x86_64}\n", 0o755)
+        # (a language in which the order is another)
+        write(f"{room}/path/sort", f'#!/bin/sh\n[ "${{LC_ALL:-}}" = C ] && exec {shutil.which("sort")} "$@"\n{shutil.which("sort")} -r "$@"\n', 0o755)
+        there, made = set(os.listdir(top)), set(os.listdir(room))
+        command = ("sh", "-c", 'umask "${UMASK:-022}"; exec "$@"', "", f"{top}/bin/install")
+        for what, words, more, prefix, processor, has_programs in forms_of(room):
+            env = {"TMPDIR": work, "PATH": f"{room}/path:{os.environ['PATH']}", **more}
+            tests.same(f"{what}: status 0, and nothing is printed", run(caller, *command, *words, env=env), (0, ""))
             tests.same(f"{what}: each file with its mode", found(prefix), wanted(processor, has_programs))
             tests.same(f"{what}: each file has its bytes", has_its_bytes(top, prefix, processor, has_programs), [])
             tests.same(f"{what}: folders are open to all", folders_of(prefix) | {stat.S_IMODE(os.stat(prefix).st_mode)}, {0o755})
             tests.same(f"{what}: nothing temporary is left", os.listdir(work), [])
-            made |= set() if prefix.startswith(top) else {os.path.relpath(prefix, room).partition("/")[0]}
-            tests.same(f"{what}: nothing is made beside it", (set(os.listdir(room)), set(os.listdir(top)) - {"relative"}), (made, there))
-        spaces = f"{room}/a b"
-        tests.same("--uninstall of a prefix with spaces", (run(top, "bin/install", "--uninstall", f"{spaces}/c"), os.listdir(spaces)),
-            ((0, ""), ["c"]))
-        tests.same("it is empty", os.listdir(f"{spaces}/c"), [])
+            made.add(os.path.relpath(prefix, room).partition("/")[0])
+            tests.same(f"{what}: nothing is made beside it", (set(os.listdir(room)), set(os.listdir(top))), (made, there))
+            if prefix not in (f"{room}/all", f"{room}/only"):
+                os.remove(f"{prefix}/include/hull.h")
+                tests.same(f"{what}: --uninstall, with a file that is gone", run(caller, *command, "--uninstall", words[-1], env=env), (0, ""))
+                tests.same(f"{what}: it leaves the empty prefix", os.listdir(prefix), [])
         test_again(tests, top, f"{room}/all", work)
         test_version_file(tests, f"{room}/all")
 
@@ -169,8 +183,11 @@ def test_again(tests, top, prefix, work):
     tests.same("--uninstall", run(top, "bin/install", "--uninstall", prefix), (0, ""))
     tests.same("it leaves the files of others", found(prefix), {"lib/others.txt": 0o644})
     tests.same("and their folders", os.listdir(prefix), ["lib"])
-    status, said = run(top, "bin/install", "--uninstall", prefix)
-    tests.see("--uninstall again", status == 1 and f"{prefix}/share/hullbook/installed is not there" in said, f"{status}: {said}")
+    message = f"bin/install: {prefix}/share/hullbook/installed is not there: nothing was installed below {prefix} by this command\n"
+    tests.same("--uninstall again", run(top, "bin/install", "--uninstall", prefix), (1, message))
+    write(f"{prefix}.file", "of others\n")
+    status, said = run(top, "bin/install", f"{prefix}.file/below", env={"TMPDIR": work})
+    tests.see("a prefix that cannot be made", status != 0 and said and contents(f"{prefix}.file") == b"of others\n" and not os.listdir(work), f"{status}: {said}")
     for words in ([], [""], ["-x"], ["--library"], [prefix, prefix], ["--library", "--uninstall"], ["--uninstall"]):
         tests.same(f"usage: {words}", run(top, "bin/install", *words), (2, USAGE))
     tests.same("usage: --help", run(top, "bin/install", "--help"), (0, USAGE))
@@ -189,7 +206,7 @@ def test_version_file(tests, prefix):
         return
     script = 'set(PACKAGE_FIND_VERSION "{0}")\nset(PACKAGE_FIND_VERSION_MAJOR "{1}")\ninclude("{2}/lib/cmake/hull/hull-config-version.cmake")\n' \
              'message("${{PACKAGE_VERSION}} ${{PACKAGE_VERSION_COMPATIBLE}} ${{PACKAGE_VERSION_EXACT}}")\n'
-    for asked, answer in (("7.8.9", "TRUE TRUE"), ("7.8", "TRUE "), ("7.9", "FALSE "), ("8.0", "FALSE "), ("6.0", "FALSE "), ("7", "TRUE ")):
+    for asked, answer in (("7.8.9", "TRUE TRUE"), ("7.8.9.0", "TRUE TRUE"), ("7.8", "TRUE "), ("7.9", "FALSE "), ("8.0", "FALSE "), ("6.0", "FALSE "), ("7", "TRUE ")):
         write(f"{prefix}.cmake", script.format(asked, asked.partition(".")[0], prefix))
         tests.same(f"CMake asks for {asked}", run("/", "cmake", "-P", f"{prefix}.cmake")[1].rstrip("\n"), f"7.8.9 {answer}")
 
@@ -239,7 +256,8 @@ def test_wheel(tests, out, name, processor):
     files = {"hull/__init__.py", "hull/libhull.so", "hull/libhull_shared.so", "hull/py.typed", *(f"{about}/{it}" for it in ("METADATA", "WHEEL",
             "LICENSE", "RECORD"))}
     tests.same(f"{name}: its files", set(texts), files)
-    tests.same(f"{name}: modes and times", {(it.external_attr >> 16, it.date_time) for it in infos}, {(0o644, (1980, 1, 1, 0, 0, 0))})
+    kinds = {(it.external_attr >> 16, it.date_time, it.compress_type) for it in infos}
+    tests.same(f"{name}: modes, times and compression", kinds, {(0o644, (1980, 1, 1, 0, 0, 0), zipfile.ZIP_DEFLATED)})
     tags = [it for it in texts[f"{about}/WHEEL"].decode().splitlines() if it.startswith("Tag: ")]
     tests.same(f"{name}: its tags", tags, [f"Tag: py3-none-manylinux2014_{processor}", f"Tag: py3-none-musllinux_1_1_{processor}"])
     said = texts[f"{about}/METADATA"].decode()
@@ -300,7 +318,7 @@ def test_deb(tests, room, out):
         del files[gone]
     files.update({f"{about}/changelog.gz": 0o644, f"{about}/changelog.Debian.gz": 0o644, "usr/share/lintian/overrides/hullbook": 0o644})
     tests.same("its files and modes", modes, files)
-    tests.same("its folders", folders_of(f"{room}/deb"), {0o755})
+    tests.same("its folders", folders_of(f"{room}/deb") | {stat.S_IMODE(os.stat(f"{room}/deb").st_mode)}, {0o755})
     tests.same("a manual page", gzip.decompress(contents(f"{room}/deb/usr/share/man/man3/hull.3.gz")), contents(f"{TOP}/man/hull.3"))
     tests.same("its changes", gzip.decompress(contents(f"{room}/deb/{about}/changelog.gz")), contents(f"{TOP}/CHANGELOG.md"))
     tests.see("its entry",
@@ -329,6 +347,18 @@ def test_needed(tests):
             tests.same(f"a program, {what}", packages.needed_library(f"{room}/program"), wanted)
 
 
+def test_no_dpkg(tests):
+    """Without dpkg-deb the package for it is left out, which is said."""
+    which, said = shutil.which, io.StringIO()
+    with tempfile.TemporaryDirectory() as room, contextlib.redirect_stderr(said):
+        try:
+            shutil.which = lambda _: None
+            packages.make_deb(room)
+        finally:
+            shutil.which = which
+        tests.same("without dpkg-deb", (os.listdir(room), "dpkg-deb is not installed" in said.getvalue()), ([], True))
+
+
 def test_packages(tests):
     """bin/package makes each package whole, the same each time, and none if a file is of other sources."""
     with tempfile.TemporaryDirectory() as room:
@@ -341,7 +371,12 @@ def test_packages(tests):
         # (of a program the head of its ELF file is read)
         write(f"{top}/tools/product.sh", PRODUCT.replace("chmod 600", "case $2 in */hull[bd]*) head -c 100 /dev/zero >>\"$3\" ;; esac; chmod 600"),
                 0o755)
-        status, said = run(top, "bin/package", out, env={"TMPDIR": work})
+        # (dpkg-deb sees files of another owner than root, where it can be so)
+        owned = f'#!/bin/sh\nfor it in "$@"; do [ ! -d "$it" ] || chown -R 1234:1234 "$it" 2>/dev/null; done\nexec {shutil.which("dpkg-deb")} "$@"\n'
+        if shutil.which("dpkg-deb"):
+            write(f"{room}/path/dpkg-deb", owned, 0o755)
+        env = {"TMPDIR": work, "PATH": f"{room}/path:{os.environ['PATH']}"}
+        status, said = run(top, "bin/package", out, env=env)
         names = sorted([*MADE, *([DEB] if shutil.which("dpkg-deb") else [])])
         tests.see("bin/package", status == 0 and sorted(it.split()[1] for it in said.splitlines() if it[:9].strip().isdigit()) == names,
                 f"{status}: {said}")
@@ -371,8 +406,8 @@ def test_stale(tests, top, room, names):
     tests.see("a damaged file", status == 69 and "web/hull.wasm;" in said and not os.path.exists(f"{room}/none"), f"{status}: {said}")
     run(top, "bin/package", "--test", f"{room}/all")
     tests.same("--test of a release makes all", sorted(os.listdir(f"{room}/all")), names)
-    status, said = run(top, "bin/package", "--test", f"{room}/tested", env={"STALE": "web/hull.wasm"})
     others = {"x86_64", "aarch64"} - {mine}
+    status, said = run(top, "bin/package", "--test", f"{room}/tested", env={"STALE": "web/hull.wasm", "CANNOT": " ".join(others)})
     tests.see("--test", status == 0 and sorted(os.listdir(f"{room}/tested")) == [it for it in names if not any(other in it for other in others)],
             f"{status}: {said}")
     status, said = run(top, "bin/package", f"{room}/failed", env={"PRODUCT_STATUS": "70"})
@@ -383,14 +418,18 @@ def test_stale(tests, top, room, names):
 
 
 def test_package_words(tests):
-    """bin/package finds its tool by a link, passes each word on as one, and says if there is no Python."""
+    """bin/package finds its tool by a link, passes each word on as one, and says if there is no Python 3."""
     with tempfile.TemporaryDirectory() as room:
-        os.makedirs(f"{room}/bin"), os.makedirs(f"{room}/without"), shutil.copy(f"{TOP}/bin/package", f"{room}/bin/package")
-        write(f"{room}/tools/packages.py", "import sys\nprint(sys.argv[1:])\nsys.exit(len(sys.argv))\n")
-        os.symlink(f"{room}/bin/package", f"{room}/linked")
-        for command in ("bin/package", f"{room}/linked"):
-            tests.same(f"{os.path.basename(command)}: words", run(room, command, "--test", "a folder", "*"), (4, "['--test', 'a folder', '*']\n"))
+        top = f"{room}/the repository"
+        os.makedirs(f"{top}/bin"), os.makedirs(f"{room}/without"), shutil.copy(f"{TOP}/bin/package", f"{top}/bin/package")
+        write(f"{top}/tools/packages.py", "import sys\nprint(sys.argv[1:])\nsys.exit(len(sys.argv))\n")
+        os.symlink(f"{top}/bin/package", f"{top}/linked")
+        for command in ("bin/package", f"{top}/bin/package", f"{top}/linked"):
+            tests.same(f"{os.path.basename(command)}: words", run(top, command, "--test", "a folder", "*"), (4, "['--test', 'a folder', '*']\n"))
         for it in ("sh", "dirname", "readlink"):
             os.symlink(shutil.which(it), f"{room}/without/{it}")
-        tests.same("without Python", run(room, "bin/package", "out", env={"PATH": f"{room}/without"}),
-            (69, "bin/package: it needs Python 3: apt-get install python3\n"))
+        for it in ("python", "python2"):
+            write(f"{room}/without/{it}", "#!/bin/sh\necho of another Python\n", 0o755)
+        env, message = {"PATH": f"{room}/without"}, "bin/package: it needs Python 3: apt-get install python3\n"
+        tests.same("without Python 3", run(top, "bin/package", "out", env=env), (69, message))
+        tests.same("it is no output", run(top, "sh", "-c", "bin/package out 2>errors", env=env), (69, ""))

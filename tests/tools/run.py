@@ -3,7 +3,7 @@
 compile, one that only a proof's names refuse, a count that differs, stale or damaged files, a page that differs, a word too many, a suite
 that fails without saying so.
 
-    tests/tools/run.py [tools | packages | toolchain]    one of the suites of bin/test; without a word the first
+    tests/tools/run.py [tools | scripts | packages | toolchain]    one of the suites of bin/test; without a word the first
 
 Each tool has to refuse the fault with its message and exit status, beside a case that it accepts. The last line is 'N passed, M failed'.
 """
@@ -22,8 +22,11 @@ from small import TOP, Tests, lay_tools, run, write  # noqa: E402 (the path come
 import flows  # noqa: E402
 import installs  # noqa: E402
 import judges  # noqa: E402
+import kit  # noqa: E402
+import lines  # noqa: E402
 import made  # noqa: E402
-import mutants  # noqa: E402
+import outputs  # noqa: E402
+import packed  # noqa: E402
 import scripts  # noqa: E402
 
 SOURCE = """//! Three functions on which the gate's own tools are tried.
@@ -62,51 +65,43 @@ EDITS = {
 }
 # the message for each, tried together
 WANTED = {"adds-two": "refused: ", "comment": "NOT REFUSED: the crate is still proved", "a-missing-name": "NOT TRIED: BAD EDIT: "}
-# faults in the places that repeat the table of codes: a file, a text in it, what replaces it, the message
+# faults in the places that repeat the table of codes: a file, a text in it, what replaces it, and what is said of the file
+SAYS = "it says '{}' and not '{}': tools/table.py --write"
 PLACES = (
-    ("a changed number", "python/hull.py", "    NO_SEAT = 36\n", "    NO_SEAT = 37\n", "python/hull.py: FAILED, codes: it says 'NO_SEAT = 37'"),
-    ("a missing line", "include/hull_common.h", '    case HULL_EDGE: return "HULL_EDGE";\n', "", "include/hull_common.h: FAILED, names: it says"),
-    ("a line too many", "rust/hull/src/raw.rs", "OLD: u32 = 69;\n", "OLD: u32 = 69;\n    pub const ONE: u32 = 1;\n", "raw.rs: FAILED, codes: it says"),
-    ("a mark that is gone", "web/hull.js", "written by tools/table.py: codes", "", "web/hull.js: FAILED, codes occurs 0 times"),
-    ("another version", "rust/hull/Cargo.toml", 'version = "', 'version = "9', "Cargo.toml: FAILED, the version: it says '9"),
-    ("a version that is there twice", "web/package.json", '    "version": "', '    "version": "1",\n    "version": "',
-     "web/package.json: FAILED, the version occurs 2 times"),
+    ("a changed number", "python/hull.py", "    NO_SEAT = 36\n", "    NO_SEAT = 37\n", "codes: " + SAYS.format("NO_SEAT = 37", "NO_SEAT = 36")),
+    ("a missing line", "include/hull_common.h", '    case HULL_EDGE: return "HULL_EDGE";\n', "",
+     "names: " + SAYS.format('case HULL_BOX: return "HULL_BOX";', 'case HULL_EDGE: return "HULL_EDGE";')),
+    ("a line too many", "rust/hull/src/raw.rs", "OLD: u32 = 69;\n", "OLD: u32 = 69;\n    pub const ONE: u32 = 1;\n",
+     "codes: " + SAYS.format("pub const ONE: u32 = 1;", "")),
+    ("a mark that is gone", "web/hull.js", "written by tools/table.py: codes", "", "codes occurs 0 times"),
+    ("another version", "rust/hull/Cargo.toml", 'version = "', 'version = "9', "the version: " + SAYS.format("9{version}", "{version}")),
+    ("a version that is there twice", "web/package.json", '    "version": "', '    "version": "1",\n    "version": "', "the version occurs 2 times"),
     ("a case unlike the others", "crates/hull_reply/src/request.rt", "Call::Place(point_of", "Call::Add(point_of",
-     "hull_reply/src/request.rt: FAILED, a case for each kind: it says 'Kind::Place"),
+     "a case for each kind: " + SAYS.format("Kind::Place => Ok(Request::Call(Call::Add(point_of(x, y)?))),",
+     "Kind::Place => Ok(Request::Call(Call::Place(point_of(x, y)?))),")),
+    ("cases with no end", "crates/hull_reply/src/reply.rt", "end of what tools/table.py writes", "", "a case for each reply occurs 0 times"),
     ("a case that is missing", "crates/hull_reply/specs/Encoded.antt", "Encodes r reply.Absent = IsBare code.Absent r\n", "",
-     "hull_reply/specs/Encoded.antt: FAILED, a case for each reply: it says"),
-    ("a declaration changed by hand", "include/hull.h", "size_t hull_size(void);", "size_t hull_size(int a);", "include/hull.h: FAILED, storage: it says"),
-    ("a method that is gone", "web/hull.d.ts", "    diameter(): [Point, Point] | null;\n", "", "web/hull.d.ts: FAILED, questions: it says"),
-    ("a code that there is not", "tables/interface.txt", "codes = BOX,", "codes = BOXES,", "tables/interface.txt: FAILED, hull_polygon_box: BOXES is no code"),
-    ("a second code that there is not", "tables/interface.txt", "codes = NUMBER, OUT_OF_RANGE", "codes = NUMBER, OUT_OF_REACH", "OUT_OF_REACH is no code"),
-    ("an argument that there is not", "tables/interface.txt", "takes = polygon, segment\n", "takes = polygon, line\n", "argument line has no C++"),
-    ("a number left out", "tables/calls.txt", "code 9 ABSENT", "code 90 ABSENT", "tables/calls.txt: FAILED, the numbers of each code"),
+     "a case for each reply: " + SAYS.format("", "Encodes r reply.Absent = IsBare code.Absent r")),
+    ("a declaration changed by hand", "include/hull.h", "size_t hull_size(void);", "size_t hull_size(int a);",
+     "storage: " + SAYS.format("size_t hull_size(int a);", "size_t hull_size(void);")),
 )
-# what a check can tell of a function whose proof names what a change took away, and of one with an open goal
-BY_A_NAME = """proofs/small/Answers.antt:3:5: error: `step` has no field `moved`
-fn small::successor: no proof
-logic=not-proved
-"""
-BY_A_GOAL = """note: src/lib.rt:11: it is not proved that the clause holds
-fn small::successor: not proved
-fn small::double: proved
-logic=not-proved
-"""
+# faults of the tables themselves: a file, a text in it, what replaces it, the beginning of what is printed, and the end
+FAULTS = (
+    ("a code that there is not", "interface", "codes = BOX,", "codes = BOXES,", "tables/interface.txt: FAILED, hull_polygon_box: BOXES is no code\n",
+     "{one_less} passed, 1 failed\n"),
+    ("a second code that there is not", "interface", "codes = NUMBER, OUT_OF_RANGE", "codes = NUMBER, OUT_OF_REACH",
+     "tables/interface.txt: FAILED, hull_multiplicity: OUT_OF_REACH is no code\n", "{one_less} passed, 1 failed\n"),
+    ("an argument that there is not", "interface", "takes = polygon, segment\n", "takes = polygon, line\n",
+     "tables/interface.txt: argument line has no C++\n", ""),
+    ("a number left out", "calls", "code 9 ABSENT", "code 90 ABSENT",
+     "tables/calls.txt: FAILED, the numbers of each code don't go on from one to the next\n"
+     "include/hull_common.h: FAILED, codes: it says ", " 7 failed\n"),
+)
 
 
 def read(path):
     with open(path, encoding="utf-8") as file:
         return file.read()
-
-
-class FakeRun:
-    """What a check printed, as the tools see it."""
-
-    def __init__(self, status, said):
-        self.status, self.said, self.raw = status, said, said
-
-    def last(self):
-        return self.said.rstrip("\n").rpartition("\n")[2]
 
 
 def lay_crate(top, edits):
@@ -122,68 +117,20 @@ def lay_crate(top, edits):
         write(f"{top}/crates/small/mutants/{name}.edit", f"file: src/lib.rt\nold: {old}\nnew: {new}\n")
 
 
-def test_judgement(tests):
-    """What a check printed is judged without a prover."""
-    function = mutants.Function("small::", "successor")
-    tests.see("a name that went is no goal", not mutants.goals_of(BY_A_NAME))
-    tests.see("a name that went refuses nothing", mutants.outcome_of(FakeRun(1, BY_A_NAME), {})[0] is mutants.Kind.BY_SHAPE)
-    tests.see("an open goal is its function's", [*mutants.goals_of(BY_A_GOAL)] == ["small::successor"])
-    tests.see("a function is found by its path", function.is_at("small::successor") and not function.is_at("small::double"))
-    tests.see("a limit refuses nothing", mutants.outcome_of(FakeRun(3, "fn x: could not tell\nrattle: no verdict\n"), {})[0] is mutants.Kind.AT_LIMIT)
-    tests.see("a killed check refuses nothing", mutants.outcome_of(FakeRun(-9, "checked 1 of 3\n"), {})[0] is mutants.Kind.UNSURE)
-    tests.see("a proved crate refuses nothing", mutants.outcome_of(FakeRun(0, "logic=proved\n"), {})[0] is mutants.Kind.MISSED)
-
-
 def test_mutants(tests):
-    """The toolchain itself says of a goal, of a change of nothing and of a name that is none what the tools take it to say."""
+    """The toolchain itself says of a goal, of a change of nothing and of a name that is none what the tools take it to say, and of a layout."""
     with tempfile.TemporaryDirectory() as top:
         lay_crate(top, EDITS)
+        tests.same("a layout", run(top, "tools/layout.py", "--write"), (0, "7 passed, 0 failed\n"))
         status, said = run(top, "tools/mutants.py", "--record", "small")
         tests.see("a run with two bad mutants fails", status == 1 and said.endswith("1 passed, 2 failed\n"), said)
         for name, wanted in WANTED.items():
             tests.see(f"{name}, in a group with the others: {wanted}", f"mutant small/{name}.edit: {wanted}" in said, said)
-        tests.see("a crate with bad mutants is not recorded", "small" not in read(f"{top}/.ci/mutants.txt") if os.path.exists(f"{top}/.ci/mutants.txt") else True)
-        write(f"{top}/crates/small/src/lib.rt", SOURCE.replace("    n + 1", "    missing(n)"))
+        has_row = os.path.exists(f"{top}/.ci/mutants.txt") and "small" in read(f"{top}/.ci/mutants.txt")
+        tests.see("a crate with bad mutants is not recorded", not has_row)
+        write(f"{top}/crates/small/src/lib.rt", SOURCE.replace("    n + 1", "   missing(n)"))
         tests.refuses("a crate that is not proved", "not proved without any change: small", top, "tools/mutants.py", "--changed")
-
-
-def test_layout(tests):
-    """A lost mutant, a mutant that does not fit, and a file that no check reads fail the layout."""
-    with tempfile.TemporaryDirectory() as top:
-        lay_crate(top, ["adds-two"])
-        tests.accepts("a layout that is written", top, "tools/layout.py", "--write")
-        path = f"{top}/crates/small/mutants/adds-two.edit"
-        os.rename(path, f"{top}/kept")
-        tests.refuses("a mutant that is gone", "counts.txt: FAILED", top, "tools/layout.py")
-        write(path, "file: src/lib.rt\nold: no such text\nnew: x\n")
-        tests.refuses("a mutant that does not fit", "0 times, and not once", top, "tools/layout.py")
-        os.rename(f"{top}/kept", path)
-        write(f"{top}/crates.txt", "")
-        tests.refuses("a crate that crates.txt leaves out", "no check reads it there", top, "tools/layout.py")
-
-
-def test_products(tests):
-    """Stale and damaged files of dist/ are not found, and are named."""
-    with tempfile.TemporaryDirectory() as top:
-        lay_tools(top)
-        for it in ("dist", "include", "c", "python", "crates.txt"):
-            (shutil.copytree if os.path.isdir(f"{TOP}/{it}") else shutil.copy)(f"{TOP}/{it}", f"{top}/{it}")
-        write(f"{top}/crates/hull_c/src/lib.rt", "// other sources\n")
-        find = ("tools/product.sh", "find", "x86_64/libhull.a")
-        tests.see("a file of other sources is not found", run(top, *find) == (1, ""))
-        tests.accepts("bytes that are those of SUMS", top, "tools/product.sh", "check")
-        with open(f"{top}/dist/x86_64/libhull.a", "ab") as file:
-            file.write(b"x")
-        tests.refuses("a byte too many", "dist/x86_64/libhull.a: FAILED", top, "tools/product.sh", "check")
-        write(f"{top}/dist/x86_64/other", "")
-        tests.refuses("a file that SUMS does not name", "dist/x86_64/other: FAILED", top, "tools/product.sh", "check")
-        sums = run(top, "tools/product.sh", "sum", "hull_c")[1].strip()
-        others = run(top, "tools/product.sh", "others", "x86_64/libhull.a")[1].strip()
-        write(f"{top}/dist/SUMS", f"file x86_64/libhull.a sha256=0 bytes=1 crate=hull_c sources={sums} others={others}\n")
-        tests.see("a file of these sources with other bytes is not found", run(top, *find) == (2, ""))
-        os.makedirs(f"{top}/no-rt")
-        status, said = run(top, "tools/product.sh", "put", "x86_64/hullbook", f"{top}/program", env={"PATH": "/usr/bin:/bin"})
-        tests.see("a program that needs a proof and no toolchain", status == 69 and "not installed" in said, said)
+        tests.refuses("another layout", "crates/small/src/lib.rt: FAILED, not in the layout of rt fmt", top, "tools/layout.py")
 
 
 def test_suites(tests):
@@ -200,7 +147,8 @@ def test_suites(tests):
                            ("a last line that is not the last", "echo 3 passed, 0 failed; echo well"),
                            ("a failure", "echo it: FAILED; echo 3 passed, 1 failed; exit 1")):
             write(suite, f"#!/bin/sh\n{text}\n", 0o755)
-            tests.refuses(f"a suite with {what}", ", 1 failed", top, "bin/test", "files")
+            count = 3 if "exit 1" in text else 0
+            tests.refuses(f"a suite with {what}", f"\n{count} passed, 1 failed\n", top, "bin/test", "files")
             end = "files: FAILED, exit status 0, with no last line of counts\n"
             tests.same("its log", read(f"{top}/out/test/files.log").endswith(end), "FAILED" not in text and "exit 1" not in text)
         write(suite, "#!/bin/sh\nkill -9 $PPID; echo 3 passed, 0 failed\n", 0o755)
@@ -210,7 +158,7 @@ def test_suites(tests):
         tests.see("nothing that passes is a failure, and what is skipped is named", status == 1 and "files: there is no y\n0 passed, 0 failed\n" in said, said)
         write(suite, "#!/bin/sh\nfor it in $(seq 60); do echo \"a test: skipped, no $it\"; done; echo 2 passed, 0 failed\n", 0o755)
         wanted = "".join(f"files: no {it}\n" for it in range(1, 40))
-        tests.see("what is skipped, up to 40 lines", f"for want of a tool:\n{wanted}2 passed, 0 failed\n" in run(top, "bin/test", "files")[1])
+        tests.see("at most 40 lines of what is left out", f"for want of a tool:\n{wanted}2 passed, 0 failed\n" in run(top, "bin/test", "files")[1])
         write(suite, "#!/bin/sh\nsleep 0; echo here $PWD; echo 2 passed, 0 failed\n", 0o755)
         write(f"{top}/tests/cli/run.sh", "#!/bin/sh\necho 4 passed, 1 failed; exit 1\n", 0o755)
         write(f"{top}/tools/product.sh", "#!/bin/sh\necho here\n", 0o755)
@@ -219,6 +167,9 @@ def test_suites(tests):
         write(f"{top}/tests/readme/run.sh", "#!/bin/sh\necho 1 passed, 0 failed\n", 0o755)
         status, said = run(top, "bin/test", "cli", "readme", "files")
         tests.see("three of which the first fails", status == 1 and said.endswith("\n7 passed, 1 failed\n"), said)
+        write(f"{top}/path/nproc", "#!/bin/sh\necho 3\n", 0o755)
+        said = run(top, "bin/test", "cli", "readme", "files", env={"PATH": f"{top}/path:{os.environ['PATH']}"})[1]
+        tests.see("by three workers, of which none says what others have taken", "mkdir" not in said, said)
         tests.same("which run is said", sorted(re.findall(r"(?m)^(\w+): running$", said)), ["cli", "files", "readme"])
         tests.see("each has its log", read(f"{top}/out/test/files.log") == f"here {top}\n2 passed, 0 failed\n" and "4 passed" in read(f"{top}/out/test/cli.log"))
         write(f"{top}/tests/readme/run.sh", "#!/bin/sh\necho 1 passed, 3 failed; exit 1\n", 0o755)
@@ -238,10 +189,11 @@ def test_suites(tests):
         status, said = run(top, "bin/test", "other")
         tests.see("a name that is no suite", status == 2 and "there is no suite or crate 'other'" in said
                   and said.endswith("\n0 passed, 1 failed\n"), said)
+        tests.same("of which only the count is output", run(top, "sh", "-c", "bin/test other 2>/dev/null"), (2, "0 passed, 1 failed\n"))
 
 
 # what bin/test itself calls, and what a suite needs that is not there with it
-CALLED = "awk cat cut date dirname getconf grep head mkdir nproc readlink rm sed seq sh tail tr uname".split()
+CALLED = "awk cat cut date dirname grep head mkdir nproc readlink rm sed seq sh tail tr uname".split()
 REASONS = {"python3": "it needs Python 3: apt-get install python3", "node": "it needs Node: apt-get install nodejs",
     "rt": "it needs the Rattle toolchain (rt)",
            "cc": "it needs a C compiler: apt-get install gcc libc6-dev", "linked": "it needs a C compiler: apt-get install gcc libc6-dev",
@@ -308,6 +260,9 @@ def test_each_suite(tests):
         tests.same("each its own", len(set(ran.values())), len(suites))
         named = {it: name for it, name in ran.items() if it not in name and it != "c++"}
         tests.same("by its name", named, {})
+        scripts = {it for it in kit.files_below(f"{top}/tests") if f"tests/{it}" not in {name.split()[0] for name in ran.values()}}
+        tests.same("what no suite runs is run by another script or by hand", scripts, {f"{it}.sh" for it in ("pictures/shots", "roots/run",
+            "shared/gate_orders", "shared/lost_wakeups", "wakeups/run")})
         tests.same("the libraries are installed once", read(f"{top}/asked"), f"--library {top}/out/test/installed\n")
         tests.same("for all suites", {read(f"{top}/out/test/{it}.log").splitlines()[1] for it in suites}, {f"{top}/out/test/installed"})
         write(f"{top}/bin/install", "#!/bin/sh\nexit 1\n", 0o755)
@@ -322,7 +277,7 @@ def test_reports(tests):
     """bin/test prints each suite's counts and seconds, and of one that fails the tests that failed and the end; an interrupt ends all suites."""
     with tempfile.TemporaryDirectory() as top:
         lay_tools(top)
-        suite = "cat; echo its errors >&2; echo early: FAILED, why; seq 100 140; echo 5 passed, 1 failed; exit 1"
+        suite = "cat; echo its errors >&2; echo early: FAILED, why; printf '\\000\\n'; seq 100 140; echo 5 passed, 1 failed; exit 1"
         write(f"{top}/tests/files/run.sh", f"#!/bin/sh\n{suite}\n", 0o755)
         said = run(top, "sh", "-c", "echo typed | bin/test files")[1]
         tests.see("the line of a suite", re.search(r"(?m)^files: 5 passed, 1 failed, \d+ s, \d+ s of a processor$", said), said)
@@ -335,6 +290,9 @@ def test_reports(tests):
         write(f"{top}/tests/files/run.sh", f"#!/bin/sh\n{sys.executable} -c '{busy}'\necho 1 passed, 0 failed\n", 0o755)
         said = run(top, "bin/test", "files")[1]
         seconds = [int(it) for it in re.search(r"(?m)^files: 1 passed, 0 failed, (\d+) s, (\d+) s of a processor$", said).groups()]
+        write(f"{top}/times", "0m0.25s 0m0.50s\n1m2.500000s 3m4.250000s\n")
+        script = 'eval "$(sed -n "/^processor_seconds/,/^}/p" bin/test)"; processor_seconds times'
+        tests.same("seconds of minutes", run(top, "sh", "-c", script), (0, "246"))
         tests.see("its seconds", 1 <= seconds[0] < 3600 and 2 <= seconds[1] < 60, seconds)
         write(f"{top}/tests/files/run.sh", f"#!/bin/sh\necho $$ >{top}/pid.new && mv {top}/pid.new {top}/pid; sleep 1000 & wait\n", 0o755)
         for number in (signal.SIGINT, signal.SIGTERM):
@@ -430,52 +388,36 @@ def test_gate_after_the_proof(tests):
         tests.same("leaves nothing", os.listdir(env["TMPDIR"]), [])
 
 
-def test_language(tests):
-    """A word of the old dialect more than .ci/language.txt allows fails, and --write never raises a number."""
-    with tempfile.TemporaryDirectory() as top:
-        lay_tools(top)
-        write(f"{top}/README.md", "If you run it, it returns the answer.\n")
-        run(top, "tools/language.py", "--write")
-        tests.accepts("plain English", top, "tools/language.py")
-        write(f"{top}/README.md", "It tells where it stands.\n")
-        tests.refuses("three words of the dialect", "'told': FAILED, 1 times", top, "tools/language.py")
-        run(top, "tools/language.py", "--write")
-        tests.refuses("--write does not raise a number", "'stands': FAILED", top, "tools/language.py")
-
-
 def test_tables(tests):
-    """Each place that repeats the table of calls fails if it differs."""
+    """Each place that repeats the table of calls fails if it differs, and so do the tables if they contradict themselves."""
     with tempfile.TemporaryDirectory() as top:
-        lay_tools(top)
-        marked = subprocess.run(["git", "grep", "-lI", "written by tools/table.py"], cwd=TOP, capture_output=True, text=True, check=False).stdout
-        if not marked:
+        if not judges.lay_places(top):
             print("skipped: the table's places: this is no checkout of git")
             return
-        for path in ("VERSION", "CHANGELOG.md", *(f"tables/{it}.txt" for it in ("calls", "interface", "languages")), "rust/hull/Cargo.toml", "web/package.json", "crates.txt", *marked.split()):
-            os.makedirs(os.path.dirname(f"{top}/{path}"), exist_ok=True)
-            shutil.copy(f"{TOP}/{path}", f"{top}/{path}")
-        tests.accepts("places that are as the table says", top, "tools/table.py")
-        # (those in different files at once, except that a table changes what others have to say)
-        groups = [[it] for it in PLACES if it[1].startswith("tables/")]
-        for it in PLACES:
-            group = next((group for group in groups if not group[0][1].startswith("tables/") and it[1] not in {other[1] for other in group}), None)
-            if not it[1].startswith("tables/"):
-                groups.append([it]) if group is None else group.append(it)
-        for group in groups:
-            texts = {path: read(f"{TOP}/{path}") for _, path, *_ in group}
-            for what, path, old, new, wanted in group:
-                write(f"{top}/{path}", texts[path].replace(old, new, 1))
+        count = int(run(top, "tools/table.py")[1].partition(" ")[0])
+        version, texts = read(f"{TOP}/VERSION").strip(), {path: read(f"{TOP}/{path}") for _, path, *_ in PLACES}
+        for what, path, old, new, _ in PLACES:
+            tests.see(f"{what}: the text is there", old in texts[path])
+            write(f"{top}/{path}", texts[path].replace(old, new, 1))
+        wanted = [f"{path}: FAILED, {said.replace('{version}', version)}" for _, path, _, _, said in PLACES]
+        status, said = run(top, "tools/table.py")
+        tests.same("each is named", (status, sorted(said.splitlines())),
+            (1, sorted([*wanted, f"{count - len(PLACES)} passed, {len(PLACES)} failed"])))
+        for path, text in texts.items():
+            write(f"{top}/{path}", text)
+        for what, name, old, new, wanted, end in FAULTS:
+            text = read(f"{TOP}/tables/{name}.txt")
+            write(f"{top}/tables/{name}.txt", text.replace(old, new, 1))
             status, said = run(top, "tools/table.py")
-            for what, path, old, new, wanted in group:
-                tests.see(what, status == 1 and wanted in said and texts[path].count(old) > 0, f"status {status}: {said}")
-            for path, text in texts.items():
-                write(f"{top}/{path}", text)
+            tests.see(what, status == 1 and said.startswith(wanted) and said.endswith(end.format(one_less=count - 1)), f"status {status}: {said}")
+            write(f"{top}/tables/{name}.txt", text)
 
 
 SUITES = {
-    "tools": (test_judgement, test_layout, test_products, test_suites, test_left_out, test_each_suite, test_reports, test_gate,
-        test_gate_after_the_proof, test_language, test_tables, *judges.TESTS, *made.TESTS, *flows.TESTS, *scripts.TESTS),
-    "packages": (installs.test_install, installs.test_needed, installs.test_package_words, installs.test_packages),
+    "tools": (test_tables, *judges.TESTS, *outputs.TESTS, *made.TESTS, *flows.TESTS),
+    "scripts": (test_suites, test_left_out, test_each_suite, test_reports, test_gate, test_gate_after_the_proof, *scripts.TESTS, *lines.TESTS),
+    "packages": (installs.test_install, installs.test_needed, installs.test_no_dpkg, installs.test_package_words, installs.test_packages,
+        *packed.TESTS),
     "toolchain": (test_mutants,),
 }
 

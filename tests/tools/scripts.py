@@ -1,8 +1,8 @@
-"""Tests the scripts: tests/lib.sh, which counts for the suites, tools/program.sh, which finds and runs a program, what tools/terminal.sh says
-on a terminal, and the completions. Programs and products are stand-ins, which say and return what a test wants of them."""
+"""Tests the scripts: tests/lib.sh, which counts for the suites, tools/program.sh, which finds and runs a program, and what tools/terminal.sh
+says on a terminal. Programs and products are stand-ins, which say and return what a test wants of them."""
+import contextlib
 import os
 import pty
-import re
 import select
 import shutil
 import signal
@@ -10,7 +10,9 @@ import subprocess
 import tempfile
 import time
 
+import completions
 import kit
+import transcripts
 from small import TOP, lay_tools, run, write
 
 # what a script that reads tests/lib.sh does, what it prints, and its status
@@ -56,10 +58,11 @@ put) echo "put $2" >&2; [ "${MADE:-0}" -eq 0 ] || exit "$MADE"; mkdir -p "crates
 *) exit 99 ;;
 esac
 """
-# says ERR on standard error and its words on standard output, after a time, and returns STATUS
+# says ERR on standard error and its words on standard output, after a time, and after the file BEGUN is there, and returns STATUS
 STAND_IN = """#!/bin/sh
 [ -z "${PID:-}" ] || echo $$ >"$PID"
 [ -z "${SLEEP:-}" ] || sleep "$SLEEP"
+while [ "${BEGUN:-}" ] && [ ! -s "$BEGUN" ]; do :; done
 printf "%b" "${ERR:-}" >&2
 [ -z "${READ:-}" ] || cat
 [ -z "${COUNT:-}" ] || echo "$# words"
@@ -83,7 +86,8 @@ def lay(top):
 
 def test_programs(tests):
     """A program is found, or proved first; if it cannot be had, the cause is said, with a status of its own."""
-    with tempfile.TemporaryDirectory() as top:
+    with tempfile.TemporaryDirectory() as room:
+        top = f"{room}/the repository"
         env = lay(top)
         tests.same("the program's words, output and status", run(top, "bin/hullbook", "a b", "c", env={**env, "STATUS": "3", "ERR": "oh\\n"}),
                    (3, "oh\nsaid a b c by glibc.malloc.hugetlb=1\n"))
@@ -108,20 +112,22 @@ def test_programs(tests):
         ):
             came, said = run(top, "bin/hullbook", "run", env={**env, **more})
             tests.see(f"{what}: {status}", came == status and wanted in said and "said " not in said, f"{came}: {said}")
+            tests.same("it is no output", run(top, "sh", "-c", "bin/hullbook run 2>/dev/null", env={**env, **more}), (status, ""))
         status, said = run(top, "bin/hulldraw", "x", env={**rt, "FOUND": "1"})
         tests.see("a proof that does not", status == 0 and said.endswith("put x86_64/hulldraw\nsaid x by glibc.malloc.hugetlb=1\n"), f"{status}: {said}")
         tests.same("no folder is left", os.listdir(f"{top}/rooms"), [])
 
 
 def on_terminal(top, *words, env, keys=b"", once=""):
-    """Runs a command on a terminal, and types the keys once a file is there. Returns its status and what the terminal shows."""
+    """Runs a command on a terminal, and types the keys once a file is there. Returns its status and what the terminal shows; one that does not
+    end is killed."""
     pid, terminal = pty.fork()
     if pid == 0:
         # (the command is not the leader of the session, as it is not where a shell has started it)
         signal.signal(signal.SIGINT, lambda *_: None)
         os._exit(subprocess.run(words, cwd=top, env={**os.environ, **env}, check=False).returncode % 256)
-    shown, typed = b"", not keys
-    while True:
+    shown, typed, until = b"", not keys, time.monotonic() + 120
+    while time.monotonic() < until or os.kill(pid, signal.SIGKILL):
         typed = typed or (os.path.exists(once) and os.write(terminal, keys) > 0)
         if not select.select([terminal], [], [], 0.05)[0]:
             continue
@@ -154,20 +160,29 @@ def test_meanings(tests):
         write(f"{top}/long", f"first\n{'long ' * 60}\n")
         shown = on_terminal(top, "bin/hullbook", "check", "long", env={**env, "STATUS": "2", "ERR": "hullbook: line 2: fault 2\\n"})[1]
         tests.see("a long line is cut", shown.endswith(f"\n{('hullbook: line 2 is: ' + 'long ' * 60)[:200]}\n"), shown)
-        for status, text in ((3, "hullbook: b: line 3: fault 5\\n"), (4, "hullbook: line 1: fault 10\\n")):
+        for status, text in ((3, "hullbook: b: line 3: fault 5\\n"), (2, "hullbook: usage.txt: line 1: fault 2\\n"),
+                (4, "hullbook: line 1: fault 10\\n")):
             came, shown = on_terminal(top, "bin/hullbook", "run", "text", env={**env, "STATUS": str(status), "ERR": text})
             tests.see(f"status {status}", came == status and "hullbook: fault " in shown, f"{came}: {shown}")
-        for words, wanted in ((("check", "/dev/stdin"), ""), (("check", "none"), "hullbook: fault 2: "), (("check", "text", "text", "text", "text"), "hullbook: fault 2: ")):
+        for words, wanted in ((("check", "/dev/stdin"), ""), (("check", "none"), "hullbook: fault 2: "), (("check", "path"), "hullbook: fault 2: "),
+                              (("check", "text", "text"), "hullbook: fault 2: ")):
             shown = on_terminal(top, "bin/hullbook", *words, env={**env, "STATUS": "2", "ERR": "hullbook: line 2: fault 2\\n"})[1]
-            tests.see(f"no line of {words}", "line 2 is" not in shown and (wanted in shown if wanted else "hullbook: fault" not in shown), shown)
+            is_right = wanted in shown if wanted else "hullbook: fault" not in shown
+            tests.see(f"no line of {words}", is_right and "line 2 is" not in shown and "sed" not in shown, shown)
 
 
 def test_terminal(tests):
     """On a terminal there is the synopsis, the version, the time of a run, and how many calls found the journal full; an interrupt ends it."""
     with tempfile.TemporaryDirectory() as top:
         env = lay(top)
+        write(f"{top}/five", "0 add 1 1\n" * 5 + "join\n# a comment\n"), write(f"{top}/other", "0 add 1 1\n")
         status, shown = on_terminal(top, "bin/hullbook", "nonsense", env={**env, "STATUS": "2", "ERR": "hullbook: usage\\n"})
         tests.see("the synopsis", status == 2 and "usage: hullbook run SCRIPT [--capacity N]" in shown and shown.endswith("docs/PROGRAM.md.\n"), f"{status}: {shown}")
+        for words, text in (("nonsense", "usage"), ("--version", "usage"), ("check five", "line 1: fault 2"), ("run five --capacity 2", "")):
+            more = {"STATUS": "2" if text else "0", "ERR": text and f"hullbook: {text}\\n"}
+            shown = on_terminal(top, "sh", "-c", f"bin/hullbook {words} >said", env={**env, **more})[1]
+            tests.same(f"what it says more of '{words}' is no output", kit.text_of(f"{top}/said"), f"said {words} by glibc.malloc.hugetlb=1\n")
+            tests.see("it says more", shown.count("\n") > bool(text), shown)
         for word in ("--version", "-V"):
             status, shown = on_terminal(top, "bin/hullbook", word, env={**env, "STATUS": "2", "ERR": "hullbook: usage\\n"})
             tests.see(word, status == 2 and shown.endswith("hullbook 7.8.9\n") and "SCRIPT" not in shown, f"{status}: {shown}")
@@ -177,7 +192,6 @@ def test_terminal(tests):
         tests.see("nor does hullbook, if standard error is a file", "SCRIPT" not in shown, shown)
         shown = on_terminal(top, "sh", "-c", "echo from a pipe | bin/hullbook run /dev/stdin", env={**env, "READ": "1"})[1]
         tests.see("a run reads standard input", shown.startswith("from a pipe\nsaid run /dev/stdin"), shown)
-        write(f"{top}/five", "0 add 1 1\n" * 5 + "join\n# a comment\n"), write(f"{top}/other", "0 add 1 1\n")
         for words, wanted in ((("five", "--capacity", "2"), "hullbook: 3 of 5 calls found the journal full: see --capacity"),
                               (("--capacity", "4", "five"), "hullbook: 1 of 5 calls"), (("five", "--capacity", "5"), ""), (("five",), ""),
                               (("five", "--limit", "2"), ""), (("five", "--capacity", "2", "--after", "other"), ""), (("none", "--capacity", "2"), "")):
@@ -188,8 +202,21 @@ def test_terminal(tests):
             shown = on_terminal(top, "bin/hullbook", "run", "many", env=env)[1]
             tests.see(f"a run of {count} calls", wanted in shown if wanted else "found the journal" not in shown, shown)
         tests.see("a check of the same", "found the journal" not in on_terminal(top, "bin/hullbook", "check", "five", "--capacity", "2", env=env)[1])
-        status, shown = on_terminal(top, "bin/hullbook", "run", "five", env={**env, "SLEEP": "4", "STATUS": "1"})
-        tests.see("the seconds of a run, which go when it ends", status == 1 and "\rhullbook: running, 2 s" in shown and shown.endswith("hugetlb=1\n"), f"{status}: {shown!r}")
+        # (a second takes no time, but for the fifth, which lasts until it is ended)
+        seconds = f"echo >>{top}/seconds; [ $(wc -l <{top}/seconds) -gt 4 ] || exit 0; trap 'kill $!; exit' TERM"
+        write(f"{top}/path/sleep", f"#!/bin/sh\n{seconds}\n{shutil.which('sleep')} 60 &\necho $$ >{top}/fifth\nwait $!\necho >{top}/over\n", 0o755)
+        rows = "".join(f"{up}hullbook: running, {it} s\n" for it, up in ((2, ""), (3, "\x1b[A\r"), (4, "\x1b[A\r")))
+        end = f"status=$?; [ -e {top}/over ] || echo >{top}/before; kill $(cat {top}/fifth); exit $status"
+        for command, status in (("bin/hullbook run five | tee said", 0), ("bin/hullbook run five >said", 1), ("bin/hullbook run five", 1)):
+            came = on_terminal(top, "sh", "-c", f"{command}; {end}", env={**env, "BEGUN": f"{top}/fifth", "STATUS": "1"})
+            output = "said run five by glibc.malloc.hugetlb=1\n"
+            tests.same(f"the seconds of '{command}', from the second on, above its output", came, (status, rows + output * (">" not in command)))
+            tests.see("it ends at once", os.path.exists(f"{top}/before"))
+            for it in ("seconds", "fifth", "before", "over"):
+                with contextlib.suppress(FileNotFoundError):
+                    os.remove(f"{top}/{it}")
+        tests.same("they are no output", kit.text_of(f"{top}/said"), output)
+        os.remove(f"{top}/path/sleep")
         status, shown = on_terminal(top, "bin/hullbook", "run", "five", env={**env, "SLEEP": "1000", "PID": f"{top}/pid"}, keys=b"\x03", once=f"{top}/pid")
         until = time.monotonic() + 60
         while os.path.exists(f"/proc/{kit.text_of(f'{top}/pid').strip()}") and time.monotonic() < until:
@@ -197,70 +224,4 @@ def test_terminal(tests):
         tests.see("an interrupt ends the program, too", status == 130 and not os.path.exists(f"/proc/{kit.text_of(f'{top}/pid').strip()}"), f"{status}: {shown}")
 
 
-# ---- completions
-
-
-def test_completions(tests):
-    """Each shell completes the commands and the flags that the synopses name, and no others."""
-    texts = {it: kit.text_of(f"{TOP}/tools/completions/{it}") for it in ("hullbook.bash", "_hullbook", "hullbook.fish")}
-    synopsis = re.search(r"(?s)synopsis='(.*?)SCRIPT and", kit.text_of(f"{TOP}/tools/terminal.sh"))[1]
-    commands = re.findall(r"hullbook (\w+)", synopsis)
-    flags = {it: set(re.findall(rf"--(\w+)", re.search(rf"hullbook {it}\b[^\n]*", synopsis)[0])) for it in commands}
-    drawn = set(re.findall(r"--(\w+)", re.search(r"(?s)\.SH SYNOPSIS(.*?)\.SH", kit.text_of(f"{TOP}/man/hulldraw.1"))[1].replace("\\-", "-")))
-    tests.same("the commands", commands, ["run", "check", "compact", "upgrade"])
-    zsh = {name: set(re.findall(r"'--(\w+)\[", text)) for name, text in zip(("hullbook", "hulldraw"), re.split(r"(?m)^case", texts["_hullbook"]))}
-    tests.same("zsh: flags", zsh, {"hullbook": set().union(*flags.values()), "hulldraw": drawn})
-    tests.see("zsh: commands", f"({' '.join(commands)})" in texts["_hullbook"] and texts["_hullbook"].startswith("#compdef hullbook hulldraw\n"))
-    fish = re.findall(r"(?m)^complete -c (\w+)(?: -n '__fish_seen_subcommand_from (\w+)')? -l (\w+)", texts["hullbook.fish"])
-    tests.same("fish: flags", {(program, command): {it[2] for it in fish if it[:2] == (program, command)} for program, command, _ in fish},
-               {**{("hullbook", it): flags[it] for it in commands if flags[it]}, ("hulldraw", ""): drawn})
-    tests.see("fish: commands", f"complete -c hullbook -n __fish_use_subcommand -a '{' '.join(commands)}'\n" in texts["hullbook.fish"])
-    # (a flag is followed by a file, a number or nothing, as its synopsis says)
-    given = {"after": "file", **{it: "number" for it in ("capacity", "limit", "first", "line", "size")}}
-    kinds = {":journal:_files": "file", ":number:": "number", "": None}
-    tests.same("zsh: what follows a flag", [(name, kinds[more]) for name,
-        more in re.findall(r"'--(\w+)\[[^]]*\]([^']*)'", texts["_hullbook"]) if kinds[more] != given.get(name)], [])
-    fish = re.findall(r"(?m)^complete .* -l (\w+)( -[rx])? -d '[^']+'$", texts["hullbook.fish"])
-    tests.same("fish: what follows a flag", {(name, {" -r": "file", " -x": "number", "": None}[more]) for name, more in fish},
-        {(name, given.get(name)) for name, _ in fish})
-    tests.same("fish: each flag has a description", len(fish), texts["hullbook.fish"].count(" -l "))
-    for service, file in (("hullbook", "*:file:_files"), ("hulldraw", "1:journal:_files")):
-        script = f'_arguments() {{ for it in "$@"; do printf "%s\\n" "$it"; done; }}; service={service}; . "{TOP}/tools/completions/_hullbook"'
-        asked = run(TOP, "sh", "-c", script)[1].splitlines()
-        names = {it[2:].partition("[")[0] for it in asked if it.startswith("--")}
-        tests.see(f"zsh: what is completed for {service}", file in asked and names == zsh[service], asked)
-    bash = shutil.which("bash")
-    if not bash:
-        print("skipped: completions of bash: there is no bash")
-        return
-    with tempfile.TemporaryDirectory() as top:
-        write(f"{top}/script.txt", ""), write(f"{top}/other.txt", "")
-
-        def complete(*words):
-            """Returns what bash offers for the last of these words."""
-            quoted = " ".join(f"'{it}'" for it in words)
-            script = f". '{TOP}/tools/completions/hullbook.bash'; COMP_WORDS=({quoted}); COMP_CWORD={len(words) - 1}; " \
-                     f"f=$(complete -p {words[0]} | sed 's/.*-F \\([^ ]*\\) .*/\\1/'); $f; printf '%s\\n' \"${{COMPREPLY[@]}}\""
-            return {it for it in run(top, bash, "-c", script)[1].split("\n") if it}
-
-        tests.same("bash: commands", [complete("hullbook", it) for it in ("", "c", "x")], [set(commands), {"check", "compact"}, set()])
-        for it in commands:
-            tests.same(f"bash: flags of {it}", complete("hullbook", it, "-"), {f"--{flag}" for flag in flags[it]})
-        write(f"{top}/two words.txt", "")
-        tests.same("bash: a file with a space", [complete(it, *words, "tw") for it, words in (("hullbook", ["run"]), ("hulldraw", []))],
-            [{"two words.txt"}] * 2)
-        os.remove(f"{top}/two words.txt")
-        for it in commands:
-            tests.same(f"bash: flags of {it} after a file", complete("hullbook", it, "other.txt", "script.txt", "--"),
-                {f"--{flag}" for flag in flags[it]})
-        tests.same("bash: files after a flag", complete("hullbook", "run", "script.txt", "--after", "o"), {"other.txt"})
-        tests.same("bash: flags that begin so", complete("hullbook", "run", "--l"), {"--limit"})
-        tests.same("bash: files", [complete("hullbook", "run", "s"), complete("hulldraw", "")], [{"script.txt"}, {"script.txt", "other.txt"}])
-        tests.same("bash: flags of hulldraw", complete("hulldraw", "--"), {f"--{it}" for it in drawn})
-        tests.same("bash: a flag is no command", [complete("hullbook", it) for it in ("-", "--l", "--capacity")], [set()] * 3)
-        for it in ("hullbook", "hulldraw"):
-            said = run(top, bash, "-c", f". '{TOP}/tools/completions/hullbook.bash'; complete -p {it}")[1]
-            tests.see(f"bash: names of files for {it}", "-o filenames" in said and said.endswith(f" -F _{it} {it}\n"), said)
-
-
-TESTS = (test_lib, test_programs, test_meanings, test_terminal, test_completions)
+TESTS = (test_lib, test_programs, test_meanings, test_terminal, *completions.TESTS, *transcripts.TESTS)

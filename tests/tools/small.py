@@ -49,6 +49,12 @@ def run(top, *words, env=None):
     return ran.returncode, ran.stdout
 
 
+def run_apart(top, *words, env=None):
+    """Runs a tool of a small repository. Returns its status, its output and its errors."""
+    ran = subprocess.run(words, cwd=top, stdin=subprocess.DEVNULL, capture_output=True, text=True, check=False, env={**os.environ, **(env or {})})
+    return ran.returncode, ran.stdout, ran.stderr
+
+
 def lay_tools(top):
     """Copies the tools into a small repository."""
     for it in ("tools", ".ci", "bin"):

@@ -4,6 +4,7 @@ import { existsSync, readFileSync, readdirSync } from "node:fs";
 import * as faults from "../../web/hull.js";
 import { TextError, judge, readJournal, serve } from "../../web/journal.js";
 import { Plain, random_of } from "./plain.mjs";
+import { end, tried } from "./tried.mjs";
 
 const { load } = faults, FAR = 2 ** 40, MEMORY = 2 ** 24;
 // an address that no memory reaches: of a 32-bit memory the last, since greater ones wrap
@@ -11,17 +12,6 @@ const STRAY = process.env.MODULE === "hull32.wasm" ? 0xfffffff0n : 1n << 60n;
 // the module that is tried: hull.wasm, or the name in MODULE
 const module = new URL(`../../web/out/${process.env.MODULE ?? "hull.wasm"}`, import.meta.url), cases = new URL("../cli/cases/", import.meta.url);
 const { GrowingHull, Hull, Polygon } = await load(module);
-let passed = 0, failed = 0;
-async function tried(name, run) {
-    try {
-        const said = await run();
-        passed++;
-        console.log(`${name}: ok${said ? `, ${said}` : ""}`);
-    } catch (error) {
-        failed++;
-        console.log(`${name}: FAILED, ${String(error.stack).split("\n").slice(0, 12).join(" ")}`);
-    }
-}
 
 /** A case of tests/cli: its words, its status, and the texts of its parts. */
 function caseOf(file) {
@@ -161,18 +151,29 @@ await tried("a freed hull serves nothing", () => {
     const used = new Hull();
     used[Symbol.dispose ?? Symbol.for("Symbol.dispose")]();
     assert.throws(() => used.count(), faults.Ended);
-    // every method, whatever it is passed
+    const grown = new GrowingHull();
+    grown.free();
+    for (const it of [hull, polygon, grown]) {
+        for (const call of ["placeAll", "tangentsAll", "extremeAll", "addAll", "removeAll"]) {
+            if (it[call]) assert.throws(() => it[call]([]), faults.Ended, `${call} of no point`);
+        }
+    }
+    // every method, whatever it is passed, of objects that were asked before
     const another = new Polygon([[0, 0]]), words = { boundingBox: [], diameter: [], leastWidth: [], polygon: [], vertexArray: [], held: [],
         copy: [], bridges: [0], loadHeld: [[]] };
-    for (const it of [hull, polygon]) {
-        const names = [...Object.getOwnPropertyNames(Object.getPrototypeOf(Object.getPrototypeOf(it))),
-            ...Object.getOwnPropertyNames(Object.getPrototypeOf(it)),
-            ...Object.getOwnPropertyNames(Object.getPrototypeOf(Object.getPrototypeOf(Object.getPrototypeOf(it))))];
-        for (const name of new Set(names.filter((one) => !one.startsWith("_") && !["constructor", "free"].includes(one)))) {
-            const passed = words[name] ?? (/All$|^load$/.test(name) ? [[[1,
-                2]]] : it[name].length > 0 && name in polygon && /other/.test(String(it[name])) ? [another, 1] : [1, 1, 1, 1, 1]);
-            assert.throws(() => it[name](...passed), faults.Ended, name);
+    const wordsFor = (it, name) => {
+        if (words[name] || /All$|^load$/.test(name)) return words[name] ?? [[[1, 2]]];
+        return name in polygon && /other/.test(String(it[name])) ? [another, 1] : [1, 1, 1, 1, 1];
+    };
+    for (const it of [new Hull(), new GrowingHull(), new Polygon([[0, 0], [4, 0], [0, 4]])]) {
+        const names = [];
+        for (let kind = Object.getPrototypeOf(it); kind !== Object.prototype; kind = Object.getPrototypeOf(kind)) {
+            names.push(...Object.getOwnPropertyNames(kind).filter((one) => !one.startsWith("_") && !["constructor", "free"].includes(one)));
         }
+        assert.ok(names.length > 8 && names.includes("vertices"));
+        for (const name of names) it[name](...wordsFor(it, name));
+        it.free();
+        for (const name of names) assert.throws(() => it[name](...wordsFor(it, name)), faults.Ended, name);
     }
     another.free();
 });
@@ -308,6 +309,7 @@ await tried("relations of polygons, and lengths", () => {
         assert.equal(ours.relation(theirs), relation);
         seen[relation] = (seen[relation] ?? 0) + 1;
         assert.equal(ours.containsInside(theirs), b.every((it) => ours.place(...it) === "inside"));
+        assert.equal(ours.contains(theirs), ["covers", "equal"].includes(relation));
         const { numerator, denominator } = ours.squaredDistance(theirs);
         for (const [n, d] of [[0, 1], [random(9), 1], [random(30), 1 + random(9)], [2 ** 53 - 1, 1], [1, 2 ** 32 - 1]]) {
             assert.equal(ours.withinDistance(theirs, n, d), numerator * BigInt(d) ** 2n <= BigInt(n) ** 2n * denominator);
@@ -358,6 +360,8 @@ await tried("bytes that are no module, and texts that are no journal", async () 
     // the one that this engine runs, of those beside hull.js
     const name = WebAssembly.validate(new Uint8Array([0, 97, 115, 109, 1, 0, 0, 0, 5, 3, 1, 4, 1])) ? "hull.wasm" : "hull32.wasm";
     if (existsSync(new URL(`../../web/out/${name}`, import.meta.url))) assert.equal(new (await load()).Hull().count(), 0);
+    // a location as a text, whole or from hull.js on
+    for (const text of [String(module), `./out/${process.env.MODULE ?? "hull.wasm"}`]) assert.equal(new (await load(text)).Hull().count(), 0);
     await assert.rejects(load(readFileSync(module), { memory: NaN }), faults.OutOfRange);
     await assert.rejects(load(readFileSync(module), { memory: 1 }), faults.NoMemory);
     for (const text of ["", "end 0\n", "hullbook journal 3 first 0 limit 1 capacity 1\nend 1\n"]) assert.throws(() => readJournal(text), TextError);
@@ -384,5 +388,4 @@ await tried("after a trap nothing is served", async () => {
     hull.free(), polygon.free();
     assert.equal(calls, 0); // not one that might find the memory as the trap left it
 });
-console.log(`${passed} passed, ${failed} failed`);
-process.exit(failed ? 1 : 0);
+end();

@@ -7,6 +7,7 @@ import { tmpdir } from "node:os";
 import { TooMany } from "../../web/hull.js";
 import { Replay, TextError, judge, readJournal } from "../../web/journal.js";
 import { Plain } from "./plain.mjs";
+import { end, tried } from "./tried.mjs";
 
 /** The plain hull, which refuses as that of hull.js does. */
 class Refusing extends Plain {
@@ -46,17 +47,6 @@ const journals = [
     ["no end line", head(3), null],
 ];
 
-let passed = 0, failed = 0;
-function tried(name, run) {
-    try {
-        run();
-        passed++;
-    } catch (error) {
-        failed++;
-        console.log(`${name}: FAILED, ${String(error.message).split("\n").slice(0, 6).join(" ")}`);
-    }
-}
-
 function verdict(journal) {
     try {
         const read = readJournal(journal), { word, index } = judge(new Refusing(read.limit), read);
@@ -68,11 +58,11 @@ function verdict(journal) {
 }
 
 for (const [name, journal, wanted] of journals) {
-    tried(name, () => assert.equal(verdict(journal), wanted));
+    await tried(name, () => assert.equal(verdict(journal), wanted));
 }
 // a wrong line leaves no trace: what was before it is there, and the replay goes back and forward again
 for (const line of ["0 add 2 2 = again 2", "0 add 1 1 = added", "0 remove 1 1 = left 4", "0 remove 5 5 = removed"]) {
-    tried(`after the wrong line ${line}`, () => {
+    await tried(`after the wrong line ${line}`, () => {
         const journal = readJournal(text(head(3), "0 add 1 1 = added", "0 add 1 1 = again 2", line, "0 count = count 1"));
         const hull = new Refusing(3), replay = new Replay(hull, journal);
         for (let round = 0; round < 3; round++) {
@@ -84,7 +74,7 @@ for (const line of ["0 add 2 2 = again 2", "0 add 1 1 = added", "0 remove 1 1 = 
         }
     });
 }
-tried("a full journal takes no call", () => {
+await tried("a full journal takes no call", () => {
     const replay = new Replay(new Refusing(3), readJournal(text(head(3, "first 0 limit 3 capacity 1"))));
     replay.call("add 1 1");
     assert.throws(() => replay.call("add 2 2"), RangeError);
@@ -94,7 +84,7 @@ const program = process.argv[2];
 if (program) {
     const folder = mkdtempSync(`${tmpdir()}/judge`), file = `${folder}/journal`;
     for (const [name, journal, here, wanted = here] of journals) {
-        tried(`the program on ${name}`, () => {
+        await tried(`the program on ${name}`, () => {
             writeFileSync(file, journal);
             let said;
             try {
@@ -108,5 +98,4 @@ if (program) {
     rmSync(folder, { recursive: true });
 }
 console.log(`the judge of journals: ${program ? "as the program says" : "the program is not there"}`);
-console.log(`${passed} passed, ${failed} failed`);
-process.exitCode = failed === 0 ? 0 : 1;
+end();

@@ -1,30 +1,19 @@
 // The library in JavaScript at its limits, in Node: each operand at both ends of its range and beyond, numbers of more than 64 bits, memory
 // that is given back, on each way out, objects that are freed twice or forgotten, blocks of the heap, journals and lattices at their ends.
 import { strict as assert } from "node:assert";
-import { readFileSync } from "node:fs";
 import { setFlagsFromString } from "node:v8";
 import { runInNewContext } from "node:vm";
 import * as faults from "../../web/hull.js";
 import { directionOf, exponentOf, fromFloat, fromFloats, scaled, toFloat, wkt } from "../../web/exchange.js";
 import { Heap } from "../../web/heap.js";
 import { Replay, TextError, joinJournals, journalText, judge, numberOf, readJournal } from "../../web/journal.js";
-import { firstMeeting, intersectsSegments, nearestHeld, pairsWithinDistance, rotate, translate } from "../../web/many.js";
+import { firstMeeting, indices, intersectsSegments, nearestHeld, pairsWithinDistance, relations, rotate, translate } from "../../web/many.js";
+import { bytes, loadedWithMemory } from "./loaded.mjs";
 import { random_of } from "./plain.mjs";
+import { end, tried } from "./tried.mjs";
 
 const { load } = faults, FAR = 2 ** 40;
-const bytes = readFileSync(new URL(`../../web/out/${process.env.MODULE ?? "hull.wasm"}`, import.meta.url));
 const { Hull, Polygon } = await load(bytes);
-let passed = 0, failed = 0;
-async function tried(name, run) {
-    try {
-        await run();
-        passed++;
-        console.log(`${name}: ok`);
-    } catch (error) {
-        failed++;
-        console.log(`${name}: FAILED, ${String(error.stack).split("\n").slice(0, 8).join(" ")}`);
-    }
-}
 const square = [[0, 0], [10, 0], [10, 10], [0, 10]], random = random_of(17), whole = (most) => random(2 * most + 1) - most;
 
 await tried("each operand at both ends of its range, and one beyond", () => {
@@ -114,15 +103,19 @@ await tried("what features and witnesses have as many points as belong to them",
     assert.equal(seen.size, 8);
     const other = new Polygon([[0, 0], [4, 4]]), none = new Polygon([]);
     assert.deepEqual([none.witness(other), none.distance(other), none.nearest(1, 1), none.boundingBox(), none.diameter(), none.widthAlong(1, 1),
-        none.squaredDistance(other)], Array(7).fill(null));
+        none.squaredDistance(other), none.separationFromSegment(0, 0, 1, 1), none.leastWidth()], Array(9).fill(null));
     assert.deepEqual([none.place(0, 0), none.tangents(1, 1), none.extreme(1, 1), none.doubledArea(), none.count()], ["outside", null, null, 0n, 0]);
 });
 await tried("polygons of two modules, and memory that is a number", async () => {
     const another = await load(bytes), stranger = new another.Polygon(square), polygon = new Polygon(square);
-    for (const call of ["relation", "intersects", "contains", "containsInside", "distance", "witness", "distanceBounds"]) {
-        assert.throws(() => polygon[call](stranger), faults.NoPolygon);
-        assert.throws(() => polygon[call](new Hull()), faults.NoPolygon);
+    const calls = ["relation", "intersects", "contains", "containsInside", "distance", "witness", "distanceBounds", "squaredDistance",
+        "withinDistance"];
+    for (const call of calls) {
+        assert.throws(() => polygon[call](stranger, 1), faults.NoPolygon, call);
+        assert.throws(() => polygon[call](new Hull(), 1), faults.NoPolygon, call);
     }
+    for (const call of [() => relations(polygon, [polygon, stranger]), () => pairsWithinDistance([polygon, stranger]),
+        () => firstMeeting(polygon, stranger, 1, 0)]) assert.throws(call, faults.NoPolygon);
     for (const memory of [0, -1, true, "5000000", null, 5000000n]) await assert.rejects(load(bytes, { memory }), faults.OutOfRange, String(memory));
     const before = globalThis.fetch;
     for (const [status, right] of [[200, true], [404, false], [500, false]]) {
@@ -133,12 +126,13 @@ await tried("polygons of two modules, and memory that is a number", async () => 
     await load(new Response(bytes)), await load(Promise.resolve(bytes)), await load(new Uint8Array(bytes).buffer);
 });
 await tried("memory is given back, on each way out", async () => {
-    const { Hull: Small, Polygon: Poly } = await load(bytes, { memory: 5 * 2 ** 20 }), points = Array.from({ length: 3000 }, (_, i) => [i, i * i]),
-        many = new Float64Array(points.flat());
+    const { Hull: Small, GrowingHull: Growing, Polygon: Poly } = await load(bytes, { memory: 5 * 2 ** 20 });
+    const points = Array.from({ length: 3000 }, (_, i) => [i, i * i]), many = new Float64Array(points.flat());
     const kept = new Small();
     kept.load(points.slice(0, 500));
     const held = kept.held(), ways = {
         "a hull": () => new Small().free(), "a filled one": () => { const it = new Small(); it.addAll(many.subarray(0, 600)); it.free(); },
+        "a growing hull": () => new Growing().free(), "a grown one": () => { const it = new Growing(); it.addAll(many); it.free(); },
         "a load": () => kept.load(many),
             "a refused load": () => assert.throws(() => { const it = new Small(5); try { it.load(many); } finally { it.free(); } }, faults.TooMany),
         "points with multiplicities": () => kept.loadHeld(held), "those in no order": () => assert.throws(() => kept.loadHeld([...held].reverse()),
@@ -148,7 +142,7 @@ await tried("memory is given back, on each way out", async () => {
         "a copy": () => kept.copy().free(), "a polygon of a hull": () => kept.polygon().free(),
     };
     for (const [name, run] of Object.entries(ways)) {
-        for (let again = 0; again < (name === "a hull" ? 60000 : 120); again++) {
+        for (let again = 0; again < (["a hull", "a growing hull"].includes(name) ? 60000 : 120); again++) {
             try {
                 run();
             } catch (error) {
@@ -157,6 +151,67 @@ await tried("memory is given back, on each way out", async () => {
         }
     }
     kept.free();
+});
+/** Throws unless each block of a memory begins where the one before ends. */
+function checkBlocks({ memory, __heap_base: base }) {
+    const view = new DataView(memory.buffer), isSize = (it) => it > 0 && it < 64;
+    let at = Math.ceil(Number(base.value) / 16) * 16, its = view.getUint32(at, true);
+    while (isSize(its)) {
+        at += 16 + (its <= 32 ? 16 * its : 2 ** (its - 23));
+        its = view.getUint32(at, true);
+    }
+    assert.equal(its, 0, `the head of a block: ${its}`);
+}
+await tried("lists of every length, each after shorter ones, of its kind or of all: what is returned is in its block", async () => {
+    const points = Array.from({ length: 700 }, (_, i) => [2 ** 30 + i, 2 ** 31 + i * i]);
+    const lists = [(it) => it.held(), (it) => it.vertices(), (it) => it.bridges(0), (it) => it.bridges(1), (it) => it.bridges(2),
+        (it) => translate(it.polygon(), 5, 7), (it) => indices(it.polygon(), points),
+        (it) => relations(it.polygon(), Array(it.count()).fill(it.polygon())),
+        (it) => intersectsSegments(it.polygon(), it.vertices().map((point) => [...point, ...point])),
+        (it) => pairsWithinDistance(Array(Math.ceil(it.count() / 20)).fill(it.polygon()))];
+    for (const drawn of [...lists.map((it) => [it]), ...Array(40).fill(lists)]) {
+        const { library, ...exports } = await loadedWithMemory(), [hull, wanted] = [new library.Hull(), new Hull()];
+        for (let count = 1; count <= points.length; count += 1 + random(count)) {
+            const list = drawn[random(drawn.length)];
+            for (const it of [hull, wanted]) it.load(points.slice(0, count));
+            assert.deepEqual(list(hull), list(wanted), `${list} of ${count} points`);
+            checkBlocks(exports);
+        }
+        wanted.free();
+    }
+    // calls of a polygon for whose vertices no list was written before
+    for (const list of [(it) => indices(it, points), (it) => translate(it, 5, 7), (it) => relations(it, Array(700).fill(it)),
+        (it) => intersectsSegments(it, points.map((point) => [...point, ...point])), (it) => pairsWithinDistance(Array(30).fill(it))]) {
+        const { library, ...exports } = await loadedWithMemory();
+        assert.deepEqual(list(new library.Polygon(points)), list(new Polygon(points)), String(list));
+        checkBlocks(exports);
+    }
+    // vertices of growing hulls
+    for (let count = 1; count <= points.length; count += 1 + random(count)) {
+        const { library, ...exports } = await loadedWithMemory(), hull = new library.GrowingHull();
+        hull.addAll(points.slice(0, count));
+        assert.deepEqual(hull.vertices(), points.slice(0, count));
+        checkBlocks(exports);
+    }
+    // lists of bridges in an array that a list of points made, whose length is no multiple of theirs
+    for (let few = 1; few <= 12; few++) {
+        const { library, ...exports } = await loadedWithMemory(), hull = new library.Hull();
+        hull.load(points.slice(0, few));
+        hull.held();
+        for (let count = 100; count <= points.length; count += 20) {
+            hull.load(points.slice(0, count));
+            for (const level of [1, 2, 3]) hull.bridges(level);
+            checkBlocks(exports);
+        }
+    }
+});
+await tried("where memory is refused to a growing hull, the places say so", async () => {
+    const { GrowingHull: Small } = await load(bytes, { memory: 3 * 2 ** 20 }), hull = new Small(), seen = new Set();
+    for (let k = 0; k < 100 && !seen.has(null); k++) {
+        for (const place of hull.addAll(Array.from({ length: 1000 }, (_, i) => [1000 * k + i, (1000 * k + i) ** 2]))) seen.add(place);
+    }
+    assert.deepEqual([...seen], ["outside", null]);
+    assert.equal(hull.place(0, 0), "on");
 });
 await tried("where memory is refused in a call on many, or in a copy, all is as before", async () => {
     const { Hull: Small } = await load(bytes, { memory: 3 * 2 ** 20 }), hull = new Small();
@@ -218,6 +273,16 @@ function grown(buffer, pages) {
     structuredClone(buffer, { transfer: [buffer] });
     return more;
 }
+await tried("the answer to a request for memory is written over all that was there", () => {
+    const memory = { buffer: new ArrayBuffer(2 ** 17), grow: () => assert.fail("it grows") }, heap = new Heap(2 ** 16), { web_alloc } = heap.imports();
+    heap.begin(memory, 4096);
+    for (const [bytes, wanted] of [[100n, [1, 4112n]], [2n ** 30n, [0, 16n]]]) {
+        const view = new DataView(memory.buffer, 64, 16);
+        new Uint8Array(memory.buffer, 64, 16).fill(255);
+        web_alloc(64n, bytes);
+        assert.deepEqual([view.getUint32(0, true), view.getBigUint64(8, true)], wanted);
+    }
+});
 await tried("blocks of the heap, by chance, beside what was written to them", () => {
     const memory = { buffer: new ArrayBuffer(2 ** 17), grow(pages) { this.buffer = grown(this.buffer, Number(pages)); } };
     const heap = new Heap(), base = 4100, blocks = new Map();
@@ -269,12 +334,30 @@ await tried("a heap with a limit, one that cannot grow, and one that grows by le
     assert.ok(heap.take(1000) > 0 && asked.at(-1) === 1 && asked.length >= 2);
     asked.length = 0;
     assert.deepEqual([heap.take(2 ** 40 + 1), heap.take(2 ** 42), asked], [0, 0, []]);
+    for (const bytes of [2 ** 24, 2 ** 24 + 1, 2 ** 31, 2 ** 32 + 1, 2 ** 39, 2 ** 40]) {
+        asked.length = 0;
+        assert.equal(heap.take(bytes), 0);
+        assert.equal(Math.floor(Math.log2(65536 * asked.at(-1))), Math.ceil(Math.log2(bytes)), `${bytes} bytes are asked for`);
+    }
     const answer = new DataView(slow.buffer), { web_alloc: alloc, web_realloc: realloc, web_dealloc: dealloc } = heap.imports(), old = heap.take(100);
     alloc(64n, 32n), assert.deepEqual([answer.getUint32(64, true), answer.getUint32(76, true)], [1, 0]);
     dealloc(BigInt(answer.getUint32(72, true))), alloc(96n, 32n), assert.equal(answer.getUint32(104, true), answer.getUint32(72, true));
     realloc(64n, BigInt(old), 100n, 2n ** 41n), assert.deepEqual([answer.getUint32(64, true), answer.getUint32(72, true)], [0, 16]);
 });
 
+await tried("results of more than 65,536 elements", async () => {
+    const points = Float64Array.from({ length: 2 * 70001 }, (_, i) => (i % 2 === 0 ? i / 2 : (i >> 1) ** 2)), hull = new Hull();
+    const isAll = (coordinates) => Buffer.from(coordinates.buffer).equals(Buffer.from(points.buffer));
+    assert.deepEqual([hull.load(points), isAll(hull.vertexArray()), isAll(Polygon.of(points).vertexArray())], [70001, true, true]);
+    const held = hull.held();
+    assert.deepEqual([held.length, held.at(-1)], [70001, { point: [70000, 70000 ** 2], multiplicity: 1 }]);
+    const pairs = pairsWithinDistance(Array.from({ length: 400 }, () => new Polygon(square)));
+    assert.deepEqual([pairs.length, pairs[0], pairs.at(-1)], [(400 * 399) / 2, [0, 1], [398, 399]]);
+    hull.free();
+    const fresh = await load(bytes); // (whose memory grows while points are stored)
+    assert.throws(() => new fresh.Polygon(new Float64Array(2 * 2 ** 20)), faults.NoPolygon);
+    assert.deepEqual(fresh.Polygon.of(square).vertices(), square);
+});
 await tried("pairs of a grid, at, within and beyond each distance", () => {
     const cells = [];
     for (let x = 0; x < 5; x++) for (let y = 0; y < 5; y++) cells.push(new Polygon([[5 * x, 7 * y], [5 * x + 2, 7 * y], [5 * x + 2, 7 * y + 3],
@@ -409,5 +492,4 @@ await tried("a replay that is full, refused or wrong, and continues", () => {
             { name: "RangeError", message: "a segment is missing: those before end at 7, and segment 9 begins at 9" });
     }
 });
-console.log(`${passed} passed, ${failed} failed`);
-process.exit(failed ? 1 : 0);
+end();

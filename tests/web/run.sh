@@ -46,7 +46,7 @@ fi
 # before Node 24 a module with a 64-bit memory has to be asked for
 set --
 [ "$(node -p 'parseInt(process.versions.node)')" -ge 24 ] || set -- --experimental-wasm-memory64
-for tests in hull work limits; do
+for tests in hull work many limits methods; do
     begin "$tests.wide" env MODULE=hull.wasm node "$@" "$here/${tests}_tests.mjs"
     [ ! -f "$top/web/out/hull32.wasm" ] || begin "$tests.narrow" env MODULE=hull32.wasm node "$here/${tests}_tests.mjs"
 done
@@ -57,7 +57,7 @@ else
 fi
 wait
 counted judge_tests.mjs said_by judge_tests.mjs
-for tests in hull work limits; do
+for tests in hull work many limits methods; do
     echo "${tests}_tests.mjs on hull.wasm"
     counted "${tests}_tests.mjs" said_by "$tests.wide"
     [ -f "$room/$tests.narrow.said" ] || continue

@@ -10,21 +10,11 @@ import { Heap } from "../../web/heap.js";
 import { Keeper } from "../../web/keep.js";
 import { Work } from "../../web/work.js";
 import { random_of } from "./plain.mjs";
+import { end, tried } from "./tried.mjs";
 
 const web = (name) => new URL(`../../web/${name}`, import.meta.url);
 const { Hull, Polygon } = await load(web(`out/${process.env.MODULE ?? "hull.wasm"}`));
 
-let passed = 0, failed = 0;
-async function tried(name, run) {
-    try {
-        const said = await run();
-        passed++;
-        console.log(`${name}: ok${said ? `, ${said}` : ""}`);
-    } catch (error) {
-        failed++;
-        console.log(`${name}: FAILED, ${String(error.stack).split("\n").slice(0, 10).join(" ")}`);
-    }
-}
 
 await tried("many polygons, and polygons that move", () => {
     const chance = random_of(5), whole = (most) => chance(2 * most + 1) - most;
@@ -513,5 +503,4 @@ await tried("colors that red-green blind people can distinguish, and contrast of
     }
     return `${distances.length} pairs`;
 });
-console.log(`${passed} passed, ${failed} failed`);
-process.exit(failed ? 1 : 0);
+end();
