@@ -466,6 +466,12 @@ enters_there S a b (Vertex c) k n h en ek = comes_there S a b c k (pos n) h.vert
 
 -- ---- results
 
+-- if the line is not crossed, and a point of S lies beside it, the ray misses S
+pub missed_beside : (S : List Pair) (a b c : Pair) → IsUncrossed S a b → Contains S c → ¬ (orient a b c ≡ pos 0) → MissesRay S a b
+missed_beside S a b c (inl h) m n = missed_left S a b h
+missed_beside S a b c (inr (inl h)) m n = missed_right S a b h
+missed_beside S a b c (inr (inr h)) m n = absurd (n (h c m))
+
 -- if the line is not crossed, and a point of S lies beside it or not ahead, the ray misses S
 pub missed_uncrossed : (S : List Pair) (a b c : Pair) → IsPointSet S → ¬ Covers S a → IsUncrossed S a b → Contains S c
     → ((orient a b c ≡ pos 0) → product (step a b) c ≤ℤ product (step a b) a) → MissesRay S a b

@@ -7,6 +7,7 @@ pub mod TwoChains
 pub mod RoundChains
 pub mod MadeEdges
 pub mod Made
+pub mod Encountered
 pub mod Ends
 pub mod FarthestOf
 pub mod EdgesAt

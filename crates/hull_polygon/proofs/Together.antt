@@ -46,7 +46,7 @@ few_beyond T W last d m o p n few first second t mt =
     ]
 
 -- a set that is disjoint from their segment is disjoint from the set
-apart_few : (S T W : List Pair) (last : ℕ) → IsPolygonOf T W → IsSeparated W last → 0 < length W → length W ≤ 2
+pub apart_few : (S T W : List Pair) (last : ℕ) → IsPolygonOf T W → IsSeparated W last → 0 < length W → length W ≤ 2
     → AreDisjoint S (segment (vertex W 0) (vertex W 1)) → AreDisjoint S T
 apart_few S T W last o p n few (d, h) = (
   d,

@@ -1,8 +1,10 @@
 -- The two ends of a segment in order, and a single end, are the polygon of their set.
 use Rattle.std.proofs.Common.{◌≡◌, ℕ, zero, suc, ◌<◌, ◌≤◌, List, [], ◌∷◌, length, take, inl, inr, refl, sym, ap, ◌∙◌, subst}
-use Rattle.std.proofs.Common.{arith}
-use Rattle.lattice.specs.Covers.{IsPointSet}
-use Rattle.lattice.specs.Plane.{Pair, IsBefore}
+use Rattle.std.proofs.Common.{ℤ, ◌≤ℤ◌, get_or, arith}
+use Rattle.std.proofs.lemmas.Int.{ints}
+use Rattle.lattice.specs.Covers.{IsExtreme, IsPointSet}
+use Rattle.lattice.specs.Places.{IsFarthest}
+use Rattle.lattice.specs.Plane.{Pair, IsBefore, product}
 use Rattle.lattice.proofs.Order.{before_irrefl, before_not, before_total, is_before-true, is_before-false}
 use Rattle.hull_geometry.specs.Positions.{point_at}
 use Rattle.hull_geometry.proofs.Rounding.{small_list}
@@ -11,6 +13,7 @@ use Rattle.hull_polygon.specs.Polygons.{IsPolygonOf}
 use Rattle.hull_polygon.specs.Rounds.{GoesOn, BendsLeft, IsSeparated, IsRound}
 use Rattle.hull_polygon.specs.Segments.{ends}
 use Rattle.hull_polygon.proofs.Made.{own_polygon}
+use Rattle.hull_polygon.proofs.Vertices.{vertex_extreme}
 
 -- ---- the set of the ends
 
@@ -74,6 +77,23 @@ ends_polygon a b = elim (before_total a b) [
   | inr (inr h) ↦ subst (λ (z : List Pair). IsPolygonOf z z) (sym (ends_turned a b h))
       (two_polygon b a h (subst IsPointSet (ends_turned a b h) (ends_ordered a b)))
 ]
+
+-- one point twice is a vertex of its set
+pub alone_extreme : (p : Pair) → IsExtreme (ends p p) p
+alone_extreme p =
+    rw (ends_alone p) (vertex_extreme (p ∷ []) (p ∷ []) 0
+    (one_polygon p (subst IsPointSet (ends_alone p) (ends_ordered p p))).1 (omega arith))
+
+-- none of its set is farther
+pub alone_farthest : (p d : Pair) → IsFarthest (ends p p) d p
+alone_farthest p d = rw (ends_alone p) at
+  where
+    same : (x : ℤ) → x ≤ℤ x
+    same x = omega (arith, ints)
+
+    at : (k : ℕ) (z : Pair) → suc k ≤ 1 → product d (get_or (p ∷ []) k z) ≤ℤ product d p
+    at zero z l = same (product d p)
+    at (suc k) z l = absurd (omega (arith, l))
 
 -- there are at most two ends
 pub ends_few : (a b : Pair) → length (ends a b) ≤ 2

@@ -58,7 +58,7 @@ fn by_this(c: Point, place: Nearest) -> Distance
 }
 
 /// Returns the distance, by the closest vertex of the other hull and the nearest feature of this one.
-fn by_other(d: Point, place: Nearest) -> Distance
+pub(crate) fn by_other(d: Point, place: Nearest) -> Distance
     ensures { (S T : List Pair) → IsClosest T S d place → IsDistance S T result }
 {
     match place {

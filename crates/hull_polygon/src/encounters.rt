@@ -135,9 +135,12 @@ impl<'a> Polygon<'a> {
         if self.vertices.is_empty() {
             return false;
         }
-        match self.meeting_with_segment(a, b) {
-            Some(_) => true,
-            None => false,
+        match self.encounter(a, b) {
+            Encounter::Met(_) => true,
+            Encounter::OnRight(_) => false,
+            Encounter::OnLeft(_) => false,
+            Encounter::Behind => false,
+            Encounter::Beyond => false,
         }
     }
 }

@@ -1,5 +1,5 @@
 //! Whether two hulls intersect, and a common point.
-ghost use Rattle.std.specs.Prelude.{◌↔◌, IsTrue, IfSome, ◌<◌, length, List, MatchOption};
+ghost use Rattle.std.specs.Prelude.{◌↔◌, IsTrue, IfSome, ◌<◌, ◌≤◌, length, List, MatchOption};
 ghost use Rattle.std.specs.List.{Contains};
 ghost use Rattle.lattice.specs.Plane.{Pair};
 ghost use Rattle.lattice.specs.Covers.{Covers};
@@ -167,8 +167,21 @@ impl<'a> Polygon<'a> {
         None
     }
 
-    /// Returns a common point of this hull and `other`, if there is one; both have at least one vertex. If `other` is a point or
-    /// a segment, its edges are asked at once.
+    /// Returns a common point of this hull and `other`, which is a point or a segment, if there is one. A question of a
+    /// segment.
+    fn meeting_with_few(&self, other: &Polygon) -> Option<Meeting>
+        requires this { 0 < length (vertices_of self.now) }
+        requires that { 0 < length (vertices_of other.now) }
+        requires few { length (vertices_of other.now) ≤ 2 }
+        ensures { HoldsOfBoth (vertices_of self.now) (vertices_of other.now)
+            (λ S T. MatchOption result (AreDisjoint S T) (λ m. IsMeeting S T m)) }
+    {
+        let start = vertex_at(other.vertices, 0);
+        let end = vertex_at(other.vertices, 1);
+        self.meeting_with_segment(start, end)
+    }
+
+    /// Returns a common point of this hull and `other`, if there is one; both have at least one vertex.
     pub(crate) fn meeting(&self, other: &Polygon) -> Option<Meeting>
         requires this { 0 < length (vertices_of self.now) }
         requires that { 0 < length (vertices_of other.now) }
@@ -176,7 +189,7 @@ impl<'a> Polygon<'a> {
             (λ S T. MatchOption result (AreDisjoint S T) (λ m. IsMeeting S T m)) }
     {
         if other.vertices.len() < 3 {
-            return self.meeting_by_edges(other);
+            return self.meeting_with_few(other);
         }
         if self.is_parted(other) {
             return None;

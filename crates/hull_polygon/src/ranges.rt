@@ -1,6 +1,7 @@
 //! Whether two hulls are within a distance of each other: exactly, without a division or a root.
-ghost use Rattle.std.specs.Prelude.{◌↔◌, IsTrue, ◌<◌, ◌≤◌, ◌*◌};
-ghost use Rattle.lattice.specs.Plane.{widest_side};
+ghost use Rattle.std.specs.Prelude.{◌≡◌, ◌⊎◌, ◌↔◌, IsTrue, ◌<◌, ◌≤◌, ◌*◌, List, [], MatchOption};
+ghost use Rattle.lattice.specs.Plane.{Pair, widest_side};
+ghost use Rattle.hull_polygon.specs.Closest.{IsDistance};
 ghost use Rattle.hull_polygon.specs.Polygons.{HoldsOfBoth};
 ghost use Rattle.hull_polygon.specs.Ranges.{IsNoFarther, ReturnsWithin};
 ghost use Rattle.hull_polygon.specs.Lent.{vertices_of};
@@ -64,15 +65,23 @@ impl Distance {
     }
 }
 
+/// Whether there is a distance, and it is at most that length.
+pub(crate) fn has_distance_within(distance: Option<Distance>, length: Length) -> bool
+    ensures { (S T : List Pair) → MatchOption distance ((S ≡ []) ⊎ (T ≡ [])) (λ found. IsDistance S T found)
+        → ReturnsWithin result length S T }
+{
+    match distance {
+        Some(found) => found.is_within_distance(length),
+        None => false,
+    }
+}
+
 impl<'a> Polygon<'a> {
     /// Whether the distance of this hull and `other` is at most that length; false if either is empty. The cost is that
     /// of [`Polygon::distance`].
     pub fn is_within_distance(&self, other: &Polygon, length: Length) -> bool
         ensures { HoldsOfBoth (vertices_of self.now) (vertices_of other.now) (λ S T. ReturnsWithin result length S T) }
     {
-        match self.distance(other) {
-            Some(distance) => distance.is_within_distance(length),
-            None => false,
-        }
+        has_distance_within(self.distance(other), length)
     }
 }

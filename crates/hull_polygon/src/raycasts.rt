@@ -299,6 +299,10 @@ impl<'a> Polygon<'a> {
                 way.across(p, q)
             }
             None => {
+                let first = vertex_at(self.vertices, 0);
+                if way.is_beside(first) {
+                    return None;
+                }
                 if self.covers(way.start) {
                     return Some(hit_at_start());
                 }
@@ -342,6 +346,10 @@ impl<'a> Polygon<'a> {
         match crossing(self.vertices, self.last, &way.back()) {
             Some((p, q)) => way.out_across(p, q),
             None => {
+                let vertex = vertex_at(self.vertices, 0);
+                if way.is_beside(vertex) {
+                    return None;
+                }
                 let place = farthest_place(self.vertices, self.last, way.along);
                 way.out_at(vertex_at(self.vertices, place))
             }

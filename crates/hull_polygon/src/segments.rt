@@ -9,9 +9,9 @@ ghost use Rattle.hull_polygon.specs.Relations.{IsRelation};
 ghost use Rattle.hull_polygon.specs.Segments.{ends};
 ghost use Rattle.hull_polygon.specs.Lent.{vertices_of};
 
-use super::distance::Distance;
+use super::distance::{Distance, by_other};
 use super::polygon::Polygon;
-use super::ranges::Length;
+use super::ranges::{Length, has_distance_within};
 use super::relations::Relation;
 use lattice::{Point, before};
 
@@ -47,12 +47,24 @@ impl<'a> Polygon<'a> {
         self.relation(&segment_of(&points))
     }
 
+    /// Returns the nearest points of this hull and the hull of `q`, or `None` if this hull is empty.
+    fn distance_to_point(&self, q: Point) -> Option<Distance>
+        ensures { HoldsOfSetsOf (vertices_of self.now)
+            (λ S. MatchOption result (S ≡ []) (λ found. IsDistance S (ends q q) found)) }
+    {
+        let place = self.nearest(q)?;
+        Some(by_other(q, place))
+    }
+
     /// Returns the nearest points of this hull and the segment from `a` to `b`, or `None` if the hull is empty. The
-    /// cost is that of [`Polygon::distance`].
+    /// cost is that of [`Polygon::distance`], and of one point that of [`Polygon::nearest`].
     pub fn distance_to_segment(&self, a: Point, b: Point) -> Option<Distance>
         ensures { HoldsOfSetsOf (vertices_of self.now)
             (λ S. MatchOption result (S ≡ []) (λ found. IsDistance S (ends a b) found)) }
     {
+        if a == b {
+            return self.distance_to_point(a);
+        }
         let points = in_order(a, b);
         self.distance(&segment_of(&points))
     }
@@ -62,7 +74,6 @@ impl<'a> Polygon<'a> {
     pub fn is_within_distance_of_segment(&self, a: Point, b: Point, length: Length) -> bool
         ensures { HoldsOfSetsOf (vertices_of self.now) (λ S. ReturnsWithin result length S (ends a b)) }
     {
-        let points = in_order(a, b);
-        self.is_within_distance(&segment_of(&points), length)
+        has_distance_within(self.distance_to_segment(a, b), length)
     }
 }

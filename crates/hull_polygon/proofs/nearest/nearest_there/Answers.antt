@@ -1,5 +1,5 @@
 -- the vertex, if q lies in the direction of neither of those beside it, or the edge, if q lies beside it
-use Rattle.std.proofs.Common.{◌≡◌, ◌<◌, ◌+◌, ◌∙◌, sym, subst, length, arith, false, true, ap}
+use Rattle.std.proofs.Common.{◌≡◌, ◌<◌, ◌+◌, ◌∙◌, sym, subst, length, arith, false, true}
 use Rattle.lattice.specs.Plane.{Pair}
 use Rattle.lattice.proofs.Tests.{passed}
 use Rattle.hull_set.specs.PointLists.{is_same_pair}

@@ -1,5 +1,5 @@
 -- the vertex, the feature that is nearest to it, and that no point of its hull lies farther in that direction
-use Rattle.std.proofs.Common.{◌≡◌, ◌<◌, length, sym, subst, arith}
+use Rattle.std.proofs.Common.{sym, subst, arith}
 use Rattle.lattice.specs.Covers.{IsExtreme}
 use Rattle.lattice.specs.Places.{IsFarthest}
 use Rattle.lattice.specs.Plane.{Pair}

@@ -7,6 +7,7 @@ use Rattle.hull_polygon.specs.Polygons.{IsPolygonOf}
 use Rattle.hull_polygon.specs.Segments.{ends}
 use Rattle.hull_polygon.specs.declared.distance.Distance.{Distance}
 use Rattle.hull_polygon.proofs.TwoPoints.{ends_polygon, ends_some}
+use Rattle.hull_set.proofs.HeldMultiplicities.{returned_same}
 use Rattle.hull_polygon.proofs.polygon.Polygon.distance_to_segment.Goals as goal
 
 -- if the second of two sets is not empty, they have no nearest points only if the first is empty
@@ -16,6 +17,11 @@ of_first : (r : Option Distance) (S T : List Pair) → ¬ (T ≡ [])
 of_first None S T n (inl e) = e
 of_first None S T n (inr e) = absurd (n e)
 of_first (Some found) S T n h = h
+
+pub returns-then-eq : goal.returns-then-eq
+returns-then-eq c = λ S o.
+    subst (λ (z : Pair). MatchOption c.distance_to_point.result (S ≡ []) (λ found. IsDistance S (ends c.args.a z) found))
+    (returned_same _ _ (sym c.eq.ensures ∙ c.if-eq.true)) (c.distance_to_point.ensures S o)
 
 pub returns : goal.returns
 returns c = λ S o.

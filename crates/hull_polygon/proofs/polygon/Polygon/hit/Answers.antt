@@ -1,6 +1,9 @@
 -- a start that is covered is the entry; else the path enters across its line, or along it
 use Rattle.std.proofs.Common.{refl}
+use Rattle.std.specs.List.{Contains}
+use Rattle.hull_polygon.specs.Raycasts.{moved}
 use Rattle.hull_polygon.specs.Rounds.{vertex}
+use Rattle.hull_polygon.proofs.Casting.{missed_beside}
 use Rattle.lattice.specs.Covers.{IsExtreme}
 use Rattle.std.proofs.Common.{sym, subst}
 use Rattle.hull_polygon.proofs.Vertices.{vertex_extreme}
@@ -34,6 +37,12 @@ pub returns-else-covers_start : goal.returns-else-covers_start
 returns-else-covers_start c = λ S o.
     c.across.ensures S o.0
     (failed _ _ c.if-covers_start.false (c.covers_start.ensures S o (c.in-Some.ensures S o).left)) (c.in-Some.ensures S o)
+
+pub returns-then-is_beside : goal.returns-then-is_beside
+returns-then-is_beside c = λ S o.
+    missed_beside S c.args.way.now.start (moved c.args.way.now.start c.args.way.now.along) _ (c.in-None.ensures S o)
+    (subst (Contains S) (sym c.vertex_at-first.ensures) (vertex_extreme S c.args.self.now.vertices.now 0 o.1 c.requires).0)
+    (passed _ _ c.if-is_beside.true c.is_beside.ensures)
 
 pub returns-else-covers : goal.returns-else-covers
 returns-else-covers c = λ S o.

@@ -1,12 +1,19 @@
--- the ends are the polygon of their set
-use Rattle.std.proofs.Common.{sym, ◌∙◌, subst}
-use Rattle.hull_polygon.specs.Polygons.{IsPolygonOf}
+-- the distance is that of the segment's ends, of which there is at least one
+use Rattle.std.proofs.Common.{◌≡◌, List, [], Option, None, Some, inl}
+use Rattle.std.specs.Prelude.{◌⊎◌, MatchOption}
+use Rattle.lattice.specs.Plane.{Pair}
+use Rattle.hull_polygon.specs.Closest.{IsDistance}
 use Rattle.hull_polygon.specs.Segments.{ends}
-use Rattle.hull_polygon.proofs.TwoPoints.{ends_polygon}
+use Rattle.hull_polygon.specs.declared.distance.Distance.{Distance}
 use Rattle.hull_polygon.proofs.polygon.Polygon.is_within_distance_of_segment.Goals as goal
+
+-- if there is no distance, one of the two sets is empty
+of_either : (r : Option Distance) (S T : List Pair) → MatchOption r (S ≡ []) (λ found. IsDistance S T found)
+    → MatchOption r ((S ≡ []) ⊎ (T ≡ [])) (λ found. IsDistance S T found)
+of_either None S T h = inl h
+of_either (Some found) S T h = h
 
 pub returns : goal.returns
 returns c = λ S o.
     let T = ends c.args.a c.args.b in
-    c.is_within_distance.ensures S o T
-    (subst (IsPolygonOf T) (sym (c.segment_of.ensures ∙ c.in_order-points.ensures.same)) (ends_polygon c.args.a c.args.b))
+    c.has_distance_within.ensures S T (of_either c.distance_to_segment.result S T (c.distance_to_segment.ensures S o))

@@ -1,17 +1,13 @@
 -- if there is no common point, the segment's normal separates the two, or a direction that separates the nearer end
-use Rattle.hull_polygon.proofs.Shields.{apart_behind, apart_beyond, separated_right, parts_turned}
-use Rattle.hull_polygon.specs.Steps.{left_of}
+use Rattle.hull_polygon.proofs.Encountered.{apart_on_right, apart_on_left}
+use Rattle.hull_polygon.proofs.Shields.{apart_behind, apart_beyond}
 use Rattle.hull_polygon.proofs.polygon.Polygon.meeting_with_segment.Goals as goal
 
 pub returns-in-OnRight : goal.returns-in-OnRight
-returns-in-OnRight c = λ S o.
-    let h = c.in-OnRight.ensures S o in
-    (left_of c.args.a c.args.b, separated_right S c.args.a c.args.b _ h.0 h.1)
+returns-in-OnRight c = λ S o. apart_on_right S c.args.a c.args.b _ (c.in-OnRight.ensures S o)
 
 pub returns-in-OnLeft : goal.returns-in-OnLeft
-returns-in-OnLeft c = λ S o.
-    let h = c.in-OnLeft.ensures S o in
-    (left_of c.args.b c.args.a, parts_turned S _ c.args.a c.args.b (separated_right S c.args.b c.args.a _ h.0 h.1))
+returns-in-OnLeft c = λ S o. apart_on_left S c.args.a c.args.b _ (c.in-OnLeft.ensures S o)
 
 pub returns-in-Behind : goal.returns-in-Behind
 returns-in-Behind c = λ S o. apart_behind S c.args.a c.args.b o.0 (c.in-Behind.ensures S o)

@@ -1,13 +1,16 @@
 -- the path exits where the opposite path would enter
-use Rattle.std.proofs.Common.{arith, sym, subst}
+use Rattle.std.proofs.Common.{None, arith, sym, subst}
+use Rattle.std.specs.List.{Contains}
 use Rattle.lattice.specs.Covers.{IsExtreme}
 use Rattle.lattice.specs.Places.{IsFarthest}
 use Rattle.hull_polygon.specs.Raycasts.{moved}
+use Rattle.hull_polygon.proofs.Casting.{missed_beside}
 use Rattle.hull_polygon.proofs.Vertices.{vertex_extreme}
 use Rattle.hull_polygon.proofs.Ends.{no_vertices}
 use Rattle.hull_polygon.proofs.Hits.{crossed_back, goes_over, last_along, not_crossed_back, nothing_there}
 use Rattle.hull_polygon.proofs.Leaving.{uncrossed_back}
 use Rattle.hull_polygon.proofs.Made.{separated_is_polygon}
+use Rattle.lattice.proofs.Tests.{passed}
 use Rattle.hull_polygon.proofs.polygon.Polygon.raycast_exit.Goals as goal
 
 pub returns-then-is_empty : goal.returns-then-is_empty
@@ -27,8 +30,18 @@ returns-in-Some c = λ S o.
     (c.out_across.ensures S
     (crossed_back S _ _ c.args.start c.along.result _ _ c.back.ensures.start c.back.ensures.along (c.in-Some.ensures S o)))
 
-pub returns-in-None : goal.returns-in-None
-returns-in-None c = λ S o.
+pub returns-then-is_beside : goal.returns-then-is_beside
+returns-then-is_beside c = λ S o.
+    last_along S c.args.start c.along.result c.args.direction None c.along.ensures
+    (missed_beside S c.args.start (moved c.args.start c.along.result) c.vertex_at-vertex.result
+    (uncrossed_back S c.args.start c.along.result
+    (not_crossed_back S _ _ c.args.start c.along.result c.back.ensures.start c.back.ensures.along (c.in-None.ensures S o)))
+    (subst (Contains S) (sym c.vertex_at-vertex.ensures)
+    (vertex_extreme S c.args.self.now.vertices.now 0 o.1 (grind (arith, c.is_empty.ensures, c.if-is_empty.false))).0)
+    (passed _ _ c.if-is_beside.true c.is_beside.ensures))
+
+pub returns-else-is_beside : goal.returns-else-is_beside
+returns-else-is_beside c = λ S o.
     let V = c.args.self.now.vertices.now in
     let i = c.farthest_place-place.result in
     last_along S c.args.start c.along.result c.args.direction _ c.along.ensures
