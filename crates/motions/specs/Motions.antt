@@ -1,7 +1,8 @@
 -- Translations and rotations of the plane.
-use Rattle.std.specs.Prelude.{ℤ, ◌+ℤ◌, ◌-ℤ◌, ◌*ℤ◌, List}
+use Rattle.std.specs.Prelude.{ℕ, ◌<◌, ℤ, ◌+ℤ◌, ◌-ℤ◌, ◌*ℤ◌, List, length}
 use Rattle.std.specs.List.{All}
-use Rattle.lattice.specs.Plane.{Pair, IsInRange}
+use Rattle.lattice.specs.Plane.{Pair, IsBefore, IsInRange}
+use Rattle.hull_geometry.specs.Positions.{point_at}
 use Rattle.motions.specs.declared.motion.Motion.{Motion}
 use Rattle.motions.specs.declared.motion.Motion.TheVariants.{Translation, Rotation}
 
@@ -21,3 +22,8 @@ moved (Rotation d) p = rotated d p
 -- each point is in range after the motion
 abbrev pub AllMoveInRange : Motion → List Pair → Type 0
 AllMoveInRange motion points = All (λ p. IsInRange (moved motion p)) points
+
+-- k is the index of a point, if there is one, and no other is before that one after the motion
+abbrev pub IsFirstMoved : Motion → List Pair → ℕ → Type 0
+IsFirstMoved motion points k =
+    (i : ℕ) → i < length points → (k < length points) × ¬ IsBefore (moved motion (point_at points i)) (moved motion (point_at points k))

@@ -15,5 +15,6 @@
 
 mod motion;
 mod points;
+mod steps;
 
 pub use motion::Motion;

@@ -76,14 +76,26 @@ impl Motion {
         }
     }
 
+    /// Returns the coordinates of the point that `p` is moved to, which is in range.
+    pub fn coordinates_in_range(&self, p: Point) -> (i64, i64)
+        requires { IsInRange (moved self.now p) }
+        ensures { (result.0 ≡ (moved self.now p).x) × (result.1 ≡ (moved self.now p).y) }
+    {
+        match *self {
+            Motion::Translation { dx, dy } => (p.x() + dx, p.y() + dy),
+            Motion::Rotation(d) => (rotated_x(d, p) as i64, rotated_y(d, p) as i64),
+        }
+    }
+
     /// Returns the point that `p` is moved to, which is in range.
     pub fn apply_in_range(&self, p: Point) -> Point
         requires { IsInRange (moved self.now p) }
         ensures { result ≡ moved self.now p }
     {
-        match self.apply(p) {
-            Some(q) => q,
-            None => unreachable!(),
+        let (x, y) = self.coordinates_in_range(p);
+        match Point::new(x, y) {
+            Ok(q) => q,
+            Err(_) => unreachable!(),
         }
     }
 }

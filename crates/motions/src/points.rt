@@ -1,16 +1,17 @@
 //! Points in a row after a motion.
-ghost use Rattle.std.specs.Prelude.{◌≡◌, ◌↔◌, ℕ, ◌<◌, length, IsTrue};
+ghost use Rattle.std.specs.Prelude.{◌↔◌, ℕ, ◌<◌, length, IsTrue, MatchOption};
 ghost use Rattle.lattice.specs.Plane.{IsBefore};
 ghost use Rattle.hull_geometry.specs.Positions.{point_at};
 
 use super::motion::Motion;
+use super::steps::{are_below_limit, are_steps};
 use lattice::{Point, before};
 
 impl Motion {
-    ghost use Rattle.motions.specs.Motions.{moved, AllMoveInRange};
+    ghost use Rattle.motions.specs.Motions.{moved, AllMoveInRange, IsFirstMoved};
 
-    /// Whether all of the points are in range after this motion. O(n).
-    pub fn keeps_in_range(&self, points: &[Point]) -> bool
+    /// Whether each of the points is in range after this motion, one after another.
+    fn keeps_each(&self, points: &[Point]) -> bool
         ensures { IsTrue result ↔ AllMoveInRange self.now points.now }
     {
         for p in points {
@@ -21,13 +22,37 @@ impl Motion {
         true
     }
 
-    /// Returns the point that the one at an index is moved to.
-    pub fn at(&self, points: &[Point], i: usize) -> Point
-        requires kept { AllMoveInRange self.now points.now }
-        requires within { i < length points.now }
-        ensures { result ≡ moved self.now (point_at points.now i) }
+    /// Whether all of the points are in range after this motion. O(n).
+    pub fn keeps_in_range(&self, points: &[Point]) -> bool
+        ensures { IsTrue result ↔ AllMoveInRange self.now points.now }
     {
-        self.apply_in_range(points[i])
+        if let Motion::Translation { dx, dy } = *self {
+            if are_steps(dx, dy) && are_below_limit(dx, dy, points) {
+                return true;
+            }
+        }
+        self.keeps_each(points)
+    }
+
+    /// Returns the index of a point before which there is no other after this motion, by x and then y; 0 if there is no
+    /// point, and `None` if one is out of range. O(n).
+    pub fn first_in_range(&self, points: &[Point]) -> Option<usize>
+        ensures { MatchOption result (¬ AllMoveInRange self.now points.now)
+            (λ k. AllMoveInRange self.now points.now × IsFirstMoved self.now points.now k) }
+    {
+        if points.is_empty() {
+            return Some(0);
+        }
+        let mut first = 0;
+        let mut start = self.apply(points[0])?;
+        for i in 1..points.len() {
+            let q = self.apply(points[i])?;
+            if before(q, start) {
+                first = i;
+                start = q;
+            }
+        }
+        Some(first)
     }
 
     /// Returns the index of a point before which there is no other after this motion, by x and then y. O(n).
@@ -38,12 +63,9 @@ impl Motion {
         ensures first { (i : ℕ) → i < length points.now
             → ¬ IsBefore (moved self.now (point_at points.now i)) (moved self.now (point_at points.now result)) }
     {
-        let mut first = 0;
-        for i in 1..points.len() {
-            if before(self.at(points, i), self.at(points, first)) {
-                first = i;
-            }
+        match self.first_in_range(points) {
+            Some(first) => first,
+            None => unreachable!(),
         }
-        first
     }
 }

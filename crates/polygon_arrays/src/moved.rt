@@ -1,6 +1,6 @@
 //! Polygons that are translated and rotated.
 ghost use Rattle.std.specs.Prelude.{◌≡◌, ◌++◌, length, map};
-ghost use Rattle.motions.specs.Motions.{moved, AllMoveInRange};
+ghost use Rattle.motions.specs.Motions.{moved, AllMoveInRange, IsFirstMoved};
 ghost use Rattle.hull_reply.specs.Encoded.{IsNumber};
 ghost use Rattle.polygon_arrays.specs.Moved.{EncodesRotated, EncodesTranslated, IsFromFirst};
 
@@ -15,7 +15,8 @@ fn write_moved(motion: &Motion, points: &[Point], out: &mut [HullPoint])
     ensures { out.new ≡ map (moved motion.now) points.now }
 {
     for i in 0..points.len() {
-        out[i] = HullPoint::of(motion.at(points, i));
+        let (x, y) = motion.coordinates_in_range(points[i]);
+        out[i] = HullPoint { x, y };
     }
 }
 
@@ -30,15 +31,15 @@ fn move_all(motion: &Motion, points: &mut [Point])
 }
 
 /// Writes the points after a motion to an array for as many, from the first one on by x and then y, and round.
-fn write_from_first(motion: &Motion, points: &[Point], out: &mut [HullPoint])
+fn write_from_first(motion: &Motion, points: &[Point], first: usize, out: &mut [HullPoint])
     requires kept { AllMoveInRange motion.now points.now }
+    requires first { IsFirstMoved motion.now points.now first }
     requires long { length out.old ≡ length points.now }
     ensures { IsFromFirst motion.now points.now out.new }
 {
     if points.is_empty() {
         return;
     }
-    let first = motion.first_of(points);
     let (front, rest) = out.split_at_mut(points.len() - first);
     write_moved(motion, &points[first..], front);
     write_moved(motion, &points[..first], rest);
@@ -89,9 +90,9 @@ pub fn rotate(vertices: &[Point], a: i64, b: i64, out: &mut [HullPoint]) -> Hull
         Ok(d) => Motion::Rotation(d),
         Err(fault) => return HullReply::bare(fault),
     };
-    if !motion.keeps_in_range(vertices) {
+    let Some(first) = motion.first_in_range(vertices) else {
         return HullReply::bare(Code::OutOfRange);
-    }
-    write_from_first(&motion, vertices, out);
+    };
+    write_from_first(&motion, vertices, first, out);
     written(vertices.len())
 }

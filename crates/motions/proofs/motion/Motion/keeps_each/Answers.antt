@@ -5,7 +5,7 @@ use Rattle.std.proofs.lemmas.Bool.{cases_lt}
 use Rattle.lattice.specs.Plane.{Pair, IsInRange}
 use Rattle.hull_geometry.proofs.PointLists.{get_or_free}
 use Rattle.motions.specs.Motions.{moved}
-use Rattle.motions.proofs.motion.Motion.keeps_in_range.Goals as goal
+use Rattle.motions.proofs.motion.Motion.keeps_each.Goals as goal
 
 -- a point that was returned is in range
 in_range : (r : Option Pair) (q : Pair) → is_some r ≡ true → MatchOption r (¬ IsInRange q) (λ p. (p ≡ q) × IsInRange q) → IsInRange q
