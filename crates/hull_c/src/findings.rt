@@ -21,6 +21,7 @@ fn separated(found: Separation) -> HullReply
 }
 
 /// Whether the convex polygon and the segment from `a` to `b` intersect.
+#[inline(always)]
 fn whether(vertices: &[Point], a: Point, b: Point) -> HullReply
     requires { IsShortPolygon vertices.now }
     ensures { EncodesWhether vertices.now a b result }
@@ -44,6 +45,7 @@ fn split(vertices: &[Point], a: Point, b: Point) -> HullReply
 }
 
 /// Whether the convex polygon and the segment from `a` to the point of two numbers intersect.
+#[inline(always)]
 fn whether_to(vertices: &[Point], a: Point, x: i64, y: i64) -> HullReply
     requires { IsShortPolygon vertices.now }
     ensures { IsEncodedOf x y (EncodesWhether vertices.now a) result }
@@ -66,6 +68,7 @@ fn split_to(vertices: &[Point], a: Point, x: i64, y: i64) -> HullReply
 }
 
 /// Whether the convex polygon and the segment between the points of four numbers intersect.
+#[inline(always)]
 pub(crate) fn intersects_segment(
     vertices: &[Point],
     ax: i64,

@@ -41,6 +41,7 @@ fn box_of(vertices: &[Point], last: usize) -> (Point, Point)
 impl<'a> Polygon<'a> {
     /// Returns the least and the greatest vertex of the smallest box, with sides along the axes, that contains the set,
     /// or `None` if the set is empty. Two bisections.
+    #[inline]
     pub fn bounding_box(&self) -> Option<(Point, Point)>
         ensures { HoldsOfSetsOf (vertices_of self.now)
             (λ S. MatchOption result (S ≡ []) (λ ends. IsBox S ends.0 ends.1)) }
