@@ -69,7 +69,7 @@ for (const line of ["0 add 2 2 = again 2", "0 add 1 1 = added", "0 remove 1 1 = 
             assert.equal(replay.go(4), 2);
             assert.equal(replay.wrong.index, 2);
             assert.deepEqual([[...hull.held], [...replay.held]], [[["1 1", 2]], [["1 1", 2]]]);
-            assert.equal(replay.go(0), 0);
+            assert.equal(replay.go(-round), 0);
             assert.deepEqual([hull.held.size, replay.held.size], [0, 0]);
         }
     });
