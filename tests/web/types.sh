@@ -11,24 +11,39 @@ cp "$here/typed.ts" "$here/exact.ts" "$here/mistyped.ts" "$room"
 echo '{"type": "module"}' >"$room/package.json"
 cd "$room" || exit 1
 
-# TARGET MODULE RESOLUTION SKIPS FILE..
-compiled() {
-    target=$1 module=$2 resolution=$3 skips=$4
-    shift 4
-    tsc --strict --noEmit --lib "$target,DOM" --target "$target" --module "$module" --moduleResolution "$resolution" --skipLibCheck "$skips" "$@" 2>&1
+# writes a project: NAME FILES TARGET MODULE RESOLUTION SKIPS; the libraries of tsc itself are not checked
+project() {
+    echo "{\"files\": [$2], \"compilerOptions\": {\"strict\": true, \"noEmit\": true, \"lib\": [\"$3\", \"DOM\"], \"target\": \"$3\", \"module\": \"$4\"," \
+        "\"moduleResolution\": \"$5\", \"skipLibCheck\": $6, \"skipDefaultLibCheck\": true}}" >"$1.json"
 }
 
 # (what compiles without skipLibCheck and did not with it would be a surprise: once is enough)
-for words in 'ES2020 ES2020 node false' 'ES2020 node16 node16 false' 'ES2021 ES2020 node false' 'ES2022 node16 node16 false' \
-    'ESNext ESNext node false' 'ESNext node16 node16 true'; do
+choices='ES2020 ES2020 node false
+ES2020 node16 node16 false
+ES2021 ES2020 node false
+ES2022 node16 node16 false
+ESNext ESNext node false
+ESNext node16 node16 true'
+while read -r words; do
     # shellcheck disable=SC2086 # the words are separated by spaces
-    if output=$(compiled $words typed.ts exact.ts); then
+    project "$(echo "$words" | tr ' ' -)" '"typed.ts", "exact.ts"' $words
+done <<END
+$choices
+END
+# all in one run, which reads the libraries of tsc once; which of them fail is asked of each
+tsc --build --verbose ES*.json >"$room/output" 2>&1 && [ "$(grep -c ' - Building project ' "$room/output")" -eq "$(echo "$choices" | wc -l)" ]
+built=$?
+while read -r words; do
+    if [ "$built" -eq 0 ] || tsc --project "$(echo "$words" | tr ' ' -).json" >"$room/output" 2>&1; then
         said "types, $words" ok
     else
-        said "types, $words" "FAILED, $(echo "$output" | head -5)"
+        said "types, $words" "FAILED, $(head -5 "$room/output")"
     fi
-done
-faults=$(compiled ES2022 ES2022 node false mistyped.ts | grep -o '^mistyped.ts([0-9]*' | sort -u | wc -l)
+done <<END
+$choices
+END
+project mistyped '"mistyped.ts"' ES2022 ES2022 node false
+faults=$(tsc --project mistyped.json 2>&1 | grep -o '^mistyped.ts([0-9]*' | sort -u | wc -l)
 lines=$(grep -c '; // wrong' mistyped.ts)
 came 'types, how many of the wrong lines are refused' "$faults" "$lines"
-echo "$passed passed, $failed failed"
+end
