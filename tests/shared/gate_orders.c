@@ -14,7 +14,8 @@
  * is over, or something is left in the gate in the end; and from each state some order leads to the end in which no sleeper wakes early.
  *
  * A state is the bytes of the gate, of the seats and of the threads' stacks. It is explored once, depth first; of states that were explored
- * only a hash of 128 bits is kept. Needs x86-64. */
+ * only a hash of 128 bits is kept. The search ends at the first state that is not the end and from which no step is possible, but for a
+ * sleeper that wakes early. Needs x86-64. */
 #ifndef GATE
 #define GATE "../../c/gate.c"
 #endif
@@ -30,7 +31,7 @@
 #include <stdio.h>
 #include <stdlib.h>
 
-enum { MOST = 8, SLOTS = 48, STACK = 4096, TICK = HULL_SHARED_TURN + 1 };
+enum { MOST = 8, SLOTS = 48, TIMES = 3 /* that a call may take a number */, STACK = 4096, TICK = HULL_SHARED_TURN + 1 };
 
 /* ---- what a state is made of */
 
@@ -50,10 +51,10 @@ struct thread {
 };
 
 static struct world {
-    struct seat seats[MOST];
-    struct thread threads[MOST];
     uint64_t clock;
     uint32_t is_hook_running, ticks, early, passed;
+    struct thread threads[MOST];
+    struct seat seats[MOST];
 } world;
 
 static hull_shared_gate storage;
@@ -61,7 +62,7 @@ static struct gate *const gate = (struct gate *)&storage;
 static _Alignas(16) uint64_t stacks[MOST][STACK / 8];
 
 /* What does not change in a run. */
-static unsigned many, calls, space, ticks, early, is_relaxed_a_step;
+static unsigned many, calls, space, ticks, early, is_relaxed_a_step, is_at_random;
 static const char *modes;
 static uint64_t *scheduler_sp;
 static unsigned current = MOST;
@@ -87,7 +88,9 @@ static void run_thread(unsigned k) {
     switch_stacks(&scheduler_sp, world.threads[k].sp);
     current = MOST;
     /* what the thread has left below its stack does not distinguish two states */
-    memset(stacks[k], 0, (size_t)((unsigned char *)world.threads[k].sp - (unsigned char *)stacks[k]));
+    if (!is_at_random) {
+        memset(stacks[k], 0, (size_t)((unsigned char *)world.threads[k].sp - (unsigned char *)stacks[k]));
+    }
 }
 
 static void yield(void) {
@@ -279,17 +282,26 @@ static int is_end(void) {
 
 /* ---- every order */
 
-/* The bytes of a state, in a row. */
+/* The bytes of a state, in a row: the parts that are always there, and then the stacks. */
 struct part {
     void *at;
     size_t size;
 };
 
+enum { ALWAYS = 5, MOST_PARTS = ALWAYS + MOST };
+
+/* The slots of the numbers that the calls can take: a call that finds no space takes another one later. */
+static size_t slots_of_calls(void) {
+    const size_t most = FIRST_NUMBER + TIMES * (size_t)many * calls + 1;
+    return most < SLOTS ? most : SLOTS;
+}
+
 static unsigned parts_of(struct part *parts) {
     unsigned n = 0;
-    parts[n++] = (struct part){&storage, offsetof(struct gate, slots) + SLOTS * sizeof(struct slot)};
+    parts[n++] = (struct part){&storage, offsetof(struct gate, slots) + slots_of_calls() * sizeof(struct slot)};
     parts[n++] = (struct part){gate->nodes, many * sizeof *gate->nodes};
-    parts[n++] = (struct part){&world, sizeof world};
+    parts[n++] = (struct part){&world, offsetof(struct world, threads) + many * sizeof *world.threads};
+    parts[n++] = (struct part){world.seats, many * sizeof *world.seats};
     parts[n++] = (struct part){&book, sizeof book};
     for (unsigned k = 0; k < many; k++) {
         uint64_t *sp = world.threads[k].sp;
@@ -302,20 +314,30 @@ typedef struct hash {
     uint64_t one, other;
 } hash;
 
+static void add_to_hash(hash *h, uint64_t word) {
+    h->one = (h->one ^ word) * 0x9e3779b97f4a7c15u;
+    h->one ^= h->one >> 29;
+    h->other = (h->other + word) * 0xbf58476d1ce4e5b9u;
+    h->other ^= h->other >> 31;
+}
+
+/* Two hashes, of each second word, since a processor computes them at the same time; and then of both together. */
 static hash hash_of_state(void) {
-    struct part parts[MOST + 4];
-    hash h = {14695981039346656037u, 88172645463325252u};
+    struct part parts[MOST_PARTS];
+    hash even = {14695981039346656037u, 88172645463325252u}, odd = even;
     const unsigned n = parts_of(parts);
     for (unsigned i = 0; i < n; i++) {
         const uint64_t *words = (const uint64_t *)parts[i].at;
-        for (size_t k = 0; k < parts[i].size / 8; k++) {
-            h.one = (h.one ^ words[k]) * 0x9e3779b97f4a7c15u;
-            h.one ^= h.one >> 29;
-            h.other = (h.other + words[k]) * 0xbf58476d1ce4e5b9u;
-            h.other ^= h.other >> 31;
+        const size_t count = parts[i].size / 8;
+        for (size_t k = 0; k + 1 < count; k += 2) {
+            add_to_hash(&even, words[k]);
+            add_to_hash(&odd, words[k + 1]);
+        }
+        if (count % 2 != 0) {
+            add_to_hash(&even, words[count - 1]);
         }
     }
-    return h;
+    return (hash){even.one ^ (odd.one * 0x94d049bb133111ebu), even.other + (odd.other << 32 | odd.other >> 32)};
 }
 
 static unsigned char *saved; /* the states on the way to this one */
@@ -331,7 +353,7 @@ static void *grow(void *block, size_t bytes) {
 }
 
 static size_t save(void) {
-    struct part parts[MOST + 4];
+    struct part parts[MOST_PARTS];
     const unsigned n = parts_of(parts);
     const size_t begin = saved_size;
     for (unsigned i = 0; i < n; i++) {
@@ -347,14 +369,14 @@ static size_t save(void) {
 
 /* Restores a state; the stacks are as long as the restored world says. */
 static void restore(size_t begin) {
-    struct part parts[MOST + 4];
+    struct part parts[MOST_PARTS];
     size_t at = begin, size = parts_of(parts);
-    for (unsigned i = 0; i < 4; i++) {
+    for (unsigned i = 0; i < ALWAYS; i++) {
         memcpy(parts[i].at, saved + at, parts[i].size);
         at += parts[i].size;
     }
     size = parts_of(parts);
-    for (unsigned i = 4; i < size; i++) {
+    for (unsigned i = ALWAYS; i < size; i++) {
         memcpy(parts[i].at, saved + at, parts[i].size);
         at += parts[i].size;
     }
@@ -445,11 +467,12 @@ static int do_all_end(void) {
     return count == known_count;
 }
 
-/* A state on the way to this one: its number, where it is saved, and the next step that was not taken from it. */
+/* A state on the way to this one: its number, where it is saved, the next step that was not taken from it, and whether one of its steps
+ * leads on without waking a sleeper early. */
 static struct frame {
     size_t saved;
     uint32_t number;
-    uint32_t step;
+    uint16_t step, leads_on;
 } *frames;
 static size_t depth, frame_capacity;
 
@@ -458,7 +481,7 @@ static void push_state(uint32_t number) {
         frame_capacity = 2 * frame_capacity + 1024;
         frames = grow(frames, frame_capacity * sizeof *frames);
     }
-    frames[depth++] = (struct frame){save(), number, 0};
+    frames[depth++] = (struct frame){save(), number, 0, 0};
 }
 
 static void explore(void) {
@@ -468,6 +491,7 @@ static void explore(void) {
         struct frame *f = &frames[depth - 1];
         uint32_t to;
         if (f->step == STEPS) {
+            fail_if(!f->leads_on && !ends[f->number], "some order leads to no end");
             saved_size = f->saved;
             depth--;
             continue;
@@ -481,6 +505,7 @@ static void explore(void) {
         to = number_of_state(&is_new);
         if (f->step < MOST || f->step == 2 * MOST) {
             add_edge(f->number, to);
+            f->leads_on = 1;
         }
         f->step++;
         if (is_new) {
@@ -488,6 +513,9 @@ static void explore(void) {
         }
     }
     fail_if(wrong == NULL && !do_all_end(), "some order leads to no end");
+    for (size_t k = slots_of_calls(); k < HULL_SHARED_SEATS_MAX; k++) {
+        fail_if(gate->slots[k].word != 0, "a slot is written that is of no call");
+    }
 }
 
 /* ---- orders at random */
@@ -538,13 +566,14 @@ int main(int words, char **word) {
     ticks = (unsigned)number_at(words, word, 6, 2);
     early = (unsigned)number_at(words, word, 7, 1);
     is_relaxed_a_step = (unsigned)number_at(words, word, 8, 1);
-    if (many < 1 || many > MOST || strlen(modes) != many || inside < 1 || (random == 0 && many * calls > SLOTS / 3)) {
+    if (many < 1 || many > MOST || strlen(modes) != many || inside < 1 || (random == 0 && many * calls > SLOTS / TIMES)) {
         fprintf(stderr, "gate_orders THREADS CALLS INSIDE MODES [SPACE TICKS EARLY RELAXED [RANDOM]]\n");
         return 2;
     }
     printf("%u threads of %u calls, %u inside, %s", many, calls, inside, modes);
     printf(space == 0 ? ": " : ", space for %u lines: ", space);
-    if (random == 0) {
+    is_at_random = random != 0;
+    if (!is_at_random) {
         begin_world(inside);
         explore();
         printf("%u states, ", known_count);

@@ -39,7 +39,7 @@ right() {
 wrong() {
     copy
     sed -i -E "$3" "$room/${4:-gate.c}"
-    if cmp -s "$room/${4:-gate.c}" "$here/../../c/${4:-gate.c}" || ! build -O1; then
+    if cmp -s "$room/${4:-gate.c}" "$here/../../c/${4:-gate.c}" || ! build -O0; then
         said "$1" "FAILED, the fault was not planted"
         return
     fi
