@@ -114,9 +114,12 @@ in_segments() {
         "$hullbook" check "$room/split"/* >"$room/verdict" 2>&1
 }
 
-# writes 60,000 random calls, with their answers, to $room/calls
+# writes 60,000 random calls, with their answers, to $room/calls; they are kept beside what bin/test has installed for all its suites
 random_calls() {
+    kept=${INSTALLED:+$INSTALLED.calls}
+    if [ -s "$kept" ]; then cp "$kept" "$room/calls" && return; fi
     ! is_there python3 || for seed in 1 2 3; do python3 "$embed/random_calls.py" 20000 $seed; done >"$room/calls"
+    [ -z "$kept" ] || { cp "$room/calls" "$kept.$$" && mv "$kept.$$" "$kept"; }
 }
 
 # makes them with a program of a language: LANGUAGE COMMAND..

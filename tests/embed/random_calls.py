@@ -1,6 +1,6 @@
 """Writes random calls on a hull with their answers, with which each language is tested: random_calls.py CALLS SEED.
 
-The answers are computed from all points for each call anew (the chain of Andrew, 1979), with nothing of the library. A line is a call's
+The answers are computed from all points for each question anew (the chain of Andrew, 1979), with nothing of the library. A line is a call's
 word, its coordinates and its answer: of `add` and `multiplicity` the multiplicity (0 if there are too many); of `remove` the multiplicity
 that is left (-1 if the point was not there); of `place` `inside`, `on` or `outside`; of `tangents` and `extreme` points, or nothing; of
 `vertices` all vertices; of `area` twice the area. A line `move S X Y` begins anew with the hull of no points, on a grid of steps S from
@@ -10,6 +10,7 @@ import random
 import sys
 
 LIMIT, SIDE = 40, 12
+WORDS = "add add add remove remove place place tangents extreme multiplicity vertices area".split()
 
 
 def orientation(a, b, c):
@@ -34,14 +35,15 @@ def edges(ring):
     return list(zip(ring, ring[1:] + ring[:1]))
 
 
-def on_segment(p, a, b):
-    return orientation(a, b, p) == 0 and min(a[0], b[0]) <= p[0] <= max(a[0], b[0]) and min(a[1], b[1]) <= p[1] <= max(a[1], b[1])
+def is_between(p, a, b):
+    return min(a[0], b[0]) <= p[0] <= max(a[0], b[0]) and min(a[1], b[1]) <= p[1] <= max(a[1], b[1])
 
 
 def place(ring, p):
-    if any(on_segment(p, a, b) for a, b in edges(ring)):
+    turns = [(orientation(a, b, p), a, b) for a, b in edges(ring)]
+    if any(turn == 0 and is_between(p, a, b) for turn, a, b in turns):
         return "on"
-    return "inside" if len(ring) > 2 and all(orientation(a, b, p) > 0 for a, b in edges(ring)) else "outside"
+    return "inside" if len(ring) > 2 and all(turn > 0 for turn, _, _ in turns) else "outside"
 
 
 def tangents(ring, p):
@@ -63,7 +65,6 @@ def extreme(ring, d):
 
 
 def answer(held, word, p):
-    ring = vertices(held)
     if word == "add":
         if p not in held and len(held) == LIMIT:
             return [0]
@@ -74,11 +75,12 @@ def answer(held, word, p):
             return [-1]
         held[p] -= 1
         return [held[p]] if held[p] else [held.pop(p)]
+    if word == "multiplicity":
+        return [held.get(p, 0)]
+    ring = vertices(held)
     if word in ("place", "tangents", "extreme"):
         found = {"place": place, "tangents": tangents, "extreme": extreme}[word](ring, p)
         return [found] if word == "place" else [number for point in found for number in point]
-    if word == "multiplicity":
-        return [held.get(p, 0)]
     return [number for c in ring for number in c] if word == "vertices" else [sum(a[0] * b[1] - a[1] * b[0] for a, b in edges(ring))]
 
 
@@ -90,7 +92,7 @@ def main(calls, seed):
             x, y = (numbers.randint(-(1 << 40), (1 << 40) - step * SIDE) if step < 1 << 30 else -(1 << 39) for _ in "xy")
             held.clear()
             print("move", step, x, y)
-        word = numbers.choice("add add add remove remove place place tangents extreme multiplicity vertices area".split())
+        word = numbers.choice(WORDS)
         p = tuple(at + step * numbers.randrange(SIDE) for at in (x, y))
         if word == "extreme":
             p = numbers.randint(-9, 9), numbers.choice((-1, 1)) * numbers.randint(1, 9)
