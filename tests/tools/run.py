@@ -326,19 +326,20 @@ def test_gate(tests):
         status, said = run(top, ".ci/run", env=env)
         tests.see("a gate whose stages pass", status == 0 and said.endswith("\n5 passed, 0 failed\n"), said)
         for it in commands:
-            write(f"{top}/{it}", f"#!/bin/sh\necho {it} $* >>asked\nmkdir -p out/test\necho trials web >out/test/left_out\necho 1 passed, 0 failed\n", 0o755)
+            write(f"{top}/{it}", f"#!/bin/sh\necho {it} $*${{PROVE:+ proves}} >>asked\nmkdir -p out/test\necho trials web >out/test/left_out\necho 1 passed, 0 failed\n",
+                0o755)
         long = [*(f"tests/shared/{it}" for it in ("shared.sh 100000", "snapshots.sh 100000", "waiting.sh long", "journal.sh 150 200000")),
                 *(f"tests/embed/{it}.sh long" for it in ("c", "rust", "python"))]
         for it in long:
             it = it.split()[0]
-            write(f"{top}/{it}", f"#!/bin/sh\necho {it} $* >>asked\necho 1 passed, 0 failed\n", 0o755)
+            write(f"{top}/{it}", f"#!/bin/sh\necho {it} $*${{PROVE:+ proves}} >>asked\necho 1 passed, 0 failed\n", 0o755)
         for words, later in (((), ["tools/mutants.py --changed --known", "tools/release.sh --changed"]),
                              (("--all-mutants",), ["tools/mutants.py", *long, "tools/release.sh --compare"])):
             write(f"{top}/asked", "")
             run(top, ".ci/run", *words, env=env)
             asked = [it.strip() for it in read(f"{top}/asked").splitlines() if not it.startswith("tools/product.sh")]
             tests.same(f"the stages of .ci/run {words}", asked, ["path/rt version", "bin/test", "path/rt ci",
-                       "bin/test memory pictures soak texts trials web", *later])
+                       *(f"{it} proves" for it in ["bin/test memory pictures refused soak texts trials web", *later])])
         for it in commands:
             write(f"{top}/{it}", good, 0o755)
         for it in commands[:4]:

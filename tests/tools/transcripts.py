@@ -79,7 +79,7 @@ def test_gate_lines(tests):
     with repository() as (top, env):
         lay_stages(top)
         env = {**env, "PROCESSORS": "6"}
-        later, proved = "memory pictures soak texts trials web", "100 passed, 0 failed, by two compilers"
+        later, proved = "memory pictures refused soak texts trials web", "100 passed, 0 failed, by two compilers"
         stages = [stage(name, command, said, counts, seconds) for name, command, said, counts, seconds in (
             ("bin/test", "bin/test", "bin/test", "7 passed, 0 failed", 20), ("rt ci", "rt ci", "path/rt ci", proved, 300),
             ("bin/test, later", f"bin/test {later}", f"bin/test {later}", "2 passed, 0 failed", 20),
@@ -107,7 +107,7 @@ def test_long_gate_lines(tests):
                 **{f"{it}, long": f"tests/embed/{it}.sh long" for it in ("c", "rust", "python")}}
         for it in long.values():
             stand_in(f"{top}/{it.split()[0]}", 1, "echo 1 passed, 0 failed")
-        later = {"bin/test, later": "bin/test memory pictures soak texts trials web"}
+        later = {"bin/test, later": "bin/test memory pictures refused soak texts trials web"}
         stages = {"bin/test": "bin/test", "rt ci": "rt ci", **later, "mutants": "tools/mutants.py", **long, "release": "tools/release.sh --compare"}
         status, said, errors = transcript(top, env, ".ci/run", "--all-mutants")
         begun = [it.removeprefix("==== ") for it in said.splitlines() if it.startswith("==== ") and ": exit status" not in it]
