@@ -65,9 +65,9 @@ by_valgrind() {
     attempt "valgrind finds nothing in $checked" valgrind -q $memory_check "$@"
 }
 
-# rustc with the edition of the wrapper, and warnings refused
+# rustc with the edition of the wrapper, and warnings refused; only the wrapper itself is optimized (-O), since that takes seconds
 rust() {
-    rustc --edition 2021 -O -D warnings -L "native=$prefix/lib" -L "$room" --out-dir "$room" "$@"
+    rustc --edition 2021 -D warnings -L "native=$prefix/lib" -L "$room" --out-dir "$room" "$@"
 }
 
 # an interpreter with the module that is installed, and no compiled files beside the sources

@@ -16,21 +16,21 @@ compile() {
 }
 
 tests() {
-    attempt "the tests of hull.hpp compile" compile hull_tests.o -g -c "$here/hull_tests.cpp"
+    attempt "the tests of hull.hpp compile" compile hull_tests.o -c "$here/hull_tests.cpp"
     attempt "they link" compile hull_tests "$room/hull_tests.o"
     attempt "the tests of hull.hpp" "$room/hull_tests" "$here/lattice.txt" "$room/journal"
     attempt "its threads leave a legal journal" legal "$room/journal"
     # shellcheck disable=SC2046 # the flags are separated by spaces
-    attempt "hull_answers.cpp compiles" compile hull_answers -g "$here/hull_answers.cpp" $(wrap fsync hull_shared_call_into hull_shared_journal_sync malloc calloc realloc)
+    attempt "hull_answers.cpp compiles" compile hull_answers "$here/hull_answers.cpp" $(wrap fsync hull_shared_call_into hull_shared_journal_sync malloc calloc realloc)
     attempt "each answer of hull.hpp beside that of hull.h" "$room/hull_answers"
     attempt "overlaps.c compiles" overlaps_object
     # shellcheck disable=SC2046 # the flags are separated by spaces
     attempt "the tests of hull.hpp link with calls that are slowed down" compile overlap_tests "$room/hull_tests.o" "$room/overlaps.o" $(slow_calls)
     attempt "calls on one shared hull from several threads of C++ wait for each other" "$room/overlap_tests" "$here/lattice.txt"
-    attempt "segments.cpp compiles" compile segments -O2 "$shared/segments.cpp"
+    attempt "segments.cpp compiles" compile segments "$shared/segments.cpp"
     attempt "segments of a journal, and a hull that continues the first" "$room/segments" "$room/taken"
     attempt "both are one legal journal" "$hullbook" check "$room/taken.1" "$room/taken.2"
-    attempt "replay.cpp compiles" compile replay -O2 "$here/replay.cpp"
+    attempt "replay.cpp compiles" compile replay "$here/replay.cpp"
     random_calls
     replays C++ "$room/replay"
     attempt "examples/embed/planner.cpp compiles by what is installed" compile planner -O2 "$examples/planner.cpp"
@@ -39,7 +39,7 @@ tests() {
 
 memory() {
     if ! is_there valgrind; then skip "memory by valgrind in C++" valgrind; return; fi
-    by_valgrind "the tests of hull.hpp" "$room/hull_tests" "$here/lattice.txt" "$room/threads_journal"
+    by_valgrind "the tests of hull.hpp" "$room/hull_tests" "$here/lattice.txt" "$room/threads_journal" 997
     by_valgrind hull_answers.cpp "$room/hull_answers"
 }
 

@@ -1,5 +1,6 @@
 // Each function of include/hull.hpp, each of its answers and each of its faults. Prints what is wrong, and how many checks passed and
-// failed. hull_tests TABLE [JOURNAL]: the table is lattice.txt; with a journal named, threads make calls at once, and theirs goes there.
+// failed. hull_tests TABLE [JOURNAL [STEP]]: the table is lattice.txt; with a journal named, threads make calls at once, and theirs goes there;
+// each STEP-th set of points of a grid is tried on growing hulls, each 61st if not given.
 #include "hull.hpp"
 
 #include <atomic>
@@ -124,13 +125,14 @@ static bool grows_as_a_set(const std::vector<Point> &points, const std::vector<P
     return same;
 }
 
-static void growing_hulls() {
+/* Tries each so many-th set of points of a grid, and sets drawn at random. */
+static void growing_hulls(std::uint32_t step) {
     bool same = true;
     std::vector<Point> around;
     for (std::int64_t at = 0; at < 36; at++) {
         around.push_back({at % 6 - 1, at / 6 - 1});
     }
-    for (std::uint32_t subset = 0; subset < 1u << 16; subset += 61) {
+    for (std::uint32_t subset = 0; subset < 1u << 16; subset += step) {
         std::vector<Point> points;
         for (std::int64_t i = 0; i < 16; i++) {
             if (subset >> (5 * i + subset) % 16 & 1) {
@@ -744,7 +746,7 @@ int main(int words, char **word) {
     refusals();
     lattice(words > 1 ? word[1] : "lattice.txt");
     polygons();
-    growing_hulls();
+    growing_hulls(words > 3 ? static_cast<std::uint32_t>(std::stoul(word[3])) : 61);
     two_polygons();
     exchange();
     shared();

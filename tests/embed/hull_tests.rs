@@ -117,7 +117,7 @@ fn grows_as_a_set(points: &[Point], asked: &[Point]) {
 #[test]
 fn growing_hulls() {
     let around: Vec<Point> = (0..36).map(|at| point(at % 6 - 1, at / 6 - 1)).collect();
-    for subset in (0..1u32 << 16).step_by(61) {
+    for subset in (0..1u32 << 16).step_by(if std::env::var_os("BRIEF").is_some() { 997 } else { 61 }) {
         let order = (0..16).map(|i| (5 * i + subset) % 16).filter(|at| subset >> at & 1 == 1);
         grows_as_a_set(&order.map(|at| point(i64::from(at / 4), i64::from(at % 4))).collect::<Vec<_>>(), &around);
     }

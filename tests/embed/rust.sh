@@ -11,7 +11,7 @@ calls=${1:+10000}
 lost='--error-exitcode=9 --leak-check=full --show-leak-kinds=definite,indirect --errors-for-leak-kinds=definite,indirect'
 
 sets() {
-    attempt "rust/hull compiles" rust --crate-type rlib --crate-name hull "$top/rust/hull/src/lib.rs"
+    attempt "rust/hull compiles" rust -O --crate-type rlib --crate-name hull "$top/rust/hull/src/lib.rs"
     attempt "the tests of rust/hull compile" rust --test --extern hull --crate-name hull_tests "$here/hull_tests.rs"
     attempt "the tests of rust/hull" env LATTICE="$here/lattice.txt" "$room/hull_tests"
     attempt "replay.rs compiles" rust --crate-name replay_rust --extern hull "$here/replay.rs"
@@ -44,13 +44,15 @@ delayed() {
     mkdir "$room/slow" && cp "$prefix/lib/libhull.a" "$prefix/lib/libhull_shared.a" "$room/slow/" &&
         cc -std=gnu11 -O2 -fPIC -DSLOW -include "$shared/steps.h" -I"$prefix/include" -c "$top/c/gate.c" -o "$room/slow/gate.o" &&
         ar r "$room/slow/libhull_shared.a" "$room/slow/gate.o" 2>/dev/null &&
-        rustc --edition 2021 -O -D warnings --test -L "native=$room/slow" -L "$room" --extern hull="$room/libhull.rlib" --crate-name slow_tests \
+        rustc --edition 2021 -D warnings --test -L "native=$room/slow" -L "$room" --extern hull="$room/libhull.rlib" --crate-name slow_tests \
             --out-dir "$room" "$shared/shared_tests.rs" &&
         passes 500 "$room/slow_tests"
 }
 
 memory() {
     if ! is_there valgrind; then skip "memory by valgrind in Rust" valgrind; return; fi
+    # (a panic's trace would take seconds)
+    export BRIEF=yes RUST_BACKTRACE=0
     # (without the test that refuses requests by a malloc of its own, in whose place valgrind puts its own)
     # shellcheck disable=SC2086 # the flags are separated by spaces
     attempt "valgrind finds nothing lost by the tests of rust/hull" valgrind -q --trace-children=yes $lost \
