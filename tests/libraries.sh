@@ -29,17 +29,17 @@ flags() {
 build() {
     source=$1
     shift
-    "${CC:-cc}" -std=gnu11 -Wall -Wextra -Werror -O2 -g -I"$prefix/include" "$source" "$@" -L"$prefix/lib" -lhull_shared -lpthread \
+    "${CC:-cc}" -std=gnu11 -Wall -Wextra -Werror -O1 -g -I"$prefix/include" "$source" "$@" -L"$prefix/lib" -lhull_shared -lpthread \
         -o "$room/$(basename "$source" .c)"
 }
 
 # the same over c/gate.c compiled anew: with threads that are delayed between two steps, and with threads that sleep without futex
 build_slow() {
-    build "$@" -DSLOW -include "$shared/steps.h" "$top/c/gate.c"
+    build "$@" -O2 -DSLOW -include "$shared/steps.h" "$top/c/gate.c"
 }
 
 build_by_pthreads() {
-    build "$@" -DHULL_SHARED_BY_PTHREADS "$top/c/gate.c"
+    build "$@" -O2 -DHULL_SHARED_BY_PTHREADS "$top/c/gate.c"
 }
 
 # builds gate_races.c with ThreadSanitizer, over c/gate.c or a copy of it: FILE

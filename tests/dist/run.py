@@ -336,7 +336,8 @@ def try_packages(tries):
             tries.prints("the bundle, in Node", "200", "sh", "-c", "cp -r node_modules/hullbook/out . && node node.mjs", at="npm")
         if tries.has("tsc", "types"):
             for target in ("ES2020", "ESNext"):
-                tries.prints(f"tsc --strict, {target}", "", "tsc", "--strict", "--noEmit", "--target", target, "--module", target, "--moduleResolution", "node", "typed.ts", at="npm")
+                tries.prints(f"tsc --strict, {target}", "", "tsc", "--strict", "--noEmit", "--skipDefaultLibCheck", "--target", target, "--module", target,
+                             "--moduleResolution", "node", "typed.ts", at="npm")
     if tries.has("cargo", "the crate for Rust"):
         os.makedirs(f"{tries.room}/rust/src")
         tries.lay("rust/src", main__rs=RUST)

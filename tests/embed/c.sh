@@ -30,7 +30,7 @@ page_has_calls() {
 
 programs() {
     # shellcheck disable=SC2046 # the flags are separated by spaces
-    attempt "codes.c compiles" compile codes $(wrap malloc calloc realloc)
+    attempt "codes.c compiles" compile codes -O1 $(wrap malloc calloc realloc)
     attempt "every code of every function" "$room/codes" "$here/lattice.txt"
     for name in first placement motions; do
         attempt "examples/embed/$name.c compiles by what is installed" compile "$name"
@@ -115,7 +115,7 @@ documents() {
 # the C of ours by sanitizers; the proved code is linked as it is
 sanitized() {
     # shellcheck disable=SC2046,SC2086 # the flags are separated by spaces
-    attempt "codes.c compiles with sanitizers" compile codes -O1 $sanitizers "$top/c/exports.c" \
+    attempt "codes.c compiles with sanitizers" compile codes -O0 $sanitizers "$top/c/exports.c" \
         $(wrap malloc calloc realloc)
     attempt "sanitizers find nothing in codes" "$room/codes" "$here/lattice.txt" brief
 }

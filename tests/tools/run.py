@@ -424,6 +424,8 @@ SUITES = {
 
 
 def main(suite="tools"):
+    # the tools are started hundreds of times: by this interpreter itself, and not by what chooses one for each start, as pyenv does
+    os.environ["PATH"] = f"{os.path.dirname(sys.executable)}:{os.environ['PATH']}"
     tests = Tests()
     for test in SUITES[suite]:
         test(tests)
