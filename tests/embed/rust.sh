@@ -51,7 +51,7 @@ delayed() {
 
 memory() {
     if ! is_there valgrind; then skip "memory by valgrind in Rust" valgrind; return; fi
-    # (a panic's trace would take seconds)
+    # (fewer sets of points, a smaller journal, and no traces of panics, which take seconds)
     export BRIEF=yes RUST_BACKTRACE=0
     # (without the test that refuses requests by a malloc of its own, in whose place valgrind puts its own)
     # shellcheck disable=SC2086 # the flags are separated by spaces
