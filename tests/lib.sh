@@ -1,6 +1,6 @@
 # What the scripts below tests/ share, read by each after it sets `here`: where the repository is, a temporary folder, how an attempt is
 # reported and counted, and the last line.
-# shellcheck shell=sh disable=SC2034 # the scripts read what is set here
+# shellcheck shell=sh disable=SC2030,SC2031,SC2034 # the scripts read what is set here, and functions beside have their own
 top=$(cd "$here/../.." && pwd)
 room=$(mktemp -d)
 trap 'rm -rf "$room"' EXIT
@@ -52,6 +52,25 @@ counted() {
         ;;
     *) said "$suite" "FAILED, exit status $status: $last" ;;
     esac
+}
+
+# begins a function of the script beside what follows, with a folder and counts of its own: NAME FUNCTION..
+begin_beside() {
+    (
+        room=$room/$1.beside
+        mkdir "$room"
+        passed=0
+        failed=0
+        shift
+        "$@"
+        echo "$passed passed, $failed failed"
+    ) >"$room/$1.said" 2>&1 &
+}
+
+# prints what such functions said when all have ended, and adds their counts: NAME..
+join_beside() {
+    wait
+    for name in "$@"; do counted "$name" cat "$room/$name.said"; done
 }
 
 skip() {

@@ -90,7 +90,8 @@ headers() {
 
 install_libraries
 if ! is_there c++; then skip "C++" c++; end; fi
+begin_beside headers headers
 tests
 memory
-headers
+join_beside headers
 end

@@ -90,15 +90,21 @@ modules() {
 
 install_libraries
 if ! is_there python3; then skip "Python" python3; end; fi
+all=$(pythons)
+[ "$long" ] || all=$(echo "$all" | sed -n '1p;$p')
+others=
+for interpreter in $all; do
+    [ "$interpreter" != python3 ] || continue
+    numbered=$(version_of "$interpreter")
+    others="$others $numbered"
+    begin_beside "$numbered" tests_by "$interpreter"
+done
 tests_by python3
 random_calls
 replays Python python "$here/replay.py"
 threads
 documents
-all=$(pythons)
-[ "$long" ] || all=$(echo "$all" | sed -n '1p;$p')
-for interpreter in $all; do
-    [ "$interpreter" = python3 ] || tests_by "$interpreter"
-done
 modules
+# shellcheck disable=SC2086 # the versions are separated by spaces
+join_beside $others
 end
