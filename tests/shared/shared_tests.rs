@@ -351,7 +351,8 @@ fn files_that_are_refused() {
     seat.wait_at_most(Some(Duration::from_secs(5)));
     assert_eq!((seat.turn(), seat.wait_durable()), (None, Ok(())));
     seat.wait_at_most(Some(Duration::ZERO));
-    assert_eq!((seat.add(point(1, 1)), seat.wait_durable()), (Ok(1), Err(Fault::Busy))); // nobody has asked for it yet
+    // (a line that nobody has asked for is written after a while, which may have passed if this thread was held up)
+    assert!((1..20).any(|times| seat.add(point(1, 1)) == Ok(times) && seat.wait_durable() == Err(Fault::Busy)));
     seat.wait_at_most(None);
     assert_eq!((seat.wait_durable(), hull.durable().unwrap() > 0), (Ok(()), true));
     drop((seat, hull));
