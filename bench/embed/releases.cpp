@@ -47,9 +47,10 @@
 
 namespace {
 
-constexpr int polygon_count = 64;
-constexpr int calls = 1024;
-constexpr int rounds = 15;
+// (so many that a processor does not learn where each call branches)
+constexpr int polygon_count = 512;
+constexpr int calls = 16384;
+constexpr int rounds = 5;
 
 uint64_t state = 88172645463325252u;
 

@@ -14,7 +14,7 @@ from pathlib import Path
 
 HERE = Path(__file__).resolve().parent
 TOP = HERE.parent.parent
-CALLS = 1024
+CALLS = 16384
 
 
 def compile_over(include, library, defines, program):
