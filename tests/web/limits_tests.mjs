@@ -125,6 +125,13 @@ await tried("polygons of two modules, and memory that is a number", async () => 
     globalThis.fetch = before;
     await load(new Response(bytes)), await load(Promise.resolve(bytes)), await load(new Uint8Array(bytes).buffer);
 });
+await tried("without a limit all memory of the engine may be used", async () => {
+    const { imports, memory } = await loadedWithMemory();
+    imports.web_alloc(64n, BigInt(2 ** 29)); // (its pages are not touched)
+    const view = new DataView(memory.buffer);
+    assert.equal(view.getUint32(64, true), 1);
+    assert.ok(Number(view.getBigUint64(72, true)) + 2 ** 29 <= memory.buffer.byteLength);
+});
 await tried("memory is given back, on each way out", async () => {
     const { Hull: Small, GrowingHull: Growing, Polygon: Poly } = await load(bytes, { memory: 5 * 2 ** 20 });
     const points = Array.from({ length: 3000 }, (_, i) => [i, i * i]), many = new Float64Array(points.flat());
@@ -476,6 +483,8 @@ await tried("a replay that is full, refused or wrong, and continues", () => {
     replay.go(3);
     assert.equal(replay.call("remove 2 2").reply, "removed");
     assert.deepEqual([replay.wrong, replay.journal.lines.length, [...replay.held.keys()]], [null, 4, ["1 1"]]);
+    const misnumbered = new Replay(new Hull(), { ...replay.journal, lines: [{ number: 8n, seat: 4, call: "count", reply: "count 0" }] });
+    assert.deepEqual([misnumbered.go(1), misnumbered.wrong.index, misnumbered.wrong.expected], [0, 0, "7 4 count = count 0"]);
     for (let round = 0; round < 400; round++) {
         replay.held[random(2) ? "set" : "delete"](`${random(6)} 0`, 1);
         const { coordinates, size } = replay.held;

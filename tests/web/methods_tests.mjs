@@ -377,7 +377,13 @@ await tried("loading without what an engine or a page has, and modules without a
     await without("URL", class { constructor() { throw new TypeError("no base"); } }, () => assert.rejects(load(), isUnsupported("location")));
     await without("Response", undefined, async () => assert.equal(new (await load(bytes)).Hull().count(), 0));
     const { instantiate } = WebAssembly, file = new URL("none.wasm", import.meta.url);
-    await without("process", undefined, () => without("fetch", async () => new Response(bytes), async () => assert.ok((await load(file)).Hull)));
+    // a relative location is one from hull.js on, wherever the page is
+    const fetched = [], fetches = async (it) => (fetched.push(String(it)), new Response(bytes));
+    await without("process", undefined, () => without("fetch", fetches, async () => {
+        for (const given of [file, file.href, "out/none.wasm", "../none.wasm"]) assert.ok((await load(given)).Hull);
+    }));
+    const beside = (name) => new URL(`../../web/${name}`, import.meta.url).href;
+    assert.deepEqual(fetched, [file.href, file.href, beside("out/none.wasm"), beside("../none.wasm")]);
     for (const name of ["memory", "__heap_base", "hull_calls"]) {
         WebAssembly.instantiate = async (...words) => {
             const made = await instantiate(...words); // (Node has a module of its own, which is passed compiled)

@@ -4,7 +4,7 @@ import { readFileSync } from "node:fs";
 import { OutOfRange, ZeroDirection, load } from "../../web/hull.js";
 import { directionOf, fromFloat, fromFloats, toFloat, wkt } from "../../web/exchange.js";
 import { firstMeeting, indices, intersectsSegments, nearestHeld, pairsWithinDistance, relations, rotate, translate } from "../../web/many.js";
-import { Replay, TextError, emptyJournal, joinJournals, journalText, readJournal } from "../../web/journal.js";
+import { Replay, TextError, emptyJournal, joinJournals, journalText, lineText, readJournal } from "../../web/journal.js";
 import { addressOf, callsOf, kindOf, powerFor, readAddress, readRows, writeRows } from "../../web/texts.js";
 import { Heap } from "../../web/heap.js";
 import { Keeper } from "../../web/keep.js";
@@ -144,7 +144,15 @@ await tried("the hull of a journal is freed when another is opened", () => {
     }
     assert.deepEqual([...alive], [work.hull]);
 });
-await tried("the first lines of a long journal are stored in the database once", async () => {
+/** Returns an empty storage of a tab, or of all tabs. */
+function storage() {
+    const kept = new Map();
+    return { setItem: (name, text) => kept.set(name, text), getItem: (name) => kept.get(name) ?? null };
+}
+
+/** Gives this thread the stores of a browser, all of them empty; returns the texts in its database by their ids, and the length of each
+ * that was put there. */
+function beginStores() {
     const puts = [], bases = new Map(), later = (result) => {
         const request = { result };
         queueMicrotask(() => request.onsuccess());
@@ -156,15 +164,20 @@ await tried("the first lines of a long journal are stored in the database once",
         get: (id) => later(bases.get(id)),
         delete: (id) => bases.delete(id),
     };
-    const storage = () => {
-        const kept = new Map();
-        return { setItem: (name, text) => kept.set(name, text), getItem: (name) => kept.get(name) ?? null };
-    };
-    Object.assign(globalThis, {
-        indexedDB: { open: () => later({ transaction: () => ({ objectStore: () => store }) }) }, sessionStorage: storage(), localStorage: storage(),
-    });
-    const keeper = new Keeper(), work = new Work(Hull);
-    work.do(Array.from({ length: 20001 }, (_, k) => `add ${k % 100} ${Math.floor(k / 100)}`));
+    const indexedDB = { open: () => later({ transaction: () => ({ objectStore: () => store }) }) };
+    Object.assign(globalThis, { indexedDB, sessionStorage: storage(), localStorage: storage() });
+    return { puts, bases };
+}
+
+/** Returns a work of so many calls. */
+function workOf(calls) {
+    const work = new Work(Hull);
+    work.do(Array.from({ length: calls }, (_, k) => `add ${k % 100} ${Math.floor(k / 100)}`));
+    return work;
+}
+
+await tried("the first lines of a long journal are stored in the database once", async () => {
+    const { puts, bases } = beginStores(), keeper = new Keeper(), work = workOf(20001);
     await keeper.keep(work, {});
     for (let k = 0; k < 10; k++) {
         work.do([`add ${k} -1`]);
@@ -181,6 +194,14 @@ await tried("the first lines of a long journal are stored in the database once",
     await keeper.keep(work, {});
     const again = await new Keeper().read();
     assert.deepEqual(again.was.journal.lines.map((it) => it.call), work.replay.journal.lines.map((it) => it.call));
+    // after a reload, and a call after it, those lines that are not in the database are there, too
+    const reloaded = new Keeper(), continued = new Work(Hull, (await reloaded.read()).was);
+    const ends = ({ lines }) => lines.slice(20001).map(lineText);
+    continued.do(["add 7 -2"]);
+    await reloaded.keep(continued, {});
+    assert.deepEqual(ends((await new Keeper().read()).was.journal), [...ends(work.replay.journal), "20011 0 add 7 -2 = added"]);
+    assert.equal(puts.length, 1);
+    await keeper.keep(work, {});
     // another tab has what all tabs share; of long journals the last four stay
     const tabs = [sessionStorage, storage()];
     globalThis.sessionStorage = tabs[1];
@@ -193,10 +214,44 @@ await tried("the first lines of a long journal are stored in the database once",
         assert.deepEqual([bases.size, (await new Keeper().read()).was.journal.lines.length], [Math.min(k + 2, 4), 20002 + k]);
     }
 });
+await tried("a long journal of a page that ends, beside a database that refuses, and without the lines that were there", async () => {
+    const { bases } = beginStores(), work = workOf(20001), kept = async () => (await new Keeper().read())?.was.journal;
+    new Keeper().keep(work, {}, true); // at once: the page does not wait
+    assert.equal(bases.size, 0);
+    assert.deepEqual(await kept(), work.replay.journal);
+    await new Keeper().keep(work, {});
+    assert.deepEqual([bases.size, await kept()], [1, work.replay.journal]);
+    bases.clear();
+    assert.equal(await kept(), undefined);
+    const refused = () => {
+        const request = { error: new Error("no database") };
+        queueMicrotask(() => request.onerror());
+        return request;
+    };
+    globalThis.indexedDB = { open: refused };
+    await new Keeper().keep(work, {});
+    assert.deepEqual(await kept(), work.replay.journal);
+});
+await tried("a tab continues its own work, with its segments and the deeds that can be undone", async () => {
+    beginStores();
+    const work = new Work(Hull), segments = [{ name: "one", from: 0 }, { name: "two", from: 1 }];
+    work.openCalls(["add 0 0"], 3), work.do(["add 1 1", "count"]), work.open({ ...emptyJournal(7), segments });
+    work.do(["add 2 2"]), work.undo(), work.openCalls(["add 3 3"], -2), work.undo();
+    await new Keeper().keep(work, { more: "words" });
+    const own = globalThis.sessionStorage;
+    globalThis.sessionStorage = storage(); // that of another tab
+    await new Keeper().keep(workOf(2), {});
+    globalThis.sessionStorage = own;
+    const { was, deeds, more } = await new Keeper().read();
+    assert.deepEqual([was, deeds, more], [work.here, work.deeds, "words"]);
+    assert.deepEqual([was.journal.segments, deeds.done.length, deeds.undone.length], [segments, 3, 1]);
+});
 await tried("a browser that stores nothing, or not so much, is no fault", async () => {
     const kept = new Map(), warned = [], before = { ...console };
-    const storage = (most) => ({ setItem: (name, text) => { if (text.length > most) throw new RangeError("no space"); kept.set(name, text); },
-        getItem: (name) => kept.get(name) ?? null });
+    const limited = (most) => ({
+        setItem: (name, text) => { if (text.length > most) throw new RangeError("no space"); kept.set(name, text); },
+        getItem: (name) => kept.get(name) ?? null,
+    });
     const work = new Work(Hull);
     work.do(["add 1 1"]), work.open(emptyJournal(5)), work.do(["add 2 2"]);
     console.warn = (text) => warned.push(text);
@@ -206,7 +261,7 @@ await tried("a browser that stores nothing, or not so much, is no fault", async 
         for (const limits of [() => [1e6, 1e6], () => [1e6, 0], () => [whole - 1, whole - 1], () => [0, 0]]) {
             const [here, all] = limits();
             kept.clear();
-            Object.assign(globalThis, { sessionStorage: storage(here), localStorage: storage(all) });
+            Object.assign(globalThis, { sessionStorage: limited(here), localStorage: limited(all) });
             await new Keeper().keep(work, {});
             const read = await new Keeper().read();
             whole = Math.max(whole, ...[...kept.values()].map((it) => it.length));
@@ -258,6 +313,7 @@ await tried("doubles to the lattice, as the table of all languages has them", ()
     }
     assert.ok(rows > 50);
     assert.deepEqual(fromFloats([[0.5, 0.3], [1, -0.25]], 1), { coordinates: Float64Array.of(1, 1, 2, 0), rounded: 2 });
+    assert.deepEqual(fromFloats(new Set([[0.5, 1, 9], Float64Array.of(2, 3)]), 1).coordinates, Float64Array.of(1, 2, 4, 6));
     assert.equal(toFloat(3, 2), 0.75);
     return `${rows} rows`;
 });
@@ -270,13 +326,22 @@ await tried("directions in doubles and well-known text", () => {
     assert.deepEqual([hull.extreme(...directionOf(0.1, 0.2)), hull.extreme(...directionOf(-0.1, 0.2))], [[100, 30], [0, 60]]);
     assert.equal(wkt(hull.vertices()), "POLYGON ((0 0, 80 0, 100 30, 0 60, 0 0))");
     assert.deepEqual([wkt([]), wkt([[1, 2]], 1), wkt([[1, 2], [3, 4]])], ["POLYGON EMPTY", "POINT (0.5 1)", "LINESTRING (1 2, 3 4)"]);
+    assert.equal(wkt(new Set([Float64Array.of(1, 2), [3, 4]]), 1), "LINESTRING (0.5 1, 1.5 2)");
     hull.free();
 });
 await tried("points as texts", () => {
     assert.deepEqual(["hullbook journal 3", " {}", "[]", "<svg>", "1,2"].map(kindOf), ["journal", "geojson", "geojson", "svg", "csv"]);
     assert.deepEqual(readRows("\ufeffx,y\r\n1,2\r\n# a word\n3 4 5\n-6;7e1\n\n"), [[1, 2, 1], [3, 4, 5], [-6, 70, 1]]);
-    for (const [text, line] of [["", 1], ["x,y\n", 1], ["1,2\n3\n", 2], ["1,2\n3,4,0\n", 2], ["1,2\n3,4,1.5", 2], ["x\ny\n", 2], ["{", 1], ['{"type":"Point"}', 1], ['{"coordinates":["a",1]}', 1]]) {
+    for (const [text, line] of [["", 1], ["x,y\n", 1], ["1,2\n3\n", 2], ["1,2\n3,4,0\n", 2], ["1,2\n3,4,1.5", 2], ["\n1,2\n\n# \n3\n", 5],
+        ["x\ny\n", 2], ["{", 1], ['{"type":"Point"}', 1], ['{"coordinates":["a",1]}', 1]]) {
         assert.throws(() => readRows(text), (error) => error instanceof TextError && error.line === line, text);
+    }
+    const faults = [["{ 1", "line 1: it is no JSON: ", "{ 1", "a GeoJSON object"], ["", "line 1: there are no points", "", "X,Y"],
+        ["{}", "line 1: it has no positions", "{}", "a GeoJSON object with coordinates"],
+        ["1,2\n3", "line 2: it is no point", "3", "X,Y or X,Y,TIMES, with 1 to 65535 times"]];
+    for (const [text, why, found, expected] of faults) {
+        const isTold = (error) => error.message.startsWith(why) && error.found === found && error.expected === expected;
+        assert.throws(() => readRows(text), isTold, text);
     }
     const geometry = { type: "GeometryCollection", geometries: [{ type: "Point", coordinates: [1, 2, 9] }, { type: "MultiPolygon", coordinates: [[[[0, 0], [5, 0], [0, 5], [0, 0]]]] }] };
     assert.deepEqual(readRows(JSON.stringify(geometry)), [[1, 2, 1], [0, 0, 1], [5, 0, 1], [0, 5, 1]]);
@@ -311,6 +376,8 @@ await tried("points as texts", () => {
     for (const times of [0, 65536, -1, 1.5]) assert.throws(() => readRows(`1,2\n3,4,${times}`), TextError);
     const timed = (times) => JSON.stringify({ type: "Feature", properties: { times },
         geometry: { type: "MultiPoint", coordinates: [[1, 2], [3, 4], [1, 2]] } });
+    const features = [[7, 8], [5, 6]].map((at, i) => ({ properties: { times: [i + 2] }, geometry: { type: "Point", coordinates: at } }));
+    assert.deepEqual(readRows(JSON.stringify({ features })), [[7, 8, 2], [5, 6, 3]]);
     assert.deepEqual([[65535, 1, 9], [65536, 0, 1], [2], undefined].map((it) => readRows(timed(it))),
         [[[1, 2, 65535], [3, 4, 1]], [[1, 2, 1], [3, 4, 1]], [[1, 2, 2], [3, 4, 1]],
         [[1, 2, 1], [3, 4, 1]]]);
@@ -319,13 +386,22 @@ await tried("the power by which numbers are whole", () => {
     assert.deepEqual([[], [1, 2 ** 40], [0.5, 3], [0.1, 100], [2 ** 40 + 1], [5e-324], [-(2 ** 50)], [0.75, -(2 ** -5)]].map(powerFor), [0, 0, 1, 33, -1, 1000, -10, 5]);
     const { calls, power, rounded } = callsOf([[0.5, 1, 2], [0, -0.25, 1]]);
     assert.deepEqual([calls, power, rounded], [["add 2 4", "add 2 4", "add 0 -1"], 2, 0]);
+    const scaledTo33 = ["add 858993459 858993459200", ...Array(2).fill("add 25769803776 2576980378")];
+    assert.deepEqual(callsOf([[0.1, 100, 1], [3, 0.3, 2]]), { calls: scaledTo33, power: 33, rounded: 2 });
     assert.throws(() => callsOf(Array(100).fill([1, 1, 65535])), RangeError);
+    const most = Array(64).fill([1, 1, 65535]);
+    assert.equal(callsOf([...most, [2, 2, 64]]).calls.length, 2 ** 22);
+    assert.throws(() => callsOf([...most, [2, 2, 65]]), RangeError);
 });
 await tried("an address contains the points, and a wrong or a long one none", () => {
     const held = new Map([["0 0", 1], ["-7 8", 12]]), address = addressOf(held, 3);
     assert.equal(address, "#points=-7,8*12;0,0&power=3");
     assert.deepEqual(readAddress(address), { calls: [...Array(12).fill("add -7 8"), "add 0 0"], power: 3 });
     assert.deepEqual([addressOf(new Map(), 0), addressOf(new Map(Array.from({ length: 9000 }, (_, i) => [`${i} 0`, 1])), 0), readAddress("#proved"), readAddress("")], ["", "", null, null]);
+    assert.deepEqual([-12, 0].map((power) => addressOf(new Map([["4 4", 1]]), power)), ["#points=4,4&power=-12", "#points=4,4"]);
+    const longest = Array.from({ length: 1600 }, (_, i) => [`${1000000 + i} 0`, 1]); // (10 characters for each)
+    assert.equal(addressOf(new Map(longest), 0).length, "#points=".length + 15999);
+    assert.equal(addressOf(new Map([...longest, ["0 0", 1]]), 0), "");
     assert.deepEqual(["#points=-7%2C8*12%3B0%2C0&power=3", "#points=4,4&power=-12", "#points=-0,-0"].map(readAddress),
         [readAddress(address), { calls: ["add 4 4"], power: -12 },
         { calls: ["add 0 0"], power: 0 }]);
@@ -344,6 +420,40 @@ await tried("what is left out has its default", () => {
         [[false, false, false], [true, true, true]]);
     const error = new TextError(3, "why");
     assert.deepEqual([error.line, error.message, error.found, error.expected, error instanceof Error], [3, "line 3: why", "", "", true]);
+});
+await tried("a deed of several moves from an earlier position, taken back as one", () => {
+    const work = new Work(Hull), calls = () => work.replay.journal.lines.map((it) => it.call);
+    const state = () => [calls(), work.replay.at, [...work.replay.held.keys()].sort()];
+    work.do(["add 1 1", "add 2 2", "add 3 3"]), work.go(1);
+    const before = state(), deed = work.begin();
+    work.make(deed, ["add 7 7"]), work.make(deed, ["remove 7 7", "add 8 8"]), work.make(deed, ["remove 8 8", "add 9 9"]), work.end(deed);
+    const after = [["add 1 1", "add 7 7", "remove 7 7", "add 8 8", "remove 8 8", "add 9 9"], 6, ["1 1", "9 9"]];
+    assert.deepEqual(state(), after);
+    assert.deepEqual([(work.undo(), state()), (work.redo(), state()), work.deeds.done.length], [before, after, 3]);
+});
+await tried("a call before a wrong line cuts it off, and one that is refused leaves it", () => {
+    const text = (version) => `hullbook journal ${version} first 0 limit 9 capacity 9\n0 0 add 1 1 = added\n1 0 count = count 5\nend 2\n`;
+    const opened = (version) => {
+        const work = new Work(Hull);
+        work.open(readJournal(text(version)));
+        assert.deepEqual([work.replay.wrong.index, work.replay.at, work.message], [1, 1, "0 0 add 1 1 = added"]);
+        return work;
+    };
+    const cut = opened(3), refused = opened(2), { wrong } = refused.replay;
+    cut.do(["add 2 2"]);
+    assert.deepEqual([cut.replay.wrong, cut.replay.journal.lines.map((it) => it.reply)], [null, ["added", "added"]]);
+    refused.do(["add 2 2"]);
+    assert.deepEqual([refused.replay.wrong, refused.replay.journal.lines.length, refused.hull.count()], [wrong, 2, 1]);
+});
+await tried("questions are no deed, a step to where it is ends no redoing, and at the first position nothing was called", () => {
+    const work = new Work(Hull);
+    work.do(["count", "vertices"]);
+    assert.deepEqual([work.deeds.done.length, work.message], [0, "1 0 vertices = list 0"]);
+    work.do(["add 1 1", "count"]), work.undo(), work.go(work.replay.at);
+    assert.deepEqual([work.deeds.done.length, work.deeds.undone.length], [0, 1]);
+    assert.deepEqual([0, 3, 0].map((at) => (work.go(at), work.message)), ["", "2 0 add 1 1 = added", ""]);
+    work.open(emptyJournal(1)), work.openCalls(["add 1 1", "add 2 2"], 0);
+    assert.deepEqual([work.hull.limit(), work.hull.count(), work.message], [2 ** 20, 2, "1 0 add 2 2 = added"]);
 });
 await tried("steps in a row are one deed, and none if they end where they began", () => {
     const work = new Work(Hull), count = () => work.deeds.done.length;
