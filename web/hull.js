@@ -89,11 +89,13 @@ function flat(points) {
 /** Returns an integer of the module. */
 const whole = (value) => BigInt(checked(value));
 
+function checkIterable(values, wanted) {
+    if (typeof values?.[Symbol.iterator] !== "function" || typeof values === "string") throw new NoPoints(`points are ${wanted}`);
+}
+
 /** Returns a copy of an array's numbers, which no other code writes during a call. */
 function numbersOf(points) {
-    if (typeof points?.[Symbol.iterator] !== "function" || typeof points === "string") {
-        throw new NoPoints("points are an iterable of pairs, or an array of numbers");
-    }
+    checkIterable(points, "an iterable of pairs, or an array of numbers");
     if (points instanceof Float64Array) return points.slice();
     if (points instanceof BigInt64Array || points instanceof BigUint64Array) return Float64Array.from(points, Number);
     if (ArrayBuffer.isView(points)) return Float64Array.from(points);
@@ -432,9 +434,11 @@ class HullOfInstance extends Questions {
     }
 
     loadHeld(held) {
-        const rows = Array.from(held ?? [], ({ point, multiplicity }) => {
+        checkIterable(held, "an iterable of points with their multiplicities");
+        const rows = Array.from(held, (it) => {
+            const multiplicity = it?.multiplicity;
             if (!Number.isInteger(multiplicity) || multiplicity < 1 || multiplicity > MULTIPLICITY_LIMIT) throw new OutOfRange("a multiplicity is from 1 to 65535");
-            return [...pairOf(point).map(checked), multiplicity];
+            return [...pairOf(it.point).map(checked), multiplicity];
         });
         const instance = this._live(), array = instance.take(Math.max(1, rows.length) * HELD.size), { view } = instance.heap;
         rows.forEach(([x, y, multiplicity], i) => {

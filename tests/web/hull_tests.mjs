@@ -231,6 +231,8 @@ await tried("what is no points is refused, and what can be passed over once is r
     }
     for (const point of [[1], [1, 2, 3], [1, 0.5], [2 ** 41, 0], ["1", 2]]) assert.throws(() => hull.loadHeld([{ point, multiplicity: 1 }]),
         faults.OutOfRange);
+    for (const it of nonsense.NoPoints) assert.throws(() => hull.loadHeld(it), faults.NoPoints, String(it));
+    for (const it of [null, 5, [1, 2], { point: [1, 2] }, { multiplicity: 1 }]) assert.throws(() => hull.loadHeld([it]), faults.OutOfRange);
     assert.equal(hull.count(), 2);
     assert.deepEqual([...hull.addAll([[1, 2], [5, 6]].values())], [2, 1]);
     assert.equal(hull.removeAll(new Set([[5, 6]])), 1);
