@@ -174,7 +174,8 @@ export function callsOf(rows) {
             rounded += isRounded;
             return coordinate;
         });
-        for (let i = 0; i < times; i++) calls.push(`add ${point.join(" ")}`);
+        const call = `add ${point.join(" ")}`;
+        for (let i = 0; i < times; i++) calls.push(call);
     }
     return { calls, power, rounded };
 }
