@@ -221,7 +221,7 @@ await tried("where memory is refused to a growing hull, the places say so", asyn
     assert.equal(hull.place(0, 0), "on");
 });
 await tried("where memory is refused in a call on many, or in a copy, all is as before", async () => {
-    const { Hull: Small } = await load(bytes, { memory: 3 * 2 ** 20 }), hull = new Small();
+    const { Hull: Small, Polygon: Poly } = await load(bytes, { memory: 3 * 2 ** 20 }), hull = new Small();
     let times;
     for (let k = 0; k < 100; k++) {
         times = hull.addAll(Array.from({ length: 1000 }, (_, i) => [1000 * k + i, i]));
@@ -233,6 +233,8 @@ await tried("where memory is refused in a call on many, or in a copy, all is as 
         assert.throws(() => hull.copy(), faults.NoMemory);
         assert.throws(() => hull.load(new Float64Array(400000)), faults.NoMemory);
     }
+    // (too many vertices take no memory before they are refused)
+    assert.throws(() => new Poly(new Float64Array(2 * (2 ** 20 + 1))), faults.TooMany);
     assert.equal(hull.count(), count);
     hull.clear();
     assert.deepEqual([hull.add(5, 5), hull.count()], [1, 1]);

@@ -3,7 +3,7 @@
 import { strict as assert } from "node:assert";
 import * as faults from "../../web/hull.js";
 import { firstMeeting, indices, intersectsSegments, nearestHeld, pairsWithinDistance, relations, rotate, translate } from "../../web/many.js";
-import { bytes } from "./loaded.mjs";
+import { bytes, loadedWithScantMemory } from "./loaded.mjs";
 import { random_of } from "./plain.mjs";
 import { end, tried } from "./tried.mjs";
 
@@ -183,6 +183,21 @@ await tried("where memory is refused the calls say so, and all of it is given ba
         assert.deepEqual(pairsWithinDistance([dot, other, dot], 1), [[0, 1], [0, 2], [1, 2]]);
         assert.deepEqual([nearestHeld(hull, 1, 3).squared, firstMeeting(dot, other, -4, 0).vertex], [4n, [1, 0]]);
         assert.throws(() => translate(dot, FAR, FAR + 1), faults.OutOfRange);
+    }
+});
+await tried("the array that a call was passed is given back where memory is refused to its answer", async () => {
+    const calls = { // each with the bytes that its array has for an element
+        relations: [16, (it, dots) => relations(it, dots)], indices: [16, (it, dots) => indices(it, dots.map(() => [0, 0]))],
+        intersectsSegments: [32, (it, dots) => intersectsSegments(it, dots.map(() => [0, 0, 1, 1]))],
+        pairsWithinDistance: [16, (it, dots) => pairsWithinDistance(dots)],
+    };
+    for (const [name, [size, call]] of Object.entries(calls)) {
+        const { library, take, give, fill } = await loadedWithScantMemory(), block = take(200 * size);
+        const polygon = new library.Polygon(row(100, (i) => [i, i * i])), dots = Array(200).fill(new library.Polygon([[0, 0]]));
+        fill();
+        give(block);
+        for (let again = 0; again < 2; again++) assert.throws(() => call(polygon, dots), faults.NoMemory, name);
+        assert.equal(take(200 * size), block, `${name} took a block and did not give it back`);
     }
 });
 end();
