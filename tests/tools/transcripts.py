@@ -158,7 +158,7 @@ def test_failed_gate_lines(tests):
 # ---- bin/test
 
 # the suites that run first, since they take the longest, and the scripts of those that are not tests/SUITE/run.sh
-FIRST = "web python c++ trials dist refused toolchain rust tools waiting c long packages planted texts answers scripts shared journal".split()
+FIRST = "page web python c++ trials dist refused toolchain rust tools waiting c long packages planted texts answers scripts shared journal".split()
 SCRIPTS = {**{it: f"embed/{it}.sh" for it in ("c", "rust", "python", "answers", "planners")}, "c++": "embed/cplusplus.sh",
            **{it: f"shared/{it}.sh" for it in ("shared", "waiting", "journal", "snapshots", "planted")},
            "dist": "dist/run.py", "trials": "memory/trials.py",
