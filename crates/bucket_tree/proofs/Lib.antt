@@ -25,3 +25,5 @@ pub mod EdgeEnds
 pub mod Added
 pub mod Rotated
 pub mod RotatedNodes
+pub mod ListedRuns
+pub mod PassedRuns

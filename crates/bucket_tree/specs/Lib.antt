@@ -13,3 +13,4 @@ pub mod Changes
 pub mod InPlace
 pub mod OtherEnds
 pub mod Rotations
+pub mod Runs

@@ -22,6 +22,7 @@ mod recounting;
 mod removal;
 mod renewal;
 mod rotation;
+mod runs;
 mod tree;
 
 pub use find::find_multiplicity;

@@ -14,3 +14,4 @@ pub mod Rows
 pub mod Changed
 pub mod Covered
 pub mod Outwards
+pub mod Walks

@@ -386,7 +386,7 @@ vertices_among b k t i =
     )
 
 -- each vertex of a chain is one of them
-chain_on_tree : (side : Side) (b : BucketValue) → IsBucket b → (t : Pair)
+pub chain_on_tree : (side : Side) (b : BucketValue) → IsBucket b → (t : Pair)
     → Contains (at_places (mask_on side b) b.points) t → On (tree_of_slice b (all_of b)) t
 chain_on_tree side b k t m =
     let f = mask_fits (all_of b) (length b.points) (all_within b k) k.few in

@@ -30,10 +30,12 @@ mod positions;
 mod repairing;
 mod row;
 mod slice;
+mod walk;
 
 pub use bridges::{bridges_of, vertices_are_candidates};
 pub use bucket::{Bucket, buckets_are_sound};
 pub use slice::Slice;
+pub use walk::ChainWalk;
 
 /// The capacity of a bucket: one bit of a word for each point.
 pub const BUCKET_SIZE: usize = 64;

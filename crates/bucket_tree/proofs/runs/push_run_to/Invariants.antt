@@ -1,0 +1,10 @@
+-- the run so far is appended but for the last point that was passed
+use Rattle.std.proofs.Common.{length}
+use Rattle.bucket_tree.proofs.PassedRuns.{IsOnRun}
+use Rattle.bucket_tree.proofs.runs.push_run_to.Given as goal
+
+abbrev pub invariant-loop-walk : goal.invariant-loop-walk
+invariant-loop-walk l = IsOnRun l.fn.walk l.fn.from l.initial.out.items l.walk l.last l.out.items
+
+abbrev pub decreases-loop-walk : goal.decreases-loop-walk
+decreases-loop-walk l = length l.walk
