@@ -3,6 +3,7 @@
 //
 //     changes SHAPE POINTS ROUNDS
 //     changes added SHAPE POINTS ROUNDS
+//     changes listed SHAPE POINTS ROUNDS
 //
 // SHAPE is `square` (random points of a square), `circle` or `parabola` (every point a vertex), `spike` (a parabola, over which one
 // point is added and removed) or `outermost` (a parabola whose points are removed from its ends inward). Each round inserts the
@@ -11,7 +12,9 @@
 // middle to its ends, and from its ends to its middle) and `spiral` (points on a spiral, each outside the hull of those before). Each
 // line shows nanoseconds per change, the least of the rounds, the peers in turns with the library, in processor time of the thread;
 // a ratio above 1 means that the library is the faster one. With `added` the points (also those of a `disk`) are only added, to a growing hull,
-// to a set, and to the hull's lower and upper chain in a std::map each, the textbook structure.
+// to a set, and to the hull's lower and upper chain in a std::map each, the textbook structure. With `listed` one point is removed and added
+// again, and all vertices are written to an array after each change, beside points in a sorted array whose chains are computed again: nanoseconds
+// a vertex, with the change.
 #include <CGAL/Delaunay_triangulation_2.h>
 #include <CGAL/Exact_predicates_inexact_constructions_kernel.h>
 #include <CGAL/Triangulation_hierarchy_2.h>
@@ -63,6 +66,7 @@ class Ours {
     void add(Point p) { hull_add(place, p.x, p.y); }
     void remove(Point p) { hull_remove(place, p.x, p.y); }
     bool covers(Point p) { return hull_place(place, p.x, p.y).code != HULL_OUTSIDE; }
+    size_t list(std::vector<hull_point> &out) { return hull_vertices(place, out.data(), out.size()).number; }
 };
 
 // A growing hull; `add` returns whether it covered the point.
@@ -215,6 +219,30 @@ class VertexArray {
     }
 };
 
+// The points in an array, in order; the vertices are computed by a pass over all of them (Andrew, 1979).
+class SortedArray {
+    std::vector<Point> points;
+
+    // appends the chain of the points from `begin` on, without the last, from `first` on, and returns its end
+    template <class Iterator> static size_t pass(Iterator begin, Iterator end, std::vector<hull_point> &out, const size_t first) {
+        size_t count = first;
+        for (auto p = begin; p != end; ++p) {
+            while (count > first + 1 && orient({out[count - 2].x, out[count - 2].y}, {out[count - 1].x, out[count - 1].y}, *p) <= 0) {
+                count--;
+            }
+            out[count++] = {p->x, p->y};
+        }
+        return count - 1;
+    }
+
+  public:
+    void add(Point p) { points.insert(std::lower_bound(points.begin(), points.end(), p), p); }
+    void remove(Point p) { points.erase(std::lower_bound(points.begin(), points.end(), p)); }
+    size_t list(std::vector<hull_point> &out) {
+        return pass(points.rbegin(), points.rend(), out, pass(points.begin(), points.end(), out, 0));
+    }
+};
+
 // Whether the points are inserted in their own order and then only removed.
 bool is_in_order(const std::string &shape) { return shape == "outwards" || shape == "inwards" || shape == "spiral"; }
 
@@ -326,6 +354,44 @@ int compare_added(const std::string &shape, size_t count, int rounds) {
     return 0;
 }
 
+// Removes and adds points, and lists all vertices after each change; returns how many were listed, on which both must agree.
+template <class Set> size_t listed(const std::vector<Point> &points, size_t steps, double &least) {
+    Set set;
+    for (const Point &p : points) {
+        set.add(p);
+    }
+    std::vector<hull_point> out(2 * points.size() + 2);
+    size_t vertices = 0;
+    const double start = now();
+    for (size_t i = 0; i < steps; i++) {
+        const Point p = points[i * 7919 % points.size()];
+        set.remove(p);
+        vertices += set.list(out);
+        set.add(p);
+        vertices += set.list(out);
+    }
+    least = std::min(least, (now() - start) / static_cast<double>(vertices));
+    return vertices;
+}
+
+// Compares hulls whose vertices are all listed after each change.
+int compare_listed(const std::string &shape, size_t count, int rounds) {
+    std::mt19937_64 random(12345);
+    const std::vector<Point> points = points_of(shape, count, random);
+    const size_t steps = std::max<size_t>(10, 2000000 / count);
+    double ours = 1e300, array = 1e300;
+    for (int round = 0; round < rounds; round++) {
+        const size_t vertices = listed<Ours>(points, steps, ours);
+        if (listed<SortedArray>(points, steps, array) != vertices) {
+            std::printf("the two do not agree\n");
+            return 1;
+        }
+    }
+    std::printf("%s, %zu points, all vertices after each change: %.2f ns a vertex\n", shape.c_str(), count, ours);
+    std::printf("  %-24s %9.2f ns, ratio %7.2f\n", "a sorted array", array, array / ours);
+    return 0;
+}
+
 void print(const char *name, const Times &ours, const Times &peer) {
     std::printf("  %-24s insert %9.0f ns, ratio %7.2f   churn %9.0f ns, ratio %7.2f\n", name, peer.insert, peer.insert / ours.insert,
                 peer.churn, peer.churn / ours.churn);
@@ -337,8 +403,11 @@ int main(int argc, char **argv) {
     if (argc == 5 && std::string(argv[1]) == "added") {
         return compare_added(argv[2], std::strtoull(argv[3], nullptr, 10), std::atoi(argv[4]));
     }
+    if (argc == 5 && std::string(argv[1]) == "listed") {
+        return compare_listed(argv[2], std::strtoull(argv[3], nullptr, 10), std::atoi(argv[4]));
+    }
     if (argc != 4) {
-        std::fprintf(stderr, "usage: changes [added] square|disk|circle|parabola|spike|outermost|outwards|inwards|spiral POINTS ROUNDS\n");
+        std::fprintf(stderr, "usage: changes [added|listed] square|disk|circle|parabola|spike|outermost|outwards|inwards|spiral POINTS ROUNDS\n");
         return 2;
     }
     const std::string shape = argv[1];

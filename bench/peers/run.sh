@@ -30,6 +30,11 @@ for points in 10000 100000; do
         "$room/changes" added "$shape" "$points" "${1:-3}"
     done
 done
+for points in 1000 10000 100000; do
+    for shape in parabola circle square; do
+        "$room/changes" listed "$shape" "$points" "${1:-3}"
+    done
+done
 c++ -std=c++17 -O2 -DNDEBUG -frounding-math -I"$room/include" "$here/polygon_of.cpp" -L"$room/lib" -lhull -lgmp -lmpfr -o "$room/polygon_of"
 for points in 1000 100000 1000000; do
     "$room/polygon_of" "$points" "${1:-3}"
