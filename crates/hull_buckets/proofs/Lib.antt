@@ -15,3 +15,4 @@ pub mod Changed
 pub mod Covered
 pub mod Outwards
 pub mod Walks
+pub mod EndPoints

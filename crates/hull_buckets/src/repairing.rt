@@ -9,7 +9,7 @@ ghost use Rattle.hull_buckets.specs.Outwards.{IsFront};
 ghost use Rattle.hull_buckets.specs.declared.TheConstants.{BUCKET_SIZE};
 
 use super::chain::{is_convex_at, passed_outwards, passed_over, pushed, taken_up};
-use super::mask::{below, between, first, has, highest, lowest, moved_down, moved_up};
+use super::mask::{below, between, bit, first, has, highest, lowest, moved_down, moved_up};
 use lattice::{Point, Side};
 
 /// Whether the point at an index is between the last vertex before it and the first one after it, and not outwards of their segment.
@@ -73,6 +73,31 @@ fn front_between(side: Side, points: &[Point], low: u64, high: u64) -> u64
     )
 }
 
+/// Returns `low` with the first point, if neither mask has vertices at that end: the first point is a vertex.
+fn with_first(points: &[Point], low: u64, high: u64) -> u64
+    requires { length points.now ≤ BUCKET_SIZE }
+    ensures { (side : Side) → IsPointSet points.now → AreEnds side points.now low high → AreEnds side points.now result high }
+{
+    if low == 0 && high % 2 == 0 && points.len() > 0 {
+        1
+    } else {
+        low
+    }
+}
+
+/// Returns `high` with the last point, if neither mask has vertices at that end: the last point is a vertex.
+fn with_last(points: &[Point], low: u64, high: u64) -> u64
+    requires { length points.now ≤ BUCKET_SIZE }
+    ensures { (side : Side) → IsPointSet points.now → AreEnds side points.now low high → AreEnds side points.now low result }
+{
+    let count = points.len();
+    if high != 0 || count == 0 {
+        return high;
+    }
+    let last = bit(count - 1);
+    if low < last { last } else { high }
+}
+
 /// Returns the mask of the chain of points, given vertices at its two ends: one pass goes over the points between these, and on over the vertices
 /// after them until the chain bends as it did.
 fn joined(side: Side, points: &[Point], low: u64, high: u64) -> u64
@@ -81,6 +106,8 @@ fn joined(side: Side, points: &[Point], low: u64, high: u64) -> u64
     requires ends { AreEnds side points.now low high }
     ensures { IsMaskOf side points.now result }
 {
+    let low = with_first(points, low, high);
+    let high = with_last(points, low, high);
     let front = front_between(side, points, low, high);
     taken_up(side, points, front, high)
 }

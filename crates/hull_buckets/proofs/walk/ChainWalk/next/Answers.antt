@@ -1,5 +1,5 @@
 -- the lowest index of the mask is the next of a walk along the lower chain, the highest that of one along the upper chain
-use Rattle.std.proofs.Common.{◌≡◌, ◌∙◌, sym, ap, ◌^◌, ◌-◌, List, ◌∷◌}
+use Rattle.std.proofs.Common.{◌∙◌, sym, ap, ◌^◌, ◌-◌, List, ◌∷◌}
 use Rattle.lattice.specs.Plane.{Pair}
 use Rattle.hull_geometry.specs.Positions.{origin}
 use Rattle.hull_geometry.proofs.PointLists.{get_or_free}
