@@ -53,7 +53,7 @@ along side S x (y ∷ ys) u e covered h k =
     further (inr m) = inr (inr (inr m))
 
 -- a covered point is inner to each chain
-covered_inner : (side : Side) (S chain : List Pair) (u : Pair) → IsChainOf side S chain → Covers S u → IsInner side chain u
+pub covered_inner : (side : Side) (S chain : List Pair) (u : Pair) → IsChainOf side S chain → Covers S u → IsInner side chain u
 covered_inner side S [] u c covered = absurd (outside_nothing S u (ap (λ (z : List Pair). length z) (none_of side S [] c refl)) covered)
 covered_inner side S (x ∷ rest) u c covered =
     along side S x rest u (chain_edges side S x rest c) covered

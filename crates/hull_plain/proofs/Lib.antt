@@ -7,3 +7,4 @@ pub mod Multiplicities
 pub mod PlainSets
 mod Growth
 pub mod Covered
+pub mod Octagons

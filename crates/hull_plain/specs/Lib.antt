@@ -4,3 +4,4 @@ pub mod Drafts
 pub mod ChainLocations
 pub mod Bounds
 pub mod Growth
+pub mod Octagons

@@ -1,5 +1,6 @@
 //! The first of the points that lie farthest in a direction.
 ghost use Rattle.std.specs.Prelude.{◌↔◌, ◌<◌, List, IsTrue, length, ◌<ℤ◌};
+ghost use Rattle.std.specs.List.{Contains};
 ghost use Rattle.lattice.specs.Plane as plane;
 ghost use Rattle.lattice.specs.Plane.{Pair};
 ghost use Rattle.hull_geometry.specs.Monotone.{IsChainOf};
@@ -19,9 +20,10 @@ fn is_nearer(d: Direction, p: Point, q: Point) -> bool
 
 /// Returns the first of the farthest points in a direction that faces this chain: the vertex up to which the chain
 /// rises.
-fn farthest(chain: &TieredList, d: Direction) -> Point
+pub(crate) fn farthest(chain: &TieredList, d: Direction) -> Point
     requires { 0 < length chain.now.items }
-    ensures { (side : Side) (S : List Pair) → Faces side d → IsChainOf side S chain.now.items → IsFirstFarthest S d result }
+    ensures first { (side : Side) (S : List Pair) → Faces side d → IsChainOf side S chain.now.items → IsFirstFarthest S d result }
+    ensures among { Contains chain.now.items result }
 {
     chain.get(first_failing(chain, &|p, q| is_nearer(d, p, q)))
 }

@@ -13,6 +13,7 @@ ghost use Rattle.hull_set.specs.Replies.{LiesAt, AnswersExtreme, AnswersTangents
 
 use super::extremes::extreme_of;
 use super::locations::{place_by, place_of};
+use super::octagon::InnerOctagon;
 use super::positions::position_of;
 use super::repairing::put_in_at;
 use super::scratch_chain::ScratchChain;
@@ -43,6 +44,7 @@ pub struct GrowingHull {
     lower: TieredList,
     upper: TieredList,
     scratch_chain: ScratchChain,
+    octagon: InnerOctagon,
 }
 
 impl Model for GrowingHull {
@@ -52,7 +54,7 @@ impl Model for GrowingHull {
 
     ghost view = { λ h. record { lower = h.lower.items; upper = h.upper.items } };
 
-    ghost invariant = { λ h. IsGrowingHull (record { lower = h.lower.items; upper = h.upper.items }) };
+    ghost invariant = { λ h. IsGrowingHull (record { lower = h.lower.items; upper = h.upper.items }) h.octagon.octagon };
 }
 
 /// Adds a point that has the position `at` in a chain.
@@ -87,6 +89,7 @@ impl GrowingHull {
             lower: TieredList::new(alloc),
             upper: TieredList::new(alloc),
             scratch_chain: ScratchChain::new(alloc),
+            octagon: InnerOctagon::new(),
         }
     }
 
@@ -104,11 +107,17 @@ impl GrowingHull {
         ensures outside { OnErr result ((S : List Pair) → IsHullOf S self.old → IsOutside S p) }
         ensures fault { IfErr result (λ fault. IsWhyNotGrown fault self.old) }
     {
+        if self.octagon.has_point(p) {
+            return Ok(Place::Inside);
+        }
         let below = position_of(&self.lower, p);
         let above = position_of(&self.upper, p);
         match place_by(&self.lower, &self.upper, below, Some(above), p) {
             Place::Outside => (),
-            place => return Ok(place),
+            place => {
+                self.octagon.count_search(&self.lower, &self.upper);
+                return Ok(place);
+            }
         }
         if self.lower.len() >= POINT_LIMIT as usize || self.upper.len() >= POINT_LIMIT as usize {
             return Err(GrowFault::TooMany);
@@ -120,6 +129,7 @@ impl GrowingHull {
         {
             return Err(GrowFault::NoMemory);
         }
+        self.octagon.count_growth();
         let scratch_chain = &mut self.scratch_chain;
         grow(Side::Lower, &mut self.lower, scratch_chain, below, p);
         grow(Side::Upper, &mut self.upper, scratch_chain, above, p);
@@ -130,6 +140,9 @@ impl GrowingHull {
     pub fn place(&self, q: Point) -> Place
         ensures { (S : List Pair) → IsHullOf S self.now → LiesAt S q result }
     {
+        if self.octagon.has_point(q) {
+            return Place::Inside;
+        }
         place_of(&self.lower, &self.upper, q)
     }
 

@@ -29,6 +29,7 @@ mod growing_hull;
 mod hull_chains;
 mod locations;
 mod monotone;
+mod octagon;
 mod plain_set;
 mod positions;
 mod repairing;

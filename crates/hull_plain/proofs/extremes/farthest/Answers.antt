@@ -4,8 +4,8 @@ use Rattle.hull_plain.proofs.Farthest.{farthest_found}
 use Rattle.hull_geometry.proofs.PointLists.{get_or_free}
 use Rattle.hull_plain.proofs.extremes.farthest.Goals as goal
 
-pub returns : goal.returns
-returns c = λ side S faces k.
+pub returns-clause-first : goal.returns-clause-first
+returns-clause-first c = λ side S faces k.
     let at = c.first_failing.result in
     farthest_found side S c.args.chain.now.items at c.args.d c.get.result
     (c.get.ensures ∙ get_or_free c.args.chain.now.items at _ _ c.first_failing.ensures.within) faces k

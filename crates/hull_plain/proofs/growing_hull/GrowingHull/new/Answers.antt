@@ -1,9 +1,10 @@
--- no points have empty chains
+-- no points have empty chains, and the octagon of no points is inside
 use Rattle.std.proofs.Common.{◌≡◌, [], sym, ap, subst, arith, length, List}
 use Rattle.lattice.specs.Plane.{Pair}
 use Rattle.lattice.specs.declared.side.Side.{Side}
 use Rattle.lattice.specs.declared.side.Side.TheVariants.{Lower, Upper}
 use Rattle.hull_geometry.specs.Monotone.{IsChainOf, IsStrict}
+use Rattle.hull_geometry.proofs.PointLists.{AllPairs-none}
 use Rattle.hull_plain.proofs.Growth.{own_chain}
 use Rattle.hull_plain.proofs.growing_hull.GrowingHull.new.Goals as goal
 
@@ -24,6 +25,8 @@ invariant_of-result c = record {
       above = empty_chain Upper c.new-2.result.items c.new-2.ensures.items;
     },
   );
+  in_order = AllPairs-none;
   few_below = omega (arith, ap length c.new.ensures.items);
   few_above = omega (arith, ap length c.new-2.ensures.items);
+  inside = c.new-4.ensures _ _;
 }
