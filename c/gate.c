@@ -83,6 +83,10 @@ enum { LOOKS = HULL_SHARED_LOOKS, DESIGNATED_LOOKS = HULL_SHARED_LOOKS, POSTED_L
 #define HULL_SHARED_SERVES_FOR 50000
 #endif
 
+/* A call that need not wait is made by one function, with what may wait out of its way. */
+#define IN_LINE static inline __attribute__((always_inline))
+#define OUT_OF_LINE static __attribute__((noinline))
+
 /* How long a thread waits before it drains again after memory was refused to a drain, in nanoseconds. */
 #define RETRY 10000000
 
@@ -106,7 +110,7 @@ struct wait_node {
     uint32_t is_queued;
     uint32_t next;
     uint32_t previous;
-    uint64_t since; /* 0 if no call of the seat is inside */
+    uint64_t since; /* 0 if no call of the seat is inside, UNTIMED if it was admitted before calls read the clock */
     uint64_t turn;
     uint32_t has_turn; /* HAS_TURN, or HAD_TURN after another thread served that number, or 0 */
     uint32_t notice;   /* the word that it sleeps on while it is posted */
@@ -115,6 +119,7 @@ struct wait_node {
 };
 
 enum { HAS_TURN = 1, HAD_TURN };
+enum { UNTIMED = 1 };
 
 struct gate {
     /* set before calls are made */
@@ -125,7 +130,9 @@ struct gate {
     uint32_t out;    /* the seats that were acquired with this gate and not released */
     uint32_t beside; /* how many calls may be inside at once, minus 1 */
     uint32_t waits;  /* whether a call that found no space waits for some */
-    unsigned char padding_1[20];
+    uint32_t half;   /* half of the lines that the shared hull keeps at most */
+    uint64_t timed_from; /* when hull_shared_stats was first called: calls read the clock from then on. 0 before */
+    unsigned char padding_1[8];
     /* written by each call */
     uint64_t turn; /* the number that is served now, 0 before the first */
     uint32_t held;
@@ -211,6 +218,7 @@ uint32_t hull_shared_acquire_seat(hull_shared *shared, hull_shared_gate *opaque,
     }
     if (code == HULL_ACQUIRED && gate != NULL) {
         gate->nodes[number].seat = seat;
+        __atomic_store_n(&gate->half, hull_shared_capacity(seat) / 2, __ATOMIC_RELAXED);
     }
     if (gate != NULL) {
         __atomic_fetch_add(&gate->out, code == HULL_ACQUIRED, __ATOMIC_RELAXED);
@@ -441,7 +449,7 @@ static int enter_or_resign(struct gate *gate) {
 }
 
 /* Enters at once if no call is inside and the gate is not closed; returns whether it did. */
-static int enter_at_once(struct gate *gate) {
+IN_LINE int enter_at_once(struct gate *gate) {
     uint32_t state;
     do {
         state = load_state(gate);
@@ -480,9 +488,9 @@ static int enter(struct gate *gate, uint32_t seat, uint64_t until) {
     return 1;
 }
 
-/* Leaves. If callers are parked and none is designated, designates the first of them; if the turn is over, closes the gate to all
- * but the designated caller. */
-static void leave(struct gate *gate) {
+/* Leaves while others wait. If callers are parked and none is designated, designates the first of them; if the turn is over, closes the
+ * gate to all but the designated caller. */
+OUT_OF_LINE void leave_to_others(struct gate *gate) {
     for (;;) {
         uint32_t state = load_state(gate), next = state - 1;
         if (state >= PARKED && (state & DESIGNATED) == 0) {
@@ -499,15 +507,23 @@ static void leave(struct gate *gate) {
     }
 }
 
+IN_LINE void leave(struct gate *gate) {
+    uint32_t state = load_state(gate);
+    if (state > INSIDE || !try_change(gate, state, state - 1)) {
+        leave_to_others(gate);
+    }
+}
+
 /* ---- numbers */
 
 /* Stores the number that is served: of two threads that store theirs, if two may be inside, the later number. */
-static void store_turn(struct gate *gate, uint64_t number) {
-    uint64_t seen = __atomic_load_n(&gate->turn, __ATOMIC_RELAXED);
+IN_LINE void store_turn(struct gate *gate, uint64_t number) {
+    uint64_t seen;
     if (gate->beside == 0) {
         __atomic_store_n(&gate->turn, number, __ATOMIC_RELAXED);
         return;
     }
+    seen = __atomic_load_n(&gate->turn, __ATOMIC_RELAXED);
     while ((seen == 0 || (int64_t)(number - seen) > 0) &&
            !__atomic_compare_exchange_n(&gate->turn, &seen, number, 0, __ATOMIC_RELAXED, __ATOMIC_RELAXED)) {
     }
@@ -551,10 +567,10 @@ static hull_shared_reply refusal(uint32_t code) {
 }
 
 /* Stores what others may know after a call was served. */
-static void note_served(struct gate *gate, const hull_shared_reply *reply) {
+IN_LINE void note_served(struct gate *gate, uint32_t held, uint64_t turn) {
     HULL_SHARED_STEP("served");
-    __atomic_store_n(&gate->held, reply->held, __ATOMIC_RELAXED);
-    store_turn(gate, reply->turn + 1);
+    __atomic_store_n(&gate->held, held, __ATOMIC_RELAXED);
+    store_turn(gate, turn + 1);
 }
 
 /* Looks once with a seat; returns whether its call was served. */
@@ -568,7 +584,7 @@ static int look(struct gate *gate, hull_shared_seat *seat, const hull_shared_tar
     case HULL_VACANT:
     case HULL_NO_SPACE: return 0;
     }
-    note_served(gate, reply);
+    note_served(gate, reply->held, reply->turn);
     if (to->segment != NULL && reply->answer.code != HULL_FULL) {
         announce_space(gate);
     }
@@ -587,7 +603,7 @@ static int try_change_slot(uint64_t *slot, uint64_t *seen, uint64_t next) {
 
 /* Claims the seat that is posted with a number which was handed on: returns it, or 0 if none is posted. If it is only announced, it
  * is marked, and looks again. */
-static uint32_t claim(struct gate *gate, uint64_t number) {
+IN_LINE uint32_t claim(struct gate *gate, uint64_t number) {
     uint64_t *slot = slot_of(gate, number), seen = __atomic_load_n(slot, __ATOMIC_SEQ_CST);
     while ((seen ^ number * ONE_NUMBER) < ONE_NUMBER && ((seen & ACTION) == POSTED || (seen & ACTION) == ANNOUNCED)) {
         int is_posted = (seen & ACTION) == POSTED;
@@ -655,7 +671,7 @@ static uint64_t end_of_serving(const struct call *call) {
 /* Serves the claimed seats from this number on, which was handed on, for their threads, and then wakes those that sleep. It ends at a
  * number that is not posted; and after HULL_SHARED_SERVES calls, after HULL_SHARED_SERVES_FOR, at the deadline of the call that was
  * made before, and if a thread has to drain, which at first `held` lines say: then the thread of the next seat is to look. */
-static void serve_claimed(const struct call *call, uint32_t seat, uint64_t number, uint32_t held) {
+OUT_OF_LINE void serve_claimed(const struct call *call, uint32_t seat, uint64_t number, uint32_t held) {
     struct gate *gate = call->gate;
     struct wait_node *sleepers[SERVES_MOST];
     uint32_t asleep = 0, served = 0, k, server = call->number;
@@ -757,47 +773,70 @@ static void wait_for_turn(const struct call *call, uint64_t number, const hull_s
 
 /* ---- calls */
 
-/* Takes a number for a call, and looks at once if no other call is inside, where the number is served unless a seat is used without
- * this gate. Returns whether the seat waits with a number; if not, the reply is that of the call. */
-static int take(const struct call *call, const hull_shared_target *to, hull_shared_reply *reply) {
-    if (call->gate->beside != 0 || to->segment != NULL || to->out != NULL) {
-        *reply = hull_shared_take(call->seat, call->kind, call->x, call->y);
-        return reply->answer.code == HULL_TAKEN;
-    }
-    *reply = hull_shared_take_and_look(call->seat, call->kind, call->x, call->y);
-    switch (reply->answer.code) {
-    case HULL_NOT_YET: return 1;
+/* Stores that a call of a seat is inside, and since when if hull_shared_stats asks for it. */
+IN_LINE void note_admitted(const struct gate *gate, struct wait_node *node) {
+    int is_timed = __atomic_load_n(&gate->timed_from, __ATOMIC_RELAXED) != 0;
+    __atomic_store_n(&node->since, is_timed ? hull_now_coarse() : UNTIMED, __ATOMIC_RELAXED);
+    hull_mark_after(&gate->state);
+}
+
+/* Leaves, after the call of a seat. */
+IN_LINE void note_and_leave(struct gate *gate, struct wait_node *node) {
+    hull_mark_before(&gate->state);
+    __atomic_store_n(&node->since, 0, __ATOMIC_RELAXED);
+    leave(gate);
+}
+
+/* Waits for the number that the seat of a call has taken, and writes its answer; then leaves. */
+static void wait_and_leave(const struct call *call, uint64_t turn, const hull_shared_target *to, hull_shared_reply *reply) {
+    struct wait_node *node = node_of(call->gate, call->number);
+    __atomic_store_n(&node->turn, turn, __ATOMIC_RELAXED);
+    __atomic_store_n(&node->has_turn, HAS_TURN, __ATOMIC_RELEASE);
+    wait_for_turn(call, turn, to, reply);
+    __atomic_store_n(&node->has_turn, 0, __ATOMIC_RELAXED);
+    note_and_leave(call->gate, node);
+}
+
+/* Whether a call was served whose take and look returned this code. */
+IN_LINE int is_served(uint32_t code) {
+    switch (code) {
+    case HULL_NOT_YET:
     case HULL_VACANT:
     case HULL_WAITING:
     case HULL_UNKNOWN_KIND:
     case HULL_OUT_OF_RANGE:
     case HULL_ZERO_DIRECTION: return 0;
     }
-    note_served(call->gate, reply);
-    serve_next(call, reply->turn + 1, reply->held);
-    return 0;
+    return 1;
+}
+
+/* Takes a number for a call, and looks at once if no other call is inside, where the number is served unless a seat is used without
+ * this gate. Returns whether the seat waits with a number; if not, the reply is that of the call. (No seat is posted then.) */
+static int take(const struct call *call, const hull_shared_target *to, hull_shared_reply *reply) {
+    if (call->gate->beside != 0 || to->segment != NULL || to->out != NULL) {
+        *reply = hull_shared_take(call->seat, call->kind, call->x, call->y);
+        return reply->answer.code == HULL_TAKEN;
+    }
+    *reply = hull_shared_take_and_look(call->seat, call->kind, call->x, call->y);
+    if (is_served(reply->answer.code)) {
+        note_served(call->gate, reply->held, reply->turn);
+    }
+    return reply->answer.code == HULL_NOT_YET;
 }
 
 /* Makes a call once, waits for its answer and writes it; writes BUSY if it could not enter by the deadline. */
 static void make_once(const struct call *call, const hull_shared_target *to, hull_shared_reply *reply) {
     struct gate *gate = call->gate;
-    struct wait_node *node = node_of(gate, call->number);
     if (!enter(gate, call->number, call->until)) {
         *reply = refusal(HULL_BUSY);
         return;
     }
-    __atomic_store_n(&node->since, hull_now_coarse(), __ATOMIC_RELAXED);
-    hull_mark_after(&gate->state);
+    note_admitted(gate, node_of(gate, call->number));
     if (take(call, to, reply)) {
-        const uint64_t turn = reply->turn;
-        __atomic_store_n(&node->turn, turn, __ATOMIC_RELAXED);
-        __atomic_store_n(&node->has_turn, HAS_TURN, __ATOMIC_RELEASE);
-        wait_for_turn(call, turn, to, reply);
-        __atomic_store_n(&node->has_turn, 0, __ATOMIC_RELAXED);
+        wait_and_leave(call, reply->turn, to, reply);
+    } else {
+        note_and_leave(gate, node_of(gate, call->number));
     }
-    hull_mark_before(&gate->state);
-    __atomic_store_n(&node->since, 0, __ATOMIC_RELAXED);
-    leave(gate);
 }
 
 /* Calls the hook; the thread is not cancelled meanwhile. */
@@ -861,51 +900,126 @@ static int drain_for_hook(const struct call *call) {
     return has_space;
 }
 
-/* Makes a call, and writes its answer. If it found no space, makes it again after a drain, if the gate waits for space or drains by
- * itself. The word `drains` is read before a number is taken: a drain after the call changes it. */
-static void make(const struct call *call, const hull_shared_target *to, hull_shared_reply *reply) {
+/* Does what follows a call: drains, if that is due. Returns whether the call is to be made again: it found no space, and there may be
+ * some, after a drain or a wait. The word `drains` was read before the call took its number: a drain after the call changes it. */
+static int is_to_repeat(const struct call *call, uint32_t drains, uint32_t code, uint32_t held) {
     struct gate *gate = call->gate;
-    for (;;) {
-        uint32_t drains = __atomic_load_n(&gate->drains, __ATOMIC_SEQ_CST);
+    if (code != HULL_FULL) {
+        (void)(is_drain_due(call, held) && become_drainer(call) && drain_for_hook(call));
+        return 0;
+    }
+    if (become_drainer(call) && drain_for_hook(call)) {
+        return 1;
+    }
+    if (!gate->waits || call->until == 0) {
+        return 0;
+    }
+    HULL_SHARED_STEP("no space");
+    wait_for_drain(gate, drains, call->until);
+    return call->until == HULL_NEVER || hull_now() < call->until;
+}
+
+/* Makes a call, and writes its answer. If it found no space, makes it again after a drain, if the gate waits for space or drains by
+ * itself. */
+static void make(const struct call *call, const hull_shared_target *to, hull_shared_reply *reply) {
+    uint32_t drains;
+    do {
+        drains = __atomic_load_n(&call->gate->drains, __ATOMIC_SEQ_CST);
         make_once(call, to, reply);
-        if (to->segment != NULL || reply->answer.code == HULL_BUSY) {
-            return;
-        }
-        if (reply->answer.code != HULL_FULL) {
-            if (gate->hook != NULL && reply->held > 0 && reply->held >= hull_shared_capacity(call->seat) / 2) {
-                (void)(become_drainer(call) && drain_for_hook(call));
+    } while (to->segment == NULL && reply->answer.code != HULL_BUSY && is_to_repeat(call, drains, reply->answer.code, reply->held));
+}
+
+static const hull_shared_target no_target = {NULL, 0, NULL};
+
+/* Makes a call that may have to wait. */
+OUT_OF_LINE hull_shared_reply call_and_wait(struct gate *gate, hull_shared_seat *seat, uint32_t kind, int64_t x, int64_t y,
+                                            const hull_shared_target *to, uint64_t until) {
+    const struct binding *binding = binding_of(seat);
+    const struct call call = {gate, seat, binding->number + 1, kind, x, y, until};
+    int saved_errno = errno;
+    hull_shared_reply reply;
+    if (gate == NULL || binding->gate != gate) {
+        return refusal(binding->gate == NULL && hull_shared_capacity(seat) == 0 ? HULL_VACANT : HULL_OTHER_GATE);
+    }
+    if (to->segment != NULL && hull_shared_segment_space(to->segment) < hull_shared_capacity(seat)) {
+        return refusal(HULL_NO_SPACE);
+    }
+    make(&call, to, &reply);
+    errno = saved_errno;
+    return reply;
+}
+
+/* What follows a call that was admitted at once if its number was not served when it was taken. */
+OUT_OF_LINE hull_shared_reply wait_admitted(struct gate *gate, hull_shared_seat *seat, uint32_t kind, int64_t x, int64_t y, uint64_t until,
+                                            uint32_t drains, uint64_t turn) {
+    const struct call call = {gate, seat, binding_of(seat)->number + 1, kind, x, y, until};
+    hull_shared_reply reply;
+    wait_and_leave(&call, turn, &no_target, &reply);
+    if (is_to_repeat(&call, drains, reply.answer.code, reply.held)) {
+        make(&call, &no_target, &reply);
+    }
+    return reply;
+}
+
+/* What follows a call that was admitted at once if a drain may be due, or if it found no space. Returns whether it is to be made again. */
+OUT_OF_LINE int is_admitted_to_repeat(struct gate *gate, hull_shared_seat *seat, uint64_t until, uint32_t drains, uint32_t code,
+                                      uint32_t held) {
+    const struct call call = {gate, seat, binding_of(seat)->number + 1, HULL_KIND_COUNT, 0, 0, until};
+    return is_to_repeat(&call, drains, code, held);
+}
+
+/* Serves the calls that are posted after one that was admitted at once. */
+IN_LINE void serve_after(struct gate *gate, hull_shared_seat *seat, uint64_t until, uint64_t number, uint32_t held) {
+    uint32_t next = claim(gate, number);
+    if (next != 0) {
+        const struct call call = {gate, seat, binding_of(seat)->number + 1, HULL_KIND_COUNT, 0, 0, until};
+        serve_claimed(&call, next, number, held);
+    }
+}
+
+/* Makes a call that writes to nothing but its reply. If no other call is inside, and none is to enter before it, it takes a number and
+ * looks at once: that number is served, unless another call enters meanwhile and takes the one before it, or a seat is used without this
+ * gate. Then it does no more than is here. */
+IN_LINE hull_shared_reply call_at_once(struct gate *gate, hull_shared_seat *seat, uint32_t kind, int64_t x, int64_t y, uint64_t until) {
+    const struct binding *binding = binding_of(seat);
+    const int saved_errno = errno;
+    struct wait_node *node;
+    hull_shared_reply reply;
+    uint64_t turn;
+    uint32_t drains, code, held;
+    if (gate == NULL || binding->gate != gate || !enter_at_once(gate)) {
+        return call_and_wait(gate, seat, kind, x, y, &no_target, until);
+    }
+    node = &gate->nodes[binding->number];
+    drains = __atomic_load_n(&gate->drains, __ATOMIC_SEQ_CST);
+    note_admitted(gate, node);
+    reply = hull_shared_take_and_look(seat, kind, x, y);
+    code = reply.answer.code, held = reply.held, turn = reply.turn;
+    if (code == HULL_NOT_YET) {
+        reply = wait_admitted(gate, seat, kind, x, y, until, drains, turn);
+    } else {
+        if (is_served(code)) {
+            note_served(gate, held, turn);
+            if (gate->beside != 0) {
+                serve_after(gate, seat, until, turn + 1, held);
             }
-            return;
         }
-        if (become_drainer(call) && drain_for_hook(call)) {
-            continue;
-        }
-        if (!gate->waits || call->until == 0) {
-            return;
-        }
-        HULL_SHARED_STEP("no space");
-        wait_for_drain(gate, drains, call->until);
-        if (call->until != HULL_NEVER && hull_now() >= call->until) {
-            return;
+        note_and_leave(gate, node);
+        if (((gate->hook != NULL && held >= __atomic_load_n(&gate->half, __ATOMIC_RELAXED)) || code == HULL_FULL) &&
+            is_admitted_to_repeat(gate, seat, until, drains, code, held)) {
+            reply = call_and_wait(gate, seat, kind, x, y, &no_target, until);
         }
     }
+    errno = saved_errno;
+    return reply;
 }
 
 hull_shared_reply hull_shared_call_into(hull_shared_gate *opaque, hull_shared_seat *seat, uint32_t kind, int64_t x, int64_t y,
                                         hull_shared_target to, uint64_t until) {
-    struct binding *binding = binding_of(seat);
-    struct call call = {(struct gate *)opaque, seat, binding->number + 1, kind, x, y, until};
-    int saved_errno = errno;
-    hull_shared_reply reply;
-    if (call.gate == NULL || binding->gate != call.gate) {
-        return refusal(binding->gate == NULL && hull_shared_capacity(seat) == 0 ? HULL_VACANT : HULL_OTHER_GATE);
+    if (to.segment == NULL && (to.out == NULL || kind != HULL_KIND_VERTICES)) {
+        return call_at_once((struct gate *)opaque, seat, kind, x, y, until);
     }
-    if (to.segment != NULL && hull_shared_segment_space(to.segment) < hull_shared_capacity(seat)) {
-        return refusal(HULL_NO_SPACE);
-    }
-    make(&call, &to, &reply);
-    errno = saved_errno;
-    return reply;
+    return call_and_wait((struct gate *)opaque, seat, kind, x, y, &to, until);
 }
 
 int hull_shared_gate_drain(hull_shared_gate *opaque, hull_shared_seat *seat) {
@@ -928,19 +1042,17 @@ int hull_shared_gate_drain(hull_shared_gate *opaque, hull_shared_seat *seat) {
     return is_done;
 }
 
-static const hull_shared_target no_target = {NULL, 0, NULL};
-
 hull_shared_reply hull_shared_call(hull_shared_gate *opaque, hull_shared_seat *seat, uint32_t kind, int64_t x, int64_t y) {
-    return hull_shared_call_into(opaque, seat, kind, x, y, no_target, HULL_NEVER);
+    return call_at_once((struct gate *)opaque, seat, kind, x, y, HULL_NEVER);
 }
 
 hull_shared_reply hull_shared_try_call(hull_shared_gate *opaque, hull_shared_seat *seat, uint32_t kind, int64_t x, int64_t y) {
-    return hull_shared_call_into(opaque, seat, kind, x, y, no_target, 0);
+    return call_at_once((struct gate *)opaque, seat, kind, x, y, 0);
 }
 
 hull_shared_reply hull_shared_call_until(hull_shared_gate *opaque, hull_shared_seat *seat, uint32_t kind, int64_t x, int64_t y,
                                          uint64_t until) {
-    return hull_shared_call_into(opaque, seat, kind, x, y, no_target, until);
+    return call_at_once((struct gate *)opaque, seat, kind, x, y, until);
 }
 
 hull_shared_reply hull_shared_drain(hull_shared_gate *opaque, hull_shared_seat *seat, hull_shared_segment *segment, uint32_t kind,
@@ -968,7 +1080,10 @@ hull_shared_reply hull_seat_call_into(hull_shared_seat *seat, uint32_t kind, int
 }
 
 hull_shared_reply hull_seat_call_until(hull_shared_seat *seat, uint32_t kind, int64_t x, int64_t y, uint64_t until) {
-    return hull_seat_call_into(seat, kind, x, y, no_target, until);
+    if (seat == NULL) {
+        return refusal(HULL_VACANT);
+    }
+    return call_at_once(binding_of(seat)->gate, seat, kind, x, y, until);
 }
 
 hull_shared_reply hull_seat_vertices(hull_shared_seat *seat, hull_point *out, size_t capacity) {
@@ -1002,7 +1117,7 @@ static uint64_t find_holder(const struct gate *gate, uint64_t turn, uint32_t *se
             return since;
         }
         since |= has_turn == HAD_TURN ? last : 0;
-        if (since != 0 && (first == 0 || since < first)) {
+        if (since != 0 && (first == 0 || since < first || (since == first && has_turn == 0))) {
             first = since;
             *seat = k;
         }
@@ -1010,10 +1125,16 @@ static uint64_t find_holder(const struct gate *gate, uint64_t turn, uint32_t *se
     return first & ~last;
 }
 
+/* Has calls read the clock from now on; returns from when on they do. */
+static uint64_t begin_timing(struct gate *gate, uint64_t now) {
+    uint64_t begun = 0;
+    return __atomic_compare_exchange_n(&gate->timed_from, &begun, now, 0, __ATOMIC_RELAXED, __ATOMIC_RELAXED) ? now : begun;
+}
+
 hull_shared_state hull_shared_stats(const hull_shared_gate *opaque) {
-    const struct gate *gate = (const struct gate *)opaque;
+    struct gate *gate = (struct gate *)(uintptr_t)opaque;
     uint32_t state = load_state(gate), drainer = __atomic_load_n(&gate->drainer, __ATOMIC_SEQ_CST);
-    uint64_t now = hull_now_coarse(), since;
+    uint64_t now = hull_now_coarse(), timed_from = begin_timing(gate, now), since;
     hull_shared_state stats;
     memset(&stats, 0, sizeof stats);
     stats.out = __atomic_load_n(&gate->out, __ATOMIC_RELAXED);
@@ -1028,7 +1149,7 @@ hull_shared_state hull_shared_stats(const hull_shared_gate *opaque) {
     since = drainer == 0 ? 0 : __atomic_load_n(&gate->drainer_since, __ATOMIC_RELAXED);
     stats.drains_for = since == 0 ? 0 : elapsed(now, since);
     since = find_holder(gate, stats.turn, &stats.seat);
-    stats.seat_for = since == 0 ? 0 : elapsed(now, since);
+    stats.seat_for = since == 0 ? 0 : elapsed(now, since == UNTIMED ? timed_from : since);
     stats.combined = __atomic_load_n(&gate->combined, __ATOMIC_RELAXED);
     return stats;
 }

@@ -9,8 +9,8 @@
 
 enum { HULL_RUNNING_ON_VALGRIND = 0x1001, HULL_HELGRIND = 'H' << 24 | 'G' << 16 };
 
-/* Makes a request; returns 0 if valgrind does not run the program. */
-static inline uintptr_t hull_request(uintptr_t number, uintptr_t first, uintptr_t second) {
+/* Makes a request; returns 0 if valgrind does not run the program. (It stays out of the way of those that have none to make.) */
+static __attribute__((noinline, unused)) uintptr_t hull_request(uintptr_t number, uintptr_t first, uintptr_t second) {
     uintptr_t answer = 0;
 #if !defined(HULL_SHARED_UNWATCHED) && defined(__linux__) && defined(__GNUC__)
     volatile uintptr_t words[6] = {number, first, second, 0, 0, 0};
@@ -37,12 +37,13 @@ static inline uintptr_t hull_request(uintptr_t number, uintptr_t first, uintptr_
 
 /* Whether valgrind runs the program; valgrind is asked once. */
 static inline int hull_is_under_valgrind(void) {
-    static int is_known, is_under_valgrind;
-    if (!__atomic_load_n(&is_known, __ATOMIC_RELAXED)) {
-        __atomic_store_n(&is_under_valgrind, hull_request(HULL_RUNNING_ON_VALGRIND, 0, 0) != 0, __ATOMIC_RELAXED);
-        __atomic_store_n(&is_known, 1, __ATOMIC_RELEASE);
+    static int known; /* 1 if it does not, 2 if it does */
+    int seen = __atomic_load_n(&known, __ATOMIC_RELAXED);
+    if (seen == 0) {
+        seen = hull_request(HULL_RUNNING_ON_VALGRIND, 0, 0) != 0 ? 2 : 1;
+        __atomic_store_n(&known, seen, __ATOMIC_RELAXED);
     }
-    return __atomic_load_n(&is_under_valgrind, __ATOMIC_RELAXED);
+    return seen == 2;
 }
 
 /* Reports so many bytes at an address to helgrind, by the number of its request. */

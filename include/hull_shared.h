@@ -478,7 +478,8 @@ typedef struct hull_shared_state {
                           * none */
     uint32_t designated; /* the seat that is designated to enter next; HULL_SHARED_SEATS_MAX if there is none */
     uint32_t drainer;    /* the seat that drains for the hook; HULL_SHARED_SEATS_MAX if none does */
-    uint64_t seat_for;   /* how many nanoseconds that seat's call has been admitted, to some milliseconds */
+    uint64_t seat_for;   /* how many nanoseconds that seat's call has been admitted, to some milliseconds; counted from the gate's first
+                          * hull_shared_stats if it was admitted before */
     uint64_t drains_for; /* how many nanoseconds that one has drained, to some milliseconds */
     uint64_t combined;   /* how many calls were served by other threads than their own; 0 if no seat is acquired */
 } hull_shared_state;

@@ -106,7 +106,7 @@ static int is_statistic(const volatile void *word) {
         return in_node == offsetof(struct wait_node, since) || in_node == offsetof(struct wait_node, turn) ||
                in_node == offsetof(struct wait_node, has_turn);
     }
-    return offset == offsetof(struct gate, held) || offset == offsetof(struct gate, server) || offset == offsetof(struct gate, combined) ||
+    return offset == offsetof(struct gate, timed_from) || offset == offsetof(struct gate, half) || offset == offsetof(struct gate, held) || offset == offsetof(struct gate, server) || offset == offsetof(struct gate, combined) ||
            offset == offsetof(struct gate, designated) || offset == offsetof(struct gate, drainer_since);
 }
 

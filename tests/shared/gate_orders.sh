@@ -116,7 +116,16 @@ wrong_ones() {
     wrong 'a thread that serves no more leaves the next without a notice' '8 3 8 cccccccc 0 2 0 1 20000' 's/^            leave_look\(node\);/            ;/'
     wrong 'a thread that serves no more says that the next is served' '8 3 8 cccccccc 0 2 0 1 20000' 's/notify\(node, IS_TO_LOOK\)/notify(node, IS_SERVED)/'
     wrong 'a call that another thread served keeps the reply before it' '2 2 2 cc' 's/^                \*reply = binding->reply;/                ;/'
-    wrong 'a thread whose call was served serves none after it' '2 1 2 cc' 's/^        serve_next\(call, number \+ 1, reply->held\);/        ;/; s/^    serve_next\(call, reply->turn \+ 1, reply->held\);/    ;/'
+    wrong 'a thread whose call was served serves none after it' '2 2 2 cc' 's/^        serve_next\(call, number \+ 1, reply->held\);/        ;/'
+    # calls that are admitted at once
+    wrong 'a call that was admitted at once serves none after it' '2 1 2 cc' 's/^( +)serve_after\(gate, seat, until, turn \+ 1, held\);/\1;/'
+    wrong 'a call leaves as if none were parked' '2 1 1 cc' 's/^    if \(state > INSIDE \|\| /    if (/'
+    wrong 'a call that was admitted at once does not wait for its number' '2 1 2 cc' 's/if \(code == HULL_NOT_YET\) \{/if (0) {/'
+    wrong 'a call that was admitted at once and waited is not made again after a drain' '8 3 8 cccccccc 1 2 0 1 20000' \
+        's/if \(is_to_repeat\(\&call, drains, reply.answer.code, reply.held\)\) \{/if (0) {/'
+    wrong 'a call that was admitted at once and found no space is not made again' '2 1 1 cc 1 1 0 0' \
+        's/^( +)is_admitted_to_repeat\(gate, seat, until, drains, code, held\)\) \{/\1is_admitted_to_repeat(gate, seat, until, drains, code, held) \&\& 0) {/'
+    wrong 'a call that was admitted at once leaves its drain to others' '2 1 1 cc 1 1 0 0' 's/ \|\| code == HULL_FULL\) \&\&$/) \&\&/; s/gate->half, __ATOMIC_RELAXED\)/& + 9/'
     # space in the journal
     wrong 'two threads drain for the hook' '2 2 2 cc 1 0 0 0' '/^    return gate->hook != NULL \&\&/{N;s/\n.*$/ 1;/}; s/^    uint32_t none = 0;/    (void)call;/'
     wrong 'a thread that drained wakes none after the hook' '8 3 8 ccccccdd 1 2 0 1 20000' '/__atomic_store_n\(\&gate->drainer, 0, __ATOMIC_SEQ_CST\);/{N;N;N;s/\n.*$//}'

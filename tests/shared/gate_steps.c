@@ -649,10 +649,43 @@ static void check_serving(void) {
     close_all();
 }
 
+/* While seat 6 sleeps with its number: its time is counted from the first time that it is asked for. */
+static void ask_for_times(void) {
+    if (gate->nodes[6].notice != SLEEPS) {
+        return;
+    }
+    gate->nodes[2].since = UNTIMED, gate->nodes[2].has_turn = HAS_TURN, gate->nodes[2].turn = first_number + 2;
+    gate->nodes[3].since = UNTIMED;
+    for (uint64_t k = 0; k < 3; k++) {
+        const hull_shared_state s = hull_shared_stats(&storage);
+        check("the seat that has no number yet", s.seat, 3);
+        check("how long", s.seat_for, k * 500);
+        still_now += 500;
+    }
+    gate->nodes[2].since = gate->nodes[2].has_turn = gate->nodes[3].since = 0;
+    check("the only seat that is inside", hull_shared_stats(&storage).seat, 6);
+    check("how long", hull_shared_stats(&storage).seat_for, 1500);
+    check("a look", hull_shared_look(seats[0]).answer.code, HULL_NUMBER);
+    hull_shared_handed_on(&storage, first_number + 1);
+    in_sleep = NULL;
+}
+
+/* Calls read no clock until their times are asked for. */
+static void check_first_stats(void) {
+    open_all(100, 1);
+    check("a call", count_by(5), HULL_NUMBER);
+    first_number = hull_shared_take(seats[0], HULL_KIND_COUNT, 0, 0).turn;
+    in_sleep = ask_for_times;
+    check("a call that waits", count_by(6), HULL_NUMBER);
+    check("it slept", in_sleep == NULL, 1);
+    close_all();
+}
+
 /* A call that another thread serves. */
 static void check_served(void) {
     hull_point out[2] = {{5, 5}, {5, 5}};
     open_all(100, SEATS);
+    check("none is inside", hull_shared_stats(&storage).seat_for, 0);
     first_number = hull_shared_take(seats[0], HULL_KIND_COUNT, 0, 0).turn;
     in_sleep = serve_last;
     const hull_shared_reply reply = hull_shared_call(&storage, seats[38], HULL_KIND_ADD, 3, 4);
@@ -726,6 +759,7 @@ int main(void) {
     check_refused();
     check_time_of_serving();
     check_serving();
+    check_first_stats();
     check_served();
     check_parked();
     for (int k = 0; k < SEATS; k++) {
