@@ -2,6 +2,12 @@
  * toolchain's crate `libc` declares, for every processor. Weak, so that both archives can be linked into one object.
  *
  * `ok` is whether there is memory, and `block` its address; if there is none, the address of a byte that no block contains. */
+#if defined(__linux__)
+#include <errno.h>
+#include <stdint.h>
+#include <sys/mman.h>
+#endif
+
 typedef __SIZE_TYPE__ size;
 
 extern void *malloc(size), *realloc(void *, size);
@@ -18,15 +24,33 @@ static struct tried result_of(void *block) {
     return tried;
 }
 
+/* Asks the system for large pages for a block of at least 4 MiB: else the call that first writes to each 4 KiB waits for the system. What
+ * the system refuses is ignored. The end is rounded up beyond what malloc may have there, since a mapping that is advised in part cannot
+ * be resized in place. */
+static void *in_large_pages(void *block, size count) {
+#if defined(MADV_HUGEPAGE)
+    enum { PAGE = 4096, LARGE = 4 << 20, BEHIND = 16 };
+    if (block != 0 && count >= LARGE) {
+        uintptr_t first = (uintptr_t)block & ~(uintptr_t)(PAGE - 1), end = (uintptr_t)block + count + BEHIND;
+        int saved_errno = errno;
+        madvise((void *)first, (end - first + PAGE - 1) & ~(uintptr_t)(PAGE - 1), MADV_HUGEPAGE);
+        errno = saved_errno;
+    }
+#else
+    (void)count;
+#endif
+    return block;
+}
+
 /* Returns a block of `count` bytes; one of none has as many as its alignment, so that it has an address of its own. */
 __attribute__((weak)) struct tried rattle_alloc(size count, size alignment) {
-    return result_of(malloc(count ? count : alignment));
+    return result_of(in_large_pages(malloc(count ? count : alignment), count));
 }
 
 /* Returns the block resized to `count` bytes, the first `kept` unchanged; if memory is refused, the old block is unchanged. */
 __attribute__((weak)) struct tried rattle_realloc(void *block, size kept, size count, size alignment) {
     (void)kept;
-    return result_of(realloc(block, count ? count : alignment));
+    return result_of(in_large_pages(realloc(block, count ? count : alignment), count));
 }
 
 __attribute__((weak)) void rattle_dealloc(void *block) {

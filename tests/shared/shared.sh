@@ -19,6 +19,11 @@ codes() {
     # shellcheck disable=SC2046
     build "$here/reader_codes.c" -lhull $(wrap malloc realloc) && "$room/reader_codes"
     count "every code of a reader, and each request for memory refused" $?
+    for archive in hull hull_shared; do
+        # shellcheck disable=SC2046
+        build "$here/blocks.c" "$prefix/lib/lib$archive.a" $(wrap madvise) && "$room/blocks"
+        count "blocks of memory of lib$archive.a, large and small" $?
+    done
 }
 
 documents() {
