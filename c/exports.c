@@ -1,20 +1,10 @@
-/* The public functions of libhull.a that take arrays, over the proved functions of the same name: an empty array may be null, and if a
- * program asks for checked arrays, each array of vertices is first tested to be a convex polygon. The archive's proved objects have these
- * functions as hull_proved_NAME, a name that tools/product.sh gives them, so that each public function has one name everywhere. */
+/* The public functions of libhull.a that take arrays of vertices, over the proved functions of the same name: if a program asks for checked
+ * arrays, each is first tested to be a convex polygon. The archive's proved objects have these functions as hull_proved_NAME, a name that
+ * tools/product.sh gives them, so that each public function has one name everywhere. A proved function takes an empty array that is null,
+ * since the toolchain lets each array that an exported function is passed begin elsewhere than at null; not so the arrays in a list. */
 #include "hull.h"
 
 /* written by tools/table.py: proved functions */
-hull_reply hull_proved_vertices(const hull_set *h, hull_point *out, size_t capacity);
-size_t hull_proved_calls(hull_set *h, const hull_request *requests, size_t request_count, hull_reply *replies, size_t reply_capacity);
-hull_reply hull_proved_load(hull_set *h, const hull_point *points, size_t count);
-hull_reply hull_proved_held_from(const hull_set *h, int64_t x, int64_t y, hull_held *out, size_t capacity);
-hull_reply hull_proved_load_held(hull_set *h, const hull_held *held, size_t count);
-hull_reply hull_proved_bridges(const hull_set *h, uint32_t level, hull_bridge *out, size_t capacity);
-hull_reply hull_proved_growing_vertices(const hull_growing *g, hull_point *out, size_t capacity);
-size_t hull_proved_growing_calls(hull_growing *g, const hull_request *requests, size_t request_count, hull_reply *replies,
-                                 size_t reply_capacity);
-hull_reply hull_proved_is_polygon(const hull_point *points, size_t count);
-hull_reply hull_proved_polygon_of(const hull_point *points, size_t count, hull_point *out, size_t capacity);
 hull_reply hull_proved_polygon_call(const hull_point *vertices, size_t count, uint32_t kind, int64_t x, int64_t y);
 size_t hull_proved_polygon_calls(const hull_point *vertices, size_t count, const hull_request *requests, size_t request_count,
                                  hull_reply *replies, size_t reply_capacity);
@@ -76,7 +66,7 @@ static inline int is_checking(void) {
 
 /* returns why an array may not be asked, else HULL_OK */
 static uint32_t fault_of(const hull_point *vertices, size_t count) {
-    const hull_reply r = hull_proved_is_polygon(hull_array(vertices, count), count);
+    const hull_reply r = hull_is_polygon(vertices, count);
     return r.code == HULL_NO_MEMORY ? HULL_NO_MEMORY : r.code == HULL_NUMBER && r.number == 1 ? HULL_OK : HULL_NO_POLYGON;
 }
 
@@ -123,60 +113,19 @@ hull_reply hull_growing_ask(const hull_growing *g, uint32_t kind, int64_t x, int
 }
 
 /* written by tools/table.py: functions */
-hull_reply hull_vertices(const hull_set *h, hull_point *out, size_t capacity) {
-    return hull_proved_vertices(h, hull_array(out, capacity), capacity);
-}
-
-size_t hull_calls(hull_set *h, const hull_request *requests, size_t request_count, hull_reply *replies, size_t reply_capacity) {
-    return hull_proved_calls(h, hull_array(requests, request_count), request_count, hull_array(replies, reply_capacity), reply_capacity);
-}
-
-hull_reply hull_load(hull_set *h, const hull_point *points, size_t count) {
-    return hull_proved_load(h, hull_array(points, count), count);
-}
-
-hull_reply hull_held_from(const hull_set *h, int64_t x, int64_t y, hull_held *out, size_t capacity) {
-    return hull_proved_held_from(h, x, y, hull_array(out, capacity), capacity);
-}
-
-hull_reply hull_load_held(hull_set *h, const hull_held *held, size_t count) {
-    return hull_proved_load_held(h, hull_array(held, count), count);
-}
-
-hull_reply hull_bridges(const hull_set *h, uint32_t level, hull_bridge *out, size_t capacity) {
-    return hull_proved_bridges(h, level, hull_array(out, capacity), capacity);
-}
-
-hull_reply hull_growing_vertices(const hull_growing *g, hull_point *out, size_t capacity) {
-    return hull_proved_growing_vertices(g, hull_array(out, capacity), capacity);
-}
-
-size_t hull_growing_calls(hull_growing *g, const hull_request *requests, size_t request_count, hull_reply *replies, size_t reply_capacity) {
-    return hull_proved_growing_calls(g, hull_array(requests, request_count), request_count, hull_array(replies, reply_capacity),
-                                     reply_capacity);
-}
-
-hull_reply hull_is_polygon(const hull_point *points, size_t count) {
-    return hull_proved_is_polygon(hull_array(points, count), count);
-}
-
-hull_reply hull_polygon_of(const hull_point *points, size_t count, hull_point *out, size_t capacity) {
-    return hull_proved_polygon_of(hull_array(points, count), count, hull_array(out, capacity), capacity);
-}
-
 static CHECKED hull_reply checked_polygon_call(const hull_point *vertices, size_t count, uint32_t kind, int64_t x, int64_t y) {
     const uint32_t fault = fault_of(vertices, count);
     if (fault != HULL_OK) {
         return hull_refusal(fault);
     }
-    return hull_proved_polygon_call(hull_array(vertices, count), count, kind, x, y);
+    return hull_proved_polygon_call(vertices, count, kind, x, y);
 }
 
 hull_reply hull_polygon_call(const hull_point *vertices, size_t count, uint32_t kind, int64_t x, int64_t y) {
     if (is_checking()) {
         return checked_polygon_call(vertices, count, kind, x, y);
     }
-    return hull_proved_polygon_call(hull_array(vertices, count), count, kind, x, y);
+    return hull_proved_polygon_call(vertices, count, kind, x, y);
 }
 
 static CHECKED hull_reply checked_polygon_intersects_segment(const hull_point *vertices, size_t count, int64_t ax, int64_t ay, int64_t bx,
@@ -185,14 +134,14 @@ static CHECKED hull_reply checked_polygon_intersects_segment(const hull_point *v
     if (fault != HULL_OK) {
         return hull_refusal(fault);
     }
-    return hull_proved_polygon_intersects_segment(hull_array(vertices, count), count, ax, ay, bx, by);
+    return hull_proved_polygon_intersects_segment(vertices, count, ax, ay, bx, by);
 }
 
 hull_reply hull_polygon_intersects_segment(const hull_point *vertices, size_t count, int64_t ax, int64_t ay, int64_t bx, int64_t by) {
     if (is_checking()) {
         return checked_polygon_intersects_segment(vertices, count, ax, ay, bx, by);
     }
-    return hull_proved_polygon_intersects_segment(hull_array(vertices, count), count, ax, ay, bx, by);
+    return hull_proved_polygon_intersects_segment(vertices, count, ax, ay, bx, by);
 }
 
 static CHECKED hull_reply checked_polygon_separation(const hull_point *vertices, size_t count, int64_t ax, int64_t ay, int64_t bx,
@@ -201,14 +150,14 @@ static CHECKED hull_reply checked_polygon_separation(const hull_point *vertices,
     if (fault != HULL_OK) {
         return hull_refusal(fault);
     }
-    return hull_proved_polygon_separation(hull_array(vertices, count), count, ax, ay, bx, by);
+    return hull_proved_polygon_separation(vertices, count, ax, ay, bx, by);
 }
 
 hull_reply hull_polygon_separation(const hull_point *vertices, size_t count, int64_t ax, int64_t ay, int64_t bx, int64_t by) {
     if (is_checking()) {
         return checked_polygon_separation(vertices, count, ax, ay, bx, by);
     }
-    return hull_proved_polygon_separation(hull_array(vertices, count), count, ax, ay, bx, by);
+    return hull_proved_polygon_separation(vertices, count, ax, ay, bx, by);
 }
 
 static CHECKED hull_reply checked_polygon_nearest(const hull_point *vertices, size_t count, int64_t x, int64_t y) {
@@ -216,14 +165,14 @@ static CHECKED hull_reply checked_polygon_nearest(const hull_point *vertices, si
     if (fault != HULL_OK) {
         return hull_refusal(fault);
     }
-    return hull_proved_polygon_nearest(hull_array(vertices, count), count, x, y);
+    return hull_proved_polygon_nearest(vertices, count, x, y);
 }
 
 hull_reply hull_polygon_nearest(const hull_point *vertices, size_t count, int64_t x, int64_t y) {
     if (is_checking()) {
         return checked_polygon_nearest(vertices, count, x, y);
     }
-    return hull_proved_polygon_nearest(hull_array(vertices, count), count, x, y);
+    return hull_proved_polygon_nearest(vertices, count, x, y);
 }
 
 static CHECKED hull_reply checked_polygon_box(const hull_point *vertices, size_t count) {
@@ -231,14 +180,14 @@ static CHECKED hull_reply checked_polygon_box(const hull_point *vertices, size_t
     if (fault != HULL_OK) {
         return hull_refusal(fault);
     }
-    return hull_proved_polygon_box(hull_array(vertices, count), count);
+    return hull_proved_polygon_box(vertices, count);
 }
 
 hull_reply hull_polygon_box(const hull_point *vertices, size_t count) {
     if (is_checking()) {
         return checked_polygon_box(vertices, count);
     }
-    return hull_proved_polygon_box(hull_array(vertices, count), count);
+    return hull_proved_polygon_box(vertices, count);
 }
 
 static CHECKED hull_reply checked_polygon_width(const hull_point *vertices, size_t count, int64_t dx, int64_t dy) {
@@ -246,14 +195,14 @@ static CHECKED hull_reply checked_polygon_width(const hull_point *vertices, size
     if (fault != HULL_OK) {
         return hull_refusal(fault);
     }
-    return hull_proved_polygon_width(hull_array(vertices, count), count, dx, dy);
+    return hull_proved_polygon_width(vertices, count, dx, dy);
 }
 
 hull_reply hull_polygon_width(const hull_point *vertices, size_t count, int64_t dx, int64_t dy) {
     if (is_checking()) {
         return checked_polygon_width(vertices, count, dx, dy);
     }
-    return hull_proved_polygon_width(hull_array(vertices, count), count, dx, dy);
+    return hull_proved_polygon_width(vertices, count, dx, dy);
 }
 
 static CHECKED hull_reply checked_polygon_diameter(const hull_point *vertices, size_t count) {
@@ -261,14 +210,14 @@ static CHECKED hull_reply checked_polygon_diameter(const hull_point *vertices, s
     if (fault != HULL_OK) {
         return hull_refusal(fault);
     }
-    return hull_proved_polygon_diameter(hull_array(vertices, count), count);
+    return hull_proved_polygon_diameter(vertices, count);
 }
 
 hull_reply hull_polygon_diameter(const hull_point *vertices, size_t count) {
     if (is_checking()) {
         return checked_polygon_diameter(vertices, count);
     }
-    return hull_proved_polygon_diameter(hull_array(vertices, count), count);
+    return hull_proved_polygon_diameter(vertices, count);
 }
 
 static CHECKED hull_witness checked_polygon_least_width(const hull_point *vertices, size_t count) {
@@ -276,14 +225,14 @@ static CHECKED hull_witness checked_polygon_least_width(const hull_point *vertic
     if (fault != HULL_OK) {
         return witness_refusal(fault);
     }
-    return hull_proved_polygon_least_width(hull_array(vertices, count), count);
+    return hull_proved_polygon_least_width(vertices, count);
 }
 
 hull_witness hull_polygon_least_width(const hull_point *vertices, size_t count) {
     if (is_checking()) {
         return checked_polygon_least_width(vertices, count);
     }
-    return hull_proved_polygon_least_width(hull_array(vertices, count), count);
+    return hull_proved_polygon_least_width(vertices, count);
 }
 
 static CHECKED hull_reply checked_polygon_intersects(const hull_point *vertices, size_t count, const hull_point *others,
@@ -292,14 +241,14 @@ static CHECKED hull_reply checked_polygon_intersects(const hull_point *vertices,
     if (fault != HULL_OK) {
         return hull_refusal(fault);
     }
-    return hull_proved_polygon_intersects(hull_array(vertices, count), count, hull_array(others, other_count), other_count);
+    return hull_proved_polygon_intersects(vertices, count, others, other_count);
 }
 
 hull_reply hull_polygon_intersects(const hull_point *vertices, size_t count, const hull_point *others, size_t other_count) {
     if (is_checking()) {
         return checked_polygon_intersects(vertices, count, others, other_count);
     }
-    return hull_proved_polygon_intersects(hull_array(vertices, count), count, hull_array(others, other_count), other_count);
+    return hull_proved_polygon_intersects(vertices, count, others, other_count);
 }
 
 static CHECKED hull_reply checked_polygon_contains(const hull_point *vertices, size_t count, const hull_point *others, size_t other_count) {
@@ -307,14 +256,14 @@ static CHECKED hull_reply checked_polygon_contains(const hull_point *vertices, s
     if (fault != HULL_OK) {
         return hull_refusal(fault);
     }
-    return hull_proved_polygon_contains(hull_array(vertices, count), count, hull_array(others, other_count), other_count);
+    return hull_proved_polygon_contains(vertices, count, others, other_count);
 }
 
 hull_reply hull_polygon_contains(const hull_point *vertices, size_t count, const hull_point *others, size_t other_count) {
     if (is_checking()) {
         return checked_polygon_contains(vertices, count, others, other_count);
     }
-    return hull_proved_polygon_contains(hull_array(vertices, count), count, hull_array(others, other_count), other_count);
+    return hull_proved_polygon_contains(vertices, count, others, other_count);
 }
 
 static CHECKED hull_reply checked_polygon_contains_inside(const hull_point *vertices, size_t count, const hull_point *others,
@@ -323,14 +272,14 @@ static CHECKED hull_reply checked_polygon_contains_inside(const hull_point *vert
     if (fault != HULL_OK) {
         return hull_refusal(fault);
     }
-    return hull_proved_polygon_contains_inside(hull_array(vertices, count), count, hull_array(others, other_count), other_count);
+    return hull_proved_polygon_contains_inside(vertices, count, others, other_count);
 }
 
 hull_reply hull_polygon_contains_inside(const hull_point *vertices, size_t count, const hull_point *others, size_t other_count) {
     if (is_checking()) {
         return checked_polygon_contains_inside(vertices, count, others, other_count);
     }
-    return hull_proved_polygon_contains_inside(hull_array(vertices, count), count, hull_array(others, other_count), other_count);
+    return hull_proved_polygon_contains_inside(vertices, count, others, other_count);
 }
 
 static CHECKED hull_reply checked_polygon_relation(const hull_point *vertices, size_t count, const hull_point *others, size_t other_count) {
@@ -338,14 +287,14 @@ static CHECKED hull_reply checked_polygon_relation(const hull_point *vertices, s
     if (fault != HULL_OK) {
         return hull_refusal(fault);
     }
-    return hull_proved_polygon_relation(hull_array(vertices, count), count, hull_array(others, other_count), other_count);
+    return hull_proved_polygon_relation(vertices, count, others, other_count);
 }
 
 hull_reply hull_polygon_relation(const hull_point *vertices, size_t count, const hull_point *others, size_t other_count) {
     if (is_checking()) {
         return checked_polygon_relation(vertices, count, others, other_count);
     }
-    return hull_proved_polygon_relation(hull_array(vertices, count), count, hull_array(others, other_count), other_count);
+    return hull_proved_polygon_relation(vertices, count, others, other_count);
 }
 
 static CHECKED hull_reply checked_polygon_within_distance(const hull_point *vertices, size_t count, const hull_point *others,
@@ -354,8 +303,7 @@ static CHECKED hull_reply checked_polygon_within_distance(const hull_point *vert
     if (fault != HULL_OK) {
         return hull_refusal(fault);
     }
-    return hull_proved_polygon_within_distance(hull_array(vertices, count), count, hull_array(others, other_count), other_count, numerator,
-                                               denominator);
+    return hull_proved_polygon_within_distance(vertices, count, others, other_count, numerator, denominator);
 }
 
 hull_reply hull_polygon_within_distance(const hull_point *vertices, size_t count, const hull_point *others, size_t other_count,
@@ -363,8 +311,7 @@ hull_reply hull_polygon_within_distance(const hull_point *vertices, size_t count
     if (is_checking()) {
         return checked_polygon_within_distance(vertices, count, others, other_count, numerator, denominator);
     }
-    return hull_proved_polygon_within_distance(hull_array(vertices, count), count, hull_array(others, other_count), other_count, numerator,
-                                               denominator);
+    return hull_proved_polygon_within_distance(vertices, count, others, other_count, numerator, denominator);
 }
 
 static CHECKED hull_witness checked_polygon_witness(const hull_point *vertices, size_t count, const hull_point *others,
@@ -373,14 +320,14 @@ static CHECKED hull_witness checked_polygon_witness(const hull_point *vertices, 
     if (fault != HULL_OK) {
         return witness_refusal(fault);
     }
-    return hull_proved_polygon_witness(hull_array(vertices, count), count, hull_array(others, other_count), other_count);
+    return hull_proved_polygon_witness(vertices, count, others, other_count);
 }
 
 hull_witness hull_polygon_witness(const hull_point *vertices, size_t count, const hull_point *others, size_t other_count) {
     if (is_checking()) {
         return checked_polygon_witness(vertices, count, others, other_count);
     }
-    return hull_proved_polygon_witness(hull_array(vertices, count), count, hull_array(others, other_count), other_count);
+    return hull_proved_polygon_witness(vertices, count, others, other_count);
 }
 
 static CHECKED hull_witness checked_polygon_distance(const hull_point *vertices, size_t count, const hull_point *others,
@@ -389,14 +336,14 @@ static CHECKED hull_witness checked_polygon_distance(const hull_point *vertices,
     if (fault != HULL_OK) {
         return witness_refusal(fault);
     }
-    return hull_proved_polygon_distance(hull_array(vertices, count), count, hull_array(others, other_count), other_count);
+    return hull_proved_polygon_distance(vertices, count, others, other_count);
 }
 
 hull_witness hull_polygon_distance(const hull_point *vertices, size_t count, const hull_point *others, size_t other_count) {
     if (is_checking()) {
         return checked_polygon_distance(vertices, count, others, other_count);
     }
-    return hull_proved_polygon_distance(hull_array(vertices, count), count, hull_array(others, other_count), other_count);
+    return hull_proved_polygon_distance(vertices, count, others, other_count);
 }
 
 static CHECKED hull_distance_bounds checked_polygon_distance_bounds(const hull_point *vertices, size_t count, const hull_point *others,
@@ -405,14 +352,14 @@ static CHECKED hull_distance_bounds checked_polygon_distance_bounds(const hull_p
     if (fault != HULL_OK) {
         return distance_bounds_refusal(fault);
     }
-    return hull_proved_polygon_distance_bounds(hull_array(vertices, count), count, hull_array(others, other_count), other_count);
+    return hull_proved_polygon_distance_bounds(vertices, count, others, other_count);
 }
 
 hull_distance_bounds hull_polygon_distance_bounds(const hull_point *vertices, size_t count, const hull_point *others, size_t other_count) {
     if (is_checking()) {
         return checked_polygon_distance_bounds(vertices, count, others, other_count);
     }
-    return hull_proved_polygon_distance_bounds(hull_array(vertices, count), count, hull_array(others, other_count), other_count);
+    return hull_proved_polygon_distance_bounds(vertices, count, others, other_count);
 }
 
 static CHECKED hull_distance_bounds checked_polygon_distance_bounds_to_segment(const hull_point *vertices, size_t count, int64_t ax,
@@ -421,7 +368,7 @@ static CHECKED hull_distance_bounds checked_polygon_distance_bounds_to_segment(c
     if (fault != HULL_OK) {
         return distance_bounds_refusal(fault);
     }
-    return hull_proved_polygon_distance_bounds_to_segment(hull_array(vertices, count), count, ax, ay, bx, by);
+    return hull_proved_polygon_distance_bounds_to_segment(vertices, count, ax, ay, bx, by);
 }
 
 hull_distance_bounds hull_polygon_distance_bounds_to_segment(const hull_point *vertices, size_t count, int64_t ax, int64_t ay, int64_t bx,
@@ -429,7 +376,7 @@ hull_distance_bounds hull_polygon_distance_bounds_to_segment(const hull_point *v
     if (is_checking()) {
         return checked_polygon_distance_bounds_to_segment(vertices, count, ax, ay, bx, by);
     }
-    return hull_proved_polygon_distance_bounds_to_segment(hull_array(vertices, count), count, ax, ay, bx, by);
+    return hull_proved_polygon_distance_bounds_to_segment(vertices, count, ax, ay, bx, by);
 }
 
 static CHECKED hull_reply checked_polygon_within_distance_of_segment(const hull_point *vertices, size_t count, int64_t ax, int64_t ay,
@@ -438,7 +385,7 @@ static CHECKED hull_reply checked_polygon_within_distance_of_segment(const hull_
     if (fault != HULL_OK) {
         return hull_refusal(fault);
     }
-    return hull_proved_polygon_within_distance_of_segment(hull_array(vertices, count), count, ax, ay, bx, by, numerator, denominator);
+    return hull_proved_polygon_within_distance_of_segment(vertices, count, ax, ay, bx, by, numerator, denominator);
 }
 
 hull_reply hull_polygon_within_distance_of_segment(const hull_point *vertices, size_t count, int64_t ax, int64_t ay, int64_t bx, int64_t by,
@@ -446,7 +393,7 @@ hull_reply hull_polygon_within_distance_of_segment(const hull_point *vertices, s
     if (is_checking()) {
         return checked_polygon_within_distance_of_segment(vertices, count, ax, ay, bx, by, numerator, denominator);
     }
-    return hull_proved_polygon_within_distance_of_segment(hull_array(vertices, count), count, ax, ay, bx, by, numerator, denominator);
+    return hull_proved_polygon_within_distance_of_segment(vertices, count, ax, ay, bx, by, numerator, denominator);
 }
 
 static CHECKED hull_reply checked_polygon_relation_to_segment(const hull_point *vertices, size_t count, int64_t ax, int64_t ay, int64_t bx,
@@ -455,14 +402,14 @@ static CHECKED hull_reply checked_polygon_relation_to_segment(const hull_point *
     if (fault != HULL_OK) {
         return hull_refusal(fault);
     }
-    return hull_proved_polygon_relation_to_segment(hull_array(vertices, count), count, ax, ay, bx, by);
+    return hull_proved_polygon_relation_to_segment(vertices, count, ax, ay, bx, by);
 }
 
 hull_reply hull_polygon_relation_to_segment(const hull_point *vertices, size_t count, int64_t ax, int64_t ay, int64_t bx, int64_t by) {
     if (is_checking()) {
         return checked_polygon_relation_to_segment(vertices, count, ax, ay, bx, by);
     }
-    return hull_proved_polygon_relation_to_segment(hull_array(vertices, count), count, ax, ay, bx, by);
+    return hull_proved_polygon_relation_to_segment(vertices, count, ax, ay, bx, by);
 }
 
 static CHECKED hull_hit checked_polygon_raycast(const hull_point *vertices, size_t count, int64_t x, int64_t y, int64_t dx, int64_t dy) {
@@ -470,14 +417,14 @@ static CHECKED hull_hit checked_polygon_raycast(const hull_point *vertices, size
     if (fault != HULL_OK) {
         return hit_refusal(fault);
     }
-    return hull_proved_polygon_raycast(hull_array(vertices, count), count, x, y, dx, dy);
+    return hull_proved_polygon_raycast(vertices, count, x, y, dx, dy);
 }
 
 hull_hit hull_polygon_raycast(const hull_point *vertices, size_t count, int64_t x, int64_t y, int64_t dx, int64_t dy) {
     if (is_checking()) {
         return checked_polygon_raycast(vertices, count, x, y, dx, dy);
     }
-    return hull_proved_polygon_raycast(hull_array(vertices, count), count, x, y, dx, dy);
+    return hull_proved_polygon_raycast(vertices, count, x, y, dx, dy);
 }
 
 static CHECKED hull_hit checked_polygon_raycast_exit(const hull_point *vertices, size_t count, int64_t x, int64_t y, int64_t dx,
@@ -486,14 +433,14 @@ static CHECKED hull_hit checked_polygon_raycast_exit(const hull_point *vertices,
     if (fault != HULL_OK) {
         return hit_refusal(fault);
     }
-    return hull_proved_polygon_raycast_exit(hull_array(vertices, count), count, x, y, dx, dy);
+    return hull_proved_polygon_raycast_exit(vertices, count, x, y, dx, dy);
 }
 
 hull_hit hull_polygon_raycast_exit(const hull_point *vertices, size_t count, int64_t x, int64_t y, int64_t dx, int64_t dy) {
     if (is_checking()) {
         return checked_polygon_raycast_exit(vertices, count, x, y, dx, dy);
     }
-    return hull_proved_polygon_raycast_exit(hull_array(vertices, count), count, x, y, dx, dy);
+    return hull_proved_polygon_raycast_exit(vertices, count, x, y, dx, dy);
 }
 
 static CHECKED hull_hit checked_polygon_raycast_segment(const hull_point *vertices, size_t count, int64_t ax, int64_t ay, int64_t bx,
@@ -502,14 +449,14 @@ static CHECKED hull_hit checked_polygon_raycast_segment(const hull_point *vertic
     if (fault != HULL_OK) {
         return hit_refusal(fault);
     }
-    return hull_proved_polygon_raycast_segment(hull_array(vertices, count), count, ax, ay, bx, by);
+    return hull_proved_polygon_raycast_segment(vertices, count, ax, ay, bx, by);
 }
 
 hull_hit hull_polygon_raycast_segment(const hull_point *vertices, size_t count, int64_t ax, int64_t ay, int64_t bx, int64_t by) {
     if (is_checking()) {
         return checked_polygon_raycast_segment(vertices, count, ax, ay, bx, by);
     }
-    return hull_proved_polygon_raycast_segment(hull_array(vertices, count), count, ax, ay, bx, by);
+    return hull_proved_polygon_raycast_segment(vertices, count, ax, ay, bx, by);
 }
 
 static CHECKED hull_motion checked_polygon_first_meeting(const hull_point *vertices, size_t count, const hull_point *others,
@@ -518,7 +465,7 @@ static CHECKED hull_motion checked_polygon_first_meeting(const hull_point *verti
     if (fault != HULL_OK) {
         return motion_refusal(fault);
     }
-    return hull_proved_polygon_first_meeting(hull_array(vertices, count), count, hull_array(others, other_count), other_count, dx, dy);
+    return hull_proved_polygon_first_meeting(vertices, count, others, other_count, dx, dy);
 }
 
 hull_motion hull_polygon_first_meeting(const hull_point *vertices, size_t count, const hull_point *others, size_t other_count, int64_t dx,
@@ -526,7 +473,7 @@ hull_motion hull_polygon_first_meeting(const hull_point *vertices, size_t count,
     if (is_checking()) {
         return checked_polygon_first_meeting(vertices, count, others, other_count, dx, dy);
     }
-    return hull_proved_polygon_first_meeting(hull_array(vertices, count), count, hull_array(others, other_count), other_count, dx, dy);
+    return hull_proved_polygon_first_meeting(vertices, count, others, other_count, dx, dy);
 }
 /* end of what tools/table.py writes */
 
@@ -540,24 +487,21 @@ size_t hull_polygon_calls(const hull_point *vertices, size_t count, const hull_r
         }
         return made;
     }
-    return hull_proved_polygon_calls(hull_array(vertices, count), count,
-                              hull_array(requests, request_count), request_count,
-                              hull_array(replies, reply_capacity), reply_capacity);
+    return hull_proved_polygon_calls(vertices, count, requests, request_count, replies, reply_capacity);
 }
 
 hull_reply hull_polygon_translate(const hull_point *vertices, size_t count, int64_t dx, int64_t dy, hull_point *out) {
-    return out == vertices ? hull_proved_polygon_translate_in_place(hull_array(out, count), count, dx, dy)
-                           : hull_proved_polygon_translate(hull_array(vertices, count), count, dx, dy, hull_array(out, count), count);
+    return out == vertices ? hull_proved_polygon_translate_in_place(out, count, dx, dy)
+                           : hull_proved_polygon_translate(vertices, count, dx, dy, out, count);
 }
 
 hull_reply hull_polygon_rotate(const hull_point *vertices, size_t count, int64_t a, int64_t b, hull_point *out) {
-    return hull_proved_polygon_rotate(hull_array(vertices, count), count, a, b, hull_array(out, count), count);
+    return hull_proved_polygon_rotate(vertices, count, a, b, out, count);
 }
 
 size_t hull_polygon_intersects_segments(const hull_point *vertices, size_t count, const hull_segment *segments, size_t segment_count,
                                         uint8_t *out) {
-    return hull_proved_polygon_intersects_segments(hull_array(vertices, count), count, hull_array(segments, segment_count),
-                                                   segment_count, hull_array(out, segment_count), segment_count);
+    return hull_proved_polygon_intersects_segments(vertices, count, segments, segment_count, out, segment_count);
 }
 
 /* (a list of polygons is passed in parts, so that an array of a polygon without vertices may be null) */
@@ -568,13 +512,12 @@ void hull_polygon_relations(const hull_point *vertices, size_t count, const hull
         for (made = 0; made < 64 && made < other_count - at; made++) {
             part[made] = (hull_polygon){hull_array(others[at + made].vertices, others[at + made].count), others[at + made].count};
         }
-        hull_proved_polygon_relations(hull_array(vertices, count), count, part, made, out + at, made);
+        hull_proved_polygon_relations(vertices, count, part, made, out + at, made);
     }
 }
 
 size_t hull_polygon_indices(const hull_point *vertices, size_t count, const hull_point *points, size_t point_count, size_t *out) {
-    return hull_proved_polygon_indices(hull_array(vertices, count), count, hull_array(points, point_count), point_count,
-                                       hull_array(out, count), count);
+    return hull_proved_polygon_indices(vertices, count, points, point_count, out, count);
 }
 
 /* (if an array of a polygon without vertices is null, the list is copied) */
@@ -595,8 +538,7 @@ hull_reply hull_pairs_within_distance(const hull_polygon *polygons, size_t count
             copy[i] = (hull_polygon){hull_array(polygons[i].vertices, polygons[i].count), polygons[i].count};
         }
     }
-    reply = hull_proved_pairs_within_distance(hull_array(copy != NULL ? copy : polygons, count), count, numerator,
-                                              denominator, hull_array(out, capacity), capacity);
+    reply = hull_proved_pairs_within_distance(copy != NULL ? copy : polygons, count, numerator, denominator, out, capacity);
     free(copy);
     return reply;
 }

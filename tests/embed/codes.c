@@ -1541,8 +1541,14 @@ static void check_no_arrays(void) {
     CHECK(hull_polygon_least_width(NULL, 0).code == HULL_EMPTY);
     CHECK(number(hull_polygon_intersects(NULL, 0, &at, 1), HULL_NUMBER, 0));
     CHECK(number(hull_polygon_contains(&at, 1, NULL, 0), HULL_NUMBER, 1));
+    CHECK(number(hull_polygon_contains_inside(&at, 1, NULL, 0), HULL_NUMBER, 1) && number(hull_polygon_relation(NULL, 0, &at, 1), HULL_NUMBER, HULL_RELATION_WITHIN));
+    CHECK(number(hull_polygon_within_distance(NULL, 0, NULL, 0, 1, 0), HULL_NUMBER, 0));
     CHECK(hull_polygon_witness(NULL, 0, NULL, 0).code == HULL_EMPTY);
     CHECK(hull_polygon_distance(NULL, 0, &at, 1).code == HULL_EMPTY);
+    CHECK(hull_polygon_distance_bounds(&at, 1, NULL, 0).code == HULL_EMPTY);
+    CHECK(number(hull_polygon_within_distance_of_segment(NULL, 0, 0, 0, 1, 1, 1, 0), HULL_NUMBER, 0));
+    CHECK(number(hull_polygon_relation_to_segment(NULL, 0, 0, 0, 1, 1), HULL_NUMBER, HULL_RELATION_WITHIN));
+    CHECK(hull_polygon_raycast(NULL, 0, 0, 0, 1, 1).code == HULL_EMPTY && hull_polygon_first_meeting(NULL, 0, NULL, 0, 1, 1).hit.code == HULL_EMPTY);
     CHECK(number(hull_is_polygon(NULL, 0), HULL_NUMBER, 1));
     end_set(h);
 }
