@@ -1,5 +1,5 @@
 // Each call on a polygon and on a set of one release of libhull: nanoseconds, the least of many rounds; under valgrind's callgrind
-// instructions. releases.sh compiles it over two releases, and runs them in alternation.
+// instructions. releases.py compiles it over two releases, and runs them in alternation.
 //
 //     releases POINTS   polygons of up to so many vertices, at random
 #include <algorithm>
@@ -140,7 +140,9 @@ int main(int argc, char **argv) {
         number = coordinate(3000000);
     }
     std::vector<hull_point> out(1 << 16);
+    std::vector<Polygon> moving = polygons;
 #define ONE(i) polygons[static_cast<size_t>((i) % polygon_count)]
+#define MOVING(i) moving[static_cast<size_t>((i) % polygon_count)]
 #define OTHER(i) polygons[static_cast<size_t>(((i) * 7 + (i) / polygon_count + 1) % polygon_count)]
 #define A(i) ONE(i).data(), ONE(i).size()
 #define B(i) OTHER(i).data(), OTHER(i).size()
@@ -175,6 +177,7 @@ int main(int argc, char **argv) {
     MEASURE("distance_bounds", hull_polygon_distance_bounds(A(i), B(i)));
     MEASURE("first_meeting", hull_polygon_first_meeting(A(i), B(i), P(i)));
     MEASURE("translate", hull_polygon_translate(A(i), P(i), out.data()));
+    MEASURE("translate_in_place", hull_polygon_translate(MOVING(i).data(), MOVING(i).size(), P(i), MOVING(i).data()));
     MEASURE("rotate", hull_polygon_rotate(A(i), N(i, 0) % 5, N(i, 1) % 5 + 7, out.data()));
     MEASURE("is_polygon", hull_is_polygon(A(i)));
     MEASURE("polygon_of", hull_polygon_of(A(i), out.data(), out.size()));

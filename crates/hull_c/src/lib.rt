@@ -719,7 +719,7 @@ pub extern "C" fn hull_pairs_within_distance(
 /// coordinate would be out of range.
 #[unsafe(no_mangle)]
 pub extern "C" fn hull_polygon_translate(
-    vertices: &[Point],
+    vertices: &[HullPoint],
     dx: i64,
     dy: i64,
     out: &mut [HullPoint],
@@ -733,7 +733,7 @@ pub extern "C" fn hull_polygon_translate(
 /// Moves the vertices by (dx, dy). Refuses, and leaves them unchanged, if a coordinate would be out of range.
 #[unsafe(no_mangle)]
 pub extern "C" fn hull_polygon_translate_in_place(
-    vertices: &mut [Point],
+    vertices: &mut [HullPoint],
     dx: i64,
     dy: i64,
 ) -> HullReply

@@ -15,6 +15,5 @@
 
 mod motion;
 mod points;
-mod steps;
 
 pub use motion::Motion;

@@ -4,14 +4,13 @@ ghost use Rattle.lattice.specs.Plane.{IsBefore};
 ghost use Rattle.hull_geometry.specs.Positions.{point_at};
 
 use super::motion::Motion;
-use super::steps::{are_below_limit, are_steps};
 use lattice::{Point, before};
 
 impl Motion {
     ghost use Rattle.motions.specs.Motions.{moved, AllMoveInRange, IsFirstMoved};
 
-    /// Whether each of the points is in range after this motion, one after another.
-    fn keeps_each(&self, points: &[Point]) -> bool
+    /// Whether all of the points are in range after this motion. O(n).
+    pub fn keeps_in_range(&self, points: &[Point]) -> bool
         ensures { IsTrue result ↔ AllMoveInRange self.now points.now }
     {
         for p in points {
@@ -20,18 +19,6 @@ impl Motion {
             }
         }
         true
-    }
-
-    /// Whether all of the points are in range after this motion. O(n).
-    pub fn keeps_in_range(&self, points: &[Point]) -> bool
-        ensures { IsTrue result ↔ AllMoveInRange self.now points.now }
-    {
-        if let Motion::Translation { dx, dy } = *self {
-            if are_steps(dx, dy) && are_below_limit(dx, dy, points) {
-                return true;
-            }
-        }
-        self.keeps_each(points)
     }
 
     /// Returns the index of a point before which there is no other after this motion, by x and then y; 0 if there is no

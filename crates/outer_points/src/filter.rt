@@ -31,12 +31,12 @@ fn sample_of(points: &[Point]) -> [Point; SAMPLE]
     sample
 }
 
-/// Whether it is likely, by a sample of 64 points, that [`drop_inner`] drops so many of the points that it pays to call
-/// it before they are sorted: at least a quarter.
-pub fn are_many_inner(points: &[Point]) -> bool {
-    if points.len() < 4 * SAMPLE {
-        return false;
-    }
+/// Whether [`drop_inner`] would drop at least a quarter of a sample of the points. It is not inlined, so that the sample
+/// takes no memory on the stack of a call on few points.
+#[inline(never)]
+fn is_sample_inner(points: &[Point]) -> bool
+    requires { 0 < length points.now }
+{
     let sample = sample_of(points);
     let octagon = Octagon::of(&sample);
     let mut inner = 0usize;
@@ -44,6 +44,12 @@ pub fn are_many_inner(points: &[Point]) -> bool {
         inner += usize::from(octagon.is_inner(*p));
     }
     inner >= SAMPLE / 4
+}
+
+/// Whether it is likely, by a sample of 64 points, that [`drop_inner`] drops so many of the points that it pays to call
+/// it before they are sorted: at least a quarter.
+pub fn are_many_inner(points: &[Point]) -> bool {
+    points.len() >= 4 * SAMPLE && is_sample_inner(points)
 }
 
 /// Drops points that lie in the octagon of the eight points that are farthest along the axes and the diagonals, and are no

@@ -1,2 +1,4 @@
+pub mod Bits
+pub mod Blocks
 pub mod Chains
 pub mod Maps

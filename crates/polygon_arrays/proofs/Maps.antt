@@ -1,11 +1,15 @@
 -- Lists that are written as a function of others.
-use Rattle.std.proofs.Common.{◌≡◌, ◌∙◌, ℕ, ◌+◌, ◌<◌, ◌++◌, List, [], ◌∷◌, length, take, drop, map, set, sym, ap, subst}
+use Rattle.std.proofs.Common.{◌≡◌, ◌∙◌, ℕ, ℤ, ◌+◌, ◌-◌, ◌<◌, ◌≤◌, ◌++◌, List, [], ◌∷◌, length, take, drop, map, set, sym, ap, subst, arith}
 use Rattle.std.specs.List.{All}
-use Rattle.std.proofs.lemmas.List.{drop_more, map-append, take_more, take_more_set}
+use Rattle.std.proofs.lemmas.Grind.{drop_more_same}
+use Rattle.std.proofs.lemmas.List.{drop_more, drop-set-lt, get_or-drop, length-set, map-append, take_more, take_more_set}
 use Rattle.std.proofs.lemmas.List.Elements.{All-append, All-drop, All-map, All-take}
 use Rattle.lattice.specs.Plane.{Pair, IsBefore}
 use Rattle.hull_geometry.specs.Positions.{origin, point_at}
 use Rattle.hull_geometry.proofs.PointLists.{get_or_free}
+use Rattle.motions.specs.Motions.{moved}
+use Rattle.motions.specs.declared.motion.Motion.TheVariants.{Translation}
+use Rattle.polygon_arrays.specs.Moved.{IsTranslatedUpTo}
 
 -- one more element is that of the function at one more point
 pub map_more : (f : Pair → Pair) (xs ys : List Pair) (i : ℕ) (v : Pair) → i < length xs → i < length ys
@@ -42,9 +46,24 @@ pub same_at : (xs ys : List Pair) (i : ℕ) → i < length xs → length xs ≡ 
 same_at xs ys i l m e =
     let a = drop_more xs i origin l in let b = drop_more ys i origin (subst (λ (n : ℕ). i < n) m l) in cc
 
+-- lists with the same rest have the same points in it
+pub same_from : (xs ys : List Pair) (n i : ℕ) → n ≤ i → drop n xs ≡ drop n ys → point_at xs i ≡ point_at ys i
+same_from xs ys n i l e =
+    ap (point_at xs) (omega (arith, l)) ∙ sym (get_or-drop n xs (i - n) origin) ∙ ap (λ (z : List Pair). point_at z (i - n)) e
+    ∙ get_or-drop n ys (i - n) origin ∙ ap (point_at ys) (omega (arith, l))
+
 -- one more point of a list is replaced by the function of it
 pub replaced : (f : Pair → Pair) (old now : List Pair) (i : ℕ) (v : Pair) → i < length now → length now ≡ length old
     → take i now ≡ map f (take i old) → drop i now ≡ drop i old → v ≡ f (point_at now i)
     → take (i + 1) (set now i v) ≡ map f (take (i + 1) old)
 replaced f old now i v l m e r k =
     map_more f old now i v (subst (λ (n : ℕ). i < n) m l) l e (k ∙ ap f (same_at now old i l m r))
+
+-- one more point of a list is translated
+pub one_more_translated : (dx dy : ℤ) (old now : List Pair) (i : ℕ) (v : Pair) → i < length now → IsTranslatedUpTo dx dy i old now
+    → v ≡ moved (Translation dx dy) (point_at now i) → IsTranslatedUpTo dx dy (i + 1) old (set now i v)
+one_more_translated dx dy old now i v l h k = record {
+  long = length-set now i v ∙ h.long;
+  front = replaced (moved (Translation dx dy)) old now i v l h.long h.front h.rest k;
+  rest = drop-set-lt (i + 1) now i v (omega arith) ∙ drop_more_same now old i h.rest;
+}

@@ -17,6 +17,12 @@ abbrev pub IsFromFirst : Motion → List Pair → List Pair → Type 0
 IsFromFirst motion points after =
     (k : ℕ) × (after ≡ map (moved motion) (drop k points ++ take k points)) × All (λ t. ¬ IsBefore t (point_at after 0)) after
 
+-- the first n of the points are translated, and the others are as they were
+pub record IsTranslatedUpTo (dx dy : ℤ) (n : ℕ) (before after : List Pair) : Type 0 where
+  pub long : length after ≡ length before
+  pub front : take n after ≡ map (moved (Translation dx dy)) (take n before)
+  pub rest : drop n after ≡ drop n before
+
 -- The points were written as P says; or the array is unchanged, since a point would be out of range.
 abbrev pub EncodesMoved : Motion → (List Pair → Type 0) → List Pair → List Pair → List Pair → HullReply → Type 0
 EncodesMoved motion P points before after encoded =

@@ -3,6 +3,9 @@
 
 mod indices;
 mod moved;
+mod steps;
+mod translated;
 
 pub use indices::vertex_indices;
-pub use moved::{rotate, translate, translate_in_place};
+pub use moved::rotate;
+pub use translated::{translate, translate_in_place};

@@ -1,8 +1,8 @@
-//! Polygons that are translated and rotated.
+//! Polygons that are rotated.
 ghost use Rattle.std.specs.Prelude.{◌≡◌, ◌++◌, length, map};
 ghost use Rattle.motions.specs.Motions.{moved, AllMoveInRange, IsFirstMoved};
 ghost use Rattle.hull_reply.specs.Encoded.{IsNumber};
-ghost use Rattle.polygon_arrays.specs.Moved.{EncodesRotated, EncodesTranslated, IsFromFirst};
+ghost use Rattle.polygon_arrays.specs.Moved.{EncodesRotated, IsFromFirst};
 
 use hull_reply::{Code, HullPoint, HullReply, direction_of};
 use lattice::Point;
@@ -17,16 +17,6 @@ fn write_moved(motion: &Motion, points: &[Point], out: &mut [HullPoint])
     for i in 0..points.len() {
         let (x, y) = motion.coordinates_in_range(points[i]);
         out[i] = HullPoint { x, y };
-    }
-}
-
-/// Moves the points.
-fn move_all(motion: &Motion, points: &mut [Point])
-    requires { AllMoveInRange motion.now points.old }
-    ensures { points.new ≡ map (moved motion.now) points.old }
-{
-    for i in 0..points.len() {
-        points[i] = motion.apply_in_range(points[i]);
     }
 }
 
@@ -46,36 +36,10 @@ fn write_from_first(motion: &Motion, points: &[Point], first: usize, out: &mut [
 }
 
 /// Returns the reply with so many vertices.
-fn written(count: usize) -> HullReply
+pub(crate) fn written(count: usize) -> HullReply
     ensures { IsNumber Code.Vertices count result }
 {
     HullReply::numbered(Code::Vertices, count as u64)
-}
-
-/// Writes the vertices moved by (`dx`, `dy`) to an array for as many. Fails with [`Code::OutOfRange`], and leaves the
-/// array unchanged, if and only if a coordinate would be out of range. O(n).
-pub fn translate(vertices: &[Point], dx: i64, dy: i64, out: &mut [HullPoint]) -> HullReply
-    requires { length out.old ≡ length vertices.now }
-    ensures { EncodesTranslated vertices.now dx dy out.old out.new result }
-{
-    let motion = Motion::Translation { dx, dy };
-    if !motion.keeps_in_range(vertices) {
-        return HullReply::bare(Code::OutOfRange);
-    }
-    write_moved(&motion, vertices, out);
-    written(vertices.len())
-}
-
-/// Does the same in the array of the vertices.
-pub fn translate_in_place(vertices: &mut [Point], dx: i64, dy: i64) -> HullReply
-    ensures { EncodesTranslated vertices.old dx dy vertices.old vertices.new result }
-{
-    let motion = Motion::Translation { dx, dy };
-    if !motion.keeps_in_range(vertices) {
-        return HullReply::bare(Code::OutOfRange);
-    }
-    move_all(&motion, vertices);
-    written(vertices.len())
 }
 
 /// Writes the vertices rotated about the origin by the angle of (`a`, `b`), and scaled by its length, to an array for as

@@ -1,6 +1,0 @@
--- no more points were counted than were looked at
-use Rattle.std.proofs.Common.{◌≤◌}
-use Rattle.outer_points.proofs.filter.are_many_inner.Given as goal
-
-abbrev pub invariant-loop-p : goal.invariant-loop-p
-invariant-loop-p l = l.inner ≤ l.p-index
