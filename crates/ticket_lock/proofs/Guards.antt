@@ -1,5 +1,5 @@
 -- Two guards with the same fields are equal: each fact about the fields has one proof.
-use Rattle.std.proofs.Common.{◌≡◌, [], ◌∷◌}
+use Rattle.std.proofs.Common.{◌≡◌, ◌<◌, [], ◌∷◌}
 use Rattle.std.specs.Prelude as std
 use Rattle.std.proofs.Props.{props}
 use Rattle.std.specs.Coded.{Coded, Coded-set}
@@ -16,6 +16,10 @@ module _ {B H L : Type 0} (code : Coded B) (x : Guard B H L) where
   Holding = (stage_of x.place.me.0 ≡ 3) × (seat_of x.place.me.0 ≡ x.seat) × (number_of x.place.me.0 ≡ x.number)
       × (x.place.me.1 ≡ (0, std.None) ∷ [])
 
+  -- the guard's seat has a number of one byte
+  abbrev Few : Type 0
+  Few = x.seat < 256
+
   -- that it is of its lock has one proof
   own_prop : IsProp Own
   own_prop = hlevel props
@@ -24,9 +28,13 @@ module _ {B H L : Type 0} (code : Coded B) (x : Guard B H L) where
   holding_prop : IsProp Holding
   holding_prop = hlevel (props, Coded-set code)
 
+  -- that its number has one byte has one proof
+  few_prop : IsProp Few
+  few_prop = hlevel props
+
   -- the guard with the book w and these proofs
-  abbrev with_facts : B → Own → Holding → Guard B H L
-  with_facts w own holding =
+  abbrev with_facts : B → Own → Holding → Few → Guard B H L
+  with_facts w own holding few =
       record {
         lock = x.lock;
         place = x.place;
@@ -36,8 +44,9 @@ module _ {B H L : Type 0} (code : Coded B) (x : Guard B H L) where
         own =
             own;
         holding = holding;
+        few = few;
       }
 
   -- which proofs it has makes no difference
-  pub same_guard : (w : B) (p q : Own) (r s : Holding) → with_facts w p r ≡ with_facts w q s
-  same_guard w p q r s = λ i. with_facts w (own_prop p q i) (holding_prop r s i)
+  pub same_guard : (w : B) (p q : Own) (r s : Holding) (t u : Few) → with_facts w p r t ≡ with_facts w q s u
+  same_guard w p q r s t u = λ i. with_facts w (own_prop p q i) (holding_prop r s i) (few_prop t u i)

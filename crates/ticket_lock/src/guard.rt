@@ -1,5 +1,5 @@
 //! A guard: a seat that holds the book.
-ghost use Rattle.std.specs.Prelude.{◌≡◌, [], ◌∷◌, None};
+ghost use Rattle.std.specs.Prelude.{◌≡◌, ◌<◌, [], ◌∷◌, None};
 ghost use Rattle.ticket_lock.specs.Standing.{stage_of, seat_of, number_of};
 
 use crate::chronicle::Chronicle;
@@ -12,12 +12,13 @@ use crate::seat::Seat;
 pub struct Guard<'a, B: Chronicle> {
     pub(crate) lock: &'a TicketLock<B>,
     pub(crate) place: Place<B>,
-    pub(crate) seat: u8,
+    pub(crate) seat: u64,
     pub(crate) number: u64,
     pub(crate) book: B,
     ghost own: { place.table_id ≡ lock.now.board.shared.table_id },
     ghost holding: { (stage_of place.me.0 ≡ 3) × (seat_of place.me.0 ≡ seat) × (number_of place.me.0 ≡ number)
         × (place.me.1 ≡ (0, None) ∷ []) },
+    ghost few: { seat < 256 },
 }
 
 impl<'a, B: Chronicle> Guard<'a, B> {
@@ -71,7 +72,7 @@ impl<'a, B: Chronicle> Guard<'a, B> {
         shared.store::<plays::HandOn>(&mut place, (next % 8) as usize + 1, next);
         Seat {
             place,
-            number: seat,
+            number: seat as u8,
         }
     }
 }

@@ -36,7 +36,7 @@ impl<B: Chronicle> TicketLock<B> {
         let taken = self.board.shared.fetch_add::<plays::Take>(&mut place, 0, 1);
         Ticket {
             place,
-            seat: number,
+            seat: u64::from(number),
             number: taken,
         }
     }

@@ -1,5 +1,5 @@
 //! A ticket: a seat that has taken a number and waits until that number is served.
-ghost use Rattle.std.specs.Prelude.{◌≡◌, []};
+ghost use Rattle.std.specs.Prelude.{◌≡◌, ◌<◌, []};
 ghost use Rattle.ticket_lock.specs.Standing.{stage_of, seat_of, number_of};
 
 use crate::chronicle::Chronicle;
@@ -9,10 +9,11 @@ use crate::rule::Place;
 /// A seat with a number. It can't be dropped: `TicketLock::look` consumes it.
 pub struct Ticket<B: Chronicle> {
     pub(crate) place: Place<B>,
-    pub(crate) seat: u8,
+    pub(crate) seat: u64,
     pub(crate) number: u64,
     ghost waiting: { (stage_of place.me.0 ≡ 2) × (seat_of place.me.0 ≡ seat) × (number_of place.me.0 ≡ number)
         × (place.me.1 ≡ []) },
+    ghost few: { seat < 256 },
 }
 
 /// The result of one look at the lock.
