@@ -42,7 +42,7 @@ fn acquire_from(
         lock,
         seat,
         ledger,
-        number: number as u8,
+        number,
         capacity: shared_hull.capacity,
     };
     (shared_hull, Ok(idle))
@@ -53,7 +53,7 @@ fn return_to(shared_hull: OpenSharedHull, idle: IdleSeat) -> (OpenSharedHull, Op
     requires { lock_of idle.lock ≡ lock_of shared_hull.lock }
     ensures { TakesBack shared_hull idle result.0 result.1 }
 {
-    let Some(j) = place_of(u32::from(idle.number), shared_hull.seats) else {
+    let Some(j) = place_of(idle.number, shared_hull.seats) else {
         unreachable!()
     };
     if shared_hull.places.list[j].is_some() {

@@ -12,10 +12,11 @@ use hull_set::Call;
 /// A seat with no number.
 pub(crate) struct IdleSeat {
     pub(crate) lock: SharedLock,
-    pub(crate) seat: SharedHullSeat,
     pub(crate) ledger: Ledger,
-    pub(crate) number: u8,
+    // (`seat` takes one byte: in this order little padding is copied when the seat moves)
+    pub(crate) number: u32,
     pub(crate) capacity: u32,
+    pub(crate) seat: SharedHullSeat,
     ghost own: { IsSeatOf boxed_head (lock_of lock) seat },
     ghost numbered: { seat_number seat ≡ number },
     ghost holds: { capacity ≡ capacity_of (lock_of lock) },
@@ -26,10 +27,10 @@ pub(crate) struct IdleSeat {
 /// A seat with a number, and the call that it will make.
 pub(crate) struct WaitingSeat {
     pub(crate) lock: SharedLock,
-    pub(crate) ticket: SharedHullTicket,
     pub(crate) ledger: Ledger,
-    pub(crate) number: u8,
+    pub(crate) number: u32,
     pub(crate) capacity: u32,
+    pub(crate) ticket: SharedHullTicket,
     pub(crate) call: Call,
     ghost own: { IsTicketOf (lock_of lock) ticket },
     ghost numbered: { ticket_seat ticket ≡ number },

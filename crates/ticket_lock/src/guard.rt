@@ -49,6 +49,7 @@ impl<'a, B: Chronicle> Guard<'a, B> {
 
     /// Does the same for a lock whose seats all look for themselves: it wakes no seat. A seat that sleeps in `TicketLock::enter` would sleep on, so
     /// use it only if callers only `take` and `look`, as in a library that may not wake threads.
+    #[inline]
     pub fn hand_on_awake(self) -> Seat<B>
         requires head { KeepsHead B.head self }
         requires hands { HandsOn B.Chronicle

@@ -26,6 +26,7 @@ impl<B: Chronicle> TicketLock<B> {
     ghost use Rattle.ticket_lock.specs.Tokens.{IfNotYet};
 
     /// Takes the next number: one fetch-and-add. It never waits.
+    #[inline]
     pub fn take(&self, seat: Seat<B>) -> Ticket<B>
         requires own { IsSeatOf B.head self.now seat }
         ensures own { IsTicketOf self.now result }
@@ -42,6 +43,7 @@ impl<B: Chronicle> TicketLock<B> {
     }
 
     /// Tests once whether the ticket's number is served: one load of the grant word that its number selects. It never waits.
+    #[inline]
     pub fn look(&self, ticket: Ticket<B>) -> Look<'_, B>
         requires own { IsTicketOf self.now ticket }
         ensures entered { IfEntered result
