@@ -6,8 +6,7 @@ use Rattle.hull_plain.proofs.octagon.span_between.Goals as goal
 pub returns : goal.returns
 returns c = λ z.
     let low = c.max.ensures.value in
-    let high = c.min.ensures.value in
-    (
+    let high = c.min.ensures.value in (
       λ h. (omega (arith, ints, clamps, h.0), omega (arith, ints, clamps, h.0), omega (arith, ints, clamps, h.1), omega (arith, ints, clamps, h.1)),
       λ h. (omega (arith, ints, clamps, h.0, h.1), omega (arith, ints, clamps, h.2, h.3)),
     )

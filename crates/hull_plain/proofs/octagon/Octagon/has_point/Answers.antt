@@ -6,8 +6,7 @@ use Rattle.hull_plain.proofs.octagon.Octagon.has_point.Goals as goal
 pub returns-then-is_in_rectangle : goal.returns-then-is_in_rectangle
 returns-then-is_in_rectangle c =
     let upright = c.is_in_rectangle.ensures.0 c.if-is_in_rectangle.true in
-    let diagonal = c.is_in_rectangle-then-is_in_rectangle.ensures in
-    (
+    let diagonal = c.is_in_rectangle-then-is_in_rectangle.ensures in (
       λ t. (
         (
           (omega (arith, ints, upright.0.0), omega (arith, ints, upright.0.1)),

@@ -5,7 +5,10 @@ use Rattle.ticket_lock.proofs.guard.Guard.book.Goals as goal
 
 pub returns : goal.returns
 returns g c = (
-  (refl, λ w. same_guard g.row.B.coded c.args.self.now w _ c.args.self.now.own _ c.args.self.now.holding _
-      c.args.self.now.few),
+  (
+    refl,
+    λ w. same_guard g.row.B.coded c.args.self.now w _ c.args.self.now.own _ c.args.self.now.holding _
+        c.args.self.now.few,
+  ),
   record { writes_back = tt; value = refl },
 )
