@@ -149,14 +149,31 @@ sum_gap : (mx my nx ny a b : ℤ) (q c : Pair) → product (vector (a *ℤ mx +�
     +ℤ (a *ℤ (along mx my c -ℤ along mx my q) +ℤ b *ℤ (along nx ny c -ℤ along nx ny q))
 unfolding product
 sum_gap mx my nx ny a b q c =
-    rw (as_pair q, as_pair c, as_difference mx, as_difference my, as_difference nx, as_difference ny, as_difference a, as_difference b)
+    rw (
+      as_pair q,
+      as_pair c,
+      as_difference mx,
+      as_difference my,
+      as_difference nx,
+      as_difference ny,
+      as_difference a,
+      as_difference b,
+    )
     (simp difference_rules (difference-eq _ _ _ _ (omega arith)))
 
--- in a weighted sum of two directions, which is not zero, a point lies farther than q if it does in both
-farther_by : (S : List Pair) (q d : Pair) (mx my nx ny a b : ℤ) → ¬ IsZero d → pos 0 ≤ℤ a → pos 0 ≤ℤ b
-    → d.x ≡ a *ℤ mx +ℤ b *ℤ nx → d.y ≡ a *ℤ my +ℤ b *ℤ ny → (c : Pair) → Contains S c → along mx my q <ℤ along mx my c
-    → along nx ny q <ℤ along nx ny c → (c : Pair) × Contains S c × (product d q <ℤ product d c)
-farther_by S q d mx my nx ny a b nonzero ha hb ex ey c mem hm hn = (
+-- d is the weighted sum of two directions, with no weight below 0
+abbrev IsSum : Pair → ℤ → ℤ → ℤ → ℤ → ℤ → ℤ → Type 0
+IsSum d mx my nx ny a b = (pos 0 ≤ℤ a) × (pos 0 ≤ℤ b) × (d.x ≡ a *ℤ mx +ℤ b *ℤ nx) × (d.y ≡ a *ℤ my +ℤ b *ℤ ny)
+
+-- some point of S is farther than q in both directions
+abbrev IsPassed : List Pair → Pair → ℤ → ℤ → ℤ → ℤ → Type 0
+IsPassed S q mx my nx ny =
+    (c : Pair) × Contains S c × (along mx my q <ℤ along mx my c) × (along nx ny q <ℤ along nx ny c)
+
+-- in a weighted sum of two directions, which is not zero, a point of S is farther than q if it is in both
+farther_by : (S : List Pair) (q d : Pair) (mx my nx ny a b : ℤ) → ¬ IsZero d → IsSum d mx my nx ny a b
+    → IsPassed S q mx my nx ny → (c : Pair) × Contains S c × (product d q <ℤ product d c)
+farther_by S q d mx my nx ny a b nonzero (ha, hb, ex, ey) (c, mem, hm, hn) = (
   c,
   mem,
   subst (λ (e : Pair). product e q <ℤ product e c) (sym (same_pair d _ ex ey))
@@ -185,12 +202,40 @@ farther : (S : List Pair) (q d : Pair) → IsSurrounded S q → ¬ IsZero d
 farther S q d w nonzero =
     elim (le_or_lt (pos 0) d.x) [
       | inl right ↦ elim (le_or_lt (pos 0) d.y) [
-        | inl up ↦ elim (le_or_lt d.y d.x) [ inl flat ↦ farther_by S q d (pos 1) (pos 0) (pos 1) (pos 1) (d.x -ℤ d.y) (d.y) nonzero (omega (arith, ints)) (omega (arith, ints)) (omega (arith, ints)) (omega (arith, ints)) w.right_up.0 w.right_up.1 (omega (arith, ints, w.right_up.2)) (omega (arith, ints, w.right_up.3)) | inr steep ↦ farther_by S q d (pos 0) (pos 1) (pos 1) (pos 1) (d.y -ℤ d.x) (d.x) nonzero (omega (arith, ints)) (omega (arith, ints)) (omega (arith, ints)) (omega (arith, ints)) w.up_right.0 w.up_right.1 (omega (arith, ints, w.up_right.2)) (omega (arith, ints, w.up_right.3)) ]
-        | inr down ↦ elim (le_or_lt (neg_ℤ d.y) d.x) [ inl flat ↦ farther_by S q d (pos 1) (pos 0) (pos 1) (negsuc 0) (d.x +ℤ d.y) (neg_ℤ d.y) nonzero (omega (arith, ints)) (omega (arith, ints)) (omega (arith, ints)) (omega (arith, ints)) w.right_down.0 w.right_down.1 (omega (arith, ints, w.right_down.2)) (omega (arith, ints, w.right_down.3)) | inr steep ↦ farther_by S q d (pos 0) (negsuc 0) (pos 1) (negsuc 0) (neg_ℤ (d.x +ℤ d.y)) (d.x) nonzero (omega (arith, ints)) (omega (arith, ints)) (omega (arith, ints)) (omega (arith, ints)) w.down_right.0 w.down_right.1 (omega (arith, ints, w.down_right.2)) (omega (arith, ints, w.down_right.3)) ]
+        | inl up ↦ elim (le_or_lt d.y d.x) [
+          | inl flat ↦ farther_by S q d (pos 1) (pos 0) (pos 1) (pos 1) (d.x -ℤ d.y) d.y nonzero
+              (omega (arith, ints), omega (arith, ints), omega (arith, ints), omega (arith, ints))
+              (w.right_up.0, w.right_up.1, omega (arith, ints, w.right_up.2), omega (arith, ints, w.right_up.3))
+          | inr steep ↦ farther_by S q d (pos 0) (pos 1) (pos 1) (pos 1) (d.y -ℤ d.x) d.x nonzero
+              (omega (arith, ints), omega (arith, ints), omega (arith, ints), omega (arith, ints))
+              (w.up_right.0, w.up_right.1, omega (arith, ints, w.up_right.2), omega (arith, ints, w.up_right.3))
+        ]
+        | inr down ↦ elim (le_or_lt (neg_ℤ d.y) d.x) [
+          | inl flat ↦ farther_by S q d (pos 1) (pos 0) (pos 1) (negsuc 0) (d.x +ℤ d.y) (neg_ℤ d.y) nonzero
+              (omega (arith, ints), omega (arith, ints), omega (arith, ints), omega (arith, ints))
+              (w.right_down.0, w.right_down.1, omega (arith, ints, w.right_down.2), omega (arith, ints, w.right_down.3))
+          | inr steep ↦ farther_by S q d (pos 0) (negsuc 0) (pos 1) (negsuc 0) (neg_ℤ (d.x +ℤ d.y)) d.x nonzero
+              (omega (arith, ints), omega (arith, ints), omega (arith, ints), omega (arith, ints))
+              (w.down_right.0, w.down_right.1, omega (arith, ints, w.down_right.2), omega (arith, ints, w.down_right.3))
+        ]
       ]
       | inr left ↦ elim (le_or_lt (pos 0) d.y) [
-        | inl up ↦ elim (le_or_lt d.y (neg_ℤ d.x)) [ inl flat ↦ farther_by S q d (negsuc 0) (pos 0) (negsuc 0) (pos 1) (neg_ℤ (d.x +ℤ d.y)) (d.y) nonzero (omega (arith, ints)) (omega (arith, ints)) (omega (arith, ints)) (omega (arith, ints)) w.left_up.0 w.left_up.1 (omega (arith, ints, w.left_up.2)) (omega (arith, ints, w.left_up.3)) | inr steep ↦ farther_by S q d (pos 0) (pos 1) (negsuc 0) (pos 1) (d.y +ℤ d.x) (neg_ℤ d.x) nonzero (omega (arith, ints)) (omega (arith, ints)) (omega (arith, ints)) (omega (arith, ints)) w.up_left.0 w.up_left.1 (omega (arith, ints, w.up_left.2)) (omega (arith, ints, w.up_left.3)) ]
-        | inr down ↦ elim (le_or_lt d.x d.y) [ inl flat ↦ farther_by S q d (negsuc 0) (pos 0) (negsuc 0) (negsuc 0) (d.y -ℤ d.x) (neg_ℤ d.y) nonzero (omega (arith, ints)) (omega (arith, ints)) (omega (arith, ints)) (omega (arith, ints)) w.left_down.0 w.left_down.1 (omega (arith, ints, w.left_down.2)) (omega (arith, ints, w.left_down.3)) | inr steep ↦ farther_by S q d (pos 0) (negsuc 0) (negsuc 0) (negsuc 0) (d.x -ℤ d.y) (neg_ℤ d.x) nonzero (omega (arith, ints)) (omega (arith, ints)) (omega (arith, ints)) (omega (arith, ints)) w.down_left.0 w.down_left.1 (omega (arith, ints, w.down_left.2)) (omega (arith, ints, w.down_left.3)) ]
+        | inl up ↦ elim (le_or_lt d.y (neg_ℤ d.x)) [
+          | inl flat ↦ farther_by S q d (negsuc 0) (pos 0) (negsuc 0) (pos 1) (neg_ℤ (d.x +ℤ d.y)) d.y nonzero
+              (omega (arith, ints), omega (arith, ints), omega (arith, ints), omega (arith, ints))
+              (w.left_up.0, w.left_up.1, omega (arith, ints, w.left_up.2), omega (arith, ints, w.left_up.3))
+          | inr steep ↦ farther_by S q d (pos 0) (pos 1) (negsuc 0) (pos 1) (d.y +ℤ d.x) (neg_ℤ d.x) nonzero
+              (omega (arith, ints), omega (arith, ints), omega (arith, ints), omega (arith, ints))
+              (w.up_left.0, w.up_left.1, omega (arith, ints, w.up_left.2), omega (arith, ints, w.up_left.3))
+        ]
+        | inr down ↦ elim (le_or_lt d.x d.y) [
+          | inl flat ↦ farther_by S q d (negsuc 0) (pos 0) (negsuc 0) (negsuc 0) (d.y -ℤ d.x) (neg_ℤ d.y) nonzero
+              (omega (arith, ints), omega (arith, ints), omega (arith, ints), omega (arith, ints))
+              (w.left_down.0, w.left_down.1, omega (arith, ints, w.left_down.2), omega (arith, ints, w.left_down.3))
+          | inr steep ↦ farther_by S q d (pos 0) (negsuc 0) (negsuc 0) (negsuc 0) (d.x -ℤ d.y) (neg_ℤ d.x) nonzero
+              (omega (arith, ints), omega (arith, ints), omega (arith, ints), omega (arith, ints))
+              (w.down_left.0, w.down_left.1, omega (arith, ints, w.down_left.2), omega (arith, ints, w.down_left.3))
+        ]
       ]
     ]
 
@@ -216,7 +261,8 @@ surrounded_inside S q s w = (covered, λ o. not_farthest o.0 o.1 o.2)
 
     apart : Separated S q → ⊥
     apart p = not_farthest p.0
-        (λ z. zero_apart p.0 q w.right_up.0 z (All-contains (λ t. product p.0 t <ℤ product p.0 q) S w.right_up.0 p.1 w.right_up.1))
+        (λ z. zero_apart p.0 q w.right_up.0 z
+        (All-contains (λ t. product p.0 t <ℤ product p.0 q) S w.right_up.0 p.1 w.right_up.1))
         (all_of (λ t. product p.0 t ≤ℤ product p.0 q) S
         (λ t m. at_most _ _ (All-contains (λ t. product p.0 t <ℤ product p.0 q) S t p.1 m)))
 

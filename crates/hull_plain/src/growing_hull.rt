@@ -36,9 +36,9 @@ pub enum GrowFault {
 
 /// The hull of the points that were added so far, which keeps only its vertices: a point that it covers is dropped, and none can be removed.
 ///
-/// Adding a point takes a bisection of each chain, and nothing else if it is covered; one that is outside also moves vertices of one block for each chain,
-/// at most the square root of their number, and removes those that it covers (Preparata, 1979, for the order of his points; here the chains are lists in
-/// blocks).
+/// Adding a point takes eight comparisons if it is in an octagon inside the hull, which has most of a square or a disk. Else it takes a bisection of each
+/// chain, and nothing else if the point is covered; one that is outside also moves vertices of one block for each chain, at most the square root of
+/// their number, and removes those that it covers (Preparata, 1979, for the order of his points; here the chains are lists in blocks).
 #[derive(Drop)]
 pub struct GrowingHull {
     lower: TieredList,
@@ -129,7 +129,7 @@ impl GrowingHull {
         {
             return Err(GrowFault::NoMemory);
         }
-        self.octagon.count_growth();
+        self.octagon.note_growth();
         let scratch_chain = &mut self.scratch_chain;
         grow(Side::Lower, &mut self.lower, scratch_chain, below, p);
         grow(Side::Upper, &mut self.upper, scratch_chain, above, p);

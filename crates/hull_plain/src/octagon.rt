@@ -46,7 +46,7 @@ fn difference_of(p: Point) -> i64
     p.x() - p.y()
 }
 
-/// How many covered points are searched for in the chains before an octagon is made anew.
+/// How many covered points are located by a search before an octagon is made anew.
 const MOST_SEARCHES: u32 = 64;
 
 /// The pairs of a number in one span and a number in another.
@@ -76,7 +76,10 @@ impl Octagon {
     fn empty() -> Octagon
         ensures { (q : Pair) → ¬ (IsInOctagon result q) }
     {
-        let span = Span { low: 0, high: 0 };
+        let span = Span {
+            low: i64::MAX,
+            high: i64::MIN,
+        };
         let rectangle = Rectangle { x: span, y: span };
         Octagon {
             upright: rectangle,
@@ -107,8 +110,8 @@ fn corner(chain: &TieredList, dx: i64, dy: i64) -> Point
     farthest(chain, d)
 }
 
-/// Returns an octagon inside the hull of these two chains. Its bounds are those of vertices that lie far between the
-/// directions of two sides: each side has both of its vertices on it or outwards of it. Of a disk it is nine tenths.
+/// Returns an octagon inside the hull of these two chains: for each two adjacent sides, a vertex that lies far between
+/// their normals is on both of them or outwards. Of a disk it is nine tenths.
 fn octagon_inside(lower: &TieredList, upper: &TieredList) -> Octagon
     ensures { IsOctagonInside lower.now.items upper.now.items result }
 {
@@ -142,7 +145,7 @@ fn octagon_inside(lower: &TieredList, upper: &TieredList) -> Octagon
     }
 }
 
-/// An octagon inside a hull that grows.
+/// An octagon inside a hull that grows, with the counts by which it is made anew.
 #[derive(Drop)]
 pub(crate) struct InnerOctagon {
     octagon: Octagon,
@@ -168,8 +171,8 @@ impl InnerOctagon {
         self.octagon.has_point(q)
     }
 
-    /// Counts that the hull of these chains has grown.
-    pub(crate) fn count_growth(&mut self)
+    /// Notes that the hull has grown.
+    pub(crate) fn note_growth(&mut self)
         ensures { self.new.octagon ≡ self.old.octagon }
     {
         if self.searches.is_none() {
@@ -177,8 +180,8 @@ impl InnerOctagon {
         }
     }
 
-    /// Counts that these chains were searched for a point that they cover. The octagon is made anew from them after
-    /// [`MOST_SEARCHES`] points if they have grown, so that each takes a share of the time.
+    /// Counts that a point was located by a search of these chains, which cover it. After [`MOST_SEARCHES`] of them the
+    /// octagon is made anew if the hull has grown, so that each search takes a small share of the time for that.
     pub(crate) fn count_search(&mut self, lower: &TieredList, upper: &TieredList)
         ensures { IsOctagonInside lower.now.items upper.now.items self.old.octagon
             → IsOctagonInside lower.now.items upper.now.items self.new.octagon }

@@ -32,7 +32,7 @@ invariant_of-self-2 c = record {
   in_order = ordered_with c.args.p c.self.invariant.some.0 c.self.invariant.in_order;
   few_below = omega (arith, c.grow.ensures.few, ap length c.reserve.ensures.items, c.len.ensures, c.if-len.false);
   few_above = omega (arith, c.grow-2.ensures.few, ap length c.reserve-else-is_err.ensures.items, c.len-else-len.ensures, c.if-len-2.false);
-  inside = subst (λ (o : Octagon). IsOctagonInside c.grow.new.chain.items c.grow-2.new.chain.items o) (sym c.count_growth.ensures)
+  inside = subst (λ (o : Octagon). IsOctagonInside c.grow.new.chain.items c.grow-2.new.chain.items o) (sym c.note_growth.ensures)
       (octagon_stays c.self.invariant.some.0 c.args.p _ _ _ _ _ c.self.invariant.in_order c.self.invariant.some.1
       (grown c c.self.invariant.some.0 c.self.invariant.some.1) c.self.invariant.inside);
 }
