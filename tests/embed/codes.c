@@ -865,6 +865,35 @@ static void check_motions(void) {
     CHECK(number(hull_is_polygon(translated, 3), HULL_NUMBER, 1) && number(hull_polygon_translate(NULL, 0, 5 * far, 0, NULL), HULL_VERTICES, 0));
 }
 
+/* Translations of arrays of each length up to 20, to others and in place, with a coordinate that comes to the limit or beyond it. */
+static void check_translations(void) {
+    int all_right = 1;
+    for (int n = 1; n <= 20; n++) {
+        for (int k = 0; k < 8 * n; k++) {
+            const int64_t side = k % 2 == 0 ? 1 : -1, step = side * (5 + k / 2 % 2);
+            const int is_x = k / 4 % 2, fits = k / 2 % 2 == 0;
+            const int64_t dx = is_x ? step : 3, dy = is_x ? -3 : step;
+            hull_point points[20], translated[20], in_place[20];
+            for (int i = 0; i < n; i++) {
+                points[i] = (hull_point){i, -i};
+                translated[i] = (hull_point){7, 7};
+            }
+            *(is_x ? &points[k / 8].x : &points[k / 8].y) = side * (HULL_COORDINATE_MAX - 5);
+            memcpy(in_place, points, sizeof points);
+            const hull_reply answers[] = {hull_polygon_translate(points, (size_t)n, dx, dy, translated),
+                                          hull_polygon_translate(in_place, (size_t)n, dx, dy, in_place)};
+            for (int i = 0; i < 2; i++) {
+                all_right &= fits ? number(answers[i], HULL_VERTICES, (uint64_t)n) : bare(answers[i], HULL_OUT_OF_RANGE);
+            }
+            for (int i = 0; i < n; i++) {
+                all_right &= translated[i].x == (fits ? points[i].x + dx : 7) && translated[i].y == (fits ? points[i].y + dy : 7);
+                all_right &= in_place[i].x == points[i].x + (fits ? dx : 0) && in_place[i].y == points[i].y + (fits ? dy : 0);
+            }
+        }
+    }
+    CHECK(all_right);
+}
+
 /* Whether the nearest of these points, the first of several, is returned, with its squared distance. */
 static int is_nearest(const hull_set *h, const hull_point *points, size_t count, int64_t x, int64_t y) {
     const hull_reply answer = hull_nearest_held(h, x, y);
@@ -1577,6 +1606,7 @@ int main(int words, char **word) {
     check_two_polygons();
     check_many_polygons();
     check_motions();
+    check_translations();
     check_nearest_held();
     check_distance_bounds();
     check_segments_beside();
