@@ -16,7 +16,7 @@ invariant_of-shared_hull c =
     let is : IsAtHome (lock_of d.lock) d.seats c.in-Some.j (record { seat = i.seat; ledger = i.ledger }) = record {
       own = subst (λ (l : HullLock). IsSeatOf boxed_head l i.seat) c.requires i.own;
       counts = subst (λ (k : ℕ). IsLedgerOf k (plain (seat_seen i.seat)) i.ledger) (sym i.numbered) i.counts;
-      home = omega (arith, i.numbered, c.from.ensures, c.in-Some.ensures);
+      home = omega (arith, i.numbered, c.in-Some.ensures);
     } in
     record {
       holds = d.holds;
