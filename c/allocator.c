@@ -24,14 +24,14 @@ static struct tried result_of(void *block) {
     return tried;
 }
 
-/* Asks the system for large pages for a block of at least 4 MiB: else the call that first writes to each 4 KiB waits for the system. What
- * the system refuses is ignored. The end is rounded up beyond what malloc may have there, since a mapping that is advised in part cannot
+/* Asks the system for large pages for a block of at least 4 MiB: else the call that first writes to each 4 KiB waits for the system. A refusal
+ * of the system is ignored. The end is rounded up beyond what malloc may have there, since a mapping that is advised in part cannot
  * be resized in place. */
 static void *in_large_pages(void *block, size count) {
 #if defined(MADV_HUGEPAGE)
-    enum { PAGE = 4096, LARGE = 4 << 20, BEHIND = 16 };
+    enum { PAGE = 4096, LARGE = 4 << 20, MARGIN = 16 };
     if (block != 0 && count >= LARGE) {
-        uintptr_t first = (uintptr_t)block & ~(uintptr_t)(PAGE - 1), end = (uintptr_t)block + count + BEHIND;
+        uintptr_t first = (uintptr_t)block & ~(uintptr_t)(PAGE - 1), end = (uintptr_t)block + count + MARGIN;
         int saved_errno = errno;
         madvise((void *)first, (end - first + PAGE - 1) & ~(uintptr_t)(PAGE - 1), MADV_HUGEPAGE);
         errno = saved_errno;

@@ -900,9 +900,9 @@ static int drain_for_hook(const struct call *call) {
     return has_space;
 }
 
-/* Does what follows a call: drains, if that is due. Returns whether the call is to be made again: it found no space, and there may be
+/* Drains after a call, if that is due. Returns whether the call is to be made again: it found no space, and there may be
  * some, after a drain or a wait. The word `drains` was read before the call took its number: a drain after the call changes it. */
-static int is_to_repeat(const struct call *call, uint32_t drains, uint32_t code, uint32_t held) {
+static int drain_after(const struct call *call, uint32_t drains, uint32_t code, uint32_t held) {
     struct gate *gate = call->gate;
     if (code != HULL_FULL) {
         (void)(is_drain_due(call, held) && become_drainer(call) && drain_for_hook(call));
@@ -926,7 +926,7 @@ static void make(const struct call *call, const hull_shared_target *to, hull_sha
     do {
         drains = __atomic_load_n(&call->gate->drains, __ATOMIC_SEQ_CST);
         make_once(call, to, reply);
-    } while (to->segment == NULL && reply->answer.code != HULL_BUSY && is_to_repeat(call, drains, reply->answer.code, reply->held));
+    } while (to->segment == NULL && reply->answer.code != HULL_BUSY && drain_after(call, drains, reply->answer.code, reply->held));
 }
 
 static const hull_shared_target no_target = {NULL, 0, NULL};
@@ -949,23 +949,23 @@ OUT_OF_LINE hull_shared_reply call_and_wait(struct gate *gate, hull_shared_seat 
     return reply;
 }
 
-/* What follows a call that was admitted at once if its number was not served when it was taken. */
+/* Waits for the number of a call that was admitted at once but not served, and returns its answer. */
 OUT_OF_LINE hull_shared_reply wait_admitted(struct gate *gate, hull_shared_seat *seat, uint32_t kind, int64_t x, int64_t y, uint64_t until,
                                             uint32_t drains, uint64_t turn) {
     const struct call call = {gate, seat, binding_of(seat)->number + 1, kind, x, y, until};
     hull_shared_reply reply;
     wait_and_leave(&call, turn, &no_target, &reply);
-    if (is_to_repeat(&call, drains, reply.answer.code, reply.held)) {
+    if (drain_after(&call, drains, reply.answer.code, reply.held)) {
         make(&call, &no_target, &reply);
     }
     return reply;
 }
 
-/* What follows a call that was admitted at once if a drain may be due, or if it found no space. Returns whether it is to be made again. */
-OUT_OF_LINE int is_admitted_to_repeat(struct gate *gate, hull_shared_seat *seat, uint64_t until, uint32_t drains, uint32_t code,
+/* Drains after a call that was admitted at once, if that is due. Returns whether the call is to be made again, as drain_after. */
+OUT_OF_LINE int drain_after_admitted(struct gate *gate, hull_shared_seat *seat, uint64_t until, uint32_t drains, uint32_t code,
                                       uint32_t held) {
     const struct call call = {gate, seat, binding_of(seat)->number + 1, HULL_KIND_COUNT, 0, 0, until};
-    return is_to_repeat(&call, drains, code, held);
+    return drain_after(&call, drains, code, held);
 }
 
 /* Serves the calls that are posted after one that was admitted at once. */
@@ -1006,7 +1006,7 @@ IN_LINE hull_shared_reply call_at_once(struct gate *gate, hull_shared_seat *seat
         }
         note_and_leave(gate, node);
         if (((gate->hook != NULL && held >= __atomic_load_n(&gate->half, __ATOMIC_RELAXED)) || code == HULL_FULL) &&
-            is_admitted_to_repeat(gate, seat, until, drains, code, held)) {
+            drain_after_admitted(gate, seat, until, drains, code, held)) {
             reply = call_and_wait(gate, seat, kind, x, y, &no_target, until);
         }
     }

@@ -6,7 +6,7 @@
 REVISION is a commit whose dist/ has the earlier release (6bcc03ef, which is 2.3.0, if none is given), POINTS how many points each polygon is
 made of (24). Where code lies changes how long it takes, so each release is linked in several LAYOUTS (9), with its functions in an order and at
 distances drawn at random (Curtsinger and Berger, 2013: Stabilizer). All programs are run in alternation, ROUNDS times (5). A time is the median
-over the layouts of the least time in each; after it stands half of the range between its quartiles. Needs g++, binutils and valgrind.
+over the layouts of the least time in each; it is followed by half of the range between its quartiles. Needs g++, binutils and valgrind.
 """
 import random
 import re

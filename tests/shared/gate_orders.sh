@@ -122,9 +122,9 @@ wrong_ones() {
     wrong 'a call leaves as if none were parked' '2 1 1 cc' 's/^    if \(state > INSIDE \|\| /    if (/'
     wrong 'a call that was admitted at once does not wait for its number' '2 1 2 cc' 's/if \(code == HULL_NOT_YET\) \{/if (0) {/'
     wrong 'a call that was admitted at once and waited is not made again after a drain' '8 3 8 cccccccc 1 2 0 1 20000' \
-        's/if \(is_to_repeat\(\&call, drains, reply.answer.code, reply.held\)\) \{/if (0) {/'
+        's/if \(drain_after\(\&call, drains, reply.answer.code, reply.held\)\) \{/if (0) {/'
     wrong 'a call that was admitted at once and found no space is not made again' '2 1 1 cc 1 1 0 0' \
-        's/^( +)is_admitted_to_repeat\(gate, seat, until, drains, code, held\)\) \{/\1is_admitted_to_repeat(gate, seat, until, drains, code, held) \&\& 0) {/'
+        's/^( +)drain_after_admitted\(gate, seat, until, drains, code, held\)\) \{/\1drain_after_admitted(gate, seat, until, drains, code, held) \&\& 0) {/'
     wrong 'a call that was admitted at once leaves its drain to others' '2 1 1 cc 1 1 0 0' 's/ \|\| code == HULL_FULL\) \&\&$/) \&\&/; s/gate->half, __ATOMIC_RELAXED\)/& + 9/'
     # space in the journal
     wrong 'two threads drain for the hook' '2 2 2 cc 1 0 0 0' '/^    return gate->hook != NULL \&\&/{N;s/\n.*$/ 1;/}; s/^    uint32_t none = 0;/    (void)call;/'
