@@ -82,6 +82,9 @@ fn push_chain_range<H: ListsRuns>(
     requires { IsChainRange (tree_on side (H.tree half)) from to }
     ensures { IfOk result (λ _. IsListed (tree_on side (H.tree half)) from to side out.old.items out.new.items) }
 {
+    if from == to {
+        return Ok(());
+    }
     if half.push_run(side, from, to, out)? {
         return Ok(());
     }

@@ -2,19 +2,29 @@
 use Rattle.std.proofs.Common.{ap, sym, subst, ◌≡◌, ◌∙◌, List, [], ◌∷◌, ◌++◌}
 use Rattle.std.proofs.lemmas.Result.{IfOk-weaker}
 use Rattle.lattice.specs.Plane.{Pair}
+use Rattle.lattice.specs.declared.side.Side.{Side}
 use Rattle.bridge_search.specs.Trees.{Tree, left_of, right_of}
 use Rattle.hull_questions.specs.Walks.{IsListed, tree_on, upright}
 use Rattle.hull_questions.proofs.Walked.{listed_over}
+use Rattle.hull_set.proofs.HeldMultiplicities.{returned_same}
 use Rattle.hull_questions.proofs.questions.vertices.+push_chain_range.Goals as goal
+
+-- from a vertex to itself nothing is listed
+nothing : (t : Tree) (side : Side) (from to : Pair) (xs : List Pair) → from ≡ to → IsListed t from to side xs xs
+nothing t side from to xs e =
+    ([], record { chain = tt; ends = e }, ap (λ (p : Pair). xs ++ upright side p ∷ []) (sym e))
+
+pub returns-then-eq : goal.returns-then-eq
+returns-then-eq g t c =
+    nothing (tree_on c.args.side (g.H.Half.tree c.args.half)) c.args.side c.args.from c.args.to c.args.out.now.items
+    (returned_same c.args.from c.args.to (sym c.eq.ensures ∙ c.if-eq.true))
 
 pub returns-in-Nowhere : goal.returns-in-Nowhere
 returns-in-Nowhere g t c =
-    let unchanged : c.push_run.new.out.items ≡ c.args.out.now.items = rw c.if-branch.false at c.in_ok-push_run.ensures in (
-      [],
-      record { chain = tt; ends = c.in-Nowhere.ensures },
-      ap (λ (z : List Pair). z ++ upright c.args.side c.args.to ∷ []) unchanged
-          ∙ ap (λ (p : Pair). c.args.out.now.items ++ upright c.args.side p ∷ []) (sym c.in-Nowhere.ensures),
-    )
+    let unchanged : c.push_run.new.out.items ≡ c.args.out.now.items = rw c.if-branch.false at c.in_ok-push_run.ensures in
+    let u : Tree = tree_on c.args.side (g.H.Half.tree c.args.half) in
+    subst (λ (z : List Pair). IsListed u c.args.from c.args.to c.args.side z c.push_run.new.out.items) unchanged
+    (nothing u c.args.side c.args.from c.args.to c.push_run.new.out.items c.in-Nowhere.ensures)
 
 pub returns-in_ok-push-in-Across : goal.returns-in_ok-push-in-Across
 returns-in_ok-push-in-Across g t c =
