@@ -50,15 +50,37 @@ size_t hull_proved_polygon_indices(const hull_point *vertices, size_t count, con
 /* end of what tools/table.py writes */
 hull_reply hull_proved_polygon_translate_in_place(hull_point *vertices, size_t count, int64_t dx, int64_t dy);
 
-/* a function that is called only if arrays are tested, apart from the way of other calls */
-#define CHECKED __attribute__((noinline, cold))
+/* a function that is called only if arrays are tested, apart from the way of other calls; by name in assembly */
+#define CHECKED __attribute__((noinline, cold, used))
 
 /* whether arrays of vertices are tested, as hull_check_arrays decides */
-static int is_checked;
+static int is_checked __attribute__((used));
 
 void hull_check_arrays(int is_on) {
     __atomic_store_n(&is_checked, is_on, __ATOMIC_RELAXED);
 }
+
+/* The public function of a name: it jumps to its checked form if arrays are tested, else to the proved function, which returns to the caller. (gcc
+ * makes a second call of what returns a struct.) */
+#define PASSED_ON(name) PASSED_ON_BY(JUMP(name), "hull_" #name)
+#define PASSED_ON_BY(jump, name)                                                                                                             \
+    __asm__(".pushsection .text\n.p2align 4\n.globl " name "\n.type " name ", %function\n" name ":\n.cfi_startproc\n" jump               \
+            ".cfi_endproc\n.size " name ", .-" name "\n.popsection\n");
+#if defined(__x86_64__)
+#define JUMP(name)                                                                                                                           \
+    ".hidden hull_proved_" #name "\n"                                                                                                        \
+    "cmpl $0, is_checked(%rip)\n"                                                                                                            \
+    "jne checked_" #name "\n"                                                                                                                \
+    "jmp hull_proved_" #name "\n"
+#elif defined(__aarch64__)
+#define JUMP(name)                                                                                                                           \
+    ".hidden hull_proved_" #name "\n"                                                                                                        \
+    "adrp x16, is_checked\n"                                                                                                                 \
+    "ldr w16, [x16, :lo12:is_checked]\n"                                                                                                     \
+    "cbnz w16, 1f\n"                                                                                                                         \
+    "b hull_proved_" #name "\n"                                                                                                              \
+    "1: b checked_" #name "\n"
+#endif
 
 static inline int is_checking(void) {
     return __builtin_expect(__atomic_load_n(&is_checked, __ATOMIC_RELAXED), 0);
@@ -121,12 +143,7 @@ static CHECKED hull_reply checked_polygon_call(const hull_point *vertices, size_
     return hull_proved_polygon_call(vertices, count, kind, x, y);
 }
 
-hull_reply hull_polygon_call(const hull_point *vertices, size_t count, uint32_t kind, int64_t x, int64_t y) {
-    if (is_checking()) {
-        return checked_polygon_call(vertices, count, kind, x, y);
-    }
-    return hull_proved_polygon_call(vertices, count, kind, x, y);
-}
+PASSED_ON(polygon_call)
 
 static CHECKED hull_reply checked_polygon_intersects_segment(const hull_point *vertices, size_t count, int64_t ax, int64_t ay, int64_t bx,
                                                              int64_t by) {
@@ -137,12 +154,7 @@ static CHECKED hull_reply checked_polygon_intersects_segment(const hull_point *v
     return hull_proved_polygon_intersects_segment(vertices, count, ax, ay, bx, by);
 }
 
-hull_reply hull_polygon_intersects_segment(const hull_point *vertices, size_t count, int64_t ax, int64_t ay, int64_t bx, int64_t by) {
-    if (is_checking()) {
-        return checked_polygon_intersects_segment(vertices, count, ax, ay, bx, by);
-    }
-    return hull_proved_polygon_intersects_segment(vertices, count, ax, ay, bx, by);
-}
+PASSED_ON(polygon_intersects_segment)
 
 static CHECKED hull_reply checked_polygon_separation(const hull_point *vertices, size_t count, int64_t ax, int64_t ay, int64_t bx,
                                                      int64_t by) {
@@ -153,12 +165,7 @@ static CHECKED hull_reply checked_polygon_separation(const hull_point *vertices,
     return hull_proved_polygon_separation(vertices, count, ax, ay, bx, by);
 }
 
-hull_reply hull_polygon_separation(const hull_point *vertices, size_t count, int64_t ax, int64_t ay, int64_t bx, int64_t by) {
-    if (is_checking()) {
-        return checked_polygon_separation(vertices, count, ax, ay, bx, by);
-    }
-    return hull_proved_polygon_separation(vertices, count, ax, ay, bx, by);
-}
+PASSED_ON(polygon_separation)
 
 static CHECKED hull_reply checked_polygon_nearest(const hull_point *vertices, size_t count, int64_t x, int64_t y) {
     const uint32_t fault = fault_of(vertices, count);
@@ -168,12 +175,7 @@ static CHECKED hull_reply checked_polygon_nearest(const hull_point *vertices, si
     return hull_proved_polygon_nearest(vertices, count, x, y);
 }
 
-hull_reply hull_polygon_nearest(const hull_point *vertices, size_t count, int64_t x, int64_t y) {
-    if (is_checking()) {
-        return checked_polygon_nearest(vertices, count, x, y);
-    }
-    return hull_proved_polygon_nearest(vertices, count, x, y);
-}
+PASSED_ON(polygon_nearest)
 
 static CHECKED hull_reply checked_polygon_box(const hull_point *vertices, size_t count) {
     const uint32_t fault = fault_of(vertices, count);
@@ -183,12 +185,7 @@ static CHECKED hull_reply checked_polygon_box(const hull_point *vertices, size_t
     return hull_proved_polygon_box(vertices, count);
 }
 
-hull_reply hull_polygon_box(const hull_point *vertices, size_t count) {
-    if (is_checking()) {
-        return checked_polygon_box(vertices, count);
-    }
-    return hull_proved_polygon_box(vertices, count);
-}
+PASSED_ON(polygon_box)
 
 static CHECKED hull_reply checked_polygon_width(const hull_point *vertices, size_t count, int64_t dx, int64_t dy) {
     const uint32_t fault = fault_of(vertices, count);
@@ -198,12 +195,7 @@ static CHECKED hull_reply checked_polygon_width(const hull_point *vertices, size
     return hull_proved_polygon_width(vertices, count, dx, dy);
 }
 
-hull_reply hull_polygon_width(const hull_point *vertices, size_t count, int64_t dx, int64_t dy) {
-    if (is_checking()) {
-        return checked_polygon_width(vertices, count, dx, dy);
-    }
-    return hull_proved_polygon_width(vertices, count, dx, dy);
-}
+PASSED_ON(polygon_width)
 
 static CHECKED hull_reply checked_polygon_diameter(const hull_point *vertices, size_t count) {
     const uint32_t fault = fault_of(vertices, count);
@@ -213,12 +205,7 @@ static CHECKED hull_reply checked_polygon_diameter(const hull_point *vertices, s
     return hull_proved_polygon_diameter(vertices, count);
 }
 
-hull_reply hull_polygon_diameter(const hull_point *vertices, size_t count) {
-    if (is_checking()) {
-        return checked_polygon_diameter(vertices, count);
-    }
-    return hull_proved_polygon_diameter(vertices, count);
-}
+PASSED_ON(polygon_diameter)
 
 static CHECKED hull_witness checked_polygon_least_width(const hull_point *vertices, size_t count) {
     const uint32_t fault = fault_of(vertices, count);
@@ -228,12 +215,7 @@ static CHECKED hull_witness checked_polygon_least_width(const hull_point *vertic
     return hull_proved_polygon_least_width(vertices, count);
 }
 
-hull_witness hull_polygon_least_width(const hull_point *vertices, size_t count) {
-    if (is_checking()) {
-        return checked_polygon_least_width(vertices, count);
-    }
-    return hull_proved_polygon_least_width(vertices, count);
-}
+PASSED_ON(polygon_least_width)
 
 static CHECKED hull_reply checked_polygon_intersects(const hull_point *vertices, size_t count, const hull_point *others,
                                                      size_t other_count) {
@@ -244,12 +226,7 @@ static CHECKED hull_reply checked_polygon_intersects(const hull_point *vertices,
     return hull_proved_polygon_intersects(vertices, count, others, other_count);
 }
 
-hull_reply hull_polygon_intersects(const hull_point *vertices, size_t count, const hull_point *others, size_t other_count) {
-    if (is_checking()) {
-        return checked_polygon_intersects(vertices, count, others, other_count);
-    }
-    return hull_proved_polygon_intersects(vertices, count, others, other_count);
-}
+PASSED_ON(polygon_intersects)
 
 static CHECKED hull_reply checked_polygon_contains(const hull_point *vertices, size_t count, const hull_point *others, size_t other_count) {
     const uint32_t fault = fault_of_both(vertices, count, others, other_count);
@@ -259,12 +236,7 @@ static CHECKED hull_reply checked_polygon_contains(const hull_point *vertices, s
     return hull_proved_polygon_contains(vertices, count, others, other_count);
 }
 
-hull_reply hull_polygon_contains(const hull_point *vertices, size_t count, const hull_point *others, size_t other_count) {
-    if (is_checking()) {
-        return checked_polygon_contains(vertices, count, others, other_count);
-    }
-    return hull_proved_polygon_contains(vertices, count, others, other_count);
-}
+PASSED_ON(polygon_contains)
 
 static CHECKED hull_reply checked_polygon_contains_inside(const hull_point *vertices, size_t count, const hull_point *others,
                                                           size_t other_count) {
@@ -275,12 +247,7 @@ static CHECKED hull_reply checked_polygon_contains_inside(const hull_point *vert
     return hull_proved_polygon_contains_inside(vertices, count, others, other_count);
 }
 
-hull_reply hull_polygon_contains_inside(const hull_point *vertices, size_t count, const hull_point *others, size_t other_count) {
-    if (is_checking()) {
-        return checked_polygon_contains_inside(vertices, count, others, other_count);
-    }
-    return hull_proved_polygon_contains_inside(vertices, count, others, other_count);
-}
+PASSED_ON(polygon_contains_inside)
 
 static CHECKED hull_reply checked_polygon_relation(const hull_point *vertices, size_t count, const hull_point *others, size_t other_count) {
     const uint32_t fault = fault_of_both(vertices, count, others, other_count);
@@ -290,12 +257,7 @@ static CHECKED hull_reply checked_polygon_relation(const hull_point *vertices, s
     return hull_proved_polygon_relation(vertices, count, others, other_count);
 }
 
-hull_reply hull_polygon_relation(const hull_point *vertices, size_t count, const hull_point *others, size_t other_count) {
-    if (is_checking()) {
-        return checked_polygon_relation(vertices, count, others, other_count);
-    }
-    return hull_proved_polygon_relation(vertices, count, others, other_count);
-}
+PASSED_ON(polygon_relation)
 
 static CHECKED hull_reply checked_polygon_within_distance(const hull_point *vertices, size_t count, const hull_point *others,
                                                           size_t other_count, uint64_t numerator, uint32_t denominator) {
@@ -306,13 +268,7 @@ static CHECKED hull_reply checked_polygon_within_distance(const hull_point *vert
     return hull_proved_polygon_within_distance(vertices, count, others, other_count, numerator, denominator);
 }
 
-hull_reply hull_polygon_within_distance(const hull_point *vertices, size_t count, const hull_point *others, size_t other_count,
-                                        uint64_t numerator, uint32_t denominator) {
-    if (is_checking()) {
-        return checked_polygon_within_distance(vertices, count, others, other_count, numerator, denominator);
-    }
-    return hull_proved_polygon_within_distance(vertices, count, others, other_count, numerator, denominator);
-}
+PASSED_ON(polygon_within_distance)
 
 static CHECKED hull_witness checked_polygon_witness(const hull_point *vertices, size_t count, const hull_point *others,
                                                     size_t other_count) {
@@ -323,12 +279,7 @@ static CHECKED hull_witness checked_polygon_witness(const hull_point *vertices, 
     return hull_proved_polygon_witness(vertices, count, others, other_count);
 }
 
-hull_witness hull_polygon_witness(const hull_point *vertices, size_t count, const hull_point *others, size_t other_count) {
-    if (is_checking()) {
-        return checked_polygon_witness(vertices, count, others, other_count);
-    }
-    return hull_proved_polygon_witness(vertices, count, others, other_count);
-}
+PASSED_ON(polygon_witness)
 
 static CHECKED hull_witness checked_polygon_distance(const hull_point *vertices, size_t count, const hull_point *others,
                                                      size_t other_count) {
@@ -339,12 +290,7 @@ static CHECKED hull_witness checked_polygon_distance(const hull_point *vertices,
     return hull_proved_polygon_distance(vertices, count, others, other_count);
 }
 
-hull_witness hull_polygon_distance(const hull_point *vertices, size_t count, const hull_point *others, size_t other_count) {
-    if (is_checking()) {
-        return checked_polygon_distance(vertices, count, others, other_count);
-    }
-    return hull_proved_polygon_distance(vertices, count, others, other_count);
-}
+PASSED_ON(polygon_distance)
 
 static CHECKED hull_distance_bounds checked_polygon_distance_bounds(const hull_point *vertices, size_t count, const hull_point *others,
                                                                     size_t other_count) {
@@ -355,12 +301,7 @@ static CHECKED hull_distance_bounds checked_polygon_distance_bounds(const hull_p
     return hull_proved_polygon_distance_bounds(vertices, count, others, other_count);
 }
 
-hull_distance_bounds hull_polygon_distance_bounds(const hull_point *vertices, size_t count, const hull_point *others, size_t other_count) {
-    if (is_checking()) {
-        return checked_polygon_distance_bounds(vertices, count, others, other_count);
-    }
-    return hull_proved_polygon_distance_bounds(vertices, count, others, other_count);
-}
+PASSED_ON(polygon_distance_bounds)
 
 static CHECKED hull_distance_bounds checked_polygon_distance_bounds_to_segment(const hull_point *vertices, size_t count, int64_t ax,
                                                                                int64_t ay, int64_t bx, int64_t by) {
@@ -371,13 +312,7 @@ static CHECKED hull_distance_bounds checked_polygon_distance_bounds_to_segment(c
     return hull_proved_polygon_distance_bounds_to_segment(vertices, count, ax, ay, bx, by);
 }
 
-hull_distance_bounds hull_polygon_distance_bounds_to_segment(const hull_point *vertices, size_t count, int64_t ax, int64_t ay, int64_t bx,
-                                                             int64_t by) {
-    if (is_checking()) {
-        return checked_polygon_distance_bounds_to_segment(vertices, count, ax, ay, bx, by);
-    }
-    return hull_proved_polygon_distance_bounds_to_segment(vertices, count, ax, ay, bx, by);
-}
+PASSED_ON(polygon_distance_bounds_to_segment)
 
 static CHECKED hull_reply checked_polygon_within_distance_of_segment(const hull_point *vertices, size_t count, int64_t ax, int64_t ay,
                                                                      int64_t bx, int64_t by, uint64_t numerator, uint32_t denominator) {
@@ -388,13 +323,7 @@ static CHECKED hull_reply checked_polygon_within_distance_of_segment(const hull_
     return hull_proved_polygon_within_distance_of_segment(vertices, count, ax, ay, bx, by, numerator, denominator);
 }
 
-hull_reply hull_polygon_within_distance_of_segment(const hull_point *vertices, size_t count, int64_t ax, int64_t ay, int64_t bx, int64_t by,
-                                                   uint64_t numerator, uint32_t denominator) {
-    if (is_checking()) {
-        return checked_polygon_within_distance_of_segment(vertices, count, ax, ay, bx, by, numerator, denominator);
-    }
-    return hull_proved_polygon_within_distance_of_segment(vertices, count, ax, ay, bx, by, numerator, denominator);
-}
+PASSED_ON(polygon_within_distance_of_segment)
 
 static CHECKED hull_reply checked_polygon_relation_to_segment(const hull_point *vertices, size_t count, int64_t ax, int64_t ay, int64_t bx,
                                                               int64_t by) {
@@ -405,12 +334,7 @@ static CHECKED hull_reply checked_polygon_relation_to_segment(const hull_point *
     return hull_proved_polygon_relation_to_segment(vertices, count, ax, ay, bx, by);
 }
 
-hull_reply hull_polygon_relation_to_segment(const hull_point *vertices, size_t count, int64_t ax, int64_t ay, int64_t bx, int64_t by) {
-    if (is_checking()) {
-        return checked_polygon_relation_to_segment(vertices, count, ax, ay, bx, by);
-    }
-    return hull_proved_polygon_relation_to_segment(vertices, count, ax, ay, bx, by);
-}
+PASSED_ON(polygon_relation_to_segment)
 
 static CHECKED hull_hit checked_polygon_raycast(const hull_point *vertices, size_t count, int64_t x, int64_t y, int64_t dx, int64_t dy) {
     const uint32_t fault = fault_of(vertices, count);
@@ -420,12 +344,7 @@ static CHECKED hull_hit checked_polygon_raycast(const hull_point *vertices, size
     return hull_proved_polygon_raycast(vertices, count, x, y, dx, dy);
 }
 
-hull_hit hull_polygon_raycast(const hull_point *vertices, size_t count, int64_t x, int64_t y, int64_t dx, int64_t dy) {
-    if (is_checking()) {
-        return checked_polygon_raycast(vertices, count, x, y, dx, dy);
-    }
-    return hull_proved_polygon_raycast(vertices, count, x, y, dx, dy);
-}
+PASSED_ON(polygon_raycast)
 
 static CHECKED hull_hit checked_polygon_raycast_exit(const hull_point *vertices, size_t count, int64_t x, int64_t y, int64_t dx,
                                                      int64_t dy) {
@@ -436,12 +355,7 @@ static CHECKED hull_hit checked_polygon_raycast_exit(const hull_point *vertices,
     return hull_proved_polygon_raycast_exit(vertices, count, x, y, dx, dy);
 }
 
-hull_hit hull_polygon_raycast_exit(const hull_point *vertices, size_t count, int64_t x, int64_t y, int64_t dx, int64_t dy) {
-    if (is_checking()) {
-        return checked_polygon_raycast_exit(vertices, count, x, y, dx, dy);
-    }
-    return hull_proved_polygon_raycast_exit(vertices, count, x, y, dx, dy);
-}
+PASSED_ON(polygon_raycast_exit)
 
 static CHECKED hull_hit checked_polygon_raycast_segment(const hull_point *vertices, size_t count, int64_t ax, int64_t ay, int64_t bx,
                                                         int64_t by) {
@@ -452,12 +366,7 @@ static CHECKED hull_hit checked_polygon_raycast_segment(const hull_point *vertic
     return hull_proved_polygon_raycast_segment(vertices, count, ax, ay, bx, by);
 }
 
-hull_hit hull_polygon_raycast_segment(const hull_point *vertices, size_t count, int64_t ax, int64_t ay, int64_t bx, int64_t by) {
-    if (is_checking()) {
-        return checked_polygon_raycast_segment(vertices, count, ax, ay, bx, by);
-    }
-    return hull_proved_polygon_raycast_segment(vertices, count, ax, ay, bx, by);
-}
+PASSED_ON(polygon_raycast_segment)
 
 static CHECKED hull_motion checked_polygon_first_meeting(const hull_point *vertices, size_t count, const hull_point *others,
                                                          size_t other_count, int64_t dx, int64_t dy) {
@@ -468,13 +377,7 @@ static CHECKED hull_motion checked_polygon_first_meeting(const hull_point *verti
     return hull_proved_polygon_first_meeting(vertices, count, others, other_count, dx, dy);
 }
 
-hull_motion hull_polygon_first_meeting(const hull_point *vertices, size_t count, const hull_point *others, size_t other_count, int64_t dx,
-                                       int64_t dy) {
-    if (is_checking()) {
-        return checked_polygon_first_meeting(vertices, count, others, other_count, dx, dy);
-    }
-    return hull_proved_polygon_first_meeting(vertices, count, others, other_count, dx, dy);
-}
+PASSED_ON(polygon_first_meeting)
 /* end of what tools/table.py writes */
 
 size_t hull_polygon_calls(const hull_point *vertices, size_t count, const hull_request *requests, size_t request_count,
