@@ -25,18 +25,19 @@
  *    designated caller enters if the gate is open to it, and else gives up its designation, in one change of a word that is full:
  *    the next call that leaves designates the next caller.
  *
- * 5. A seat with a number has the slot of that number (modulo 64: at most 64 numbers are out, so that no two seats share a slot). It
- *    announces itself there and looks once more; if its number is not served, it posts itself: from then on its thread leaves the seat
- *    to another one, and sleeps, until its word says that its call was served or that it is to look itself. A thread whose call was
- *    served has handed the next number on, and claims the seat that is posted at that number's slot: it looks with that seat, writes
- *    the reply there and says so in the seat's word; and so on, up to SERVES_MOST calls (flat combining: Hendler, Incze, Shavit and
- *    Tzafrir, 2010). The seat that it claims after the last of these it lets look itself. A seat that is only announced it marks:
- *    posting fails then, and the seat looks again. All these steps have one order, in which each thread's steps keep theirs. If the
- *    look after the announcement did not see the number handed on, then it was handed on after that look, and so after the
- *    announcement: the thread that hands it on finds the announcement and marks it, or finds the post. Claiming and marking are
- *    changes of one word, so that a post is claimed once. A seat takes its next number only after its word was changed, so that one
- *    seat is never posted twice, and the slot is used again only 64 numbers later: after this number was handed on, and so after its
- *    claim.
+ * 5. A seat with a number has the slot of that number (modulo 64: at most 64 numbers are out, so that no two seats share a slot). A seat
+ *    whose number is not served yet posts itself there: from then on its thread leaves the seat to another one, and sleeps, until its
+ *    word says that its call was served or that it is to look itself. A thread whose call was served has handed the next number on, and
+ *    claims the seat that is posted at that number's slot: it looks with that seat, writes the reply there and says so in the seat's
+ *    word; and so on, up to SERVES_MOST calls (flat combining: Hendler, Incze, Shavit and Tzafrir, 2010). The seat that it claims after
+ *    the last of these it lets look itself. If no seat is posted with a number, it publishes that number, looks at the slot once more,
+ *    and serves no more if there is still none. A thread that has posted its seat looks, before it sleeps, whether its number is
+ *    published: then it takes the post back and looks itself. All these steps have one order, in which each thread's steps keep theirs.
+ *    If the look at the slot after a number was published came before the post, then the look after the post finds the number published:
+ *    a later number is published only after that one was served. If the look at the slot came after the post, it found the seat posted,
+ *    or taken back. Claiming a post and taking it back are changes of one word, so that only one of them succeeds, once. A seat takes
+ *    its next number only after its word was changed or its post was taken back, so that one seat is never posted twice, and the slot is
+ *    used again only 64 numbers later: after this number was handed on, and so after its claim.
  * 6. A call that found no space in the journal, if the gate waits for space, sleeps outside the gate and with no number, on a word
  *    that each drain changes after its look. It read that word before it took its number: a drain after its call changes the word
  *    after that reading. The thread that drained for the hook changes the word once more when the hook has ended, since another
@@ -70,11 +71,18 @@ enum {
 enum {
     LOOKS = 20,             /* a caller outside */
     DESIGNATED_LOOKS = 200, /* the designated caller, which a leaving call has to wake again if it sleeps */
-    POSTED_LOOKS = 9,       /* a caller that is posted, at its word, */
-    POSTED_YIELDS = 3       /* and again so often after it gave its processor to another thread */
+    POSTED_LOOKS = 60,      /* a caller that is posted, at its word, */
+    POSTED_YIELDS = 3,      /* and again so often after it gave its processor to another thread */
+    POST_LOOKS = 40         /* a thread that serves others, at the slot of a number with which no seat is posted yet */
 };
 #else
-enum { LOOKS = HULL_SHARED_LOOKS, DESIGNATED_LOOKS = HULL_SHARED_LOOKS, POSTED_LOOKS = HULL_SHARED_LOOKS, POSTED_YIELDS = 0 };
+enum {
+    LOOKS = HULL_SHARED_LOOKS,
+    DESIGNATED_LOOKS = HULL_SHARED_LOOKS,
+    POSTED_LOOKS = HULL_SHARED_LOOKS,
+    POSTED_YIELDS = 0,
+    POST_LOOKS = 0
+};
 #endif
 
 /* How many calls of others a thread serves after its own, and for how long, in nanoseconds; tests define less. */
@@ -90,14 +98,15 @@ enum { LOOKS = HULL_SHARED_LOOKS, DESIGNATED_LOOKS = HULL_SHARED_LOOKS, POSTED_L
 /* How long a thread waits before it drains again after memory was refused to a drain, in nanoseconds. */
 #define RETRY 10000000
 
-/* The slot of a number; as large as a line of the cache. Its word has the lower 56 bits of the number that used it last, the seat of
- * that number, and what that seat does there: number * ONE_NUMBER + seat * ONE_SEAT + ANNOUNCED, for example. */
+/* The slot of a number; as large as a line of the cache. Its word has the lower 56 bits of the number that used it last, the number of the
+ * seat that is posted with that number, and whether it still is: number * ONE_NUMBER + seat * ONE_SEAT + POSTED, for example. */
 struct slot {
     uint64_t word;
-    unsigned char padding[56];
+    hull_shared_seat *seat; /* where that seat is, to be read ahead */
+    unsigned char padding[48];
 };
 
-enum { CLAIMED, ANNOUNCED, POSTED, MARKED, ACTION = 3 /* the bits of these */ };
+enum { CLAIMED, POSTED }; /* (or taken back) */
 enum { ONE_SEAT = 4, ONE_NUMBER = 256 /* the units of the word */ };
 
 /* The notice of a posted seat: its thread waits or sleeps; or another thread has served its call, or has left the look to it. */
@@ -133,12 +142,15 @@ struct gate {
     uint32_t half;   /* half of the lines that the shared hull keeps at most */
     uint64_t timed_from; /* when hull_shared_stats was first called: calls read the clock from then on. 0 before */
     unsigned char padding_1[8];
-    /* written by each call */
+    /* written by each call, and read by hull_shared_stats alone */
     uint64_t turn; /* the number that is served now, 0 before the first */
     uint32_t held;
     uint32_t server;   /* the seat whose thread serves others, or 0 */
     uint64_t combined; /* how many calls were served for others */
     unsigned char padding_2[40];
+    /* read by all that are posted */
+    uint64_t published; /* the last number that a thread handed on and did not serve, 0 before the first */
+    unsigned char padding_7[56];
     /* the word of the gate, and the queue */
     uint32_t state;
     uint32_t queue_lock; /* also of the count of parked callers in the word */
@@ -198,6 +210,7 @@ static void unbind_if_unused(struct gate *gate) {
         __atomic_store_n(&gate->turn, 0, __ATOMIC_RELAXED);
         __atomic_store_n(&gate->held, 0, __ATOMIC_RELAXED);
         __atomic_store_n(&gate->combined, 0, __ATOMIC_RELAXED);
+        __atomic_store_n(&gate->published, 0, __ATOMIC_RELAXED);
         __atomic_store_n(&gate->shared, NULL, __ATOMIC_SEQ_CST);
     }
 }
@@ -310,6 +323,11 @@ static void dequeue(struct gate *gate, uint32_t seat) {
 
 static int is_open(const struct gate *gate, uint32_t state, int is_designated) {
     return (state & INSIDE) <= gate->beside && (is_designated || (state & CLOSED) == 0);
+}
+
+/* Whether the gate admits the calls of all seats at once: then none waits, and its word is not used. */
+static int is_open_to_all(const struct gate *gate) {
+    return gate->beside == HULL_SHARED_SEATS_MAX - 1;
 }
 
 static int try_change(struct gate *gate, uint32_t state, uint32_t next) {
@@ -448,9 +466,12 @@ static int enter_or_resign(struct gate *gate) {
     }
 }
 
-/* Enters at once if no call is inside and the gate is not closed; returns whether it did. */
+/* Enters at once if no call is inside and the gate is not closed, or if it admits all; returns whether it did. */
 IN_LINE int enter_at_once(struct gate *gate) {
     uint32_t state;
+    if (is_open_to_all(gate)) {
+        return 1;
+    }
     do {
         state = load_state(gate);
         if ((state & (INSIDE | CLOSED)) != 0) {
@@ -464,7 +485,7 @@ IN_LINE int enter_at_once(struct gate *gate) {
 static int enter(struct gate *gate, uint32_t seat, uint64_t until) {
     int is_designated = 0;
     unsigned looks = 0;
-    if (until == 0) {
+    if (until == 0 || is_open_to_all(gate)) {
         return enter_at_once(gate);
     }
     while (!try_enter(gate, is_designated)) {
@@ -509,23 +530,22 @@ OUT_OF_LINE void leave_to_others(struct gate *gate) {
 
 IN_LINE void leave(struct gate *gate) {
     uint32_t state = load_state(gate);
-    if (state > INSIDE || !try_change(gate, state, state - 1)) {
+    if (!is_open_to_all(gate) && (state > INSIDE || !try_change(gate, state, state - 1))) {
         leave_to_others(gate);
     }
 }
 
 /* ---- numbers */
 
-/* Stores the number that is served: of two threads that store theirs, if two may be inside, the later number. */
-IN_LINE void store_turn(struct gate *gate, uint64_t number) {
-    uint64_t seen;
-    if (gate->beside == 0) {
-        __atomic_store_n(&gate->turn, number, __ATOMIC_RELAXED);
-        return;
-    }
-    seen = __atomic_load_n(&gate->turn, __ATOMIC_RELAXED);
-    while ((seen == 0 || (int64_t)(number - seen) > 0) &&
-           !__atomic_compare_exchange_n(&gate->turn, &seen, number, 0, __ATOMIC_RELAXED, __ATOMIC_RELAXED)) {
+static int is_later(uint64_t number, uint64_t other) {
+    return other == 0 || (int64_t)(number - other) > 0;
+}
+
+/* Publishes a number that was handed on, unless a later one is published, which was handed on after it. */
+IN_LINE void publish(struct gate *gate, uint64_t number) {
+    uint64_t seen = __atomic_load_n(&gate->published, __ATOMIC_RELAXED);
+    while (is_later(number, seen) &&
+           !__atomic_compare_exchange_n(&gate->published, &seen, number, 0, __ATOMIC_SEQ_CST, __ATOMIC_RELAXED)) {
     }
 }
 
@@ -570,7 +590,7 @@ static hull_shared_reply refusal(uint32_t code) {
 IN_LINE void note_served(struct gate *gate, uint32_t held, uint64_t turn) {
     HULL_SHARED_STEP("served");
     __atomic_store_n(&gate->held, held, __ATOMIC_RELAXED);
-    store_turn(gate, turn + 1);
+    __atomic_store_n(&gate->turn, turn + 1, __ATOMIC_RELAXED);
 }
 
 /* Looks once with a seat; returns whether its call was served. */
@@ -601,18 +621,47 @@ static int try_change_slot(uint64_t *slot, uint64_t *seen, uint64_t next) {
     return __atomic_compare_exchange_n(slot, seen, next, 0, __ATOMIC_SEQ_CST, __ATOMIC_SEQ_CST);
 }
 
-/* Claims the seat that is posted with a number which was handed on: returns it, or 0 if none is posted. If it is only announced, it
- * is marked, and looks again. */
+/* Whether a seat is posted at a slot with a number, by the slot's word. */
+static int is_post(uint64_t word, uint64_t number) {
+    return (word ^ number * ONE_NUMBER) < ONE_NUMBER && word % ONE_SEAT == POSTED;
+}
+
+/* Claims the seat that is posted with a number which was handed on: returns it, or 0 if none is posted. */
 IN_LINE uint32_t claim(struct gate *gate, uint64_t number) {
     uint64_t *slot = slot_of(gate, number), seen = __atomic_load_n(slot, __ATOMIC_SEQ_CST);
-    while ((seen ^ number * ONE_NUMBER) < ONE_NUMBER && ((seen & ACTION) == POSTED || (seen & ACTION) == ANNOUNCED)) {
-        int is_posted = (seen & ACTION) == POSTED;
-        HULL_SHARED_STEP("to claim or to mark");
-        if (try_change_slot(slot, &seen, (seen & ~(uint64_t)ACTION) | (is_posted ? CLAIMED : MARKED))) {
-            return is_posted ? (uint32_t)(seen % ONE_NUMBER / ONE_SEAT) + 1 : 0;
-        }
+    HULL_SHARED_STEP("to claim");
+    if (is_post(seen, number) && try_change_slot(slot, &seen, seen - POSTED + CLAIMED)) {
+        return (uint32_t)(seen % ONE_NUMBER / ONE_SEAT) + 1;
     }
     return 0;
+}
+
+/* Publishes a number with which no seat was posted, and looks once more. Returns the seat, or 0 if none is posted. */
+IN_LINE uint32_t publish_and_claim(struct gate *gate, uint64_t number) {
+    publish(gate, number);
+    return claim(gate, number);
+}
+
+/* Claims the seat that is posted with a number. Returns it, or 0 if none is posted, and the number is published. */
+IN_LINE uint32_t claim_or_publish(struct gate *gate, uint64_t number) {
+    uint32_t seat = claim(gate, number);
+    return seat != 0 ? seat : publish_and_claim(gate, number);
+}
+
+/* Reads ahead what a thread needs to serve the seat that is posted with a number, if one is, and the slot after it. */
+static void read_ahead(struct gate *gate, uint64_t number) {
+    enum { LINE = 64 };
+    const struct slot *slot = &gate->slots[number % HULL_SHARED_SEATS_MAX];
+    const uint64_t word = __atomic_load_n(&slot->word, __ATOMIC_RELAXED);
+    const unsigned char *seat = (const unsigned char *)__atomic_load_n(&slot->seat, __ATOMIC_RELAXED);
+    size_t at;
+    __builtin_prefetch(slot_of(gate, number + 1), 1);
+    if (is_post(word, number)) {
+        __builtin_prefetch(&gate->nodes[word % ONE_NUMBER / ONE_SEAT], 1);
+        for (at = 0; at < hull_shared_seat_size(); at += LINE) {
+            __builtin_prefetch(seat + at, 1);
+        }
+    }
 }
 
 /* Gives a posted seat its notice; returns whether its thread sleeps, and has to be woken. */
@@ -637,8 +686,8 @@ void hull_shared_handed_on(hull_shared_gate *opaque, uint64_t number) {
     struct gate *gate = (struct gate *)opaque;
     int saved_errno = errno;
     uint32_t seat;
-    store_turn(gate, number);
-    seat = claim(gate, number);
+    __atomic_store_n(&gate->turn, number, __ATOMIC_RELAXED);
+    seat = claim_or_publish(gate, number);
     if (seat != 0) {
         leave_look(node_of(gate, seat));
     }
@@ -668,17 +717,46 @@ static uint64_t end_of_serving(const struct call *call) {
     return end < call->until ? end : call->until;
 }
 
-/* Serves the claimed seats from this number on, which was handed on, for their threads, and then wakes those that sleep. It ends at a
- * number that is not posted; and after HULL_SHARED_SERVES calls, after HULL_SHARED_SERVES_FOR, at the deadline of the call that was
- * made before, and if a thread has to drain, which at first `held` lines say: then the thread of the next seat is to look. */
+/* The nodes of threads that sleep, to be woken later. */
+struct sleepers {
+    struct wait_node *nodes[HULL_SHARED_SEATS_MAX];
+    uint32_t count;
+};
+
+static void wake_all(struct sleepers *sleepers) {
+    while (sleepers->count > 0) {
+        wake_posted(sleepers->nodes[--sleepers->count]);
+    }
+}
+
+/* Claims the seat that is posted with a number, for a thread that serves others. If none is, it wakes those that it served, and looks a few
+ * times more: they make their next calls now. Returns the seat; or 0, and the number is published. */
+static uint32_t claim_next(struct gate *gate, uint64_t number, struct sleepers *sleepers) {
+    uint32_t seat = claim(gate, number);
+    unsigned looks;
+    if (seat == 0) {
+        wake_all(sleepers);
+    }
+    for (looks = 0; seat == 0 && looks < POST_LOOKS; looks++) {
+        hull_pause(0);
+        seat = claim(gate, number);
+    }
+    return seat != 0 ? seat : publish_and_claim(gate, number);
+}
+
+/* Serves the claimed seats from this number on, which was handed on, for their threads, and wakes those that sleep. It ends at a number that
+ * is not posted; and after HULL_SHARED_SERVES calls, after HULL_SHARED_SERVES_FOR, at the deadline of the call that was made before, and if a
+ * thread has to drain, which at first `held` lines say: then the thread of the next seat is to look. */
 OUT_OF_LINE void serve_claimed(const struct call *call, uint32_t seat, uint64_t number, uint32_t held) {
     struct gate *gate = call->gate;
-    struct wait_node *sleepers[SERVES_MOST];
-    uint32_t asleep = 0, served = 0, k, server = call->number;
+    struct sleepers sleepers;
+    uint32_t served = 0, server = call->number;
     uint64_t end = end_of_serving(call);
+    sleepers.count = 0;
     __atomic_store_n(&gate->server, server, __ATOMIC_RELAXED);
-    for (; seat != 0; seat = claim(gate, ++number)) {
+    while (seat != 0) {
         struct wait_node *node = node_of(gate, seat);
+        read_ahead(gate, number + 1);
         if (served == HULL_SHARED_SERVES || hull_now() >= end || is_drain_due(call, held) || !serve(gate, node)) {
             leave_look(node);
             break;
@@ -686,54 +764,61 @@ OUT_OF_LINE void serve_claimed(const struct call *call, uint32_t seat, uint64_t 
         served++;
         held = binding_of(node->seat)->reply.held;
         if (notify(node, IS_SERVED)) {
-            sleepers[asleep++] = node;
+            sleepers.nodes[sleepers.count++] = node;
         }
+        seat = claim_next(gate, ++number, &sleepers);
     }
     __atomic_compare_exchange_n(&gate->server, &server, 0, 0, __ATOMIC_RELAXED, __ATOMIC_RELAXED);
     __atomic_fetch_add(&gate->combined, served, __ATOMIC_RELAXED);
-    for (k = 0; k < asleep; k++) {
-        wake_posted(sleepers[k]);
-    }
+    wake_all(&sleepers);
 }
 
 /* Serves the calls that are posted from this number on, which was handed on; at first the book has `held` lines. */
 static void serve_next(const struct call *call, uint64_t number, uint32_t held) {
-    uint32_t seat = claim(call->gate, number);
+    uint32_t seat = claim_or_publish(call->gate, number);
     if (seat != 0) {
         serve_claimed(call, seat, number, held);
     }
 }
 
-static uint64_t announcement(const struct call *call, uint64_t number) {
-    return number * ONE_NUMBER + (call->number - 1) * ONE_SEAT + ANNOUNCED;
+/* Returns the word of a slot at which the seat of a call is posted. */
+static uint64_t post_of(const struct call *call, uint64_t number) {
+    return number * ONE_NUMBER + (call->number - 1) * ONE_SEAT + POSTED;
 }
 
-/* Announces the seat of a call at the slot of its number; it is not posted yet. */
-static void announce(const struct call *call, uint64_t number, const hull_shared_target *to) {
+/* Posts the seat of a call at the slot of its number. */
+static void post(const struct call *call, uint64_t number, const hull_shared_target *to) {
     binding_of(call->seat)->to = *to;
     __atomic_store_n(&node_of(call->gate, call->number)->notice, WAITS, __ATOMIC_RELAXED);
-    __atomic_store_n(slot_of(call->gate, number), announcement(call, number), __ATOMIC_SEQ_CST);
-    HULL_SHARED_STEP("announced");
-}
-
-/* Posts the announced seat, which has looked since; returns whether it is posted. If not, it was marked, and has to look again. */
-static int post(const struct call *call, uint64_t number) {
-    uint64_t word = announcement(call, number);
-    HULL_SHARED_STEP("looked");
+    __atomic_store_n(&call->gate->slots[number % HULL_SHARED_SEATS_MAX].seat, call->seat, __ATOMIC_RELAXED);
     hull_mark_before(binding_of(call->seat));
-    return try_change_slot(slot_of(call->gate, number), &word, word - ANNOUNCED + POSTED);
+    __atomic_store_n(slot_of(call->gate, number), post_of(call, number), __ATOMIC_SEQ_CST);
+    HULL_SHARED_STEP("posted");
 }
 
-/* Waits until a posted seat has its notice; returns it. */
-static uint32_t await_notice(uint32_t *notice) {
+/* Takes the post of a call back; returns whether no thread had claimed it. */
+static int take_back(const struct call *call, uint64_t number) {
+    uint64_t word = post_of(call, number);
+    return try_change_slot(slot_of(call->gate, number), &word, word - POSTED + CLAIMED);
+}
+
+/* Waits until the posted seat of a call has its notice, and returns it; or until its number is published and the post is taken back, and
+ * returns IS_TO_LOOK. */
+static uint32_t await_notice(const struct call *call, uint64_t number) {
+    enum { LONGEST = 2 /* of the pauses */ };
+    uint32_t *notice = &node_of(call->gate, call->number)->notice;
     unsigned looks = 0;
     for (;;) {
         uint32_t seen = __atomic_load_n(notice, __ATOMIC_SEQ_CST);
         if (seen == IS_SERVED || seen == IS_TO_LOOK) {
             return seen;
         }
+        if (__atomic_load_n(&call->gate->published, __ATOMIC_SEQ_CST) == number && take_back(call, number)) {
+            return IS_TO_LOOK;
+        }
         if (looks < POSTED_LOOKS) {
-            hull_pause(looks++);
+            hull_pause(looks < LONGEST ? looks : LONGEST);
+            looks++;
         } else if (looks < POSTED_LOOKS + POSTED_YIELDS) {
             looks++;
             sched_yield();
@@ -744,27 +829,21 @@ static uint32_t await_notice(uint32_t *notice) {
     }
 }
 
-/* Waits until the number that the seat of a call has taken is served; writes the answer. If it looked itself, it then serves those
- * that are posted after it. */
+/* Waits until the number that the seat of a call has taken is served; writes the answer. If it looked itself, it then serves those that are
+ * posted after it. At first the answer's code is HULL_TAKEN, or HULL_NOT_YET if the seat has looked since. */
 static void wait_for_turn(const struct call *call, uint64_t number, const hull_shared_target *to, hull_shared_reply *reply) {
-    struct gate *gate = call->gate;
     struct binding *binding = binding_of(call->seat);
-    uint64_t turn = __atomic_load_n(&gate->turn, __ATOMIC_RELAXED);
-    int is_served;
-    reply->answer.code = HULL_NOT_YET;
-    is_served = (turn == number || turn == 0 || gate->beside == 0) && look(gate, call->seat, to, reply);
+    int is_served = reply->answer.code == HULL_TAKEN && look(call->gate, call->seat, to, reply);
     while (!is_served && reply->answer.code == HULL_NOT_YET) {
-        announce(call, number, to);
-        is_served = look(gate, call->seat, to, reply);
-        if (!is_served && reply->answer.code == HULL_NOT_YET && post(call, number)) {
-            uint32_t notice = await_notice(&node_of(gate, call->number)->notice);
-            hull_mark_after(binding);
-            if (notice == IS_SERVED) {
-                *reply = binding->reply;
-                return;
-            }
-            is_served = look(gate, call->seat, to, reply);
+        uint32_t notice;
+        post(call, number, to);
+        notice = await_notice(call, number);
+        hull_mark_after(binding);
+        if (notice == IS_SERVED) {
+            *reply = binding->reply;
+            return;
         }
+        is_served = look(call->gate, call->seat, to, reply);
     }
     if (is_served) {
         serve_next(call, number + 1, reply->held);
@@ -810,18 +889,26 @@ IN_LINE int is_served(uint32_t code) {
     return 1;
 }
 
-/* Takes a number for a call, and looks at once if no other call is inside, where the number is served unless a seat is used without
- * this gate. Returns whether the seat waits with a number; if not, the reply is that of the call. (No seat is posted then.) */
+/* Takes a number for a call, and looks at once if it writes to nothing but its reply. Returns whether the seat waits with a number; if not, the
+ * reply is that of the call. */
 static int take(const struct call *call, const hull_shared_target *to, hull_shared_reply *reply) {
-    if (call->gate->beside != 0 || to->segment != NULL || to->out != NULL) {
+    if (to->segment != NULL || to->out != NULL) {
         *reply = hull_shared_take(call->seat, call->kind, call->x, call->y);
         return reply->answer.code == HULL_TAKEN;
     }
     *reply = hull_shared_take_and_look(call->seat, call->kind, call->x, call->y);
+    return reply->answer.code == HULL_NOT_YET;
+}
+
+/* Stores what others may know after a call was served that looked as it took its number, and serves those that are posted after it. (If one
+ * call is inside at a time, none is.) */
+static void finish(const struct call *call, const hull_shared_reply *reply) {
     if (is_served(reply->answer.code)) {
         note_served(call->gate, reply->held, reply->turn);
+        if (call->gate->beside != 0) {
+            serve_next(call, reply->turn + 1, reply->held);
+        }
     }
-    return reply->answer.code == HULL_NOT_YET;
 }
 
 /* Makes a call once, waits for its answer and writes it; writes BUSY if it could not enter by the deadline. */
@@ -835,6 +922,7 @@ static void make_once(const struct call *call, const hull_shared_target *to, hul
     if (take(call, to, reply)) {
         wait_and_leave(call, reply->turn, to, reply);
     } else {
+        finish(call, reply);
         note_and_leave(gate, node_of(gate, call->number));
     }
 }
@@ -953,7 +1041,7 @@ OUT_OF_LINE hull_shared_reply call_and_wait(struct gate *gate, hull_shared_seat 
 OUT_OF_LINE hull_shared_reply wait_admitted(struct gate *gate, hull_shared_seat *seat, uint32_t kind, int64_t x, int64_t y, uint64_t until,
                                             uint32_t drains, uint64_t turn) {
     const struct call call = {gate, seat, binding_of(seat)->number + 1, kind, x, y, until};
-    hull_shared_reply reply;
+    hull_shared_reply reply = refusal(HULL_NOT_YET);
     wait_and_leave(&call, turn, &no_target, &reply);
     if (drain_after(&call, drains, reply.answer.code, reply.held)) {
         make(&call, &no_target, &reply);
@@ -970,7 +1058,7 @@ OUT_OF_LINE int drain_after_admitted(struct gate *gate, hull_shared_seat *seat, 
 
 /* Serves the calls that are posted after one that was admitted at once. */
 IN_LINE void serve_after(struct gate *gate, hull_shared_seat *seat, uint64_t until, uint64_t number, uint32_t held) {
-    uint32_t next = claim(gate, number);
+    uint32_t next = claim_or_publish(gate, number);
     if (next != 0) {
         const struct call call = {gate, seat, binding_of(seat)->number + 1, HULL_KIND_COUNT, 0, 0, until};
         serve_claimed(&call, next, number, held);
@@ -1125,6 +1213,15 @@ static uint64_t find_holder(const struct gate *gate, uint64_t turn, uint32_t *se
     return first & ~last;
 }
 
+/* Counts the calls inside by their nodes. */
+static uint32_t count_inside(const struct gate *gate) {
+    uint32_t k, count = 0;
+    for (k = 0; k < HULL_SHARED_SEATS_MAX; k++) {
+        count += __atomic_load_n(&gate->nodes[k].since, __ATOMIC_RELAXED) != 0;
+    }
+    return count;
+}
+
 /* Has calls read the clock from now on; returns from when on they do. */
 static uint64_t begin_timing(struct gate *gate, uint64_t now) {
     uint64_t begun = 0;
@@ -1134,15 +1231,17 @@ static uint64_t begin_timing(struct gate *gate, uint64_t now) {
 hull_shared_state hull_shared_stats(const hull_shared_gate *opaque) {
     struct gate *gate = (struct gate *)(uintptr_t)opaque;
     uint32_t state = load_state(gate), drainer = __atomic_load_n(&gate->drainer, __ATOMIC_SEQ_CST);
-    uint64_t now = hull_now_coarse(), timed_from = begin_timing(gate, now), since;
+    uint64_t now = hull_now_coarse(), timed_from = begin_timing(gate, now), since, published;
     hull_shared_state stats;
     memset(&stats, 0, sizeof stats);
     stats.out = __atomic_load_n(&gate->out, __ATOMIC_RELAXED);
-    stats.inside = state & INSIDE;
+    stats.inside = is_open_to_all(gate) ? count_inside(gate) : state & INSIDE;
     stats.sleepers = state / PARKED;
     stats.for_space = __atomic_load_n(&gate->for_space, __ATOMIC_RELAXED);
     stats.held = __atomic_load_n(&gate->held, __ATOMIC_RELAXED);
     stats.turn = __atomic_load_n(&gate->turn, __ATOMIC_RELAXED);
+    published = __atomic_load_n(&gate->published, __ATOMIC_RELAXED);
+    stats.turn = published != 0 && is_later(published, stats.turn) ? published : stats.turn;
     stats.seat = HULL_SHARED_SEATS_MAX;
     stats.designated = (state & DESIGNATED) == 0 ? HULL_SHARED_SEATS_MAX : __atomic_load_n(&gate->designated, __ATOMIC_RELAXED) - 1;
     stats.drainer = drainer == 0 ? HULL_SHARED_SEATS_MAX : drainer - 1;

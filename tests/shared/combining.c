@@ -376,10 +376,26 @@ static void check_slots(void) {
     check("and another", claim(gate, 0), 0);
     check("the number", claim(gate, far), 64);
     check("which is claimed once", claim(gate, far), 0);
-    *slot_of(gate, 5) = 5 * ONE_NUMBER + ANNOUNCED;
-    check("one that is announced", claim(gate, 5), 0);
-    check("is marked", *slot_of(gate, 5), 5 * ONE_NUMBER + MARKED);
-    check("once", claim(gate, 5), 0);
+    *slot_of(gate, far) = far * ONE_NUMBER + 63 * ONE_SEAT + POSTED;
+    check("it is published", claim_or_publish(gate, far), 64);
+    check("only if none is posted", gate->published, 0);
+    check("none is", claim_or_publish(gate, far), 0);
+    check("which is published", gate->published, far);
+}
+
+/* A post is claimed, or taken back by its own thread, once. */
+static void check_posts(void) {
+    struct call call = {gate, seats[4], 5, HULL_KIND_COUNT, 0, 0, HULL_NEVER};
+    memset(&storage, 0, sizeof storage);
+    hull_shared_make_seat(seats[4]);
+    post(&call, 69, &no_target);
+    check("where it is", gate->slots[5].seat == seats[4], 1);
+    check("it is taken back", (uint64_t)take_back(&call, 69), 1);
+    check("once", (uint64_t)take_back(&call, 69), 0);
+    check("then none is posted", claim(gate, 69), 0);
+    post(&call, 69, &no_target);
+    check("it is claimed", claim(gate, 69), 5);
+    check("and not taken back", (uint64_t)take_back(&call, 69), 0);
 }
 
 int main(void) {
@@ -389,6 +405,7 @@ int main(void) {
         seats[k] = hull_shared_seat_new();
     }
     check_slots();
+    check_posts();
     check_limits();
     check_deadlines();
     check_targets();

@@ -97,7 +97,7 @@ static void yield(void) {
     switch_stacks(&world.threads[current].sp, scheduler_sp);
 }
 
-/* Whether only hull_shared_stats reads a word: an operation on it is no step. */
+/* Whether a word is read only by hull_shared_stats, or to read ahead: an operation on it is no step. */
 static int is_statistic(const volatile void *word) {
     const unsigned char *at = (const unsigned char *)word;
     const size_t offset = (size_t)(at - (const unsigned char *)&storage);
@@ -106,7 +106,11 @@ static int is_statistic(const volatile void *word) {
         return in_node == offsetof(struct wait_node, since) || in_node == offsetof(struct wait_node, turn) ||
                in_node == offsetof(struct wait_node, has_turn);
     }
-    return offset == offsetof(struct gate, timed_from) || offset == offsetof(struct gate, half) || offset == offsetof(struct gate, held) || offset == offsetof(struct gate, server) || offset == offsetof(struct gate, combined) ||
+    if (offset >= offsetof(struct gate, slots)) {
+        return (offset - offsetof(struct gate, slots)) % sizeof(struct slot) == offsetof(struct slot, seat);
+    }
+    return offset == offsetof(struct gate, timed_from) || offset == offsetof(struct gate, half) || offset == offsetof(struct gate, turn) ||
+           offset == offsetof(struct gate, held) || offset == offsetof(struct gate, server) || offset == offsetof(struct gate, combined) ||
            offset == offsetof(struct gate, designated) || offset == offsetof(struct gate, drainer_since);
 }
 

@@ -54,19 +54,21 @@ right_ones() {
     count "gate_orders.c compiles" $?
     right 2 2 1 cc
     right 2 2 2 cc
+    right 2 2 64 cc
     right 2 2 1 cu
     right 2 2 1 ct
     right 2 2 2 cu 0 2 0 0
     right 3 1 1 ccc
     right 3 1 1 cut 0 2 0 0
     right 3 1 2 ccu 0 1 0 0
-    right 3 1 3 ccc 0 1 0 0
+    right 3 1 64 ccc 0 1 0 0
     right 2 1 1 cc 1 1 0 0
     right 2 1 2 cd 1 1 0 0
     right 8 3 1 cccccuut 0 2 1 1 "$random"
     right 8 3 2 cccccuut 0 2 1 1 "$random"
     right 8 3 8 cccccccc 0 2 1 1 "$random"
     right 8 3 8 cccccuut 0 2 1 1 "$random"
+    right 8 3 64 cccccuut 0 2 1 1 "$random"
     right 8 3 1 cccccutd 3 2 1 1 "$random"
     right 8 3 8 cccccutd 3 2 1 1 "$random"
     right 8 3 8 ccccccdd 1 2 1 1 "$random"
@@ -74,6 +76,7 @@ right_ones() {
         right 3 1 2 ccu
         right 2 2 1 cc 1 0 0 0
         right 3 2 1 ccc 0 1 0 0
+        right 3 1 3 ccc 0 1 0 0
         right 3 2 3 ccc 0 0 0 0
         right 3 1 3 ccd 1 0 0 0
     fi
@@ -101,13 +104,19 @@ wrong_ones() {
     wrong 'a thread that releases the lock wakes none' '3 1 1 ccc 0 1 0 0' 's/^( +)hull_wake\(lock, 1\);/\1;/' sleep.h
     wrong 'a thread that waits for the lock says so to none' '3 1 1 ccc 0 1 0 0' 's/while \(__atomic_exchange_n\(lock, 2, /while (__atomic_exchange_n(lock, 1, /; s/hull_sleep\(lock, 2,/hull_sleep(lock, 1,/' sleep.h
     # posted seats
-    wrong 'a seat does not look once more after its announcement' '2 1 2 cc' '/^        announce\(call, number, to\);/{N;s/\n.*$/\n        reply->answer.code = HULL_NOT_YET;/}'
-    wrong 'a seat that is only announced is not marked' '2 1 2 cc' 's/\(is_posted \? CLAIMED : MARKED\)/(is_posted ? CLAIMED : ANNOUNCED)/'
-    wrong 'a seat that is only announced is claimed' '2 1 2 cc' 's/int is_posted = \(seen \& ACTION\) == POSTED;/int is_posted = 1;/'
-    wrong 'a seat is posted over its mark' '2 1 2 cc' \
-        's/^    return try_change_slot\(slot_of\(call->gate, number\), \&word, word - ANNOUNCED \+ POSTED\);/    __atomic_store_n(slot_of(call->gate, number), word - ANNOUNCED + POSTED, __ATOMIC_SEQ_CST); return 1;/'
+    wrong 'a seat that is posted does not look whether its number is published' '2 1 2 cc' \
+        's/if \(__atomic_load_n\(\&call->gate->published, __ATOMIC_SEQ_CST\) == number \&\& /if (0 \&\& /'
+    wrong 'a number that is handed on is not published' '2 1 2 cc' 's/^    publish\(gate, number\);/    ;/'
+    wrong 'a thread that publishes a number does not look at its slot again' '2 1 2 cc' '/^    publish\(gate, number\);/{N;s/return claim\(gate, number\);/return 0;/}'
+    wrong 'a number is published after the last look at its slot' '2 1 2 cc' \
+        '/^    publish\(gate, number\);/{N;s/^.*$/    uint32_t seat = claim(gate, number); publish(gate, number); return seat;/}'
+    wrong 'an earlier number is published over a later one' '3 1 64 ccc 0 1 0 0' 's/return other == 0 \|\| \(int64_t\)\(number - other\) > 0;/return number != other;/'
+    wrong 'a post is taken back by a store' '2 1 2 cc' \
+        's/return try_change_slot\(slot_of\(call->gate, number\), \&word, word - POSTED \+ CLAIMED\);/__atomic_store_n(slot_of(call->gate, number), word - POSTED + CLAIMED, __ATOMIC_SEQ_CST); return 1;/'
     wrong 'a seat is claimed by a store' '2 1 2 cc' \
-        's/if \(try_change_slot\(slot, \&seen, \(seen \& ~\(uint64_t\)ACTION\) \| \(is_posted \? CLAIMED : MARKED\)\)\) \{/__atomic_store_n(slot, (seen \& ~(uint64_t)ACTION) | (is_posted ? CLAIMED : MARKED), __ATOMIC_SEQ_CST); if (1) {/'
+        's/try_change_slot\(slot, \&seen, seen - POSTED \+ CLAIMED\)/(__atomic_store_n(slot, seen - POSTED + CLAIMED, __ATOMIC_SEQ_CST), 1)/'
+    wrong 'a seat is posted before its thread may be given a notice' '2 1 2 cc' \
+        's/^    __atomic_store_n\(\&node_of\(call->gate, call->number\)->notice, WAITS, __ATOMIC_RELAXED\);/    ;/; s/^    HULL_SHARED_STEP\("posted"\);/    __atomic_store_n(\&node_of(call->gate, call->number)->notice, WAITS, __ATOMIC_SEQ_CST);/'
     wrong 'a thread that serves others or hands on wakes none' '2 1 2 cc' 's/^( +)hull_wake\(\&node->notice, 1\);/\1;/'
     wrong 'a notice is given by a look and a store' '2 1 2 cc' \
         '/^    HULL_SHARED_STEP\("to notify"\);/{N;s/\n.*$/\n    int sleeps = __atomic_load_n(\&node->notice, __ATOMIC_SEQ_CST) == SLEEPS; __atomic_store_n(\&node->notice, notice, __ATOMIC_SEQ_CST); return sleeps;/}'
@@ -115,11 +124,12 @@ wrong_ones() {
         's/^        if \(served == HULL_SHARED_SERVES/        __atomic_store_n(\&node->notice, IS_SERVED, __ATOMIC_SEQ_CST);\n&/'
     wrong 'a thread that serves no more leaves the next without a notice' '8 3 8 cccccccc 0 2 0 1 20000' 's/^            leave_look\(node\);/            ;/'
     wrong 'a thread that serves no more says that the next is served' '8 3 8 cccccccc 0 2 0 1 20000' 's/notify\(node, IS_TO_LOOK\)/notify(node, IS_SERVED)/'
-    wrong 'a call that another thread served keeps the reply before it' '2 2 2 cc' 's/^                \*reply = binding->reply;/                ;/'
+    wrong 'a call that another thread served keeps the reply before it' '2 2 2 cc' 's/^            \*reply = binding->reply;/            ;/'
     wrong 'a thread whose call was served serves none after it' '2 2 2 cc' 's/^        serve_next\(call, number \+ 1, reply->held\);/        ;/'
+    wrong 'a thread whose call was served as it took its number serves none after it' '2 2 2 cc' 's/^            serve_next\(call, reply->turn \+ 1, reply->held\);/            ;/'
     # calls that are admitted at once
     wrong 'a call that was admitted at once serves none after it' '2 1 2 cc' 's/^( +)serve_after\(gate, seat, until, turn \+ 1, held\);/\1;/'
-    wrong 'a call leaves as if none were parked' '2 1 1 cc' 's/^    if \(state > INSIDE \|\| /    if (/'
+    wrong 'a call leaves as if none were parked' '2 1 1 cc' 's/\(state > INSIDE \|\| !try_change/(!try_change/'
     wrong 'a call that was admitted at once does not wait for its number' '2 1 2 cc' 's/if \(code == HULL_NOT_YET\) \{/if (0) {/'
     wrong 'a call that was admitted at once and waited is not made again after a drain' '8 3 8 cccccccc 1 2 0 1 20000' \
         's/if \(drain_after\(\&call, drains, reply.answer.code, reply.held\)\) \{/if (0) {/'

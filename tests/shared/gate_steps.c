@@ -294,16 +294,20 @@ static void check_lock(void) {
 /* Numbers continue with 0 after 2^64 - 1; of two that are stored by several threads the later one stays. */
 static void check_numbers(void) {
     enter_all(2);
-    store_turn(gate, UINT64_MAX - 1);
-    store_turn(gate, UINT64_MAX);
-    store_turn(gate, UINT64_MAX - 2);
-    check("the later one", gate->turn, UINT64_MAX);
-    store_turn(gate, 1);
-    check("past the last", gate->turn, 1);
-    store_turn(gate, UINT64_MAX);
-    check("the later one", gate->turn, 1);
+    publish(gate, UINT64_MAX - 1);
+    publish(gate, UINT64_MAX);
+    publish(gate, UINT64_MAX - 2);
+    check("the later one", gate->published, UINT64_MAX);
+    publish(gate, 1);
+    check("past the last", gate->published, 1);
+    publish(gate, UINT64_MAX);
+    check("the later one", gate->published, 1);
     hull_shared_handed_on(&storage, 7);
-    check("one that was handed on", gate->turn, 7);
+    check("one that was handed on", gate->turn == 7 && gate->published == 7, 1);
+    gate->turn = 6;
+    check("the later of the two is served now", hull_shared_stats(&storage).turn, 7);
+    gate->turn = 8;
+    check("the later of the two is served now", hull_shared_stats(&storage).turn, 8);
 }
 
 static void announce_in_sleep(void) {
@@ -632,8 +636,7 @@ static void check_serving(void) {
         calls[k] = (struct call){gate, seats[k], k + 1, HULL_KIND_COUNT, 0, 0, HULL_NEVER};
         if (k > 0) {
             check("take", hull_shared_take(seats[k], HULL_KIND_COUNT, 0, 0).turn, first + k);
-            announce(&calls[k], first + k, &nowhere);
-            check("posted", (uint64_t)post(&calls[k], first + k), 1);
+            post(&calls[k], first + k, &nowhere);
         }
     }
     gate->nodes[2].notice = SLEEPS;
