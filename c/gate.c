@@ -654,11 +654,12 @@ static void read_ahead(struct gate *gate, uint64_t number) {
     const struct slot *slot = &gate->slots[number % HULL_SHARED_SEATS_MAX];
     const uint64_t word = __atomic_load_n(&slot->word, __ATOMIC_RELAXED);
     const unsigned char *seat = (const unsigned char *)__atomic_load_n(&slot->seat, __ATOMIC_RELAXED);
+    const size_t size = hull_shared_seat_size();
     size_t at;
     __builtin_prefetch(slot_of(gate, number + 1), 1);
     if (is_post(word, number)) {
         __builtin_prefetch(&gate->nodes[word % ONE_NUMBER / ONE_SEAT], 1);
-        for (at = 0; at < hull_shared_seat_size(); at += LINE) {
+        for (at = 0; at < size; at += LINE) {
             __builtin_prefetch(seat + at, 1);
         }
     }
@@ -719,7 +720,7 @@ static uint64_t end_of_serving(const struct call *call) {
 
 /* The nodes of threads that sleep, to be woken later. */
 struct sleepers {
-    struct wait_node *nodes[HULL_SHARED_SEATS_MAX];
+    struct wait_node *nodes[SERVES_MOST];
     uint32_t count;
 };
 
