@@ -244,6 +244,48 @@ static inline const char *hull_code_name(uint32_t code) {
     }
 }
 
+/* Returns 1 if a code says that a call was refused or could not be made, and 0 if it is an answer: other languages raise or return an error for
+ * the first. A call that was refused has changed nothing, unless its function says so. */
+static inline int hull_is_refusal(uint32_t code) {
+    switch (code) {
+    /* written by tools/table.py: refusals */
+    case HULL_OUT_OF_RANGE:
+    case HULL_ZERO_DIRECTION:
+    case HULL_TOO_MANY:
+    case HULL_NO_MEMORY:
+    case HULL_TOO_SMALL:
+    case HULL_OUT_OF_ORDER:
+    case HULL_UNKNOWN_KIND:
+    case HULL_OUT_OF_LIMITS:
+    case HULL_WAS_OPENED:
+    case HULL_NO_SEAT:
+    case HULL_STORAGE_IN_USE:
+    case HULL_NOT_OPEN:
+    case HULL_VACANT:
+    case HULL_WAITING:
+    case HULL_SLOT_IN_USE:
+    case HULL_NO_NUMBER:
+    case HULL_FULL:
+    case HULL_SEATS_OUT:
+    case HULL_NOT_CLOSED:
+    case HULL_IN_USE:
+    case HULL_SEGMENT_IN_USE:
+    case HULL_NO_SPACE:
+    case HULL_NO_LINES:
+    case HULL_NO_JOURNAL:
+    case HULL_OLD_RULES:
+    case HULL_ILLEGAL:
+    case HULL_TOO_FEW_SEATS:
+    case HULL_NO_POLYGON:
+    case HULL_BUSY:
+    case HULL_OTHER_GATE:
+    case HULL_NO_FILE:
+    case HULL_DAMAGED: return 1;
+    /* end of what tools/table.py writes */
+    default: return 0;
+    }
+}
+
 /* Returns the address of an array, or if it has no elements one that is not null, which the proved functions of hull_shared.h
  * require. */
 static inline void *hull_array(const void *array, size_t count) {

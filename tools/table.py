@@ -166,6 +166,8 @@ def stretches(lists):
     operand = {it.name: {"X": "(Point)", "DX": "(Direction)"}.get("".join(it.words()[1:2]), "") for it in calls}
     yield "include/hull_common.h", "kinds", header(kinds, "KIND_")
     yield "include/hull_common.h", "codes", header(codes, "")
+    refusals = [it for it in codes if it.mark in ("refuses", "fails")]
+    yield "include/hull_common.h", "refusals", "".join(f"    case HULL_{it.name}:{' return 1;' * (it is refusals[-1])}\n" for it in refusals)
     yield "include/hull_common.h", "names", "".join(f'    case HULL_{it.name}: return "HULL_{it.name}";\n' for it in codes)
     yield "include/hull.h", "relations", header(relations, "RELATION_")
     yield "include/hull.hpp", "relations", ",\n".join(f"    {it.small()} = HULL_RELATION_{it.name}" for it in relations) + "\n"

@@ -1537,10 +1537,14 @@ static void check_new_ones(void) {
         "HULL_NO_LINES", "HULL_NO_JOURNAL", "HULL_OLD_RULES", "HULL_ILLEGAL", "HULL_TOO_FEW_SEATS", "HULL_NO_POLYGON",
         "HULL_BUSY", "HULL_OTHER_GATE", "HULL_NO_FILE", "HULL_DAMAGED", "HULL_DURABLE", "HULL_READERS_SET",
         "HULL_SNAPSHOT_TAKEN", "HULL_OLD"};
+    /* by their numbers, in tens */
+    static const char refusals[] = "0110011000" "0000000001" "0110000000" "0001101110" "1110011101" "0010111111" "1111110000";
     const uint32_t count = sizeof names / sizeof *names;
     for (uint32_t code = 0; code < count; code++) {
         check(strcmp(hull_code_name(code), names[code]) == 0, names[code], __LINE__);
+        check(hull_is_refusal(code) == (refusals[code] == '1'), names[code], __LINE__);
     }
+    CHECK(sizeof refusals == count + 1 && hull_is_refusal(count) == 0 && hull_is_refusal(UINT32_MAX) == 0);
     CHECK(strcmp(hull_code_name(count), "no code") == 0 && strcmp(hull_code_name(UINT32_MAX), "no code") == 0);
     CHECK(HULL_ABSENT == 9 && HULL_IN_USE == 52 && HULL_OUT_OF_ORDER == 21 && HULL_TOO_FEW_SEATS == 60 && HULL_NO_POLYGON == 61 && HULL_DURABLE == 66);
 }
