@@ -30,11 +30,11 @@
  *    word says that its call was served or that it is to look itself. A thread whose call was served has handed the next number on, and
  *    claims the seat that is posted at that number's slot: it looks with that seat, writes the reply there and says so in the seat's
  *    word; and so on, up to SERVES_MOST calls (flat combining: Hendler, Incze, Shavit and Tzafrir, 2010). The seat that it claims after
- *    the last of these it lets look itself. If no seat is posted with a number, it publishes that number, looks at the slot once more,
+ *    the last of these it lets look itself. If no seat is posted with a number, it announces that number, looks at the slot once more,
  *    and serves no more if there is still none. A thread that has posted its seat looks, before it sleeps, whether its number is
- *    published: then it takes the post back and looks itself. All these steps have one order, in which each thread's steps keep theirs.
- *    If the look at the slot after a number was published came before the post, then the look after the post finds the number published:
- *    a later number is published only after that one was served. If the look at the slot came after the post, it found the seat posted,
+ *    announced: then it takes the post back and looks itself. All these steps have one order, in which each thread's steps keep theirs.
+ *    If the look at the slot after a number was announced came before the post, then the look after the post finds the number announced:
+ *    a later number is announced only after that one was served. If the look at the slot came after the post, it found the seat posted,
  *    or taken back. Claiming a post and taking it back are changes of one word, so that only one of them succeeds, once. A seat takes
  *    its next number only after its word was changed or its post was taken back, so that one seat is never posted twice, and the slot is
  *    used again only 64 numbers later: after this number was handed on, and so after its claim.
@@ -149,7 +149,7 @@ struct gate {
     uint64_t combined; /* how many calls were served for others */
     unsigned char padding_2[40];
     /* read by all that are posted */
-    uint64_t published; /* the last number that a thread handed on and did not serve, 0 before the first */
+    uint64_t announced; /* the last number that a thread handed on and did not serve, 0 before the first */
     unsigned char padding_7[56];
     /* the word of the gate, and the queue */
     uint32_t state;
@@ -210,7 +210,7 @@ static void unbind_if_unused(struct gate *gate) {
         __atomic_store_n(&gate->turn, 0, __ATOMIC_RELAXED);
         __atomic_store_n(&gate->held, 0, __ATOMIC_RELAXED);
         __atomic_store_n(&gate->combined, 0, __ATOMIC_RELAXED);
-        __atomic_store_n(&gate->published, 0, __ATOMIC_RELAXED);
+        __atomic_store_n(&gate->announced, 0, __ATOMIC_RELAXED);
         __atomic_store_n(&gate->shared, NULL, __ATOMIC_SEQ_CST);
     }
 }
@@ -541,11 +541,11 @@ static int is_later(uint64_t number, uint64_t other) {
     return other == 0 || (int64_t)(number - other) > 0;
 }
 
-/* Publishes a number that was handed on, unless a later one is published, which was handed on after it. */
-IN_LINE void publish(struct gate *gate, uint64_t number) {
-    uint64_t seen = __atomic_load_n(&gate->published, __ATOMIC_RELAXED);
+/* Announces a number that was handed on, unless a later one is announced, which was handed on after it. */
+IN_LINE void announce(struct gate *gate, uint64_t number) {
+    uint64_t seen = __atomic_load_n(&gate->announced, __ATOMIC_RELAXED);
     while (is_later(number, seen) &&
-           !__atomic_compare_exchange_n(&gate->published, &seen, number, 0, __ATOMIC_SEQ_CST, __ATOMIC_RELAXED)) {
+           !__atomic_compare_exchange_n(&gate->announced, &seen, number, 0, __ATOMIC_SEQ_CST, __ATOMIC_RELAXED)) {
     }
 }
 
@@ -636,16 +636,16 @@ IN_LINE uint32_t claim(struct gate *gate, uint64_t number) {
     return 0;
 }
 
-/* Publishes a number with which no seat was posted, and looks once more. Returns the seat, or 0 if none is posted. */
-IN_LINE uint32_t publish_and_claim(struct gate *gate, uint64_t number) {
-    publish(gate, number);
+/* Announces a number with which no seat was posted, and looks once more. Returns the seat, or 0 if none is posted. */
+IN_LINE uint32_t announce_and_claim(struct gate *gate, uint64_t number) {
+    announce(gate, number);
     return claim(gate, number);
 }
 
-/* Claims the seat that is posted with a number. Returns it, or 0 if none is posted, and the number is published. */
-IN_LINE uint32_t claim_or_publish(struct gate *gate, uint64_t number) {
+/* Claims the seat that is posted with a number. Returns it, or 0 if none is posted, and the number is announced. */
+IN_LINE uint32_t claim_or_announce(struct gate *gate, uint64_t number) {
     uint32_t seat = claim(gate, number);
-    return seat != 0 ? seat : publish_and_claim(gate, number);
+    return seat != 0 ? seat : announce_and_claim(gate, number);
 }
 
 /* Reads ahead what a thread needs to serve the seat that is posted with a number, if one is, and the slot after it. */
@@ -688,7 +688,7 @@ void hull_shared_handed_on(hull_shared_gate *opaque, uint64_t number) {
     int saved_errno = errno;
     uint32_t seat;
     __atomic_store_n(&gate->turn, number, __ATOMIC_RELAXED);
-    seat = claim_or_publish(gate, number);
+    seat = claim_or_announce(gate, number);
     if (seat != 0) {
         leave_look(node_of(gate, seat));
     }
@@ -731,7 +731,7 @@ static void wake_all(struct sleepers *sleepers) {
 }
 
 /* Claims the seat that is posted with a number, for a thread that serves others. If none is, it wakes those that it served, and looks a few
- * times more: they make their next calls now. Returns the seat; or 0, and the number is published. */
+ * times more: they make their next calls now. Returns the seat; or 0, and the number is announced. */
 static uint32_t claim_next(struct gate *gate, uint64_t number, struct sleepers *sleepers) {
     uint32_t seat = claim(gate, number);
     unsigned looks;
@@ -742,7 +742,7 @@ static uint32_t claim_next(struct gate *gate, uint64_t number, struct sleepers *
         hull_pause(0);
         seat = claim(gate, number);
     }
-    return seat != 0 ? seat : publish_and_claim(gate, number);
+    return seat != 0 ? seat : announce_and_claim(gate, number);
 }
 
 /* Serves the claimed seats from this number on, which was handed on, for their threads, and wakes those that sleep. It ends at a number that
@@ -776,7 +776,7 @@ OUT_OF_LINE void serve_claimed(const struct call *call, uint32_t seat, uint64_t 
 
 /* Serves the calls that are posted from this number on, which was handed on; at first the book has `held` lines. */
 static void serve_next(const struct call *call, uint64_t number, uint32_t held) {
-    uint32_t seat = claim_or_publish(call->gate, number);
+    uint32_t seat = claim_or_announce(call->gate, number);
     if (seat != 0) {
         serve_claimed(call, seat, number, held);
     }
@@ -803,7 +803,7 @@ static int take_back(const struct call *call, uint64_t number) {
     return try_change_slot(slot_of(call->gate, number), &word, word - POSTED + CLAIMED);
 }
 
-/* Waits until the posted seat of a call has its notice, and returns it; or until its number is published and the post is taken back, and
+/* Waits until the posted seat of a call has its notice, and returns it; or until its number is announced and the post is taken back, and
  * returns IS_TO_LOOK. */
 static uint32_t await_notice(const struct call *call, uint64_t number) {
     enum { LONGEST = 2 /* of the pauses */ };
@@ -814,7 +814,7 @@ static uint32_t await_notice(const struct call *call, uint64_t number) {
         if (seen == IS_SERVED || seen == IS_TO_LOOK) {
             return seen;
         }
-        if (__atomic_load_n(&call->gate->published, __ATOMIC_SEQ_CST) == number && take_back(call, number)) {
+        if (__atomic_load_n(&call->gate->announced, __ATOMIC_SEQ_CST) == number && take_back(call, number)) {
             return IS_TO_LOOK;
         }
         if (looks < POSTED_LOOKS) {
@@ -1059,7 +1059,7 @@ OUT_OF_LINE int drain_after_admitted(struct gate *gate, hull_shared_seat *seat, 
 
 /* Serves the calls that are posted after one that was admitted at once. */
 IN_LINE void serve_after(struct gate *gate, hull_shared_seat *seat, uint64_t until, uint64_t number, uint32_t held) {
-    uint32_t next = claim_or_publish(gate, number);
+    uint32_t next = claim_or_announce(gate, number);
     if (next != 0) {
         const struct call call = {gate, seat, binding_of(seat)->number + 1, HULL_KIND_COUNT, 0, 0, until};
         serve_claimed(&call, next, number, held);
@@ -1232,7 +1232,7 @@ static uint64_t begin_timing(struct gate *gate, uint64_t now) {
 hull_shared_state hull_shared_stats(const hull_shared_gate *opaque) {
     struct gate *gate = (struct gate *)(uintptr_t)opaque;
     uint32_t state = load_state(gate), drainer = __atomic_load_n(&gate->drainer, __ATOMIC_SEQ_CST);
-    uint64_t now = hull_now_coarse(), timed_from = begin_timing(gate, now), since, published;
+    uint64_t now = hull_now_coarse(), timed_from = begin_timing(gate, now), since, announced;
     hull_shared_state stats;
     memset(&stats, 0, sizeof stats);
     stats.out = __atomic_load_n(&gate->out, __ATOMIC_RELAXED);
@@ -1241,8 +1241,8 @@ hull_shared_state hull_shared_stats(const hull_shared_gate *opaque) {
     stats.for_space = __atomic_load_n(&gate->for_space, __ATOMIC_RELAXED);
     stats.held = __atomic_load_n(&gate->held, __ATOMIC_RELAXED);
     stats.turn = __atomic_load_n(&gate->turn, __ATOMIC_RELAXED);
-    published = __atomic_load_n(&gate->published, __ATOMIC_RELAXED);
-    stats.turn = published != 0 && is_later(published, stats.turn) ? published : stats.turn;
+    announced = __atomic_load_n(&gate->announced, __ATOMIC_RELAXED);
+    stats.turn = announced != 0 && is_later(announced, stats.turn) ? announced : stats.turn;
     stats.seat = HULL_SHARED_SEATS_MAX;
     stats.designated = (state & DESIGNATED) == 0 ? HULL_SHARED_SEATS_MAX : __atomic_load_n(&gate->designated, __ATOMIC_RELAXED) - 1;
     stats.drainer = drainer == 0 ? HULL_SHARED_SEATS_MAX : drainer - 1;

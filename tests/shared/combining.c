@@ -377,10 +377,10 @@ static void check_slots(void) {
     check("the number", claim(gate, far), 64);
     check("which is claimed once", claim(gate, far), 0);
     *slot_of(gate, far) = far * ONE_NUMBER + 63 * ONE_SEAT + POSTED;
-    check("it is published", claim_or_publish(gate, far), 64);
-    check("only if none is posted", gate->published, 0);
-    check("none is", claim_or_publish(gate, far), 0);
-    check("which is published", gate->published, far);
+    check("the number is announced", claim_or_announce(gate, far), 64);
+    check("only if none is posted", gate->announced, 0);
+    check("none is", claim_or_announce(gate, far), 0);
+    check("which is announced", gate->announced, far);
 }
 
 /* A post is claimed, or taken back by its own thread, once. */

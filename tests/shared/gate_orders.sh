@@ -104,13 +104,13 @@ wrong_ones() {
     wrong 'a thread that releases the lock wakes none' '3 1 1 ccc 0 1 0 0' 's/^( +)hull_wake\(lock, 1\);/\1;/' sleep.h
     wrong 'a thread that waits for the lock says so to none' '3 1 1 ccc 0 1 0 0' 's/while \(__atomic_exchange_n\(lock, 2, /while (__atomic_exchange_n(lock, 1, /; s/hull_sleep\(lock, 2,/hull_sleep(lock, 1,/' sleep.h
     # posted seats
-    wrong 'a seat that is posted does not look whether its number is published' '2 1 2 cc' \
-        's/if \(__atomic_load_n\(\&call->gate->published, __ATOMIC_SEQ_CST\) == number \&\& /if (0 \&\& /'
-    wrong 'a number that is handed on is not published' '2 1 2 cc' 's/^    publish\(gate, number\);/    ;/'
-    wrong 'a thread that publishes a number does not look at its slot again' '2 1 2 cc' '/^    publish\(gate, number\);/{N;s/return claim\(gate, number\);/return 0;/}'
-    wrong 'a number is published after the last look at its slot' '2 1 2 cc' \
-        '/^    publish\(gate, number\);/{N;s/^.*$/    uint32_t seat = claim(gate, number); publish(gate, number); return seat;/}'
-    wrong 'an earlier number is published over a later one' '3 1 64 ccc 0 1 0 0' 's/return other == 0 \|\| \(int64_t\)\(number - other\) > 0;/return number != other;/'
+    wrong 'a seat that is posted does not look whether its number is announced' '2 1 2 cc' \
+        's/if \(__atomic_load_n\(\&call->gate->announced, __ATOMIC_SEQ_CST\) == number \&\& /if (0 \&\& /'
+    wrong 'a number that is handed on is not announced' '2 1 2 cc' 's/^    announce\(gate, number\);/    ;/'
+    wrong 'a thread that announces a number does not look at its slot again' '2 1 2 cc' '/^    announce\(gate, number\);/{N;s/return claim\(gate, number\);/return 0;/}'
+    wrong 'a number is announced after the last look at its slot' '2 1 2 cc' \
+        '/^    announce\(gate, number\);/{N;s/^.*$/    uint32_t seat = claim(gate, number); announce(gate, number); return seat;/}'
+    wrong 'an earlier number is announced over a later one' '3 1 64 ccc 0 1 0 0' 's/return other == 0 \|\| \(int64_t\)\(number - other\) > 0;/return number != other;/'
     wrong 'a post is taken back by a store' '2 1 2 cc' \
         's/return try_change_slot\(slot_of\(call->gate, number\), \&word, word - POSTED \+ CLAIMED\);/__atomic_store_n(slot_of(call->gate, number), word - POSTED + CLAIMED, __ATOMIC_SEQ_CST); return 1;/'
     wrong 'a seat is claimed by a store' '2 1 2 cc' \

@@ -294,16 +294,16 @@ static void check_lock(void) {
 /* Numbers continue with 0 after 2^64 - 1; of two that are stored by several threads the later one stays. */
 static void check_numbers(void) {
     enter_all(2);
-    publish(gate, UINT64_MAX - 1);
-    publish(gate, UINT64_MAX);
-    publish(gate, UINT64_MAX - 2);
-    check("the later one", gate->published, UINT64_MAX);
-    publish(gate, 1);
-    check("past the last", gate->published, 1);
-    publish(gate, UINT64_MAX);
-    check("the later one", gate->published, 1);
+    announce(gate, UINT64_MAX - 1);
+    announce(gate, UINT64_MAX);
+    announce(gate, UINT64_MAX - 2);
+    check("the later one", gate->announced, UINT64_MAX);
+    announce(gate, 1);
+    check("past the last", gate->announced, 1);
+    announce(gate, UINT64_MAX);
+    check("the later one", gate->announced, 1);
     hull_shared_handed_on(&storage, 7);
-    check("one that was handed on", gate->turn == 7 && gate->published == 7, 1);
+    check("one that was handed on", gate->turn == 7 && gate->announced == 7, 1);
     gate->turn = 6;
     check("the later of the two is served now", hull_shared_stats(&storage).turn, 7);
     gate->turn = 8;
