@@ -330,6 +330,15 @@ static int is_open_to_all(const struct gate *gate) {
     return gate->beside == HULL_SHARED_SEATS_MAX - 1;
 }
 
+/* Counts the calls inside by their nodes. */
+static uint32_t count_inside(const struct gate *gate) {
+    uint32_t k, count = 0;
+    for (k = 0; k < HULL_SHARED_SEATS_MAX; k++) {
+        count += __atomic_load_n(&gate->nodes[k].since, __ATOMIC_RELAXED) != 0;
+    }
+    return count;
+}
+
 static int try_change(struct gate *gate, uint32_t state, uint32_t next) {
     return __atomic_compare_exchange_n(&gate->state, &state, next, 0, __ATOMIC_SEQ_CST, __ATOMIC_RELAXED);
 }
@@ -466,11 +475,11 @@ static int enter_or_resign(struct gate *gate) {
     }
 }
 
-/* Enters at once if no call is inside and the gate is not closed, or if it admits all; returns whether it did. */
-IN_LINE int enter_at_once(struct gate *gate) {
+/* Enters at once if no call is inside and the gate is not closed, or if it admits all and the call may wait; returns whether it did. */
+IN_LINE int enter_at_once(struct gate *gate, uint64_t until) {
     uint32_t state;
     if (is_open_to_all(gate)) {
-        return 1;
+        return until != 0 || count_inside(gate) == 0;
     }
     do {
         state = load_state(gate);
@@ -486,7 +495,7 @@ static int enter(struct gate *gate, uint32_t seat, uint64_t until) {
     int is_designated = 0;
     unsigned looks = 0;
     if (until == 0 || is_open_to_all(gate)) {
-        return enter_at_once(gate);
+        return enter_at_once(gate, until);
     }
     while (!try_enter(gate, is_designated)) {
         if (looks < (is_designated ? DESIGNATED_LOOKS : LOOKS)) {
@@ -1076,7 +1085,7 @@ IN_LINE hull_shared_reply call_at_once(struct gate *gate, hull_shared_seat *seat
     hull_shared_reply reply;
     uint64_t turn;
     uint32_t drains, code, held;
-    if (gate == NULL || binding->gate != gate || !enter_at_once(gate)) {
+    if (gate == NULL || binding->gate != gate || !enter_at_once(gate, until)) {
         return call_and_wait(gate, seat, kind, x, y, &no_target, until);
     }
     node = &gate->nodes[binding->number];
@@ -1212,15 +1221,6 @@ static uint64_t find_holder(const struct gate *gate, uint64_t turn, uint32_t *se
         }
     }
     return first & ~last;
-}
-
-/* Counts the calls inside by their nodes. */
-static uint32_t count_inside(const struct gate *gate) {
-    uint32_t k, count = 0;
-    for (k = 0; k < HULL_SHARED_SEATS_MAX; k++) {
-        count += __atomic_load_n(&gate->nodes[k].since, __ATOMIC_RELAXED) != 0;
-    }
-    return count;
 }
 
 /* Has calls read the clock from now on; returns from when on they do. */

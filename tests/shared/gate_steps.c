@@ -73,12 +73,12 @@ static void check_designation(void) {
     leave(gate);
     check("no other is designated", gate->state, DESIGNATED + 2 * PARKED);
     check("not the second", gate->nodes[4].is_designated, 0);
-    check("one that does not wait passes, too", (uint64_t)enter_at_once(gate), 1);
+    check("one that does not wait passes, too", (uint64_t)enter_at_once(gate, 0), 1);
     set_turn_over(1);
     leave(gate);
     check("the turn is over", gate->state, DESIGNATED + CLOSED + 2 * PARKED);
     check("none passes", (uint64_t)try_enter(gate, 0), 0);
-    check("nor at once", (uint64_t)enter_at_once(gate), 0);
+    check("nor at once", (uint64_t)enter_at_once(gate, 0), 0);
     check("a caller that finds it closed parks", (uint64_t)try_park(gate, 7, 0), 1);
     check("the designated one does not", (uint64_t)try_park(gate, 4, 1), 0);
     check("the designated one enters", (uint64_t)try_enter(gate, 1), 1);
@@ -596,6 +596,27 @@ static void check_refused(void) {
     }
 }
 
+/* A gate that admits the calls of all seats has no word: calls are counted by their nodes, and one that does not wait is made only if none is inside. */
+static void check_open_to_all(void) {
+    open_all(100, HULL_SHARED_SEATS_MAX);
+    check("one that does not wait", hull_shared_try_call(&storage, seats[5], HULL_KIND_COUNT, 0, 0).answer.code, HULL_NUMBER);
+    gate->nodes[3].since = UNTIMED;
+    check("one is inside", hull_shared_stats(&storage).inside, 1);
+    check("one that does not wait", hull_shared_try_call(&storage, seats[5], HULL_KIND_COUNT, 0, 0).answer.code, HULL_BUSY);
+    check("a call", count_by(5), HULL_NUMBER);
+    check("the word is not used", gate->state, 0);
+    gate->nodes[3].since = 0;
+    check("none is inside", hull_shared_stats(&storage).inside, 0);
+    close_all();
+    open_all(100, HULL_SHARED_SEATS_MAX - 1);
+    gate->state = HULL_SHARED_SEATS_MAX - 1;
+    check("a gate of one less is full", (uint64_t)is_open(gate, gate->state, 1), 0);
+    check("so none enters", (uint64_t)try_enter(gate, 0), 0);
+    gate->state = 0;
+    check("a call", count_by(5), HULL_NUMBER);
+    close_all();
+}
+
 /* A call serves others for fifty microseconds, and not after its deadline. */
 static void check_time_of_serving(void) {
     struct call call = {gate, NULL, 1, HULL_KIND_COUNT, 0, 0, HULL_NEVER};
@@ -760,6 +781,7 @@ int main(void) {
     check_refused_drains();
     check_full();
     check_refused();
+    check_open_to_all();
     check_time_of_serving();
     check_serving();
     check_first_stats();
