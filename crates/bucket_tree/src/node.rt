@@ -33,10 +33,10 @@ pub(crate) struct Ends {
 #[cycle(node)]
 #[derive(Drop)]
 pub struct Fork {
-    pub(crate) right_ends: Ends,
-    pub(crate) left: Node,
-    pub(crate) right: Node,
     pub(crate) left_ends: Ends,
+    pub(crate) left: Node,
+    pub(crate) right_ends: Ends,
+    pub(crate) right: Node,
     pub(crate) upper: (Point, Point),
     pub(crate) lower: (Point, Point),
 }
