@@ -1,6 +1,6 @@
 -- A fork one of whose parts changed in place.
 use Rattle.std.proofs.lemmas.Grind.{common_steps}
-use Rattle.std.proofs.Common.{◌≡◌, ℕ, ◌+◌, ◌*◌, ◌≤◌, max, Bool, true, false, cond, refl, sym, ap, ◌∙◌, subst, ◌++◌}
+use Rattle.std.proofs.Common.{◌≡◌, ℕ, ◌+◌, ◌*◌, ◌≤◌, ◌<◌, max, Bool, true, false, cond, refl, sym, ap, ◌∙◌, subst, ◌++◌}
 use Rattle.std.proofs.Common.{List, length, length-append, arith}
 use Rattle.std.proofs.Common.{Box, Some, Ok, Err}
 use Rattle.std.specs.Box.{with_value}
@@ -8,16 +8,20 @@ use Rattle.std.specs.List.{Contains}
 use Rattle.std.proofs.lemmas.List.Elements.{Contains-append_left, Contains-append_right}
 use Rattle.std.specs.Prelude.{Result, IfOk, IfErr}
 use Rattle.lattice.specs.Covers.{with_point, without_point}
-use Rattle.lattice.specs.Plane.{Pair}
+use Rattle.std.proofs.Common.{inl, inr}
+use Rattle.std.proofs.lemmas.Bool.{false≢true}
+use Rattle.lattice.proofs.Order.{after_apart, before_apart, before_trans}
+use Rattle.lattice.specs.Plane.{Pair, IsBefore}
 use Rattle.lattice.specs.declared.side.Side.{Side}
 use Rattle.lattice.specs.declared.side.Side.TheVariants.{Lower, Upper}
+use Rattle.hull_geometry.specs.Positions.{first_of, last_of}
 use Rattle.hull_buckets.specs.Buckets.{BucketValue, IsBucket}
 use Rattle.hull_set.specs.Held.{once}
-use Rattle.bucket_tree.specs.Changes.{HasEdgesAfter, HasEnds, IsBridgeBetween, IsUnaffectedOver, IsAfter}
+use Rattle.bucket_tree.specs.Changes.{AreKept, HasEdgesAfter, HasEnds, IsBridgeBetween, IsUnaffectedOver, IsAfter}
 use Rattle.bucket_tree.specs.Changes.{IsEndUnlessClear, IsRenewed, IsSameBut, change_of, edge_on}
 use Rattle.bucket_tree.specs.Counts.{counted, multiplicity_at, Alters, Kind, Comes, Goes}
 use Rattle.bucket_tree.specs.InPlace.{AreFewFor, HasChanged, HasChangedIn, IsAfterPart, IsInPlace, IsRenewedAfter}
-use Rattle.bucket_tree.specs.InPlace.{IsToRenew, IsUnsearched}
+use Rattle.bucket_tree.specs.InPlace.{IsBetween, IsBetweenKept, IsToRenew, IsUnsearched, ends_of_part, part_of}
 use Rattle.bucket_tree.specs.Nodes.{points_below, ends_in, multiplicities_below, node_height, AreNear, AreInRow}
 use Rattle.bucket_tree.specs.Nodes.{IsWellBuilt}
 use Rattle.bucket_tree.specs.declared.renewal.Change.{Change}
@@ -35,6 +39,7 @@ use Rattle.bucket_tree.proofs.Parts.{row_with}
 use Rattle.bucket_tree.proofs.Parts.{same_at, stands_with}
 use Rattle.bucket_tree.proofs.MostTurns.{few_turns, one_fork}
 use Rattle.bucket_tree.proofs.Rooted.{absent_below}
+use Rattle.bucket_tree.proofs.SetEnds.{by_first, by_last, first_among, last_among}
 use Rattle.bucket_tree.proofs.NodeRows.{vertices_in_row, halves_row}
 
 -- ---- a fork
@@ -266,6 +271,72 @@ behind_with false put p n h f k sides a w row h' d c = record {
   kept = ends_kept p f.right k f.right_ends a.row.right_built w d a.ends.right;
 }
 
+-- a point between two others of the list that differs at it was no end, so the ends stay
+between_kept : (p : Pair) (n m : Node) (e : Ends) → IsWellBuilt n → IsWellBuilt m
+    → DiffersAt p (points_below n) (points_below m) → e ≡ ends_in (points_below n) → IsBetween p (points_below m)
+    → IsBetweenKept p e (points_below m)
+between_kept p n m e v w d is b = (b, ends)
+  where
+    S : List Pair
+    S = points_below n
+
+    first : e.first ≡ first_of S
+    first = ap (λ (z : Ends). z.first) is
+
+    last : e.last ≡ last_of S
+    last = ap (λ (z : Ends). z.last) is
+
+    kept : AreKept p e (points_below m)
+    kept = ends_kept p n m e v w d is
+
+    low : Contains S b.0
+    low = elim (d.had b.0 b.2) [ inl k ↦ k | inr q ↦ absurd (before_apart b.0 p b.4 q) ]
+
+    high : Contains S b.1
+    high = elim (d.had b.1 b.3) [ inl k ↦ k | inr q ↦ absurd (after_apart b.1 p b.5 q) ]
+
+    after_first : IsBefore e.first p
+    after_first = subst (λ z. IsBefore z p) (sym first) (elim (by_first S b.0 v.ordered low) [
+      | inl q ↦ subst (λ z. IsBefore z p) q b.4
+      | inr k ↦ before_trans (first_of S) b.0 p k b.4
+    ])
+
+    before_last : IsBefore p e.last
+    before_last = subst (IsBefore p) (sym last) (elim (by_last S b.1 v.ordered high) [
+      | inl q ↦ subst (IsBefore p) q b.5
+      | inr k ↦ before_trans p b.1 (last_of S) b.5 k
+    ])
+
+    ends : e ≡ ends_in (points_below m)
+    ends = ap (λ (z : Pair). record { first = z; last = e.last }) (kept.0 after_first)
+        ∙ ap (λ (z : Pair). record { first = first_of (points_below m); last = z }) (kept.1 before_last)
+
+-- the ends that a fork stores of a part that changed stay if the point is between two others there
+between_with : (left put : Bool) (p : Pair) (n : Node) (h : ℕ) (f : Below) (k : Node) → IsApart n h f → IsWellBuilt k
+    → DiffersAt p (points_below (cond left f.left f.right)) (points_below k) → IsBetween p (points_below k)
+    → IsBetweenKept p (ends_of_part left (with_part left f k)) (points_below (part_of left (with_part left f k)))
+between_with true put p n h f k a w d b = between_kept p f.left k f.left_ends a.row.left_built w d a.ends.left b
+between_with false put p n h f k a w d b = between_kept p f.right k f.right_ends a.row.right_built w d a.ends.right b
+
+-- a point between the ends that were stored is between the first and the last point
+pub between_ends : (p : Pair) (S : List Pair) (e : Ends) → 0 < length S → AreKept p e S → IsBefore e.first p → IsBefore p e.last
+    → IsBetween p S
+between_ends p S e l k b c = (
+  first_of S,
+  last_of S,
+  first_among S l,
+  last_among S l,
+  subst (λ z. IsBefore z p) (k.0 b) b,
+  subst (IsBefore p) (k.1 c) c,
+)
+
+-- a point that is between two of one of two lists is so in both
+pub between_left : (p : Pair) (S T : List Pair) → IsBetween p S → IsBetween p (S ++ T)
+between_left p S T b = (b.0, b.1, Contains-append_left S T b.0 b.2, Contains-append_left S T b.1 b.3, b.4, b.5)
+
+pub between_right : (p : Pair) (S T : List Pair) → IsBetween p T → IsBetween p (S ++ T)
+between_right p S T b = (b.0, b.1, Contains-append_right S T b.0 b.2, Contains-append_right S T b.1 b.3, b.4, b.5)
+
 -- a fork whose part changed is to be renewed
 pub to_renew : (left put : Bool) (change : Change) (p : Pair) (n : Node) (h : ℕ) (f g : Below) (k : Node) (below : Changed)
     → IsForkAt left p n h f → HasChanged put p (cond left f.left f.right) k below
@@ -287,6 +358,7 @@ to_renew left put change p n h f g k below i d few low e m =
       few = few_with left kind p n f.left f.right k i.at b (space_by left put p n h f k below i d few);
       low = omega (arith, low, i.apart.height, high.0, high.1);
       turns = omega (arith, few_turns (node_height part) o.2, s.turns);
+      between = λ t. between_with left put p n h f k i.apart s.built (differs kind p part k o.0.ordered b) (s.between t);
     }
 
 -- the points of the part are among those of both
@@ -324,6 +396,7 @@ module _ (left : Bool) (p : Pair) (n : Node) (h : ℕ) (f : Below) (k : Node) (b
         unaffected = subst (IsUnaffectedOver p above.sides) (sym both_points)
             (unaffected_within p below.sides above.sides (points_below k) _
             (among_with left f.left f.right k) part.unaffected r.closes);
+        between = λ t. subst (IsBetween p) (sym both_points) (r.between t);
       }
 
 -- so it has changed as the part
@@ -380,6 +453,7 @@ leaf_in_place p b c v change f h u = record {
   height = refl;
   turns = omega (arith, u.turns);
   unaffected = subst (λ (z : BucketValue). IsUnaffectedOver p change.sides z.points) (sym f) u.unaffected;
+  between = λ t. absurd (false≢true (sym u.unseen ∙ t));
 }
 
 -- p was added to a bucket, or removed from it

@@ -1,7 +1,8 @@
 -- A change in place: no subtree moves.
-use Rattle.std.specs.Prelude.{◌≡◌, ◌≤◌, ◌<◌, ◌+◌, ◌*◌, ◌++◌, ℕ, Some, Bool, true, false, length, max}
+use Rattle.std.specs.Prelude.{◌≡◌, ◌≤◌, ◌<◌, ◌+◌, ◌*◌, ◌++◌, ℕ, Some, Bool, true, false, List, length, max}
+use Rattle.std.specs.List.{Contains}
 use Rattle.lattice.specs.Covers.{with_point, without_point}
-use Rattle.lattice.specs.Plane.{Pair}
+use Rattle.lattice.specs.Plane.{Pair, IsBefore}
 use Rattle.hull_buckets.specs.Buckets.{BucketValue}
 use Rattle.hull_set.specs.Held.{once}
 use Rattle.hull_set.specs.declared.TheConstants.{POINT_LIMIT}
@@ -9,12 +10,21 @@ use Rattle.lattice.specs.declared.side.Side.{Side}
 use Rattle.bucket_tree.specs.declared.renewal.Change.{Change}
 use Rattle.bucket_tree.specs.declared.renewal.Changed.{Changed}
 use Rattle.bucket_tree.specs.declared.node.Node.{Node}
+use Rattle.bucket_tree.specs.declared.node.Ends.{Ends}
 use Rattle.bucket_tree.specs.declared.node.Fork.{Fork}
 use Rattle.bucket_tree.specs.declared.renewal.Affected.{Affected}
 use Rattle.bucket_tree.specs.Changes.{ClosesBy, IsAfterLeft, IsAfterRight, IsEndUnlessClear, IsUnaffectedOver, IsRenewed, edge_on}
 use Rattle.bucket_tree.specs.Counts.{counted, multiplicity_at, HasGained, HasLost}
-use Rattle.bucket_tree.specs.Nodes.{points_below, node_height, IsWellBuilt}
+use Rattle.bucket_tree.specs.Nodes.{points_below, ends_in, node_height, IsWellBuilt}
 use Rattle.bucket_tree.specs.Turns.{most_turns}
+
+-- p is between two points of a list
+abbrev pub IsBetween : Pair → List Pair → Type 0
+IsBetween p S = (a : Pair) × (b : Pair) × Contains S a × Contains S b × IsBefore a p × IsBefore p b
+
+-- and the ends of the list are those stored
+abbrev pub IsBetweenKept : Pair → Ends → List Pair → Type 0
+IsBetweenKept p e S = IsBetween p S × (e ≡ ends_in S)
 
 -- a well-built node became one of the same height, in no more turns than a change takes; if a chain is unaffected, p is under an edge of the points
 -- that are there now
@@ -23,6 +33,7 @@ pub record IsInPlace (p : Pair) (n m : Node) (change : Changed) : Type 0 where
   pub height : node_height m ≡ node_height n
   pub turns : change.turns ≤ most_turns (node_height n)
   pub unaffected : IsUnaffectedOver p change.sides (points_below m)
+  pub between : change.is_between ≡ true → IsBetween p (points_below m)
 
 -- p, which was not there, was added to the points below a node
 pub record HasPutIn (p : Pair) (n m : Node) (change : Changed) : Type 0 where
@@ -50,6 +61,7 @@ AreFewFor false n = n ≤ POINT_LIMIT
 pub record IsUnsearched (p : Pair) (new : BucketValue) (change : Changed) : Type 0 where
   pub unaffected : IsUnaffectedOver p change.sides new.points
   pub turns : change.turns ≡ 0
+  pub unseen : change.is_between ≡ false
 
 -- p, which was not there, was added to a bucket
 pub record HasPutInto (p : Pair) (old new : BucketValue) (change : Changed) : Type 0 where
@@ -75,6 +87,15 @@ abbrev pub IsAfterPart : Bool → Pair → Affected → Fork → Type 0
 IsAfterPart true = IsAfterLeft
 IsAfterPart false = IsAfterRight
 
+-- the subtree that changed, and its ends as the fork stores them
+abbrev pub part_of : Bool → Fork → Node
+part_of true f = f.left
+part_of false f = f.right
+
+abbrev pub ends_of_part : Bool → Fork → Ends
+ends_of_part true f = f.left_ends
+ends_of_part false f = f.right_ends
+
 -- the fork has to be renewed, and can be
 pub record IsToRenew (left : Bool) (change : Change) (p : Pair) (below : Changed) (f : Fork) : Type 0 where
   pub behind : IsAfterPart left p below.sides f
@@ -82,6 +103,7 @@ pub record IsToRenew (left : Bool) (change : Change) (p : Pair) (below : Changed
   pub few : length (points_below f.left ++ points_below f.right) ≤ POINT_LIMIT
   pub low : max (node_height f.left) (node_height f.right) ≤ 28
   pub turns : below.turns ≤ 9208
+  pub between : below.is_between ≡ true → IsBetweenKept p (ends_of_part left f) (points_below (part_of left f))
 
 -- it became g, with its subtrees in their places; its searches are added to those below
 pub record IsRenewedAfter (p : Pair) (below : Changed) (f g : Fork) (above : Changed) : Type 0 where
@@ -90,3 +112,4 @@ pub record IsRenewedAfter (p : Pair) (below : Changed) (f g : Fork) (above : Cha
   pub right : g.right ≡ f.right
   pub turns : above.turns ≤ below.turns + 8 * max (node_height f.left) (node_height f.right) + 48
   pub closes : ClosesBy p below.sides above.sides (points_below f.left ++ points_below f.right)
+  pub between : above.is_between ≡ true → IsBetween p (points_below f.left ++ points_below f.right)

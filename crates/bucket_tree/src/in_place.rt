@@ -5,14 +5,15 @@ ghost use Rattle.hull_buckets.specs.Buckets.{IsBucket};
 ghost use Rattle.hull_set.specs.declared.TheConstants.{POINT_LIMIT};
 ghost use Rattle.bucket_tree.specs.Counts.{counted, multiplicity_at};
 ghost use Rattle.bucket_tree.specs.InPlace.{AreFewFor, HasChanged, HasChangedIn, HasPutIn, HasTakenOut, IsRenewedAfter};
-ghost use Rattle.bucket_tree.specs.InPlace.{IsToRenew};
-ghost use Rattle.bucket_tree.specs.Nodes.{points_below, node_height, IsWellBuilt};
+ghost use Rattle.bucket_tree.specs.Changes.{AreKept};
+ghost use Rattle.bucket_tree.specs.InPlace.{IsBetween, IsBetweenKept, IsToRenew};
+ghost use Rattle.bucket_tree.specs.Nodes.{points_below, ends_in, node_height, HasBuckets, IsLabelled, IsWellBuilt};
 
 use crate::find::find_multiplicity;
 use crate::insertion::{affected_at, put_at};
-use crate::node::{Fork, Node};
+use crate::node::{Ends, Fork, Node, ends_of};
 use crate::removal::are_few;
-use crate::renewal::{Change, Changed, change_at, renew_edges, renew_ends};
+use crate::renewal::{Change, Changed, change_at, renew_edges};
 use hull_buckets::{Bucket, buckets_are_sound};
 use lattice::{Point, before};
 
@@ -56,7 +57,11 @@ impl InPlace for Coming {
                 }
                 let sides = put_at(bucket, place, p);
                 buckets_are_sound(bucket);
-                Ok(Changed { turns: 0, sides })
+                Ok(Changed {
+                    turns: 0,
+                    sides,
+                    is_between: false,
+                })
             }
         }
     }
@@ -88,7 +93,11 @@ impl InPlace for Going {
         let sides = affected_at(bucket, place, p);
         bucket.remove(place);
         buckets_are_sound(bucket);
-        Ok(Changed { turns: 0, sides })
+        Ok(Changed {
+            turns: 0,
+            sides,
+            is_between: false,
+        })
     }
 
     /// The lowest fork over two buckets with few points together, which become one.
@@ -100,17 +109,38 @@ impl InPlace for Going {
     }
 }
 
+/// Renews the ends of a subtree that changed at a point, unless the point is known to be between two others there. Returns whether it is.
+#[inline(always)]
+fn renew_ends_around(ends: &mut Ends, node: &Node, p: Point, is_between: bool) -> bool
+    requires buckets { HasBuckets node.now }
+    requires labelled { IsLabelled node.now }
+    requires kept { AreKept p ends.old (points_below node.now) }
+    requires between { is_between ≡ true → IsBetweenKept p ends.old (points_below node.now) }
+    ensures ends { ends.new ≡ ends_in (points_below node.now) }
+    ensures between { result ≡ true → IsBetween p (points_below node.now) }
+{
+    if is_between {
+        return true;
+    }
+    if before(ends.first, p) && before(p, ends.last) {
+        return true;
+    }
+    *ends = ends_of(node);
+    false
+}
+
 /// Renews a fork whose left subtree changed at a point.
 #[inline(always)]
 fn after_left(fork: &mut Fork, p: Point, change: Change, below: Changed) -> Changed
     requires { IsToRenew true change p below fork.old }
     ensures { IsRenewedAfter p below fork.old fork.new result }
 {
-    renew_ends(&mut fork.left_ends, &fork.left, p);
+    let is_between = renew_ends_around(&mut fork.left_ends, &fork.left, p, below.is_between);
     let above = renew_edges(fork, p, change, below.sides);
     Changed {
         turns: below.turns + above.turns,
         sides: above.sides,
+        is_between,
     }
 }
 
@@ -120,11 +150,12 @@ fn after_right(fork: &mut Fork, p: Point, change: Change, below: Changed) -> Cha
     requires { IsToRenew false change p below fork.old }
     ensures { IsRenewedAfter p below fork.old fork.new result }
 {
-    renew_ends(&mut fork.right_ends, &fork.right, p);
+    let is_between = renew_ends_around(&mut fork.right_ends, &fork.right, p, below.is_between);
     let above = renew_edges(fork, p, change, below.sides);
     Changed {
         turns: below.turns + above.turns,
         sides: above.sides,
+        is_between,
     }
 }
 

@@ -112,6 +112,15 @@ pub struct Changed {
     pub turns: u32,
     /// The chains on which the point may be, or may have been, a vertex of the hull of all points below the node.
     pub sides: Affected,
+    /// Whether the point is known to be between two others below the node; then the change leaves the ends there.
+    pub is_between: bool,
+}
+
+/// The result of renewing the edges of a fork.
+#[derive(Clone, Copy)]
+pub(crate) struct RenewedEdges {
+    pub(crate) turns: u32,
+    pub(crate) sides: Affected,
 }
 
 /// Searches the bridge on a side between the halves of a fork after the left one changed: from the end that is still there to the left half, and back. If
@@ -279,7 +288,12 @@ fn renew_edge(side: Side, fork: &mut Fork, p: Point, change: Change, at_issue: b
 
 /// Renews the edges of a fork on the affected chains, after one subtree changed at a point.
 #[inline(always)]
-pub(crate) fn renew_edges(fork: &mut Fork, p: Point, change: Change, sides: Affected) -> Changed
+pub(crate) fn renew_edges(
+    fork: &mut Fork,
+    p: Point,
+    change: Change,
+    sides: Affected,
+) -> RenewedEdges
     requires row { AreInRow fork.old.left fork.old.right }
     requires few { length (points_below fork.old.left ++ points_below fork.old.right) ≤ POINT_LIMIT }
     requires behind { IsAfter p sides fork.old.left fork.old.right fork.old }
@@ -293,7 +307,7 @@ pub(crate) fn renew_edges(fork: &mut Fork, p: Point, change: Change, sides: Affe
 {
     let (upper_turns, upper) = renew_edge(Side::Upper, fork, p, change, sides.upper);
     let (lower_turns, lower) = renew_edge(Side::Lower, fork, p, change, sides.lower);
-    Changed {
+    RenewedEdges {
         turns: upper_turns + lower_turns,
         sides: Affected { lower, upper },
     }

@@ -43,5 +43,6 @@ returns-clause-change c =
             (unaffected_without c.args.p c.args.bucket.now.points c.affected_at-sides.result c.buckets_are_sound.ensures.ordered
             c.affected_at-sides.ensures);
         turns = refl;
+        unseen = refl;
       };
     }
