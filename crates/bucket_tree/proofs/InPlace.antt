@@ -6,7 +6,7 @@ use Rattle.std.proofs.Common.{Box, Some, Ok, Err}
 use Rattle.std.specs.Box.{with_value}
 use Rattle.std.specs.List.{Contains}
 use Rattle.std.proofs.lemmas.List.Elements.{Contains-append_left, Contains-append_right}
-use Rattle.std.specs.Prelude.{Result, IfOk, IfErr}
+use Rattle.std.specs.Prelude.{IsTrue, Result, IfOk, IfErr}
 use Rattle.lattice.specs.Covers.{with_point, without_point}
 use Rattle.std.proofs.Common.{inl, inr}
 use Rattle.std.proofs.lemmas.Bool.{false≢true}
@@ -21,6 +21,7 @@ use Rattle.bucket_tree.specs.Changes.{AreKept, HasEdgesAfter, HasEnds, IsBridgeB
 use Rattle.bucket_tree.specs.Changes.{IsEndUnlessClear, IsRenewed, IsSameBut, change_of, edge_on}
 use Rattle.bucket_tree.specs.Counts.{counted, multiplicity_at, Alters, Kind, Comes, Goes}
 use Rattle.bucket_tree.specs.InPlace.{AreFewFor, HasChanged, HasChangedIn, IsAfterPart, IsInPlace, IsRenewedAfter}
+use Rattle.bucket_tree.specs.Halves.{with_half}
 use Rattle.bucket_tree.specs.InPlace.{IsBetween, IsBetweenKept, IsToRenew, IsUnsearched, ends_of_part, part_of}
 use Rattle.bucket_tree.specs.Nodes.{points_below, ends_in, multiplicities_below, node_height, AreNear, AreInRow}
 use Rattle.bucket_tree.specs.Nodes.{IsWellBuilt}
@@ -33,7 +34,7 @@ use Rattle.bucket_tree.specs.declared.renewal.Affected.{Affected}
 use Rattle.bucket_tree.proofs.Added.{ends_at, lost_at}
 use Rattle.bucket_tree.proofs.BuiltLeaves.{leaf_built}
 use Rattle.bucket_tree.proofs.Kept.{DiffersAt, behind_as, unaffected_within, edges_as, ends_kept, same_edges}
-use Rattle.bucket_tree.proofs.Kept.{stored}
+use Rattle.bucket_tree.proofs.Kept.{of_vertices, stored}
 use Rattle.bucket_tree.proofs.Parts.{BelongsTo, HasSpaceFor, IsAt, alters_with, at, unaffected_with, differs, few_with}
 use Rattle.bucket_tree.proofs.Parts.{row_with}
 use Rattle.bucket_tree.proofs.Parts.{same_at, stands_with}
@@ -108,17 +109,6 @@ ends_moved side f g s h = record {
 }
 
 -- ---- one subtree: the left one if the word is true, otherwise the right one
-
--- the fork with another one in its place
-abbrev pub with_part : Bool → Below → Node → Below
-with_part left f k = record {
-  right_ends = f.right_ends;
-  left = cond left k f.left;
-  right = cond left f.right k;
-  left_ends = f.left_ends;
-  upper = f.upper;
-  lower = f.lower;
-}
 
 -- a fork, and the part to which p belongs
 pub record IsForkAt (left : Bool) (p : Pair) (n : Node) (h : ℕ) (f : Below) : Type 0 where
@@ -202,9 +192,9 @@ heights_with false f k e = (refl, e)
 
 -- a fork that is stale over two subtrees is stale with these in it
 pub over_parts : (p : Pair) (sides : Affected) (l r : Node) (f : Below) → IsAfter p sides l r f
-    → IsAfter p sides l r (with_part false (with_part true f l) r)
+    → IsAfter p sides l r (with_half false (with_half true f l) r)
 over_parts p sides l r f h =
-    let g = with_part false (with_part true f l) r in
+    let g = with_half false (with_half true f l) r in
     behind_as p sides l r f g h.unaffected h.clear (same_edges f g refl refl) record {
       left = h.ends.left;
       right =
@@ -214,7 +204,7 @@ over_parts p sides l r f h =
 -- a point that is an end of the bridge over two subtrees, unless it is clear of a fork's edge, is so with these in the fork
 pub end_over_parts : (change : Change) (p : Pair) (l r : Node) (f : Below)
     → ((side : Side) → IsEndUnlessClear change side p l r (edge_on side f))
-    → (side : Side) → IsEndUnlessClear change side p l r (edge_on side (with_part false (with_part true f l) r))
+    → (side : Side) → IsEndUnlessClear change side p l r (edge_on side (with_half false (with_half true f l) r))
 end_over_parts change p l r f h Lower = h Lower
 end_over_parts change p l r f h Upper = h Upper
 
@@ -223,19 +213,19 @@ end_with : (left put : Bool) (change : Change) (side : Side) (p : Pair) (n : Nod
     (below : Changed)
     → IsForkAt left p n h f → HasChanged put p (cond left f.left f.right) k below → IsWellBuilt (cond left f.left f.right)
     → AreInRow (cond left k f.left) (cond left f.right k) → change ≡ change_of left put
-    → IsEndUnlessClear change side p (cond left k f.left) (cond left f.right k) (edge_on side (with_part left f k))
+    → IsEndUnlessClear change side p (cond left k f.left) (cond left f.right k) (edge_on side (with_half left f k))
 end_with left false change side p n h f k below i d w row c =
-    subst (λ z. IsEndUnlessClear z side p (cond left k f.left) (cond left f.right k) (edge_on side (with_part left f k)))
+    subst (λ z. IsEndUnlessClear z side p (cond left k f.left) (cond left f.right k) (edge_on side (with_half left f k)))
     (sym c)
     (subst (IsEndUnlessClear (change_of left false) side p (cond left k f.left) (cond left f.right k))
-    (sym (same_edges f (with_part left f k) refl refl side))
+    (sym (same_edges f (with_half left f k) refl refl side))
     (lost_at left side p f.left f.right k (edge_on side f) i.apart.row (i.apart.edges side) d.lost.1))
 end_with left true change side p n h f k below i d w row c =
     let part = cond left f.left f.right in
-    subst (λ z. IsEndUnlessClear z side p (cond left k f.left) (cond left f.right k) (edge_on side (with_part left f k)))
+    subst (λ z. IsEndUnlessClear z side p (cond left k f.left) (cond left f.right k) (edge_on side (with_half left f k)))
     (sym c)
     (subst (IsEndUnlessClear (change_of left true) side p (cond left k f.left) (cond left f.right k))
-    (sym (same_edges f (with_part left f k) refl refl side))
+    (sym (same_edges f (with_half left f k) refl refl side))
     (ends_at left side p f.left f.right k (edge_on side f) i.apart.row row (i.apart.edges side)
     (absent_below (Some part) part p refl w d.absent) d.gained.0))
 
@@ -244,9 +234,9 @@ edges_with : (left put : Bool) (p : Pair) (f : Below) (k : Node) (sides : Affect
     → ((side : Side) → IsBridgeBetween side f.left f.right (edge_on side f))
     → Alters (kind_of put) p (cond left f.left f.right) k
     → DiffersAt p (points_below (cond left f.left f.right)) (points_below k) → IsUnaffectedOver p sides (points_below k)
-    → HasEdgesAfter p sides (with_part left f k)
+    → HasEdgesAfter p sides (with_half left f k)
 edges_with left put p f k sides row b h d c =
-    let g = with_part left f k in
+    let g = with_half left f k in
     let e = edges_as p sides g.left g.right f g
     (unaffected_with left (kind_of put) p f.left f.right k sides f row b h d (λ _. c))
     (λ side. stands_with left side p f.left f.right k (edge_on side f) (b side) d) (same_edges f g refl refl) in
@@ -257,7 +247,7 @@ behind_with : (left put : Bool) (p : Pair) (n : Node) (h : ℕ) (f : Below) (k :
     → IsWellBuilt k → AreInRow (cond left k f.left) (cond left f.right k)
     → Alters (kind_of put) p (cond left f.left f.right) k
     → DiffersAt p (points_below (cond left f.left f.right)) (points_below k) → IsUnaffectedOver p sides (points_below k)
-    → IsAfterPart left p sides (with_part left f k)
+    → IsAfterPart left p sides (with_half left f k)
 behind_with true put p n h f k sides a w row h' d c = record {
   row = row;
   edges = edges_with true put p f k sides a.row a.edges h' d c;
@@ -314,7 +304,7 @@ between_kept p n m e v w d is b = (b, ends)
 -- the ends that a fork stores of a part that changed stay if the point is between two others there
 between_with : (left put : Bool) (p : Pair) (n : Node) (h : ℕ) (f : Below) (k : Node) → IsApart n h f → IsWellBuilt k
     → DiffersAt p (points_below (cond left f.left f.right)) (points_below k) → IsBetween p (points_below k)
-    → IsBetweenKept p (ends_of_part left (with_part left f k)) (points_below (part_of left (with_part left f k)))
+    → IsBetweenKept p (ends_of_part left (with_half left f k)) (points_below (part_of left (with_half left f k)))
 between_with true put p n h f k a w d b = between_kept p f.left k f.left_ends a.row.left_built w d a.ends.left b
 between_with false put p n h f k a w d b = between_kept p f.right k f.right_ends a.row.right_built w d a.ends.right b
 
@@ -340,7 +330,7 @@ between_right p S T b = (b.0, b.1, Contains-append_right S T b.0 b.2, Contains-a
 -- a fork whose part changed is to be renewed
 pub to_renew : (left put : Bool) (change : Change) (p : Pair) (n : Node) (h : ℕ) (f g : Below) (k : Node) (below : Changed)
     → IsForkAt left p n h f → HasChanged put p (cond left f.left f.right) k below
-    → AreFewFor put (length (points_below n)) → node_height n ≤ 28 → g ≡ with_part left f k → change ≡ change_of left put
+    → AreFewFor put (length (points_below n)) → node_height n ≤ 28 → g ≡ with_half left f k → change ≡ change_of left put
     → IsToRenew left change p below g
 to_renew left put change p n h f g k below i d few low e m =
     let kind = kind_of put in
@@ -361,6 +351,42 @@ to_renew left put change p n h f g k below i d few low e m =
       between = λ t. between_with left put p n h f k i.apart s.built (differs kind p part k o.0.ordered b) (s.between t);
     }
 
+-- a fork whose part changed at a point between two others that affects no chain is renewed as it is
+pub untouched : (left : Bool) (change : Change) (p : Pair) (below : Changed) (f : Below) → IsToRenew left change p below f
+    → below.is_between ≡ true → below.sides.lower ≡ false → below.sides.upper ≡ false → IsRenewedAfter p below f f below
+untouched true change p below f r b l u = record {
+  renewed = record {
+    row = r.behind.row;
+    upper = of_vertices Upper f.left f.right f.upper r.behind.row (r.behind.edges.unaffected Upper u);
+    lower = of_vertices Lower f.left f.right f.lower r.behind.row (r.behind.edges.unaffected Lower l);
+    ends = record { left = (r.between b).1; right = r.behind.right };
+  };
+  left = refl;
+  right = refl;
+  turns = omega arith;
+  closes = λ side e. inl e;
+  between = λ _. between_left p (points_below f.left) (points_below f.right) (r.between b).0;
+}
+untouched false change p below f r b l u = record {
+  renewed = record {
+    row = r.behind.row;
+    upper = of_vertices Upper f.left f.right f.upper r.behind.row (r.behind.edges.unaffected Upper u);
+    lower = of_vertices Lower f.left f.right f.lower r.behind.row (r.behind.edges.unaffected Lower l);
+    ends = record { left = r.behind.left; right = (r.between b).1 };
+  };
+  left = refl;
+  right = refl;
+  turns = omega arith;
+  closes = λ side e. inl e;
+  between = λ _. between_right p (points_below f.left) (points_below f.right) (r.between b).0;
+}
+
+-- the part to which a point belongs, by the comparison with the first point of the second one
+pub belongs : (left : Bool) (p first : Pair) → (IsTrue left → IsBefore p first) → (IsBefore p first → IsTrue left)
+    → BelongsTo left p first
+belongs true p first f g = f refl
+belongs false p first f g = λ h. false≢true (g h)
+
 -- the points of the part are among those of both
 pub among_with : (left : Bool) (l r k : Node) (t : Pair) → Contains (points_below k) t
     → Contains (points_below (cond left k l) ++ points_below (cond left r k)) t
@@ -370,7 +396,7 @@ among_with false l r k t i = Contains-append_right (points_below l) (points_belo
 -- renewed it has changed in place as the subtree
 module _ (left : Bool) (p : Pair) (n : Node) (h : ℕ) (f : Below) (k : Node) (below above : Changed) (g : Box Below _)
     (i : IsForkAt left p n h f) (part : IsInPlace p (cond left f.left f.right) k below)
-    (r : IsRenewedAfter p below (with_part left f k) g.value above) where
+    (r : IsRenewedAfter p below (with_half left f k) g.value above) where
   both_points : points_below (Fork h g) ≡ points_below (cond left k f.left) ++ points_below (cond left f.right k)
   both_points = ap (λ z. points_below z ++ points_below g.value.right) r.left
       ∙ ap (λ z. points_below (cond left k f.left) ++ points_below z) r.right
@@ -402,11 +428,11 @@ module _ (left : Bool) (p : Pair) (n : Node) (h : ℕ) (f : Below) (k : Node) (b
 -- so it has changed as the part
 pub changed_with : (left put : Bool) (p : Pair) (n : Node) (h : ℕ) (f g : Below) (k : Node) (below above : Changed)
     (b : Box Below _) → IsForkAt left p n h f → HasChanged put p (cond left f.left f.right) k below
-    → AreFewFor put (length (points_below n)) → node_height n ≤ 28 → g ≡ with_part left f k
+    → AreFewFor put (length (points_below n)) → node_height n ≤ 28 → g ≡ with_half left f k
     → IsRenewedAfter p below g b.value above → HasChanged put p n (Fork h b) above
 changed_with left put p n h f g k below above b i d few low e r = go put d altered
   where
-    s : IsRenewedAfter p below (with_part left f k) b.value above
+    s : IsRenewedAfter p below (with_half left f k) b.value above
     s = subst (λ z. IsRenewedAfter p below z b.value above) e r
 
     part : IsInPlace p (cond left f.left f.right) k below

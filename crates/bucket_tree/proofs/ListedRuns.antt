@@ -1,7 +1,7 @@
 -- A run of the vertices of a bucket's chain is a walk along the chain of the bucket's half.
 use Rattle.std.proofs.Common.{inl, inr, ◌≡◌, ◌∙◌, refl, sym, ap, subst, pos, ◌≤ℤ◌, List, [], ◌∷◌, ◌++◌, map, Bool, true, false, arith}
 use Rattle.std.specs.Prelude.{reverse}
-use Rattle.std.specs.List.{Contains}
+use Rattle.std.specs.List.{All, Contains}
 use Rattle.std.proofs.lemmas.List.{reverse-append}
 use Rattle.std.proofs.lemmas.List.Elements.{All-contains, Contains-append_left, Contains-append_right, Contains-append_cases}
 use Rattle.lattice.specs.Plane.{Pair, orient, IsBefore, turned_point}
@@ -24,9 +24,9 @@ use Rattle.hull_buckets.specs.Masks.{at_places}
 use Rattle.hull_buckets.specs.Slices.{tree_of_slice, all_of as vertices_of}
 use Rattle.hull_buckets.specs.Walks.{along}
 use Rattle.hull_buckets.proofs.SliceBridges.{chain_on_tree, vertices_among}
-use Rattle.hull_questions.specs.Walks.{IsListed, IsRun, tree_on, upright}
+use Rattle.hull_questions.specs.Walks.{IsWalk, IsListed, IsRun, tree_on, upright}
 use Rattle.hull_questions.proofs.Walked.{end_turned}
-use Rattle.bucket_tree.specs.Runs.{IsRunOf}
+use Rattle.bucket_tree.specs.Runs.{IsRunOf, IsRunTo}
 
 -- ---- the chain in the order of a walk
 

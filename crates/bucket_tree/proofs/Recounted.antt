@@ -26,7 +26,7 @@ use Rattle.bucket_tree.specs.Nodes.{AreInRow, IsWellBuilt}
 use Rattle.bucket_tree.proofs.BuiltLeaves.{leaf_built}
 use Rattle.bucket_tree.proofs.Gained.{held_row}
 use Rattle.bucket_tree.proofs.Lost.{counted_remove, count_at}
-use Rattle.bucket_tree.proofs.InPlace.{with_part}
+use Rattle.bucket_tree.specs.Halves.{with_half}
 use Rattle.bucket_tree.proofs.Parts.{BelongsTo, count_in}
 use Rattle.bucket_tree.proofs.NodeRows.{halves_row}
 
@@ -111,7 +111,7 @@ like_recounted multiplicity p n m r =
 
 -- so a fork over both is like the one that was
 fork_like : (n : Node) (h : ℕ) (f : Box Below _) (l r : Node) → n ≡ Fork h f → IsWellBuilt n → IsLike f.value.left l
-    → IsLike f.value.right r → IsLike n (Fork h (with_value f (with_part false (with_part true f.value l) r)))
+    → IsLike f.value.right r → IsLike n (Fork h (with_value f (with_half false (with_half true f.value l) r)))
 fork_like n h f l r e w u v =
     let g = subst IsWellBuilt e w in
     record {
@@ -149,9 +149,9 @@ fork_like n h f l r e w u v =
 pub recounted_in : (left : Bool) (multiplicity : ℕ) (p : Pair) (n : Node) (h : ℕ) (f : Box Below _) (v : Below) (k : Node)
     → v ≡ f.value → n ≡ Fork h f → IsWellBuilt n → BelongsTo left p f.value.right_ends.first
     → IsRecounted multiplicity p (cond left v.left v.right) k
-    → IsRecounted multiplicity p n (Fork h (with_value f (with_part left v k)))
+    → IsRecounted multiplicity p n (Fork h (with_value f (with_half left v k)))
 recounted_in left multiplicity p n h f v k u e w b r =
-    subst (λ z. IsRecounted multiplicity p n (Fork h (with_value f (with_part left z k)))) (sym u)
+    subst (λ z. IsRecounted multiplicity p n (Fork h (with_value f (with_half left z k)))) (sym u)
     (let s = subst (λ (z : Below). IsRecounted multiplicity p (cond left z.left z.right) k) u r in
     let like = whole left s in
     record {
@@ -167,7 +167,7 @@ recounted_in left multiplicity p n h f v k u e w b r =
     row = halves_row n h f e w
 
     whole : (left : Bool) → IsRecounted multiplicity p (cond left f.value.left f.value.right) k
-        → IsLike n (Fork h (with_value f (with_part left f.value k)))
+        → IsLike n (Fork h (with_value f (with_half left f.value k)))
     whole true s = fork_like n h f k f.value.right e w (like_recounted multiplicity p f.value.left k s)
         (like_itself f.value.right row.right_built)
     whole false s = fork_like n h f f.value.left k e w (like_itself f.value.left row.left_built)
@@ -177,14 +177,14 @@ recounted_in left multiplicity p n h f v k u e w b r =
     all q = held_row n f.value.left f.value.right q row.left_built.buckets (ap points_below e) (ap multiplicities_below e)
 
     counts : (left : Bool) → IsRecounted multiplicity p (cond left f.value.left f.value.right) k → (q : Pair)
-        → (other : ℕ) × (multiplicity_at (Fork h (with_value f (with_part left f.value k))) q ≡ multiplicity_at k q + other)
+        → (other : ℕ) × (multiplicity_at (Fork h (with_value f (with_half left f.value k))) q ≡ multiplicity_at k q + other)
         × (multiplicity_at n q ≡ multiplicity_at (cond left f.value.left f.value.right) q + other)
     counts true s q = (
       multiplicity_at f.value.right q,
-      held_row (Fork h (with_value f (with_part true f.value k))) k f.value.right q s.built.buckets refl refl,
+      held_row (Fork h (with_value f (with_half true f.value k))) k f.value.right q s.built.buckets refl refl,
       all q,
     )
     counts false s q =
-        let b = held_row (Fork h (with_value f (with_part false f.value k))) f.value.left k q
+        let b = held_row (Fork h (with_value f (with_half false f.value k))) f.value.left k q
         row.left_built.buckets refl refl in
         (multiplicity_at f.value.left q, omega (arith, b), omega (arith, all q))

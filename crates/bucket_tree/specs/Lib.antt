@@ -14,3 +14,4 @@ pub mod InPlace
 pub mod OtherEnds
 pub mod Rotations
 pub mod Runs
+pub mod Halves

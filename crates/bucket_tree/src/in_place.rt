@@ -159,6 +159,23 @@ fn after_right(fork: &mut Fork, p: Point, change: Change, below: Changed) -> Cha
     }
 }
 
+/// Renews a fork of which one half changed at a point, the left one or else the right one. Nothing is altered if the point is between two others of that
+/// half and neither chain is affected.
+#[inline(always)]
+fn after_half(fork: &mut Fork, is_left: bool, p: Point, change: Change, below: Changed) -> Changed
+    requires { IsToRenew is_left change p below fork.old }
+    ensures { IsRenewedAfter p below fork.old fork.new result }
+{
+    if below.is_between && !below.sides.lower && !below.sides.upper {
+        return below;
+    }
+    if is_left {
+        after_left(fork, p, change, below)
+    } else {
+        after_right(fork, p, change, below)
+    }
+}
+
 /// Changes the bucket below a node that a point belongs to, and renews the forks above it, if no subtree has to move. Otherwise leaves all unchanged,
 /// and returns the multiplicity of the point there.
 fn change_in_place<C: InPlace>(node: &mut Node, p: Point) -> Result<Changed, u16>
@@ -175,16 +192,16 @@ fn change_in_place<C: InPlace>(node: &mut Node, p: Point) -> Result<Changed, u16
     match node {
         Node::Leaf(bucket) => C::change(bucket, p),
         Node::Fork(_, fork) => {
-            if before(p, fork.right_ends.first) {
-                match change_in_place::<C>(&mut fork.left, p) {
-                    Ok(below) => Ok(after_left(fork, p, change_at(true, C::is_adding()), below)),
-                    Err(multiplicity) => Err(multiplicity),
-                }
-            } else {
-                match change_in_place::<C>(&mut fork.right, p) {
-                    Ok(below) => Ok(after_right(fork, p, change_at(false, C::is_adding()), below)),
-                    Err(multiplicity) => Err(multiplicity),
-                }
+            let is_left = before(p, fork.right_ends.first);
+            match change_in_place::<C>(fork.half_mut(is_left), p) {
+                Ok(below) => Ok(after_half(
+                    fork,
+                    is_left,
+                    p,
+                    change_at(is_left, C::is_adding()),
+                    below,
+                )),
+                Err(multiplicity) => Err(multiplicity),
             }
         }
         Node::Taken => unreachable!(),

@@ -42,6 +42,22 @@ pub struct Fork {
 }
 
 impl Fork {
+    ghost use Rattle.std.specs.Borrow.{sem};
+    ghost use Rattle.bucket_tree.specs.Halves.{LendsHalf, half_of};
+
+    /// Returns the left half, or else the right one.
+    #[inline(always)]
+    pub(crate) fn half_mut(&mut self, is_left: bool) -> &mut Node
+        ensures* writes_back { sem 𝓛 (LendsHalf self.entry is_left result) }
+        ensures value { result.now ≡ half_of is_left self.old }
+    {
+        if is_left {
+            &mut self.left
+        } else {
+            &mut self.right
+        }
+    }
+
     /// Returns the edge on a side.
     pub(crate) fn edge(&self, side: Side) -> &(Point, Point)
         ensures { result.now ≡ edge_on side self.now }
