@@ -1,7 +1,7 @@
 -- A fork one of whose parts changed in place.
 use Rattle.std.proofs.lemmas.Grind.{common_steps}
 use Rattle.std.proofs.Common.{◌≡◌, ℕ, ◌+◌, ◌*◌, ◌≤◌, ◌<◌, max, Bool, true, false, cond, refl, sym, ap, ◌∙◌, subst, ◌++◌}
-use Rattle.std.proofs.Common.{List, length, length-append, arith}
+use Rattle.std.proofs.Common.{List, get_or, length, length-append, length-drop, length-take, arith}
 use Rattle.std.proofs.Common.{Box, Some, Ok, Err}
 use Rattle.std.specs.Box.{with_value}
 use Rattle.std.specs.List.{Contains}
@@ -14,7 +14,10 @@ use Rattle.lattice.proofs.Order.{after_apart, before_apart, before_trans}
 use Rattle.lattice.specs.Plane.{Pair, IsBefore}
 use Rattle.lattice.specs.declared.side.Side.{Side}
 use Rattle.lattice.specs.declared.side.Side.TheVariants.{Lower, Upper}
-use Rattle.hull_geometry.specs.Positions.{first_of, last_of}
+use Rattle.hull_geometry.specs.Positions.{IsPositionOf, origin, first_of, last_of}
+use Rattle.hull_geometry.proofs.PointLists.{get_or_free}
+use Rattle.std.proofs.lemmas.List.{get_or-drop, get_or-take}
+use Rattle.lattice.specs.Covers.{IsPointSet}
 use Rattle.hull_buckets.specs.Buckets.{BucketValue, IsBucket}
 use Rattle.hull_set.specs.Held.{once}
 use Rattle.bucket_tree.specs.Changes.{AreKept, HasEdgesAfter, HasEnds, IsBridgeBetween, IsUnaffectedOver, IsAfter}
@@ -33,7 +36,7 @@ use Rattle.bucket_tree.specs.declared.node.Node.{Node, Leaf, Fork}
 use Rattle.bucket_tree.specs.declared.renewal.Affected.{Affected}
 use Rattle.bucket_tree.proofs.Added.{ends_at, lost_at}
 use Rattle.bucket_tree.proofs.BuiltLeaves.{leaf_built}
-use Rattle.bucket_tree.proofs.Kept.{DiffersAt, behind_as, unaffected_within, edges_as, ends_kept, same_edges}
+use Rattle.bucket_tree.proofs.Kept.{DiffersAt, behind_as, differs_with, differs_without, unaffected_within, edges_as, ends_kept, same_edges}
 use Rattle.bucket_tree.proofs.Kept.{of_vertices, stored}
 use Rattle.bucket_tree.proofs.Parts.{BelongsTo, HasSpaceFor, IsAt, alters_with, at, unaffected_with, differs, few_with}
 use Rattle.bucket_tree.proofs.Parts.{row_with}
@@ -479,7 +482,7 @@ leaf_in_place p b c v change f h u = record {
   height = refl;
   turns = omega (arith, u.turns);
   unaffected = subst (λ (z : BucketValue). IsUnaffectedOver p change.sides z.points) (sym f) u.unaffected;
-  between = λ t. absurd (false≢true (sym u.unseen ∙ t));
+  between = λ t. subst (λ (z : BucketValue). IsBetween p z.points) (sym f) (u.between t);
 }
 
 -- p was added to a bucket, or removed from it
@@ -509,3 +512,63 @@ pub leaf_changed : (put : Bool) (p : Pair) (n : Node) (b c : Box BucketValue _) 
     → IfOk r (HasChanged put p n (Leaf c))
 leaf_changed put p n b c w v (Err none) e d f h change = tt
 leaf_changed put p n b c w v (Ok returned) e d f h change = grind (arith, common_steps, changed_leaf)
+
+-- ---- a point of a bucket that is neither its first nor its last
+
+-- a point that was added at an index between two others is between them
+pub put_between : (p : Pair) (S T : List Pair) (i : ℕ) → IsPointSet S → IsPositionOf S p (Err i) → 0 < i → i < length S
+    → T ≡ with_point p S → IsBetween p T
+put_between p S T i s h some l e = subst (IsBetween p) (sym e) (u, v, has u low (before_apart u p b), has v high (after_apart v p c), b, c)
+  where
+    u : Pair
+    u = get_or S 0 origin
+
+    v : Pair
+    v = get_or S i origin
+
+    b : IsBefore u p
+    b = let n = length-take i S in
+        subst (λ z. IsBefore z p) (get_or-take i S 0 origin some) (h.1 0 origin (omega (arith, n, some, l)))
+
+    c : IsBefore p v
+    c = let n = length-drop i S in
+        let at : i + 0 ≡ i = omega arith in
+        subst (IsBefore p) (get_or-drop i S 0 origin ∙ ap (λ (k : ℕ). get_or S k origin) at) (h.2 0 origin (omega (arith, n, l)))
+
+    low : Contains S u
+    low = first_among S (omega (arith, l))
+
+    high : Contains S v
+    high = (i, l, get_or_free S i v origin l)
+
+    has : (t : Pair) → Contains S t → ¬ (t ≡ p) → Contains (with_point p S) t
+    has = (differs_with p S s).has
+
+-- a point that was removed from an index between two others was between them
+pub taken_between : (p : Pair) (S T : List Pair) (i : ℕ) → IsPointSet S → IsPositionOf S p (Ok i) → 0 < i → i + 1 < length S
+    → T ≡ without_point p S → IsBetween p T
+taken_between p S T i s h some l e = subst (IsBetween p) (sym e) (u, v, has u low (before_apart u p b), has v high (after_apart v p c), b, c)
+  where
+    u : Pair
+    u = get_or S 0 origin
+
+    v : Pair
+    v = get_or S (i + 1) origin
+
+    at : get_or S i origin ≡ p
+    at = h.1 origin
+
+    b : IsBefore u p
+    b = subst (IsBefore u) at (s 0 i origin some (omega (arith, l)))
+
+    c : IsBefore p v
+    c = subst (λ z. IsBefore z v) at (s i (i + 1) origin (omega arith) l)
+
+    low : Contains S u
+    low = first_among S (omega (arith, l))
+
+    high : Contains S v
+    high = (i + 1, l, get_or_free S (i + 1) v origin l)
+
+    has : (t : Pair) → Contains S t → ¬ (t ≡ p) → Contains (without_point p S) t
+    has = (differs_without p S s).has

@@ -61,7 +61,7 @@ AreFewFor false n = n ≤ POINT_LIMIT
 pub record IsUnsearched (p : Pair) (new : BucketValue) (change : Changed) : Type 0 where
   pub unaffected : IsUnaffectedOver p change.sides new.points
   pub turns : change.turns ≡ 0
-  pub unseen : change.is_between ≡ false
+  pub between : change.is_between ≡ true → IsBetween p new.points
 
 -- p, which was not there, was added to a bucket
 pub record HasPutInto (p : Pair) (old new : BucketValue) (change : Changed) : Type 0 where

@@ -1,6 +1,6 @@
 //! Changes that move no subtree: a bucket with capacity left takes a point, or one with several points loses one. Most changes are of this kind; they
 //! go down once, and write only what they alter. If a change is not of this kind, the multiplicity of the point is returned instead.
-ghost use Rattle.std.specs.Prelude.{◌≡◌, ◌≤◌, ◌<◌, Bool, true, false, IfOk, IfErr, length};
+ghost use Rattle.std.specs.Prelude.{◌≡◌, ◌≤◌, ◌<◌, ◌↔◌, Bool, IsTrue, true, false, IfOk, IfErr, length};
 ghost use Rattle.hull_buckets.specs.Buckets.{IsBucket};
 ghost use Rattle.hull_set.specs.declared.TheConstants.{POINT_LIMIT};
 ghost use Rattle.bucket_tree.specs.Counts.{counted, multiplicity_at};
@@ -37,6 +37,14 @@ trait InPlace {
     fn merges(node: &Node) -> bool;
 }
 
+/// Whether an index has others before it, and is below a number.
+#[inline(always)]
+fn is_inside(place: usize, end: usize) -> bool
+    ensures { IsTrue result ↔ ((0 < place) × (place < end)) }
+{
+    place > 0 && place < end
+}
+
 /// Adds a new point, with multiplicity one, if its bucket has capacity for it.
 struct Coming;
 
@@ -55,12 +63,13 @@ impl InPlace for Coming {
                 if bucket.is_full() {
                     return Err(0);
                 }
+                let is_between = is_inside(place, bucket.points().len());
                 let sides = put_at(bucket, place, p);
                 buckets_are_sound(bucket);
                 Ok(Changed {
                     turns: 0,
                     sides,
-                    is_between: false,
+                    is_between,
                 })
             }
         }
@@ -90,13 +99,14 @@ impl InPlace for Going {
         if multiplicity != 1 || bucket.points().len() == 1 {
             return Err(multiplicity);
         }
+        let is_between = is_inside(place, bucket.points().len() - 1);
         let sides = affected_at(bucket, place, p);
         bucket.remove(place);
         buckets_are_sound(bucket);
         Ok(Changed {
             turns: 0,
             sides,
-            is_between: false,
+            is_between,
         })
     }
 

@@ -1,6 +1,8 @@
 -- the multiplicity of a point that has an index, and 0 for one that has none
-use Rattle.std.proofs.Common.{◌∙◌, ap, get_or, rules, subst, sym}
+use Rattle.std.proofs.Common.{◌∙◌, ◌<◌, List, ap, get_or, length, refl, rules, subst, sym}
+use Rattle.lattice.specs.Plane.{Pair}
 use Rattle.hull_geometry.specs.Positions.{IsPositionOf}
+use Rattle.bucket_tree.proofs.InPlace.{put_between}
 use Rattle.bucket_tree.proofs.Lost.{count_at, count_none}
 use Rattle.bucket_tree.proofs.in_place.ComingInPlace.change.Goals as goal
 
@@ -22,5 +24,14 @@ returns-else-is_full-clause-change c = record {
       (subst (IsPositionOf c.args.bucket.now.points c.args.p) c.in-Err.is c.place_of.ensures);
   points = search rules;
   multiplicities = search rules;
-  unsearched = search rules;
+  unsearched = record {
+    unaffected = search rules;
+    turns = refl;
+    between = λ t.
+        let inside = c.is_inside-is_between.ensures.0 t in
+        put_between c.args.p c.args.bucket.now.points c.put_at-sides.new.bucket.points c.in-Err.place
+        c.buckets_are_sound.ensures.ordered
+        (subst (IsPositionOf c.args.bucket.now.points c.args.p) c.in-Err.is c.place_of.ensures) inside.0
+        (subst (λ (z : List Pair). c.in-Err.place < length z) c.points.ensures.points inside.1) c.put_at-sides.ensures.points;
+  };
 }

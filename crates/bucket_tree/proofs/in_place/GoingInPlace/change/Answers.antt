@@ -1,11 +1,13 @@
 -- a point of multiplicity one counts once
-use Rattle.std.proofs.Common.{◌+◌, ◌∙◌, ap, get_or, refl, subst, sym}
+use Rattle.std.proofs.Common.{◌+◌, ◌-◌, ◌∙◌, ◌<◌, List, ap, arith, get_or, length, refl, subst, sym}
+use Rattle.lattice.specs.Plane.{Pair}
 use Rattle.lattice.specs.Covers.{without_point}
 use Rattle.hull_geometry.specs.Positions.{IsPositionOf, origin}
 use Rattle.hull_set.specs.Held.{once}
 use Rattle.std.specs.List.{remove}
 use Rattle.bucket_tree.specs.Counts.{counted}
 use Rattle.bucket_tree.specs.Changes.{IsUnaffectedOver}
+use Rattle.bucket_tree.proofs.InPlace.{taken_between}
 use Rattle.bucket_tree.proofs.Lost.{count_at, count_none, held_without}
 use Rattle.bucket_tree.proofs.Kept.{unaffected_without}
 use Rattle.bucket_tree.proofs.in_place.GoingInPlace.change.Goals as goal
@@ -43,6 +45,10 @@ returns-clause-change c =
             (unaffected_without c.args.p c.args.bucket.now.points c.affected_at-sides.result c.buckets_are_sound.ensures.ordered
             c.affected_at-sides.ensures);
         turns = refl;
-        unseen = refl;
+        between = λ t.
+            let inside = c.is_inside-is_between.ensures.0 t in
+            let end = subst (λ (z : List Pair). c.in-Ok.place < length z - 1) c.points-2.ensures.points inside.1 in
+            taken_between c.args.p c.args.bucket.now.points c.remove.new.self.points c.in-Ok.place
+            c.buckets_are_sound.ensures.ordered at inside.0 (omega (arith, end)) points;
       };
     }
