@@ -1,6 +1,7 @@
 //! Changes that move no subtree: a bucket with capacity left takes a point, or one with several points loses one. Most changes are of this kind; they
 //! go down once, and write only what they alter. If a change is not of this kind, the multiplicity of the point is returned instead.
-ghost use Rattle.std.specs.Prelude.{◌≡◌, ◌≤◌, ◌<◌, ◌↔◌, Bool, IsTrue, true, false, IfOk, IfErr, length};
+ghost use Rattle.std.specs.Prelude.{◌≡◌, ◌≤◌, ◌<◌, ◌<ℤ◌, ◌↔◌, Bool, IsTrue, true, false, IfOk, IfErr, length};
+ghost use Rattle.lattice.specs.Plane.{IsBefore};
 ghost use Rattle.hull_buckets.specs.Buckets.{IsBucket};
 ghost use Rattle.hull_set.specs.declared.TheConstants.{POINT_LIMIT};
 ghost use Rattle.bucket_tree.specs.Counts.{counted, multiplicity_at};
@@ -186,6 +187,38 @@ fn after_half(fork: &mut Fork, is_left: bool, p: Point, change: Change, below: C
     }
 }
 
+/// Whether the x of `p` is less than that of `q`.
+#[inline(always)]
+fn has_less_x(p: Point, q: Point) -> bool
+    ensures { IsTrue result ↔ (p.x <ℤ q.x) }
+{
+    p.x() < q.x()
+}
+
+/// Whether the x of both is the same.
+#[inline(always)]
+fn has_same_x(p: Point, q: Point) -> bool
+    ensures { IsTrue result ↔ (p.x ≡ q.x) }
+{
+    p.x() == q.x()
+}
+
+/// Whether the y of `p` is less than that of `q`.
+#[inline(always)]
+fn has_less_y(p: Point, q: Point) -> bool
+    ensures { IsTrue result ↔ (p.y <ℤ q.y) }
+{
+    p.y() < q.y()
+}
+
+/// Whether `p` is before `q`, as [`before`], by comparisons of which none waits for another's outcome.
+#[inline(always)]
+fn is_before(p: Point, q: Point) -> bool
+    ensures { IsTrue result ↔ IsBefore p q }
+{
+    has_less_x(p, q) | (has_same_x(p, q) & has_less_y(p, q))
+}
+
 /// Changes the bucket below a node that a point belongs to, and renews the forks above it, if no subtree has to move. Otherwise leaves all unchanged,
 /// and returns the multiplicity of the point there.
 fn change_in_place<C: InPlace>(node: &mut Node, p: Point) -> Result<Changed, u16>
@@ -202,7 +235,7 @@ fn change_in_place<C: InPlace>(node: &mut Node, p: Point) -> Result<Changed, u16
     match node {
         Node::Leaf(bucket) => C::change(bucket, p),
         Node::Fork(_, fork) => {
-            let is_left = before(p, fork.right_ends.first);
+            let is_left = is_before(p, fork.right_ends.first);
             match change_in_place::<C>(fork.half_mut(is_left), p) {
                 Ok(below) => Ok(after_half(
                     fork,

@@ -20,10 +20,10 @@ returns-in-Leaf-clause-change g t c =
 
 pub change_in_place-requires : goal.change_in_place-requires
 change_in_place-requires g t c =
-    let i = fork_at c.before-is_left.result _ _ _ _ _ _ c.in-Fork.is c.deref_mut-in-Fork.ensures.value c.deref.ensures
+    let i = fork_at c.is_before-is_left.result _ _ _ _ _ _ c.in-Fork.is c.deref_mut-in-Fork.ensures.value c.deref.ensures
     c.requires.built
-    (belongs _ _ _ c.before-is_left.ensures.0 c.before-is_left.ensures.1) in
-    let o = part_at c.before-is_left.result g.C.InPlace.puts _ _ _ i.apart c.requires.few c.requires.low in
+    (belongs _ _ _ c.is_before-is_left.ensures.0 c.is_before-is_left.ensures.1) in
+    let o = part_at c.is_before-is_left.result g.C.InPlace.puts _ _ _ i.apart c.requires.few c.requires.low in
     let half = sym c.half_mut.ensures.value in
     let same = ap node_height c.half_mut.ensures.value in
     λ κs lives. (
@@ -39,22 +39,22 @@ change_in_place-requires g t c =
 
 pub after_half-requires : goal.after_half-requires
 after_half-requires g t c =
-    let i = fork_at c.before-is_left.result _ _ _ _ _ _ c.in-Fork.is c.deref_mut-in-Fork.ensures.value c.deref.ensures
+    let i = fork_at c.is_before-is_left.result _ _ _ _ _ _ c.in-Fork.is c.deref_mut-in-Fork.ensures.value c.deref.ensures
     c.requires.built
-    (belongs _ _ _ c.before-is_left.ensures.0 c.before-is_left.ensures.1) in
-    to_renew c.before-is_left.result g.C.InPlace.puts _ _ _ _ _
+    (belongs _ _ _ c.is_before-is_left.ensures.0 c.is_before-is_left.ensures.1) in
+    to_renew c.is_before-is_left.result g.C.InPlace.puts _ _ _ _ _
     c.deref_mut-in-Ok.result.now c.change_in_place.new.node c.in-Ok.below i
     (subst (λ z. HasChanged g.C.InPlace.puts c.args.p z c.change_in_place.new.node c.in-Ok.below) c.half_mut.ensures.value
     c.in-Ok.ensures.change)
     c.requires.few c.requires.low c.deref_mut-in-Ok.ensures.value
-    (c.change_at.ensures ∙ ap (change_of c.before-is_left.result) c.is_adding.ensures)
+    (c.change_at.ensures ∙ ap (change_of c.is_before-is_left.result) c.is_adding.ensures)
 
 pub returns-in-Ok-clause-change : goal.returns-in-Ok-clause-change
 returns-in-Ok-clause-change g t c =
-    let i = fork_at c.before-is_left.result _ _ _ _ _ _ c.in-Fork.is c.deref_mut-in-Fork.ensures.value c.deref.ensures
+    let i = fork_at c.is_before-is_left.result _ _ _ _ _ _ c.in-Fork.is c.deref_mut-in-Fork.ensures.value c.deref.ensures
     c.requires.built
-    (belongs _ _ _ c.before-is_left.ensures.0 c.before-is_left.ensures.1) in
-    changed_with c.before-is_left.result g.C.InPlace.puts _ _ _ _
+    (belongs _ _ _ c.is_before-is_left.ensures.0 c.is_before-is_left.ensures.1) in
+    changed_with c.is_before-is_left.result g.C.InPlace.puts _ _ _ _
     c.deref_mut-in-Ok.result.now c.change_in_place.new.node c.in-Ok.below c.after_half.result _ i
     (subst (λ z. HasChanged g.C.InPlace.puts c.args.p z c.change_in_place.new.node c.in-Ok.below) c.half_mut.ensures.value
     c.in-Ok.ensures.change)
@@ -62,8 +62,8 @@ returns-in-Ok-clause-change g t c =
 
 pub returns-in-Err-clause-returned : goal.returns-in-Err-clause-returned
 returns-in-Err-clause-returned g t c =
-    let i = fork_at c.before-is_left.result _ _ _ _ _ _ c.in-Fork.is c.deref_mut-in-Fork.ensures.value c.deref.ensures
+    let i = fork_at c.is_before-is_left.result _ _ _ _ _ _ c.in-Fork.is c.deref_mut-in-Fork.ensures.value c.deref.ensures
     c.requires.built
-    (belongs _ _ _ c.before-is_left.ensures.0 c.before-is_left.ensures.1) in
+    (belongs _ _ _ c.is_before-is_left.ensures.0 c.is_before-is_left.ensures.1) in
     c.in-Err.ensures.returned ∙ ap (λ z. multiplicity_at z c.args.p) c.half_mut.ensures.value
-    ∙ sym (same_below c.before-is_left.result _ _ _ _ i)
+    ∙ sym (same_below c.is_before-is_left.result _ _ _ _ i)
