@@ -11,3 +11,4 @@ pub mod Served
 pub mod Found
 mod SnapshotReplies
 pub mod SnapshotSlots
+pub mod Takes

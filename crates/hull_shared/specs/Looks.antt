@@ -29,6 +29,12 @@ use Rattle.hull_shared.specs.declared.seat.SharedSeat.{SharedSeat}
 use Rattle.hull_shared.specs.declared.seat.SharedSeat.TheVariants.{Vacant, Idle, Waiting}
 use Rattle.hull_shared.specs.declared.seat.WaitingSeat.{WaitingSeat}
 
+-- the seat has no number
+abbrev pub IsIdle : SharedSeat → Type 0
+IsIdle Vacant = ⊥
+IsIdle (Idle i) = Unit {0}
+IsIdle (Waiting w) = ⊥
+
 -- the seat has taken a number for the call: it is the same seat of the same lock, and has seen the same lines
 abbrev pub WaitsFor : IdleSeat → WaitingSeat → Call → Type 0
 WaitsFor i w call = (lock_of w.lock ≡ lock_of i.lock) × (w.number ≡ i.number) × (w.call ≡ call)

@@ -1,6 +1,5 @@
 -- a seat with no number took one for the requested call, and looked
 use Rattle.hull_shared.proofs.looking.after_take_and_look.Goals as goal
 
-pub returns-in-Ok : goal.returns-in-Ok
-returns-in-Ok c =
-    rw (c.in-Idle.is, c.in-Ok.is) (c.with_number.result, c.with_number.ensures, c.replied_after_look_of.ensures)
+pub returns : goal.returns
+returns c = rw c.in-Idle.is (c.with_number.result, c.with_number.ensures, c.replied_after_look_of.ensures)
