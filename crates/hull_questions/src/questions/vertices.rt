@@ -72,7 +72,9 @@ fn last_half_on<H: Half>(half: H, side: Side) -> H
 }
 
 /// Appends the vertices of the chain on a side from one vertex to another, which is left out.
-fn push_chain_range<H: ListsRuns>(
+#[cycle(ranges)]
+#[inline(always)]
+fn push_range<H: ListsRuns>(
     half: H,
     side: Side,
     from: Point,
@@ -85,17 +87,32 @@ fn push_chain_range<H: ListsRuns>(
     if from == to {
         return Ok(());
     }
+    push_long_range(half, side, from, to, out)
+}
+
+/// Appends the vertices of the chain on a side from one vertex to another, which is left out, and of which some edges lie between.
+#[cycle(ranges)]
+fn push_long_range<H: ListsRuns>(
+    half: H,
+    side: Side,
+    from: Point,
+    to: Point,
+    out: &mut Vec<Point, Heap>,
+) -> Result<(), AllocError>
+    requires { IsChainRange (tree_on side (H.tree half)) from to }
+    ensures { IfOk result (λ _. IsListed (tree_on side (H.tree half)) from to side out.old.items out.new.items) }
+{
     if half.push_run(side, from, to, out)? {
         return Ok(());
     }
     match range_shape_on(half, side, from, to) {
         RangeShape::Nowhere => Ok(()),
-        RangeShape::Left => push_chain_range(first_half_on(half, side), side, from, to, out),
-        RangeShape::Right => push_chain_range(last_half_on(half, side), side, from, to, out),
+        RangeShape::Left => push_long_range(first_half_on(half, side), side, from, to, out),
+        RangeShape::Right => push_long_range(last_half_on(half, side), side, from, to, out),
         RangeShape::Across(bridge) => {
-            push_chain_range(first_half_on(half, side), side, from, bridge.0, out)?;
+            push_range(first_half_on(half, side), side, from, bridge.0, out)?;
             out.push(seen_from(side, bridge.0))?;
-            push_chain_range(last_half_on(half, side), side, bridge.1, to, out)
+            push_range(last_half_on(half, side), side, bridge.1, to, out)
         }
     }
 }
@@ -120,7 +137,7 @@ fn push_chain<H: ListsRuns>(
         (last_of (tree_on side (H.tree half))) side out.old.items out.new.items) }
 {
     let (first, last) = ends_on(half, side);
-    push_chain_range(half, side, first, last, out)
+    push_range(half, side, first, last, out)
 }
 
 /// Returns the vertices of the hull of a half, counterclockwise from the first point; no more than there are points.

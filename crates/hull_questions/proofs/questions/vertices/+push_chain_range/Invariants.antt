@@ -1,7 +1,0 @@
--- each half has less height
-use Rattle.bridge_search.specs.Trees.{height_of}
-use Rattle.hull_questions.specs.Walks.{tree_on}
-use Rattle.hull_questions.proofs.questions.vertices.+push_chain_range.Given as goal
-
-abbrev pub decreases-push_chain_range : goal.decreases-push_chain_range
-decreases-push_chain_range g l = height_of (tree_on l.side (g.H.Half.tree l.half))
