@@ -63,7 +63,7 @@ enum {
     DESIGNATED = 256,      /* a caller that was parked is awake and designated to enter next */
     CLOSED = 512,          /* only the designated caller may enter */
     PARKED = 1024,         /* the unit in which the parked callers are counted: those that sleep outside */
-    SERVES_MOST = 64       /* so many calls of others a thread serves after its own */
+    SERVES_MOST = 256      /* so many calls of others a thread serves after its own */
 };
 
 /* How often a thread looks before it sleeps; tests that try every order of steps define less. */
@@ -88,7 +88,7 @@ enum {
 /* How many calls of others a thread serves after its own, and for how long, in nanoseconds; tests define less. */
 #ifndef HULL_SHARED_SERVES
 #define HULL_SHARED_SERVES SERVES_MOST
-#define HULL_SHARED_SERVES_FOR 50000
+#define HULL_SHARED_SERVES_FOR 200000
 #endif
 
 /* A call that need not wait is made by one function, with what may wait out of its way. */

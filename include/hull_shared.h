@@ -394,7 +394,7 @@ typedef void hull_shared_hook(void *context, const hull_shared_segment *segment)
 /* Sets how many calls the gate admits at once: returns 1; or 0 if `inside` is not 1 to 64, and the gate is unchanged. With 1,
  * which all zero means, calls enter as described above. With as many as there are seats (strict order) no call waits for
  * admission, and each is served in the order in which the calls took their numbers: none passes one that waits. A thread whose
- * call was served then serves those that wait with the next numbers, in place of their threads: at most 64, for some 50
+ * call was served then serves those that wait with the next numbers, in place of their threads: at most 256, for some 200
  * microseconds, and not after the deadline of its own call. So memory for a call may be allocated and freed, and its array or
  * segment written, by another thread than its own. Call it again only when no seat is acquired with the gate. */
 int hull_shared_gate_init(hull_shared_gate *gate, uint32_t inside);

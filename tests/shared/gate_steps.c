@@ -617,13 +617,13 @@ static void check_open_to_all(void) {
     close_all();
 }
 
-/* A call serves others for fifty microseconds, and not after its deadline. */
+/* A call serves others for two hundred microseconds, and not after its deadline. */
 static void check_time_of_serving(void) {
     struct call call = {gate, NULL, 1, HULL_KIND_COUNT, 0, 0, HULL_NEVER};
-    check("fifty microseconds", end_of_serving(&call), still_now + 50000);
-    call.until = still_now + 49999;
-    check("not after its deadline", end_of_serving(&call), still_now + 49999);
-    check("as many as there are seats", HULL_SHARED_SERVES, HULL_SHARED_SEATS_MAX);
+    check("two hundred microseconds", end_of_serving(&call), still_now + 200000);
+    call.until = still_now + 199999;
+    check("not after its deadline", end_of_serving(&call), still_now + 199999);
+    check("how many calls", HULL_SHARED_SERVES, 256);
 }
 
 static uint64_t first_number;
