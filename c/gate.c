@@ -729,7 +729,7 @@ static uint64_t end_of_serving(const struct call *call) {
 
 /* The nodes of threads that sleep, to be woken later. */
 struct sleepers {
-    struct wait_node *nodes[SERVES_MOST];
+    struct wait_node *nodes[HULL_SHARED_SEATS_MAX];
     uint32_t count;
 };
 
@@ -737,6 +737,14 @@ static void wake_all(struct sleepers *sleepers) {
     while (sleepers->count > 0) {
         wake_posted(sleepers->nodes[--sleepers->count]);
     }
+}
+
+/* Adds a node to the sleepers. (One that woke by itself may sleep again, and be there twice.) */
+static void add_sleeper(struct sleepers *sleepers, struct wait_node *node) {
+    if (sleepers->count == HULL_SHARED_SEATS_MAX) {
+        wake_all(sleepers);
+    }
+    sleepers->nodes[sleepers->count++] = node;
 }
 
 /* Claims the seat that is posted with a number, for a thread that serves others. If none is, it wakes those that it served, and looks a few
@@ -774,7 +782,7 @@ OUT_OF_LINE void serve_claimed(const struct call *call, uint32_t seat, uint64_t 
         served++;
         held = binding_of(node->seat)->reply.held;
         if (notify(node, IS_SERVED)) {
-            sleepers.nodes[sleepers.count++] = node;
+            add_sleeper(&sleepers, node);
         }
         seat = claim_next(gate, ++number, &sleepers);
     }
