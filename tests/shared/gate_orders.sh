@@ -60,7 +60,7 @@ right_ones() {
     right 2 2 2 cu 0 2 0 0
     right 3 1 1 ccc
     right 3 1 1 cut 0 2 0 0
-    right 3 1 2 ccu 0 1 0 0
+    right 3 1 2 ccu 0 0 0 0
     right 3 1 64 ccc 0 1 0 0
     right 2 1 1 cc 1 1 0 0
     right 2 1 2 cd 1 1 0 0
@@ -73,6 +73,7 @@ right_ones() {
     right 8 3 8 cccccutd 3 2 1 1 "$random"
     right 8 3 8 ccccccdd 1 2 1 1 "$random"
     if [ "$more" ]; then
+        right 3 1 2 ccu 0 1 0 0
         right 3 1 2 ccu
         right 2 2 1 cc 1 0 0 0
         right 3 2 1 ccc 0 1 0 0
