@@ -80,6 +80,8 @@ void hull_check_arrays(int is_on) {
     "cbnz w16, 1f\n"                                                                                                                         \
     "b hull_proved_" #name "\n"                                                                                                              \
     "1: b checked_" #name "\n"
+#else
+#error "the jump to a checked form is written for x86-64 and aarch64, as the proved functions are"
 #endif
 
 static inline int is_checking(void) {

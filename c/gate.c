@@ -37,7 +37,9 @@
  *    a later number is announced only after that one was served. If the look at the slot came after the post, it found the seat posted,
  *    or taken back. Claiming a post and taking it back are changes of one word, so that only one of them succeeds, once. A seat takes
  *    its next number only after its word was changed or its post was taken back, so that one seat is never posted twice, and the slot is
- *    used again only 64 numbers later: after this number was handed on, and so after its claim.
+ *    used again only 64 numbers later: after this number was handed on, and so after its claim. A posted thread says that it may sleep
+ *    before it falls asleep, which it does only if its word has not changed, and who has changed that word looks later whether the thread
+ *    may sleep: so one of the two sees what the other has stored, and a thread that sleeps on a word that was changed is woken.
  * 6. A call that found no space in the journal, if the gate waits for space, sleeps outside the gate and with no number, on a word
  *    that each drain changes after its look. It read that word before it took its number: a drain after its call changes the word
  *    after that reading. The thread that drained for the hook changes the word once more when the hook has ended, since another
@@ -54,6 +56,7 @@
 
 /* the proved functions that those of the same name here call, as tools/product.sh names them: they know no gate */
 size_t hull_proved_shared_seat_size(void);
+size_t hull_proved_shared_seat_alignment(void);
 void hull_proved_shared_make_seat(hull_shared_seat *seat);
 uint32_t hull_proved_shared_acquire_seat(hull_shared *shared, hull_shared_seat *seat, uint32_t number);
 uint32_t hull_proved_shared_release_seat(hull_shared *shared, hull_shared_seat *seat);
@@ -109,8 +112,8 @@ struct slot {
 enum { CLAIMED, POSTED }; /* (or taken back) */
 enum { ONE_SEAT = 4, ONE_NUMBER = 256 /* the units of the word */ };
 
-/* The notice of a posted seat: its thread waits or sleeps; or another thread has served its call, or has left the look to it. */
-enum { WAITS, SLEEPS, IS_SERVED, IS_TO_LOOK };
+/* The notice of a posted seat: its thread waits; or another thread has served its call, or has left the look to it. */
+enum { WAITS, IS_SERVED, IS_TO_LOOK };
 
 /* The wait node of one seat: where it sleeps, and since when its call has been inside. In the queue a seat is its number plus 1, and
  * no seat is 0. */
@@ -123,8 +126,9 @@ struct wait_node {
     uint64_t turn;
     uint32_t has_turn; /* HAS_TURN, or HAD_TURN after another thread served that number, or 0 */
     uint32_t notice;   /* the word that it sleeps on while it is posted */
+    uint32_t sleeps;   /* whether it does, or is about to */
     hull_shared_seat *seat;
-    unsigned char padding[16];
+    unsigned char padding[8];
 };
 
 enum { HAS_TURN = 1, HAD_TURN };
@@ -181,9 +185,14 @@ struct binding {
     hull_shared_reply reply;
 };
 
+enum { LINE = 64 }; /* of the cache */
+
+static size_t whole_lines(size_t bytes) {
+    return (bytes + LINE - 1) / LINE * LINE;
+}
+
 static size_t binding_offset(void) {
-    const size_t unit = sizeof(void *);
-    return (hull_proved_shared_seat_size() + unit - 1) / unit * unit;
+    return whole_lines(hull_proved_shared_seat_size());
 }
 
 static struct binding *binding_of(hull_shared_seat *seat) {
@@ -191,7 +200,13 @@ static struct binding *binding_of(hull_shared_seat *seat) {
 }
 
 size_t hull_shared_seat_size(void) {
-    return binding_offset() + sizeof(struct binding);
+    return binding_offset() + whole_lines(sizeof(struct binding));
+}
+
+/* (So no two seats share a line, which their threads would take from one another.) */
+size_t hull_shared_seat_alignment(void) {
+    const size_t proved = hull_proved_shared_seat_alignment();
+    return proved > LINE ? proved : LINE;
 }
 
 void hull_shared_make_seat(hull_shared_seat *seat) {
@@ -659,7 +674,6 @@ IN_LINE uint32_t claim_or_announce(struct gate *gate, uint64_t number) {
 
 /* Reads ahead what a thread needs to serve the seat that is posted with a number, if one is, and the slot after it. */
 static void read_ahead(struct gate *gate, uint64_t number) {
-    enum { LINE = 64 };
     const struct slot *slot = &gate->slots[number % HULL_SHARED_SEATS_MAX];
     const uint64_t word = __atomic_load_n(&slot->word, __ATOMIC_RELAXED);
     const unsigned char *seat = (const unsigned char *)__atomic_load_n(&slot->seat, __ATOMIC_RELAXED);
@@ -674,10 +688,16 @@ static void read_ahead(struct gate *gate, uint64_t number) {
     }
 }
 
-/* Gives a posted seat its notice; returns whether its thread sleeps, and has to be woken. */
-static int notify(struct wait_node *node, uint32_t notice) {
+/* Gives a posted seat its notice. */
+static void notify(struct wait_node *node, uint32_t notice) {
     HULL_SHARED_STEP("to notify");
-    return __atomic_exchange_n(&node->notice, notice, __ATOMIC_SEQ_CST) == SLEEPS;
+    __atomic_store_n(&node->notice, notice, __ATOMIC_RELEASE);
+}
+
+/* Whether the thread of a seat that was given its notice before may sleep, and has to be woken. */
+static int may_sleep(struct wait_node *node) {
+    __atomic_thread_fence(__ATOMIC_SEQ_CST);
+    return __atomic_load_n(&node->sleeps, __ATOMIC_SEQ_CST) != 0;
 }
 
 static void wake_posted(struct wait_node *node) {
@@ -687,7 +707,8 @@ static void wake_posted(struct wait_node *node) {
 
 /* Leaves the look with a claimed seat to its thread. */
 static void leave_look(struct wait_node *node) {
-    if (notify(node, IS_TO_LOOK)) {
+    notify(node, IS_TO_LOOK);
+    if (may_sleep(node)) {
         wake_posted(node);
     }
 }
@@ -717,7 +738,6 @@ static int serve(struct gate *gate, struct wait_node *node) {
     hull_mark_after(binding);
     is_served = look(gate, node->seat, &binding->to, &binding->reply);
     hull_mark_before(binding);
-    __atomic_store_n(&node->has_turn, is_served ? HAD_TURN : HAS_TURN, __ATOMIC_RELAXED);
     return is_served;
 }
 
@@ -727,34 +747,52 @@ static uint64_t end_of_serving(const struct call *call) {
     return end < call->until ? end : call->until;
 }
 
-/* The nodes of threads that sleep, to be woken later. */
-struct sleepers {
-    struct wait_node *nodes[HULL_SHARED_SEATS_MAX];
+/* The node of the thread that was told last that its call was served, and those of threads that may sleep, to be woken later. */
+struct told {
+    struct wait_node *last;
+    struct wait_node *sleepers[HULL_SHARED_SEATS_MAX];
     uint32_t count;
 };
 
-static void wake_all(struct sleepers *sleepers) {
-    while (sleepers->count > 0) {
-        wake_posted(sleepers->nodes[--sleepers->count]);
+static void wake_sleepers_of(struct told *told) {
+    while (told->count > 0) {
+        wake_posted(told->sleepers[--told->count]);
     }
 }
 
-/* Adds a node to the sleepers. (One that woke by itself may sleep again, and be there twice.) */
-static void add_sleeper(struct sleepers *sleepers, struct wait_node *node) {
-    if (sleepers->count == HULL_SHARED_SEATS_MAX) {
-        wake_all(sleepers);
+/* Looks whether the thread that was told last may sleep. (One that woke by itself may sleep again, and be among the sleepers twice.) */
+static void note_sleeper(struct told *told) {
+    struct wait_node *node = told->last;
+    told->last = NULL;
+    if (node != NULL && may_sleep(node)) {
+        if (told->count == HULL_SHARED_SEATS_MAX) {
+            wake_sleepers_of(told);
+        }
+        told->sleepers[told->count++] = node;
     }
-    sleepers->nodes[sleepers->count++] = node;
 }
 
-/* Claims the seat that is posted with a number, for a thread that serves others. If none is, it wakes those that it served, and looks a few
- * times more: they make their next calls now. Returns the seat; or 0, and the number is announced. */
-static uint32_t claim_next(struct gate *gate, uint64_t number, struct sleepers *sleepers) {
-    uint32_t seat = claim(gate, number);
+/* Wakes all threads that were told and may sleep. */
+static void wake_told(struct told *told) {
+    note_sleeper(told);
+    wake_sleepers_of(told);
+}
+
+/* Tells the thread of a posted seat that its call was served. Whether it sleeps is looked up one call later, when the store of its notice has
+ * reached the other processor: so no step waits for that. */
+static void tell(struct told *told, struct wait_node *node) {
+    note_sleeper(told);
+    __atomic_store_n(&node->has_turn, HAD_TURN, __ATOMIC_RELAXED);
+    notify(node, IS_SERVED);
+    told->last = node;
+}
+
+/* Wakes those whose calls a thread served, and looks for the seat that is posted with a number a few times more: they make their next calls now.
+ * Returns the seat; or 0, and the number is announced. */
+static uint32_t wait_and_claim(struct gate *gate, uint64_t number, struct told *told) {
+    uint32_t seat = 0;
     unsigned looks;
-    if (seat == 0) {
-        wake_all(sleepers);
-    }
+    wake_told(told);
     for (looks = 0; seat == 0 && looks < POST_LOOKS; looks++) {
         hull_pause(0);
         seat = claim(gate, number);
@@ -767,10 +805,10 @@ static uint32_t claim_next(struct gate *gate, uint64_t number, struct sleepers *
  * thread has to drain, which at first `held` lines say: then the thread of the next seat is to look. */
 OUT_OF_LINE void serve_claimed(const struct call *call, uint32_t seat, uint64_t number, uint32_t held) {
     struct gate *gate = call->gate;
-    struct sleepers sleepers;
+    struct told told;
     uint32_t served = 0, server = call->number;
     uint64_t end = end_of_serving(call);
-    sleepers.count = 0;
+    told.last = NULL, told.count = 0;
     __atomic_store_n(&gate->server, server, __ATOMIC_RELAXED);
     while (seat != 0) {
         struct wait_node *node = node_of(gate, seat);
@@ -781,14 +819,15 @@ OUT_OF_LINE void serve_claimed(const struct call *call, uint32_t seat, uint64_t 
         }
         served++;
         held = binding_of(node->seat)->reply.held;
-        if (notify(node, IS_SERVED)) {
-            add_sleeper(&sleepers, node);
+        seat = claim(gate, ++number);
+        tell(&told, node);
+        if (seat == 0) {
+            seat = wait_and_claim(gate, number, &told);
         }
-        seat = claim_next(gate, ++number, &sleepers);
     }
     __atomic_compare_exchange_n(&gate->server, &server, 0, 0, __ATOMIC_RELAXED, __ATOMIC_RELAXED);
     __atomic_fetch_add(&gate->combined, served, __ATOMIC_RELAXED);
-    wake_all(&sleepers);
+    wake_told(&told);
 }
 
 /* Serves the calls that are posted from this number on, which was handed on; at first the book has `held` lines. */
@@ -808,6 +847,7 @@ static uint64_t post_of(const struct call *call, uint64_t number) {
 static void post(const struct call *call, uint64_t number, const hull_shared_target *to) {
     binding_of(call->seat)->to = *to;
     __atomic_store_n(&node_of(call->gate, call->number)->notice, WAITS, __ATOMIC_RELAXED);
+    __atomic_store_n(&node_of(call->gate, call->number)->sleeps, 0, __ATOMIC_RELAXED);
     __atomic_store_n(&call->gate->slots[number % HULL_SHARED_SEATS_MAX].seat, call->seat, __ATOMIC_RELAXED);
     hull_mark_before(binding_of(call->seat));
     __atomic_store_n(slot_of(call->gate, number), post_of(call, number), __ATOMIC_SEQ_CST);
@@ -824,11 +864,11 @@ static int take_back(const struct call *call, uint64_t number) {
  * returns IS_TO_LOOK. */
 static uint32_t await_notice(const struct call *call, uint64_t number) {
     enum { LONGEST = 2 /* of the pauses */ };
-    uint32_t *notice = &node_of(call->gate, call->number)->notice;
+    struct wait_node *node = node_of(call->gate, call->number);
     unsigned looks = 0;
     for (;;) {
-        uint32_t seen = __atomic_load_n(notice, __ATOMIC_SEQ_CST);
-        if (seen == IS_SERVED || seen == IS_TO_LOOK) {
+        uint32_t seen = __atomic_load_n(&node->notice, __ATOMIC_SEQ_CST);
+        if (seen != WAITS) {
             return seen;
         }
         if (__atomic_load_n(&call->gate->announced, __ATOMIC_SEQ_CST) == number && take_back(call, number)) {
@@ -840,9 +880,10 @@ static uint32_t await_notice(const struct call *call, uint64_t number) {
         } else if (looks < POSTED_LOOKS + POSTED_YIELDS) {
             looks++;
             sched_yield();
-        } else if (seen == SLEEPS || __atomic_compare_exchange_n(notice, &seen, SLEEPS, 0, __ATOMIC_SEQ_CST, __ATOMIC_SEQ_CST)) {
+        } else {
+            __atomic_store_n(&node->sleeps, 1, __ATOMIC_SEQ_CST);
             HULL_SHARED_STEP("to sleep");
-            hull_sleep(notice, SLEEPS, HULL_NEVER);
+            hull_sleep(&node->notice, WAITS, HULL_NEVER);
         }
     }
 }

@@ -37,7 +37,7 @@ enum { MOST = 8, SLOTS = 48, TIMES = 3 /* that a call may take a number */, STAC
 
 struct seat {
     struct proved_seat proved;
-    struct binding binding;
+    _Alignas(64) struct binding binding;
 };
 
 enum { READY, ASLEEP, DONE };

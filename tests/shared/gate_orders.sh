@@ -119,8 +119,11 @@ wrong_ones() {
     wrong 'a seat is posted before its thread may be given a notice' '2 1 2 cc' \
         's/^    __atomic_store_n\(\&node_of\(call->gate, call->number\)->notice, WAITS, __ATOMIC_RELAXED\);/    ;/; s/^    HULL_SHARED_STEP\("posted"\);/    __atomic_store_n(\&node_of(call->gate, call->number)->notice, WAITS, __ATOMIC_SEQ_CST);/'
     wrong 'a thread that serves others or hands on wakes none' '2 1 2 cc' 's/^( +)hull_wake\(\&node->notice, 1\);/\1;/'
-    wrong 'a notice is given by a look and a store' '2 1 2 cc' \
-        '/^    HULL_SHARED_STEP\("to notify"\);/{N;s/\n.*$/\n    int sleeps = __atomic_load_n(\&node->notice, __ATOMIC_SEQ_CST) == SLEEPS; __atomic_store_n(\&node->notice, notice, __ATOMIC_SEQ_CST); return sleeps;/}'
+    wrong 'who gives a notice looks before that whether the thread sleeps' '2 1 2 cc' \
+        '/^    HULL_SHARED_STEP\("to notify"\);/{i\    node->padding[0] = __atomic_load_n(\&node->sleeps, __ATOMIC_SEQ_CST) != 0;
+}; s/^    return __atomic_load_n\(\&node->sleeps, __ATOMIC_SEQ_CST\) != 0;/    return node->padding[0];/'
+    wrong 'a thread that is told last is not woken' '2 1 2 cc' '/^static void wake_told/{n;s/^.*$/    ;/}'
+    wrong 'a posted thread sleeps before it says so' '2 1 2 cc' 's/^( +)__atomic_store_n\(\&node->sleeps, 1, __ATOMIC_SEQ_CST\);/\1;/'
     wrong 'a notice is given before the call is served' '2 1 2 cc' \
         's/^        if \(served == HULL_SHARED_SERVES/        __atomic_store_n(\&node->notice, IS_SERVED, __ATOMIC_SEQ_CST);\n&/'
     wrong 'a thread that serves no more leaves the next without a notice' '8 3 8 cccccccc 0 2 0 1 20000' 's/^            leave_look\(node\);/            ;/'

@@ -19,7 +19,7 @@ enum { MOST = 64 };
 
 static struct seat {
     struct proved_seat proved;
-    struct binding binding;
+    _Alignas(64) struct binding binding;
 } seats[MOST];
 static hull_shared_gate gate;
 static unsigned many, calls;

@@ -631,8 +631,9 @@ static uint64_t first_number;
 /* While seat 38 sleeps with its number: it is reported, and its call is made by this thread. */
 static void serve_last(void) {
     struct wait_node *node = node_of(gate, 39);
+    struct told told = {NULL, {NULL}, 0};
     hull_shared_reply reply;
-    if (node->notice != SLEEPS) {
+    if (node->sleeps == 0) {
         return;
     }
     still_now += 1000;
@@ -642,9 +643,12 @@ static void serve_last(void) {
     check("a look", reply.answer.code, HULL_NUMBER);
     check("the seat after it", claim(gate, first_number + 1), 39);
     check("is served", (uint64_t)serve(gate, node), 1);
-    check("and had its turn", node->has_turn, HAD_TURN);
     check("the number that is served", gate->turn, first_number + 2);
-    check("its thread sleeps", (uint64_t)notify(node, IS_SERVED), 1);
+    tell(&told, node);
+    check("it had its turn", node->has_turn, HAD_TURN);
+    check("its notice", node->notice, IS_SERVED);
+    note_sleeper(&told);
+    check("its thread sleeps", told.count, 1);
 }
 
 /* A thread serves two seats that are posted, of which one looks and one sleeps: both are counted, and only the sleeper is woken. */
@@ -660,7 +664,7 @@ static void check_serving(void) {
             post(&calls[k], first + k, &nowhere);
         }
     }
-    gate->nodes[2].notice = SLEEPS;
+    gate->nodes[2].sleeps = 1;
     woken.count = 0;
     check("a look", hull_shared_look(seats[0]).answer.code, HULL_NUMBER);
     serve_next(&calls[0], first + 1, 1);
@@ -675,7 +679,7 @@ static void check_serving(void) {
 
 /* While seat 6 sleeps with its number: its time is counted from the first time that it is asked for. */
 static void ask_for_times(void) {
-    if (gate->nodes[6].notice != SLEEPS) {
+    if (gate->nodes[6].sleeps == 0) {
         return;
     }
     gate->nodes[2].since = UNTIMED, gate->nodes[2].has_turn = HAS_TURN, gate->nodes[2].turn = first_number + 2;

@@ -62,7 +62,7 @@ races_are_found() {
 
 races() {
     if ! has_thread_sanitizer; then skip "races by ThreadSanitizer" "clang with its sanitizers"; return; fi
-    races_are_found 'a notice in relaxed order' 's/(return __atomic_exchange_n\(&node->notice, notice), __ATOMIC_SEQ_CST/\1, __ATOMIC_RELAXED/'
+    races_are_found 'a notice in relaxed order' 's/(__atomic_store_n\(&node->notice, notice), __ATOMIC_RELEASE/\1, __ATOMIC_RELAXED/'
     races_are_found 'a post in relaxed order' 's/post_of\(call, number\), __ATOMIC_SEQ_CST/post_of(call, number), __ATOMIC_RELAXED/'
 }
 

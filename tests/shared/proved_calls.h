@@ -33,6 +33,10 @@ static inline void begin_book(uint32_t space) {
     book.space = space;
 }
 
+size_t hull_proved_shared_seat_alignment(void) {
+    return 8;
+}
+
 size_t hull_proved_shared_seat_size(void) {
     return sizeof(struct proved_seat);
 }
