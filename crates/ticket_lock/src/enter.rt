@@ -47,7 +47,7 @@ impl<B: Chronicle> TicketLock<B> {
     // that number until the seat has entered, the word contains that number; before, a smaller one or the first.
     fn is_near(&self, number: u64) -> bool {
         let before = number.wrapping_sub(NEAR);
-        let found = self.board.shared.peek((before % 8) as usize + 1);
+        let found = self.board.shared.peek((before % 8) as usize + 8);
         number.wrapping_sub(found) <= NEAR
     }
 
@@ -55,7 +55,7 @@ impl<B: Chronicle> TicketLock<B> {
     // announcement, so it finds the announcement and wakes the seat.
     fn sleep<R: Wait>(&self, rt: &R, number: u64) {
         let announced = self.sleepers.announce(number);
-        if self.board.shared.peek((number % 8) as usize + 1) != number {
+        if self.board.shared.peek((number % 8) as usize + 8) != number {
             announced.wait(rt);
         }
     }

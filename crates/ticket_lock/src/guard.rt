@@ -70,7 +70,7 @@ impl<'a, B: Chronicle> Guard<'a, B> {
         let left = shared.exchange(&mut place, 0, Some(book));
         let None = left else { unreachable!() };
         let next = number.wrapping_add(1);
-        shared.store::<plays::HandOn>(&mut place, (next % 8) as usize + 1, next);
+        shared.store::<plays::HandOn>(&mut place, (next % 8) as usize + 8, next);
         Seat {
             place,
             number: seat as u8,

@@ -10,11 +10,14 @@ use crate::sleepers::Sleepers;
 use crate::ticket::{Look, Ticket};
 
 /// A ticket lock around a book. `open` makes it and `close` ends it. It can't be dropped.
+///
+/// Of its board's sixteen words, word 0 is the next number, and grant word j is word j + 8: 64 bytes from word 0, so that a thread that takes a number
+/// does not take the cache line of the grant words from the one that hands on.
 pub struct TicketLock<B: Chronicle> {
     pub(crate) board: Board<B>,
     pub(crate) seats: u8,
     pub(crate) sleepers: Sleepers,
-    ghost sized: { (board.shared.table_id.words ≡ 9) × (board.shared.table_id.slots ≡ 1)
+    ghost sized: { (board.shared.table_id.words ≡ 16) × (board.shared.table_id.slots ≡ 1)
         × (board.shared.key.seats ≡ seats) },
 }
 
@@ -63,7 +66,7 @@ impl<B: Chronicle> TicketLock<B> {
             seat,
             number,
         } = ticket;
-        let word = (number % 8) as usize + 1;
+        let word = (number % 8) as usize + 8;
         let found = self.board.shared.load::<plays::Look>(&mut place, word);
         if found != number {
             return Look::NotYet(Ticket {

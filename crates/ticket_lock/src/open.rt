@@ -45,7 +45,7 @@ fn lay<B: Chronicle>(alloc: Global, book: B, seats: u8) -> Result<(Board<B>, Pla
     requires lawful { B.lawful book }
     requires few { seats ≤ 64 }
     ensures sized { IfOk result
-        (λ r. (r.0.shared.table_id.words ≡ 9) × (r.0.shared.table_id.slots ≡ 1) × (r.0.shared.key.seats ≡ seats)
+        (λ r. (r.0.shared.table_id.words ≡ 16) × (r.0.shared.table_id.slots ≡ 1) × (r.0.shared.key.seats ≡ seats)
         × (r.0.shared.key.book.value ≡ book)) }
     ensures keeper { IfOk result
         (λ r. (r.1.table_id ≡ r.0.shared.table_id) × (r.1.me ≡ (keeper_of (B.head book) (B.lines book) 0 seats, []))) }
@@ -61,7 +61,7 @@ fn lay<B: Chronicle>(alloc: Global, book: B, seats: u8) -> Result<(Board<B>, Pla
         return Err(book);
     };
     slots.push_reserved(Some(book));
-    match Table::new(alloc, &[turn; 9], slots, &about) {
+    match Table::new(alloc, &[turn; 16], slots, &about) {
         Ok(made) => Ok(made),
         Err(Refused { slots }) => Err(only(slots).unwrap()),
     }

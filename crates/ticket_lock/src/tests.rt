@@ -117,7 +117,7 @@ fn two_seats_across_the_wrap(rt: HostRuntime) -> Result<(), Fail> {
 fn grant_words(lock: &TicketLock<Roll>) -> [u64; 8] {
     let mut words = [0; 8];
     for j in 0..8 {
-        words[j] = lock.board.shared.peek(j + 1);
+        words[j] = lock.board.shared.peek(j + 8);
     }
     words
 }
