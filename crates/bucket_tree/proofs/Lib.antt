@@ -27,3 +27,4 @@ pub mod Rotated
 pub mod RotatedNodes
 pub mod ListedRuns
 pub mod PassedRuns
+pub mod ChainWalks

@@ -1,9 +1,12 @@
 -- A run of a walk while it is listed.
-use Rattle.std.proofs.Common.{◌≡◌, ◌∙◌, refl, sym, ap, ℕ, true, List, [], ◌∷◌, ◌++◌, length, take, append-nil, append_assoc}
+use Rattle.std.proofs.Common.{arith, ◌≡◌, ◌∙◌, inl, inr, refl, sym, ap, subst, List, [], ◌∷◌, ◌++◌, append-nil, append_assoc}
+use Rattle.std.specs.List.{Contains}
+use Rattle.std.proofs.lemmas.List.Elements.{Contains-append_cases, Contains-append_right}
 use Rattle.lattice.specs.Plane.{Pair}
 use Rattle.hull_geometry.specs.Edges.{end_of}
+use Rattle.hull_geometry.proofs.PointLists.{later, only_member}
 use Rattle.hull_geometry.proofs.VertexLists.{end_push}
-use Rattle.bucket_tree.specs.Runs.{IsRunTo}
+use Rattle.bucket_tree.specs.Runs.{IsAhead, IsInOrder, IsRunTo}
 
 -- from `from` on the walk has passed some points, the last of which is `last`; `from` and these, without the last, were appended
 pub record IsOnRun (walk : List Pair) (from : Pair) (before rest : List Pair) (last : Pair) (now : List Pair) : Type 0 where
@@ -40,7 +43,7 @@ goes_on {walk} {from} {before} {rest} {last} {now} r p left after e f = record {
 
 -- when the last is `to`, the run is listed
 pub ended : {walk : List Pair} {from : Pair} {before rest : List Pair} {last : Pair} {now : List Pair} (to : Pair)
-    → IsOnRun walk from before rest last now → last ≡ to → IsRunTo walk from to before now true
+    → IsOnRun walk from before rest last now → last ≡ to → IsRunTo walk from to before now
 ended {walk} {from} {before} {rest} {last} {now} to r e = (
   r.passed,
   rest,
@@ -50,12 +53,40 @@ ended {walk} {from} {before} {rest} {last} {now} to r e = (
       ∙ append_assoc before r.listed (last ∷ []) ∙ ap (λ (z : List Pair). before ++ z) r.follows,
 )
 
--- the first points of two lists in a row are those of the first
-take_first : (xs ys : List Pair) → take (length xs) (xs ++ ys) ≡ xs
-take_first [] ys = refl
-take_first (x ∷ xs) ys = ap (λ (z : List Pair). x ∷ z) (take_first xs ys)
+-- if `to` comes later, and is not the last, it is the next or comes later yet
+pub still_ahead : (rest : List Pair) (last to next : Pair) (left : List Pair) → IsAhead rest last to → ¬ (last ≡ to) → rest ≡ next ∷ left
+    → IsAhead left next to
+still_ahead rest last to next left (inl e) n f = absurd (n e)
+still_ahead rest last to next left (inr m) n f =
+    elim (Contains-append_cases (next ∷ []) left to (subst (λ (z : List Pair). Contains z to) f m)) [
+      | inl k ↦ inl (sym (only_member next to k))
+      | inr k ↦ inr k
+    ]
 
--- what was there before is in front
-pub front : {walk : List Pair} {from : Pair} {before rest : List Pair} {last : Pair} {now : List Pair}
-    → IsOnRun walk from before rest last now → take (length before) now ≡ before
-front {walk} {from} {before} {rest} {last} {now} r = ap (take (length before)) r.appended ∙ take_first before r.listed
+-- so the walk is not at its end
+pub not_ended : (rest : List Pair) (last to : Pair) → IsAhead rest last to → ¬ (last ≡ to) → ¬ (rest ≡ [])
+not_ended rest last to (inl e) n f = n e
+not_ended rest last to (inr m) n f = let k : Contains [] to = subst (λ (z : List Pair). Contains z to) f m in absurd (omega (arith, k.1))
+
+-- a walk that begins with another point than `from` has both in order after it
+pub in_order_later : (walk : List Pair) (from to next : Pair) (left : List Pair) → IsInOrder walk from to → walk ≡ next ∷ left → ¬ (next ≡ from)
+    → IsInOrder left from to
+in_order_later walk from to next left ([], rest, e, a) f n = let k : next ∷ left ≡ from ∷ rest = sym f ∙ e in absurd (n (cc))
+in_order_later walk from to next left (x ∷ xs, rest, e, a) f n =
+    let k : next ∷ left ≡ x ∷ (xs ++ from ∷ rest) = sym f ∙ e in (xs, rest, cc, a)
+
+-- one that begins with `from` has `to` after it
+pub ahead_of_first : (walk : List Pair) (from to : Pair) (left : List Pair) → IsInOrder walk from to → walk ≡ from ∷ left → IsAhead left from to
+ahead_of_first walk from to left ([], rest, e, a) f =
+    let k : from ∷ rest ≡ from ∷ left = sym e ∙ f in
+    let same : rest ≡ left = cc in subst (λ (z : List Pair). IsAhead z from to) same a
+ahead_of_first walk from to left (x ∷ xs, rest, e, inl a) f = inl a
+ahead_of_first walk from to left (x ∷ xs, rest, e, inr m) f =
+    let k : x ∷ (xs ++ from ∷ rest) ≡ from ∷ left = sym e ∙ f in
+    let same : xs ++ from ∷ rest ≡ left = cc in
+    inr (subst (λ (z : List Pair). Contains z to) same (Contains-append_right xs (from ∷ rest) to (later from to rest m)))
+
+-- a walk that has points in order is not at its end
+pub has_more : (walk : List Pair) (from to : Pair) → IsInOrder walk from to → ¬ (walk ≡ [])
+has_more walk from to ([], rest, e, a) f = absurd (cc)
+has_more walk from to (x ∷ xs, rest, e, a) f = absurd (cc)

@@ -15,3 +15,4 @@ pub mod OtherEnds
 pub mod Rotations
 pub mod Runs
 pub mod Halves
+pub mod Chains

@@ -6,6 +6,7 @@
 //! bridges of the forks above it. [`BucketTree`] is the set of points built on it.
 #![tactic(auto)]
 
+mod chains;
 mod find;
 mod fork_ref;
 mod in_place;

@@ -9,13 +9,9 @@ ghost use Rattle.bucket_tree.specs.Parts.{part_tree, part_bridged, part_low};
 
 use crate::fork_ref::ForkRef;
 use crate::node::Node;
-use crate::runs::push_bucket_run;
 use bridge_search::Half;
-use heap::Heap;
 use hull_buckets::Slice;
-use hull_questions::ListsRuns;
-use lattice::{Point, Side, orient};
-use std::alloc::AllocError;
+use lattice::{Point, orient};
 
 /// A borrowed subtree: a fork, or neighbouring vertices of a bucket. It is the half of a hull that searches and questions go down, over vertices
 /// only.
@@ -44,7 +40,7 @@ impl<'a> Part<'a> {
 }
 
 /// Returns the first vertex below a node: one step a level.
-fn first_vertex(node: &Node) -> Point
+pub(crate) fn first_vertex(node: &Node) -> Point
     requires { IsWhole node.now }
     ensures { result ≡ first_in (tree_of node.now) }
 {
@@ -56,7 +52,7 @@ fn first_vertex(node: &Node) -> Point
 }
 
 /// Returns the last vertex below a node: one step a level.
-fn last_vertex(node: &Node) -> Point
+pub(crate) fn last_vertex(node: &Node) -> Point
     requires { IsWhole node.now }
     ensures { result ≡ last_in (tree_of node.now) }
 {
@@ -149,23 +145,4 @@ impl<'a> Half for Part<'a> {
     ghost fits = { λ s p i. tt };
 
     ghost turned_fits = { λ p i. tt };
-}
-
-/// Lists the vertices of a whole bucket at once.
-impl<'a> ListsRuns for Part<'a> {
-    fn push_run(
-        self,
-        side: Side,
-        from: Point,
-        to: Point,
-        out: &mut Vec<Point, Heap>,
-    ) -> Result<bool, AllocError> {
-        let Part::Slice(slice) = self else {
-            return Ok(false);
-        };
-        match slice.whole() {
-            Some(bucket) => push_bucket_run(bucket, side, from, to, out),
-            None => Ok(false),
-        }
-    }
 }

@@ -9,6 +9,7 @@ ghost use Rattle.hull_set.specs.Replies.{LiesAt, AnswersTangents, reply_to_tange
 ghost use Rattle.hull_set.specs.declared.TheConstants.{POINT_LIMIT};
 ghost use Rattle.bucket_tree.specs.Nodes.{tree_of, points_below, IsWhole, IsWellBuilt};
 
+use crate::chains::vertices_of;
 use crate::node::Node;
 use crate::part::Part;
 use heap::Heap;
@@ -73,7 +74,7 @@ pub fn vertices(alloc: Heap, node: &Node) -> Result<Vec<Point, Heap>, AllocError
 {
     vertices_answer(node);
     vertices_are_few(node);
-    hull_questions::vertices(alloc, Part::new(node))
+    vertices_of(alloc, node)
 }
 
 /// Returns the doubled area of the hull of the points below a node.

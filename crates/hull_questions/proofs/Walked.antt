@@ -6,7 +6,7 @@ use Rattle.lattice.specs.Vertices.{IsVertexList}
 use Rattle.lattice.proofs.Order.{before_irrefl}
 use Rattle.lattice.proofs.TurnedBridges.{turned_twice}
 use Rattle.bridge_search.specs.Trees.{Tree, Leaf, Fork, IsBridged, first_of, last_of}
-use Rattle.bridge_search.specs.TurnedTrees.{turned_tree, bridged_turned, first_turned, last_turned}
+use Rattle.bridge_search.specs.TurnedTrees.{turned_tree, first_turned, last_turned}
 use Rattle.bridge_search.specs.Leaves.{points_of}
 use Rattle.bridge_search.proofs.Ends.{last_by, on_last}
 use Rattle.bridge_search.proofs.Leaves.{on_of_contains, points_in_order}
@@ -16,7 +16,7 @@ use Rattle.hull_geometry.proofs.Rounding.{front_of, small_list}
 use Rattle.hull_geometry.proofs.VertexLists.{vertex_list}
 use Rattle.lattice.specs.declared.side.Side.{Side}
 use Rattle.lattice.specs.declared.side.Side.TheVariants.{Lower, Upper}
-use Rattle.hull_questions.specs.Walks.{IsWalk, IsListed, tree_on, upright}
+use Rattle.hull_questions.specs.Walks.{IsWalk, IsListed, upright}
 use Rattle.hull_questions.proofs.TurnedEdges.{upper_edge_of_turned}
 
 -- ---- lists
@@ -37,11 +37,6 @@ listed_over t u w from a b to side before one two after walks (xs, k, e) p (ys, 
     s = upright side
 
 -- ---- the upper chain
-
--- the half of a side has bridges as the half has
-pub bridged_on : (side : Side) (t : Tree) → IsBridged t → IsBridged (tree_on side t)
-bridged_on Lower t h = h
-bridged_on Upper t h = bridged_turned t h
 
 -- a chain of lower edges of the rotated half is, rotated, a chain of upper edges
 pub chain_turned : (t : Tree) (v : Pair) (vs : List Pair) → IsChain (IsLowerEdge (points_of (turned_tree t))) v vs

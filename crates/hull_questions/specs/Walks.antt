@@ -3,7 +3,6 @@ use Rattle.std.specs.Prelude.{◌≡◌, ℕ, ◌<◌, ◌≤◌, ℤ, Bool, tru
 use Rattle.lattice.specs.Plane.{Pair, turned_point}
 use Rattle.lattice.specs.Vertices.{fan, IsVertexList}
 use Rattle.bridge_search.specs.Trees.{Tree}
-use Rattle.bridge_search.specs.TurnedTrees.{turned_tree}
 use Rattle.bridge_search.specs.Leaves.{points_of}
 use Rattle.hull_geometry.specs.Edges.{IsLowerEdge, IsChain, end_of}
 use Rattle.lattice.specs.declared.side.Side.{Side}
@@ -24,16 +23,6 @@ upright Upper v = turned_point v
 abbrev pub IsListed : Tree → Pair → Pair → Side → List Pair → List Pair → Type 0
 IsListed t from to side before after = (passed : List Pair) × IsWalk t from passed to
     × (after ++ upright side to ∷ [] ≡ before ++ map (upright side) (from ∷ passed))
-
--- the half whose lower chain is the chain on a side: itself, or the half rotated by 180 degrees
-abbrev pub tree_on : Side → Tree → Tree
-tree_on Lower t = t
-tree_on Upper t = turned_tree t
-
--- the points of a walk without the last were appended to the list, or nothing was
-abbrev pub IsRun : Tree → Pair → Pair → Side → List Pair → List Pair → Bool → Type 0
-IsRun t from to side before after true = IsListed t from to side before after
-IsRun t from to side before after false = after ≡ before
 
 -- z is the sum of the doubled areas between an apex and the edges of a walk from one point to another
 abbrev pub IsFan : Tree → Pair → Pair → Pair → ℤ → Type 0

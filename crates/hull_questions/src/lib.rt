@@ -17,4 +17,4 @@ pub use questions::extreme::{extreme, extreme_counted};
 pub use questions::few_vertices::vertices_up_to;
 pub use questions::place::place;
 pub use questions::tangents::tangents;
-pub use questions::vertices::{ListsRuns, seen_from, vertices};
+pub use questions::vertices::vertices;

@@ -9,10 +9,7 @@ ghost use Rattle.hull_tree.specs.OneWay.{IsLabelled-prop};
 
 use super::node::{Node, first_of, height_of, last_of};
 use bridge_search::Half;
-use heap::Heap;
-use hull_questions::ListsRuns;
-use lattice::{Point, Side, orient};
-use std::alloc::AllocError;
+use lattice::{Point, orient};
 
 /// A borrowed node that is well built: the half of a hull that the bridge search and the questions walk down.
 #[derive(Clone, Copy)]
@@ -95,17 +92,4 @@ impl<'a> Half for NodeRef<'a> {
     ghost fits = { λ s p i. tt };
 
     ghost turned_fits = { λ p i. tt };
-}
-
-/// Lists no run at once: its vertices are not in an array.
-impl<'a> ListsRuns for NodeRef<'a> {
-    fn push_run(
-        self,
-        _side: Side,
-        _from: Point,
-        _to: Point,
-        _out: &mut Vec<Point, Heap>,
-    ) -> Result<bool, AllocError> {
-        Ok(false)
-    }
 }

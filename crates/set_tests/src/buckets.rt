@@ -9,7 +9,7 @@ use crate::tree::turns::both_found;
 use bridge_search::{Counted, Half};
 use hull_buckets::{BUCKET_SIZE, Bucket, Slice, bridges_of};
 use hull_plain::PlainSet;
-use hull_questions::{area2, extreme, place, tangents, vertices_up_to};
+use hull_questions::{area2, extreme, place, tangents, vertices};
 use hull_set::{HullSet, POINT_LIMIT};
 use lattice::{Direction, Point, Side, before, orient_on};
 use std::alloc::{AllocError, Global};
@@ -229,9 +229,7 @@ fn has_same_hull(
             }
         }
     }
-    let Some(listed) = vertices_up_to(alloc, run, BUCKET_SIZE)? else {
-        return Ok(false);
-    };
+    let listed = vertices(alloc, run)?;
     let Ok(expected) = plain.vertices() else {
         return Ok(false);
     };

@@ -6,7 +6,7 @@ mod shapes;
 
 use bridge_search::Half;
 use hull_plain::PlainSet;
-use hull_questions::{ListsRuns, area2, extreme, place, tangents, vertices};
+use hull_questions::{area2, extreme, place, tangents, vertices};
 use hull_set::{AddReply, HullSet, POINT_LIMIT, Place};
 use lattice::{Direction, Point};
 use shapes::{Sixteen, sixteen};
@@ -42,7 +42,7 @@ fn half_of(rt: &impl Abort, alloc: Global, pairs: &[(i64, i64)]) -> Result<Sixte
 }
 
 /// Whether the vertices of a half are these, if there is memory for them.
-fn has_vertices<H: ListsRuns>(alloc: Global, half: H, wanted: &[Point]) -> bool {
+fn has_vertices<H: Half>(alloc: Global, half: H, wanted: &[Point]) -> bool {
     match vertices(alloc, half) {
         Ok(found) => found.as_slice() == wanted,
         Err(_) => false,
@@ -207,7 +207,7 @@ fn agree_on_directions<H: Half>(half: H, set: &PlainSet) -> bool {
 }
 
 /// Whether a half and a plain set have the same polygon.
-fn agree_on_polygon<H: ListsRuns>(alloc: Global, half: H, set: &PlainSet) -> bool
+fn agree_on_polygon<H: Half>(alloc: Global, half: H, set: &PlainSet) -> bool
     requires { size_of (H.tree half) ≤ 16 }
 {
     match set.vertices() {

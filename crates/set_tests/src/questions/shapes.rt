@@ -7,9 +7,8 @@ ghost use Rattle.bridge_search.specs.OneWay.{IsBridged-prop};
 ghost use Rattle.hull_questions.specs.Shapes.{small_tree, joined_tree};
 
 use bridge_search::{Half, lower_bridge, upper_bridge};
-use hull_questions::ListsRuns;
-use lattice::{Point, Side, before, orient};
-use std::alloc::{AllocError, Global};
+use lattice::{Point, before, orient};
+use std::alloc::AllocError;
 
 /// One point, or two.
 #[derive(Clone, Copy)]
@@ -203,18 +202,6 @@ impl<A: Half> Half for Joined<A> {
     ghost fits = { λ s. joined_fits A.Fits A.tree A.fits s.left s.right s.upper s.lower };
 
     ghost turned_fits = { A.turned_fits };
-}
-
-impl<A: Half> ListsRuns for Joined<A> {
-    fn push_run(
-        self,
-        _side: Side,
-        _from: Point,
-        _to: Point,
-        _out: &mut Vec<Point, Global>,
-    ) -> Result<bool, AllocError> {
-        Ok(false)
-    }
 }
 
 /// Up to four points.

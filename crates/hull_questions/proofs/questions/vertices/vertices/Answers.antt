@@ -18,7 +18,7 @@ returns-clause-vertices g c =
           both_listed t _ _ (g.met.H.Half.bridged c.args.half)
           (rw (c.first.ensures, c.last.ensures) at (passed c.before-2.result _ w.if-before.true c.before-2.ensures))
           (rw c.new-out.ensures.items at w.in_ok-push_chain.ensures)
-          (rw (← w.out-is) at w.in_ok-push_chain-2.ensures)
+          (rw (w.new.ensures, ← w.out-is) at w.in_ok-push_chain-2.ensures)
       | else-before+in_ok-push w ↦
           rw (w.out-is, w.in_ok-push.ensures.items, c.new-out.ensures.items, w.first-else-before.ensures)
           (vertices_alone t (g.met.H.Half.bridged c.args.half)
