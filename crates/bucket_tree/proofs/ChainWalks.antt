@@ -148,14 +148,6 @@ across side f p from to i h r a b =
           (subst (λ (z : Tree). IsListed z end (upright side to) side (one ++ p.start.now ∷ []) after) last m);
     }
 
--- from a vertex to itself nothing is listed
-pub nothing_on : (side : Side) (t : Tree) (from to : Pair) (xs : List Pair) → from ≡ to → IsListedOn side t from to xs xs
-nothing_on side t from to xs e = (
-  [],
-  record { chain = tt; ends = ap (upright side) e },
-  ap (λ (p : Pair). xs ++ upright side (upright side p) ∷ []) (sym e),
-)
-
 -- ---- the whole chains
 
 -- the lower chain is a range

@@ -1,5 +1,6 @@
 -- A run of the vertices of a bucket's chain is a walk along the chain of the bucket's half.
-use Rattle.std.proofs.Common.{inl, inr, ◌≡◌, ◌∙◌, refl, sym, ap, subst, pos, ◌≤ℤ◌, ◌<ℤ◌, suc, List, [], ◌∷◌, ◌++◌, map, take, drop, append_assoc, arith}
+use Rattle.std.proofs.Common.{inl, inr, ◌≡◌, ◌∙◌, refl, sym, ap, subst, pos, ◌≤ℤ◌, ◌<ℤ◌, suc, List, [], ◌∷◌}
+use Rattle.std.proofs.Common.{◌++◌, map, take, drop, append_assoc, arith}
 use Rattle.std.specs.Prelude.{reverse}
 use Rattle.std.specs.List.{All, Contains}
 use Rattle.std.proofs.lemmas.List.{reverse-append}

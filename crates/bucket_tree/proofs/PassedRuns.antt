@@ -1,5 +1,5 @@
 -- A run of a walk while it is listed.
-use Rattle.std.proofs.Common.{arith, ◌≡◌, ◌∙◌, inl, inr, refl, sym, ap, subst, List, [], ◌∷◌, ◌++◌, append-nil, append_assoc}
+use Rattle.std.proofs.Common.{◌≡◌, ◌∙◌, inl, inr, refl, sym, ap, subst, List, [], ◌∷◌, ◌++◌, append-nil, append_assoc}
 use Rattle.std.specs.List.{Contains}
 use Rattle.std.proofs.lemmas.List.Elements.{Contains-append_cases, Contains-append_right}
 use Rattle.lattice.specs.Plane.{Pair}
@@ -62,11 +62,6 @@ still_ahead rest last to next left (inr m) n f =
       | inl k ↦ inl (sym (only_member next to k))
       | inr k ↦ inr k
     ]
-
--- so the walk is not at its end
-pub not_ended : (rest : List Pair) (last to : Pair) → IsAhead rest last to → ¬ (last ≡ to) → ¬ (rest ≡ [])
-not_ended rest last to (inl e) n f = n e
-not_ended rest last to (inr m) n f = let k : Contains [] to = subst (λ (z : List Pair). Contains z to) f m in absurd (omega (arith, k.1))
 
 -- a walk that begins with another point than `from` has both in order after it
 pub in_order_later : (walk : List Pair) (from to next : Pair) (left : List Pair) → IsInOrder walk from to → walk ≡ next ∷ left → ¬ (next ≡ from)

@@ -1,6 +1,7 @@
 //! The vertices of the hull of the vertices below a node: one walk along each chain, counterclockwise.
 //!
-//! A walk goes down the stored bridges, through the forks above those that are edges of the chain, each once, and lists the chain of a bucket at once.
+//! A walk goes down the stored bridges, through the forks above those that are edges of the chain, each once, and lists the run of a bucket's chain
+//! by its mask.
 ghost use Rattle.std.specs.Prelude.{◌≡◌, ◌≤◌, ◌↔◌, IfOk, IsTrue, vec_len};
 ghost use Rattle.lattice.specs.Vertices.{IsVertexList};
 ghost use Rattle.bridge_search.specs.Leaves.{points_of};

@@ -170,8 +170,8 @@ fn after_right(fork: &mut Fork, p: Point, change: Change, below: Changed) -> Cha
     }
 }
 
-/// Renews a fork of which one half changed at a point, the left one or else the right one. Nothing is altered if the point is between two others of that
-/// half and neither chain is affected.
+/// Renews a fork of which one half changed at a point, the left one or else the right one. Nothing is altered if the point is between two others of
+/// that half and neither chain is affected.
 #[inline(always)]
 fn after_half(fork: &mut Fork, is_left: bool, p: Point, change: Change, below: Changed) -> Changed
     requires { IsToRenew is_left change p below fork.old }

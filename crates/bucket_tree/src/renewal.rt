@@ -123,8 +123,8 @@ pub(crate) struct RenewedEdges {
     pub(crate) sides: Affected,
 }
 
-/// Searches the bridge on a side between the halves of a fork after the left one changed: from the end that is still there to the left half, and back. If
-/// that leads to the same end, it is the bridge; else both ends are searched. Returns the bridge and the turns of the searches.
+/// Searches the bridge on a side between the halves of a fork after the left one changed: from the end that is still there to the left half, and back.
+/// If that leads to the same end, it is the bridge; else both ends are searched. Returns the bridge and the turns of the searches.
 fn search_by_end(side: Side, fork: &Fork) -> ((Point, Point), u32)
     requires row { AreInRow fork.now.left fork.now.right }
     requires few { length (points_below fork.now.left ++ points_below fork.now.right) ≤ POINT_LIMIT }

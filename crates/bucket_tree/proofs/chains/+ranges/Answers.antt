@@ -1,12 +1,11 @@
 -- a range of a fork is one of a half, or goes over the bridge
-use Rattle.std.proofs.Common.{arith, ap, ◌∙◌, subst, List, [], ◌∷◌, ◌++◌}
+use Rattle.std.proofs.Common.{arith, subst, List}
 use Rattle.std.proofs.lemmas.Result.{IfOk-weaker}
 use Rattle.lattice.specs.Plane.{Pair}
 use Rattle.lattice.proofs.Tests.{passed, failed}
-use Rattle.bucket_tree.specs.Chains.{IsPassage}
 use Rattle.bucket_tree.specs.Runs.{IsListedOn}
 use Rattle.bucket_tree.specs.Nodes.{tree_of}
-use Rattle.bucket_tree.proofs.ChainWalks.{across, first_below, last_below, nothing_on, part_first, part_last}
+use Rattle.bucket_tree.proofs.ChainWalks.{across, first_below, last_below, part_first, part_last}
 use Rattle.bucket_tree.proofs.chains.+ranges.Goals as goal
 
 pub push_through-push_long_range-requires : goal.push_through-push_long_range-requires
