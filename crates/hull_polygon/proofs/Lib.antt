@@ -49,3 +49,7 @@ pub mod Casting
 pub mod Leaving
 pub mod Staying
 pub mod Nearer
+pub mod Enclosed
+pub mod Removed
+pub mod Inserted
+pub mod PutBetween

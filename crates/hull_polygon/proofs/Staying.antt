@@ -143,7 +143,7 @@ stay_without S V last p o separated n =
 -- ---- the position of a point on a chain of a round
 
 -- the vertices after a vertex come after it along its chain
-later_along : (side : Side) (V : List Pair) (last i n : ℕ) → IsRound V last → starts_at side last ≤ i
+pub later_along : (side : Side) (V : List Pair) (last i n : ℕ) → IsRound V last → starts_at side last ≤ i
     → i + suc n ≤ ends_at side V last → IsAlong side (vertex V i) (vertex V (i + suc n))
 later_along side V last i n r l u = go side n l u
   where

@@ -20,3 +20,4 @@ pub mod Squares
 pub mod Roundings
 pub mod Segments
 pub mod Raycasts
+pub mod Insertions

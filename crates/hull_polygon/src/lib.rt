@@ -34,6 +34,8 @@ mod encounters;
 mod extents;
 mod extreme;
 mod factors;
+mod indices;
+mod insertions;
 mod laws;
 mod locations;
 mod meetings;
@@ -63,6 +65,7 @@ mod widths;
 mod witnesses;
 
 pub use distance::Distance;
+pub use insertions::Insertion;
 pub use laws::{
     enters_there, leaves_there, never_both, none_after, none_before, none_closer,
     none_inside_divided, none_nearer_than_edge, none_nearer_than_vertex,

@@ -16,14 +16,14 @@ use hull_geometry::Hand;
 use lattice::{Point, Side};
 
 /// Whether an edge ends before `q` along the chain on this side, and has `q` on its left.
-fn is_passed(side: Side, start: Point, end: Point, q: Point) -> bool
+pub(crate) fn is_passed(side: Side, start: Point, end: Point, q: Point) -> bool
     ensures { IsTrue result ↔ IsPassed side q start end }
 {
     is_along(side, end, q) && is_left(start, end, q)
 }
 
 /// Whether an edge begins after `q` along the chain on this side, and has `q` on its left.
-fn is_to_come(side: Side, start: Point, end: Point, q: Point) -> bool
+pub(crate) fn is_to_come(side: Side, start: Point, end: Point, q: Point) -> bool
     ensures { IsTrue result ↔ IsToCome side q start end }
 {
     is_along(side, q, start) && is_left(start, end, q)
