@@ -42,3 +42,11 @@ IsPrepared old new encoded =
     (new ≡ old)
     × ((number : ℕ) × IsNumber code.Number number encoded
     × ((number ≡ 0) ⊎ ((vertices : List Pair) × IsVertexList (held_by old.root).points vertices × (number ≡ length vertices))))
+
+-- nothing changed; the reply has the number of vertices, or memory was refused (an empty set needs none)
+abbrev pub IsGathered : LimitedTree → LimitedTree → HullReply → Type 0
+IsGathered old new encoded =
+    (new ≡ old)
+    × (((vertices : List Pair) × IsVertexList (held_by old.root).points vertices
+    × IsNumber code.Number (length vertices) encoded)
+    ⊎ (((held_by old.root).points ≢ []) × IsBare code.NoMemory encoded))

@@ -43,7 +43,7 @@ ghost use Rattle.polygon_arrays.specs.Moved.{EncodesRotated, EncodesTranslated};
 ghost use Rattle.polygon_pairs.specs.Pairs.{EncodesPairs};
 ghost use Rattle.hull_c.specs.NearestHeld.{IsNearestHeld};
 ghost use Rattle.hull_c.specs.Requests.{AnswersRequest, AreServed};
-ghost use Rattle.hull_c.specs.Calls.{AreVertices, IsCleared, IsFresh, IsLimitOf, IsPrepared};
+ghost use Rattle.hull_c.specs.Calls.{AreVertices, IsCleared, IsFresh, IsGathered, IsLimitOf, IsPrepared};
 
 mod bridges;
 mod calls;
@@ -156,6 +156,22 @@ pub unsafe extern "C" fn hull_prepare(at: *mut u8) -> HullReply
 {
     let hull = at as *mut Hull;
     calls::prepare(unsafe { &mut *hull })
+}
+
+/// Gathers the vertices of the set if they are not known, and returns how many there are; or fails with `NoMemory`. Call
+/// it before each listing and before many questions: then changes that alter the vertices at one place alter them there.
+///
+/// # Safety
+///
+/// `at` points to a set, and no other call on it is under way.
+#[unsafe(no_mangle)]
+pub unsafe extern "C" fn hull_gather(at: *mut u8) -> HullReply
+    ghost t: { the_row.Denot }
+    requires* { sem 𝓛 (lies_at the_row full_share at t) }
+    ensures* { sem 𝓛 (leaves the_row at (λ new. IsGathered t new result)) }
+{
+    let hull = at as *mut Hull;
+    calls::gather(unsafe { &mut *hull })
 }
 
 /// Writes the vertices of the set to the front of the array, counterclockwise from the first by x and then y.

@@ -9,6 +9,9 @@ use hull_set::HullSet;
 pub(crate) fn vertices(hull: &mut Hull, out: &mut [HullPoint]) -> HullReply
     ensures { AreVertices hull.old hull.new out.old out.new result }
 {
+    if let Some(vertices) = hull.set.known_vertices() {
+        return put_vertices(vertices, out);
+    }
     let Ok(vertices) = hull.set.vertices() else {
         return HullReply::bare(Code::NoMemory);
     };

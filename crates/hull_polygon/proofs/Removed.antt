@@ -13,10 +13,11 @@ use Rattle.hull_geometry.specs.Positions.{origin, point_at}
 use Rattle.hull_geometry.proofs.ChangedSets.{in_without}
 use Rattle.hull_geometry.proofs.SetLaws.{ordered_without, members_without}
 use Rattle.hull_geometry.proofs.PointLists.{get_or_free}
-use Rattle.hull_polygon.specs.Polygons.{IsPolygonOf}
+use Rattle.hull_polygon.specs.Polygons.{IsPolygon, IsPolygonOf}
 use Rattle.hull_polygon.specs.Rounds.{vertex, GoesOn, BendsLeft, IsRound}
 use Rattle.hull_polygon.proofs.Vertices.{vertex_back, vertex_extreme, vertex_of}
 use Rattle.hull_polygon.proofs.Ends.{ends_of}
+use Rattle.hull_polygon.proofs.Made.{round_is_polygon}
 use Rattle.hull_polygon.proofs.Convex.{IsLeftOrEnd}
 use Rattle.hull_polygon.proofs.RoundChains.{renumbered, left_ahead, left_back}
 use Rattle.hull_polygon.proofs.Staying.{later_along}
@@ -251,18 +252,27 @@ still_enclosed S V last i new o r p l c a t m =
       ]
     ]
 
--- the vertices without the one at i are those of the set without it
+-- there is a last vertex without any other
+last_without : (last i : ℕ) → ¬ (i ≡ last) → (new : ℕ) × IsLastWithout i last new
+last_without last i n = elim (cases_lt i last) [
+  | inl h ↦ (last - 1, inl (h, omega (arith, h)))
+  | inr h ↦ (last, inr (omega (arith, h, n), refl))
+]
+
+-- the vertices without the one at i are a polygon
+pub polygon_without : (V : List Pair) (last i : ℕ) → IsRound V last → 0 < i → i < length V → ¬ (i ≡ last)
+    → IsPolygon (remove V i)
+polygon_without V last i r p l n =
+    let some = round_is_polygon V last r in
+    let c = last_without last i n in
+    round_is_polygon (remove V i) c.0 (round_without some.0 V last i c.0 some.1 r p l c.1)
+
+-- if no other point lies right of the line between those beside it, they are the vertices of the set without it
 pub without_vertex : (S V : List Pair) (last i : ℕ) → IsPolygonOf S V → IsRound V last → 0 < i → i < length V → ¬ (i ≡ last)
     → IsLeftOf (without_point (vertex V i) S) (vertex V (i - 1)) (vertex V (i + 1))
     → IsVertexList (without_point (vertex V i) S) (remove V i)
 without_vertex S V last i o r p l n a =
-    let c = where_last in
+    let c = last_without last i n in
     list_of_round (without_point (vertex V i) S) (remove V i) c.0 (ordered_without (vertex V i) S o.0)
     (round_without S V last i c.0 o r p l c.1) (still_there S V i o p l)
     (λ t m. inr (still_enclosed S V last i c.0 o r p l c.1 a t m))
-  where
-    where_last : (new : ℕ) × IsLastWithout i last new
-    where_last = elim (cases_lt i last) [
-      | inl h ↦ (last - 1, inl (h, omega (arith, h)))
-      | inr h ↦ (last, inr (omega (arith, h, n), refl))
-    ]

@@ -1,7 +1,10 @@
 //! The index of a vertex.
-ghost use Rattle.std.specs.Prelude.{◌≡◌, ◌<◌, length, MatchOption};
+ghost use Rattle.std.specs.Prelude.{◌≡◌, ◌<◌, length, IfNone, MatchOption};
 ghost use Rattle.std.specs.List.{Contains};
+ghost use Rattle.lattice.specs.Covers.{without_point};
+ghost use Rattle.lattice.specs.Vertices.{IsVertexList};
 ghost use Rattle.hull_polygon.specs.Lent.{vertices_of};
+ghost use Rattle.hull_polygon.specs.Polygons.{HoldsOfSetsOf};
 ghost use Rattle.hull_polygon.specs.Rounds.{vertex, IsSeparated};
 ghost use Rattle.hull_polygon.specs.Touches.{StandsOn};
 
@@ -36,10 +39,13 @@ fn index_on(side: Side, vertices: &[Point], last: usize, p: Point) -> Option<usi
 }
 
 impl<'a> Polygon<'a> {
-    /// Returns the index of `p`, or `None` if it is not a vertex. A bisection of each chain.
+    /// Returns the index of `p`, or `None` if it is not a vertex: then the vertices stay when it is removed. A bisection of
+    /// each chain.
     pub fn index_of(&self, p: Point) -> Option<usize>
-        ensures { MatchOption result (¬ Contains (vertices_of self.now) p)
+        ensures index { MatchOption result (¬ Contains (vertices_of self.now) p)
             (λ i. (i < length (vertices_of self.now)) × (vertex (vertices_of self.now) i ≡ p)) }
+        ensures stays { IfNone result (HoldsOfSetsOf (vertices_of self.now)
+            (λ S. IsVertexList (without_point p S) (vertices_of self.now))) }
     {
         if self.vertices.is_empty() {
             return None;

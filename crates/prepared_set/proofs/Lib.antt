@@ -1,1 +1,5 @@
 pub mod Knowing
+pub mod Beside
+pub mod Spliced
+pub mod Shortened
+pub mod Patching

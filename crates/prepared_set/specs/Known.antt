@@ -7,5 +7,5 @@ use Rattle.prepared_set.specs.declared.vertices.Vertices.TheVariants.{Known, Unk
 
 -- if vertices are known, they are those of S
 abbrev pub AreVerticesOf : List Pair → Vertices → Type 0
-AreVerticesOf S (Known vertices) = IsPolygonOf S vertices
+AreVerticesOf S (Known vertices moves) = IsPolygonOf S vertices
 AreVerticesOf S (Unknown asked) = Unit {0}

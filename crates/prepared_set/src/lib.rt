@@ -11,7 +11,9 @@
 
 mod gathering;
 mod kept;
+mod patches;
 mod prepared;
+mod splicing;
 mod vertices;
 
 pub use gathering::ListsVertices;

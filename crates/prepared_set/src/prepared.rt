@@ -1,5 +1,6 @@
 //! The set.
-ghost use Rattle.std.specs.Prelude.{◌≡◌, IfSome};
+ghost use Rattle.std.specs.Prelude.{◌≡◌, ◌≢◌, List, [], length, IfOk, IfSome, OnErr};
+ghost use Rattle.lattice.specs.Plane.{Pair};
 ghost use Rattle.hull_polygon.specs.Polygons.{IsPolygonOf};
 
 use super::gathering::ListsVertices;
@@ -50,8 +51,27 @@ impl<S: HullSet + Drop> Prepared<S> {
         ensures { IfSome result (λ vertices. IsPolygonOf (S.held self.now).points vertices.now) }
     {
         match &self.vertices {
-            Vertices::Known(kept) => Some(kept.polygon().vertices()),
+            Vertices::Known(kept, _) => Some(kept.polygon().vertices()),
             Vertices::Unknown(_) => None,
+        }
+    }
+}
+
+impl<S: HullSet + Drop> Prepared<S> {
+    /// Gathers the vertices if they are not known, so that [`known_vertices`](Prepared::known_vertices) has them, and returns
+    /// how many there are. Call it before each listing, and before many questions: then the vertices stay known after most
+    /// changes that alter them at one place. Constant time if they are known. Fails only if the set is not empty; then they
+    /// are not known. Never changes an answer.
+    pub fn gather(&mut self) -> Result<usize, NoMemory>
+        ensures same { self.new ≡ self.old }
+        ensures count { IfOk result (λ count. (vertices : List Pair) × IsPolygonOf (S.held self.old).points vertices
+            × (count ≡ length vertices)) }
+        ensures refused { OnErr result ((S.held self.old).points ≢ []) }
+    {
+        self.vertices.gather(&self.set);
+        match &self.vertices {
+            Vertices::Known(kept, _) => Ok(kept.count()),
+            Vertices::Unknown(_) => Err(NoMemory),
         }
     }
 }
@@ -97,7 +117,7 @@ impl<S: HullSet + Drop> HullSet for Prepared<S> {
     fn remove(&mut self, p: Point) -> RemoveReply {
         let reply = self.set.remove(p);
         if let RemoveReply::Removed = reply {
-            self.vertices.point_goes(p);
+            self.vertices.point_goes(p, &self.set);
         }
         reply
     }
@@ -105,7 +125,7 @@ impl<S: HullSet + Drop> HullSet for Prepared<S> {
     #[inline(always)]
     fn extreme(&self, d: Direction) -> Option<Point> {
         match &self.vertices {
-            Vertices::Known(kept) => kept.polygon().extreme(d),
+            Vertices::Known(kept, _) => kept.polygon().extreme(d),
             Vertices::Unknown(_) => self.set.extreme(d),
         }
     }
@@ -113,20 +133,20 @@ impl<S: HullSet + Drop> HullSet for Prepared<S> {
     #[inline(always)]
     fn place(&self, q: Point) -> Place {
         match &self.vertices {
-            Vertices::Known(kept) => kept.polygon().place(q),
+            Vertices::Known(kept, _) => kept.polygon().place(q),
             Vertices::Unknown(_) => self.set.place(q),
         }
     }
 
     fn tangents(&self, q: Point) -> Option<(Point, Point)> {
         match &self.vertices {
-            Vertices::Known(kept) => kept.polygon().tangents(q),
+            Vertices::Known(kept, _) => kept.polygon().tangents(q),
             Vertices::Unknown(_) => self.set.tangents(q),
         }
     }
 
     fn vertices(&self) -> Result<Vec<Point, Heap>, NoMemory> {
-        if let Vertices::Known(kept) = &self.vertices {
+        if let Vertices::Known(kept, _) = &self.vertices {
             let _count = self.set.count();
             if let Ok(copy) = kept.copy() {
                 return Ok(copy);
@@ -137,7 +157,7 @@ impl<S: HullSet + Drop> HullSet for Prepared<S> {
 
     fn area2(&self) -> u128 {
         match &self.vertices {
-            Vertices::Known(kept) => kept.polygon().area2(),
+            Vertices::Known(kept, _) => kept.polygon().area2(),
             Vertices::Unknown(_) => self.set.area2(),
         }
     }

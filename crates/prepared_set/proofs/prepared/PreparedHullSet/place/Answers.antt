@@ -7,5 +7,5 @@ use Rattle.prepared_set.proofs.prepared.PreparedHullSet.place.Goals as goal
 pub returns-in-Known : goal.returns-in-Known
 returns-in-Known g c =
     subst (λ s. LiesAt (g.S.HullSet.held s).points c.args.q c.place.result) c.self.view_is
-    (by_vertices _ _ _ _ (λ S. LiesAt S c.args.q c.place.result) c.self.invariant c.in-Known.is c.polygon.ensures
+    (by_vertices _ _ _ _ _ (λ S. LiesAt S c.args.q c.place.result) c.self.invariant c.in-Known.is c.polygon.ensures.vertices
     c.place.ensures)

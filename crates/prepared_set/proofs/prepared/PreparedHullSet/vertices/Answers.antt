@@ -8,7 +8,7 @@ pub returns-in-Ok-clause-few : goal.returns-in-Ok-clause-few
 returns-in-Ok-clause-few g c = subst (λ s. vec_len c.in-Ok.copy ≤ g.S.HullSet.bound s) c.self.view_is
     (omega (
       arith,
-      few_vertices (g.S.HullSet.held c.self.inside.set).points c.self.inside.vertices c.in-Known.kept
+      few_vertices (g.S.HullSet.held c.self.inside.set).points c.self.inside.vertices c.in-Known.kept _
           c.self.invariant c.in-Known.is,
       ap length c.in-Ok.ensures,
       c.count-count.ensures.reply,

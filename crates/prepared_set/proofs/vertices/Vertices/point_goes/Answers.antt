@@ -1,25 +1,24 @@
--- if the point is not a vertex the vertices stay, and only then
-use Rattle.std.proofs.Common.{List, sym, subst}
-use Rattle.lattice.specs.Covers.{without_point}
-use Rattle.lattice.specs.Plane.{Pair}
-use Rattle.lattice.specs.Vertices.{IsVertexList}
+-- the vertices are those of the set without the point
+use Rattle.std.proofs.Common.{subst, sym}
+use Rattle.lattice.specs.Covers.{IsPointSet}
 use Rattle.hull_geometry.proofs.SetLaws.{ordered_without}
-use Rattle.hull_polygon.specs.Polygons.{IsPolygonOf}
 use Rattle.prepared_set.specs.Known.{AreVerticesOf}
-use Rattle.lattice.proofs.Tests.{failed}
+use Rattle.prepared_set.proofs.Patching.{not_both, same_known}
 use Rattle.prepared_set.proofs.vertices.Vertices.point_goes.Goals as goal
 
-pub returns-then-not-stays_without-clause-stay : goal.returns-then-not-stays_without-clause-stay
-returns-then-not-stays_without-clause-stay c = λ S a k.
-    let o = subst (IsPolygonOf S) (sym c.polygon.ensures) (subst (AreVerticesOf S) c.in-Known.is a) in
-    absurd (failed c.stays_without.result _ c.if-not-stays_without.true c.stays_without.ensures.other
-    (λ m. k ((o.1.members c.args.p).0 m)))
+pub returns-then-not-let_go-clause-stay : goal.returns-then-not-let_go-clause-stay
+returns-then-not-let_go-clause-stay g c = λ P a n.
+    let o = subst (AreVerticesOf P) c.in-Known.is a in
+    absurd (not_both c.let_go.result (c.let_go.ensures.stay (λ m. n ((o.1.members c.args.p).0 m))).0 c.if-not-let_go.true)
 
-pub returns-else-not-stays_without-clause-without :
-    goal.returns-else-not-stays_without-clause-without
-returns-else-not-stays_without-clause-without c = λ S a.
-    let o = subst (IsPolygonOf S) (sym c.polygon.ensures) (subst (AreVerticesOf S) c.in-Known.is a) in (
-      ordered_without c.args.p S o.0,
-      subst (λ (V : List Pair). IsVertexList (without_point c.args.p S) V) c.polygon.ensures
-          (c.stays_without.ensures.stays c.if-not-stays_without.false S o),
+pub returns-else-not-let_go-clause-without : goal.returns-else-not-let_go-clause-without
+returns-else-not-let_go-clause-without g c = λ P a e.
+    let o = subst (AreVerticesOf P) c.in-Known.is a in (
+      subst IsPointSet (sym e) (ordered_without c.args.p P o.0),
+      c.let_go.ensures.without c.if-not-let_go.false P o e,
     )
+
+pub returns-else-not-let_go-clause-stay : goal.returns-else-not-let_go-clause-stay
+returns-else-not-let_go-clause-stay g c = λ P a n.
+    let o = subst (AreVerticesOf P) c.in-Known.is a in
+    let s = c.let_go.ensures.stay (λ m. n ((o.1.members c.args.p).0 m)) in rw (c.in-Known.is) (same_known _ _ _ _ s.1 s.2)
