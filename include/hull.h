@@ -95,6 +95,12 @@ typedef struct hull_request {
  * place, tangents, extreme and area. */
 hull_reply hull_prepare(hull_set *h);
 
+/* Gathers the vertices into an array of the set, in constant time if they are there, and returns HULL_NUMBER with how many they
+ * are. hull_vertices copies them from there, and questions are answered from it, as after many hull_prepare. Call it before each
+ * listing: then a change at one place of the hull moves part of the array, and the vertices stay there; without such calls
+ * changes soon drop them. HULL_NO_MEMORY if memory is refused. O(h log(n / h + 1)). */
+hull_reply hull_gather(hull_set *h);
+
 /* Makes a call by its kind (hull_kind) with the point or direction (x, y), as the functions below that are named for a kind;
  * returns HULL_UNKNOWN_KIND if there is no such kind. Only HULL_KIND_ADD and HULL_KIND_VERTICES allocate. */
 hull_reply hull_call(hull_set *h, uint32_t kind, int64_t x, int64_t y);

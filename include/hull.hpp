@@ -1005,7 +1005,9 @@ public:
 
     // Returns the vertices, counterclockwise from the first by x and then by y, each once and none inside an edge.
     std::vector<Point> vertices() const {
-        return detail::vertices(64, [this](Point *out, std::size_t space) { return hull_vertices(alive(), out, space); });
+        hull_set *const h = alive();
+        const auto count = static_cast<std::size_t>(hull_gather(h).number);
+        return detail::vertices(count, [h](Point *out, std::size_t space) { return hull_vertices(h, out, space); });
     }
 
     // Returns the vertices of the hull now as a convex polygon.

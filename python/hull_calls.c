@@ -54,8 +54,13 @@ size_t hull_python_calls(hull_python *h, const hull_request *requests, hull_repl
     return made;
 }
 
+static hull_reply hull_gathered_vertices(hull_set *h, hull_point *out, size_t capacity) {
+    hull_gather(h);
+    return hull_vertices(h, out, capacity);
+}
+
 hull_reply hull_python_vertices(hull_python *h, hull_point *out, size_t capacity) {
-    HULL_REPLY_OF(h, hull_vertices(h->hull, out, capacity));
+    HULL_REPLY_OF(h, hull_gathered_vertices(h->hull, out, capacity));
 }
 
 hull_reply hull_python_load(hull_python *h, const hull_point *points, size_t count) {

@@ -429,6 +429,7 @@ class HullOfInstance extends Questions {
 
     vertexArray() {
         const instance = this._live();
+        instance.ask("hull_gather", this.#at);
         const count = instance.filled(POINT.size, "hull_vertices", this.#at);
         return instance.points(instance.out.at, count);
     }

@@ -66,7 +66,10 @@ class Ours {
     void add(Point p) { hull_add(place, p.x, p.y); }
     void remove(Point p) { hull_remove(place, p.x, p.y); }
     bool covers(Point p) { return hull_place(place, p.x, p.y).code != HULL_OUTSIDE; }
-    size_t list(std::vector<hull_point> &out) { return hull_vertices(place, out.data(), out.size()).number; }
+    size_t list(std::vector<hull_point> &out) {
+        hull_gather(place);
+        return hull_vertices(place, out.data(), out.size()).number;
+    }
 };
 
 // A growing hull; `add` returns whether it covered the point.

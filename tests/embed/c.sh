@@ -50,6 +50,8 @@ programs() {
     # shellcheck disable=SC2046
     attempt "prepared.c compiles" compile prepared $(wrap malloc realloc)
     attempt "prepared hulls answer as others do" "$room/prepared"
+    attempt "gathered.c compiles" compile gathered $(wrap malloc realloc)
+    attempt "hulls whose vertices are gathered answer as others do, and keep them" "$room/gathered"
     # shellcheck disable=SC2046
     attempt "refusals.c compiles" compile refusals $(wrap malloc realloc free)
     attempt "each request for memory refused in turn" "$room/refusals"

@@ -316,6 +316,7 @@ extern "C" {
     pub(crate) fn hull_make(limit: u32, storage: *mut u8);
     pub(crate) fn hull_end(h: *mut u8) -> u32;
     pub(crate) fn hull_prepare(h: *mut u8) -> Reply;
+    pub(crate) fn hull_gather(h: *mut u8) -> Reply;
     pub(crate) fn hull_call(h: *mut u8, kind: u32, x: i64, y: i64) -> Reply;
     pub(crate) fn hull_ask(h: *const u8, kind: u32, x: i64, y: i64) -> Reply;
     pub(crate) fn hull_library_version() -> *const std::os::raw::c_char;
