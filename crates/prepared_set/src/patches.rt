@@ -25,6 +25,7 @@ fn put_in(vertices: &mut Kept, moves: &mut usize, after: usize, before: usize, p
     requires insertion { HoldsOfSetsOf vertices.old (IsInsertion vertices.old p (Between after before)) }
     ensures put { IsTrue result → vertices.new ≡ put_between vertices.old after before p }
     ensures spent { IsTrue result → moves.new + (length vertices.old - before) ≡ moves.old }
+    ensures fewer { moves.new ≤ moves.old }
     ensures refused { IsFalse result → length vertices.old < POINT_LIMIT → length vertices.old - before ≤ moves.old
         → before ≡ after + 1 }
 {
@@ -78,6 +79,7 @@ fn take_out<S: HullSet>(vertices: &mut Kept, moves: &mut usize, i: usize, set: &
     requires { i < length vertices.old }
     ensures taken { IsTrue result → vertices.new ≡ remove vertices.old i }
     ensures spent { IsTrue result → moves.new + count_after vertices.old i ≡ moves.old }
+    ensures fewer { moves.new ≤ moves.old }
     ensures vertices { IsTrue result → (P : List Pair) → IsPolygonOf P vertices.old
         → (S.held set.now).points ≡ without_point (vertex vertices.old i) P
         → IsVertexList (S.held set.now).points vertices.new }
@@ -110,6 +112,7 @@ pub(crate) fn take_in(vertices: &mut Kept, moves: &mut usize, p: Point) -> bool
         → (IsTrue result × (vertices.new ≡ W) × (moves.new ≡ moves.old - count_after W i))
         ⊎ (IsFalse result × (length W ≡ length vertices.old + 1)) }
     ensures spent { (S W : List Pair) (i : ℕ) → PutsIn S vertices.old W p i → moves.old < count_after W i → IsFalse result }
+    ensures fewer { moves.new ≤ moves.old }
 {
     match vertices.polygon().insertion(p) {
         Insertion::Covered => true,
@@ -129,6 +132,7 @@ pub(crate) fn let_go<S: HullSet>(vertices: &mut Kept, moves: &mut usize, p: Poin
         → IsTrue result × (vertices.new ≡ remove vertices.old i) × (moves.new ≡ moves.old - count_after vertices.old i) }
     ensures spent { (i : ℕ) → i < length vertices.old → vertex vertices.old i ≡ p
         → moves.old < count_after vertices.old i → IsFalse result }
+    ensures fewer { moves.new ≤ moves.old }
 {
     match vertices.polygon().index_of(p) {
         Some(i) => take_out(vertices, moves, i, set),

@@ -106,6 +106,7 @@ impl Vertices {
             ⊎ ((self.new ≡ Unknown 0) × (length W ≡ length V + 1)) }
         ensures spent { (S V W : List Pair) (m i : ℕ) → self.old ≡ Known V m → PutsIn S V W p i → m < count_after W i
             → self.new ≡ Unknown 0 }
+        ensures fewer { (V W : List Pair) (m n : ℕ) → self.old ≡ Known V m → self.new ≡ Known W n → n ≤ m }
     {
         if let Vertices::Known(kept, moves) = self {
             if !take_in(kept, moves, p) {
@@ -125,6 +126,7 @@ impl Vertices {
             → vertex V i ≡ p → count_after V i ≤ m → self.new ≡ Known (remove V i) (m - count_after V i) }
         ensures spent { (V : List Pair) (m i : ℕ) → self.old ≡ Known V m → i < length V → vertex V i ≡ p
             → m < count_after V i → self.new ≡ Unknown 0 }
+        ensures fewer { (V W : List Pair) (m n : ℕ) → self.old ≡ Known V m → self.new ≡ Known W n → n ≤ m }
     {
         if let Vertices::Known(kept, moves) = self {
             if !let_go(kept, moves, p, set) {
