@@ -68,7 +68,7 @@ static int compare(void) {
         failed += !is_same(adds ? hull_add(gathered, p.x, p.y) : hull_remove(gathered, p.x, p.y),
                            adds ? hull_add(plain, p.x, p.y) : hull_remove(plain, p.x, p.y));
         const uint64_t count = hull_vertices(plain, theirs, CAPACITY).number;
-        refusing = i % 11 == 0;
+        refusing = i % 3 == 0;
         if (i % 7 != 0) {
             requests = 0;
             const hull_reply r = hull_gather(gathered);
@@ -86,7 +86,7 @@ static int compare(void) {
     hull_free(gathered), hull_free(plain);
     printf("gathered: %d changes of the vertices left them there, %d gathered them again, %d were refused memory, %d answers differ\n", stayed, dropped,
            refused, failed);
-    return failed != 0 || stayed < ROUNDS / 20 || dropped < ROUNDS / 100 || refused < 100;
+    return failed != 0 || stayed < 1000 || dropped < 200 || refused < 50;
 }
 
 /* On a parabola: a change between two listings leaves the vertices there, but not for long if none are listed. */

@@ -54,7 +54,7 @@ int main(void) {
         failed += !have_same_vertices(prepared, plain, known);
     }
     hull_free(prepared), hull_free(plain);
-    int seldom = known_often < ROUNDS / 4 || lost < 100;
+    int seldom = known_often < ROUNDS / 4 || lost < 10;
     printf("prepared: known in %d of %d rounds, lost %d times, %d answers differ\n", known_often, ROUNDS, lost, failed);
     return failed != 0 || seldom;
 }
