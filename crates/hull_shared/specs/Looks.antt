@@ -29,12 +29,6 @@ use Rattle.hull_shared.specs.declared.seat.SharedSeat.{SharedSeat}
 use Rattle.hull_shared.specs.declared.seat.SharedSeat.TheVariants.{Vacant, Idle, Waiting}
 use Rattle.hull_shared.specs.declared.seat.WaitingSeat.{WaitingSeat}
 
--- the seat has no number
-abbrev pub IsIdle : SharedSeat → Type 0
-IsIdle Vacant = ⊥
-IsIdle (Idle i) = Unit {0}
-IsIdle (Waiting w) = ⊥
-
 -- the seat has taken a number for the call: it is the same seat of the same lock, and has seen the same lines
 abbrev pub WaitsFor : IdleSeat → WaitingSeat → Call → Type 0
 WaitsFor i w call = (lock_of w.lock ≡ lock_of i.lock) × (w.number ≡ i.number) × (w.call ≡ call)
@@ -56,6 +50,13 @@ IsBareReply c r = IsBare c r.encoded × (r.turn ≡ 0) × EncodesNothing r
 -- the reply of a waiting seat: this code, and its number
 abbrev pub IsReplyOf : Code → WaitingSeat → SeatReply → Type 0
 IsReplyOf c w r = IsBare c r.encoded × (r.turn ≡ ticket_number w.ticket) × EncodesNothing r
+
+-- the reply to a request for a number if the seat can take none: there is no seat, or it has one already
+abbrev pub IsRefusal : SharedSeat → Option SeatReply → Type 0
+IsRefusal Vacant (Some r) = IsBareReply code.Vacant r
+IsRefusal (Idle i) None = Unit {0}
+IsRefusal (Waiting w) (Some r) = IsReplyOf code.Waiting w r
+IsRefusal seat refusal = ⊥
 
 -- the result of asking a seat with no number for a call, or for none
 abbrev pub TakesFor : IdleSeat → SharedSeat → SeatReply → Result Call Code → Type 0

@@ -48,15 +48,3 @@ pub(crate) enum SharedSeat {
     /// A seat whose call is not served yet.
     Waiting(WaitingSeat),
 }
-
-impl SharedSeat {
-    ghost use Rattle.std.specs.Prelude.{◌↔◌, IsTrue};
-    ghost use Rattle.hull_shared.specs.Looks.{IsIdle};
-
-    /// Whether it is a seat with no number.
-    pub(crate) fn is_idle(&self) -> bool
-        ensures { IsTrue result ↔ IsIdle self.now }
-    {
-        matches!(self, SharedSeat::Idle(_))
-    }
-}
