@@ -1006,7 +1006,7 @@ public:
     // Returns the vertices, counterclockwise from the first by x and then by y, each once and none inside an edge.
     std::vector<Point> vertices() const {
         hull_set *const h = alive();
-        const auto count = static_cast<std::size_t>(hull_gather(h).number);
+        const auto count = static_cast<std::size_t>(detail::number(hull_gather(h)));
         return detail::vertices(count, [h](Point *out, std::size_t space) { return hull_vertices(h, out, space); });
     }
 

@@ -55,8 +55,8 @@ size_t hull_python_calls(hull_python *h, const hull_request *requests, hull_repl
 }
 
 static hull_reply hull_gathered_vertices(hull_set *h, hull_point *out, size_t capacity) {
-    hull_gather(h);
-    return hull_vertices(h, out, capacity);
+    const hull_reply gathered = hull_gather(h);
+    return gathered.code == HULL_NUMBER ? hull_vertices(h, out, capacity) : gathered;
 }
 
 hull_reply hull_python_vertices(hull_python *h, hull_point *out, size_t capacity) {

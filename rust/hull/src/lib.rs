@@ -382,7 +382,7 @@ impl Hull {
 
     fn vertex_list(&self) -> Result<Vec<Point>, Fault> {
         // SAFETY: as in `call`; the array is a slice's own, and all of it was written.
-        unsafe { raw::hull_gather(self.storage.as_ptr()) };
+        answer::number(unsafe { raw::hull_gather(self.storage.as_ptr()) })?;
         polygon::written_vertices(|out| unsafe { raw::hull_vertices(self.storage.as_ptr(), out.as_mut_ptr(), out.len()) })
     }
 
