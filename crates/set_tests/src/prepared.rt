@@ -128,7 +128,13 @@ fn vertices_are_known_after_so_many_questions(rt: HostRuntime) -> Result<(), Fai
     let inside = sets.change(Point::new(10, 150)?, true);
     assert!(rt; inside && sets.prepared.known_vertices().is_some());
     let vertex = sets.change(Point::new(7, 49)?, false);
-    assert!(rt; vertex && sets.prepared.known_vertices().is_none());
+    let alike = sets.are_alike(Point::new(3, 20)?, Direction::new(1, -3)?);
+    assert!(rt; vertex && alike && sets.prepared.known_vertices().is_some());
+    let back = sets.change(Point::new(7, 49)?, true);
+    let alike = sets.are_alike(Point::new(3, 20)?, Direction::new(1, -3)?);
+    assert!(rt; back && alike && sets.prepared.known_vertices().is_some());
+    let last = sets.change(Point::new(299, 89401)?, false);
+    assert!(rt; last && sets.prepared.known_vertices().is_none());
     let alike = sets.are_alike(Point::new(3, 20)?, Direction::new(1, -3)?);
     assert!(rt; alike);
     Ok(())
