@@ -747,52 +747,52 @@ static uint64_t end_of_serving(const struct call *call) {
     return end < call->until ? end : call->until;
 }
 
-/* The node of the thread that was told last that its call was served, and those of threads that may sleep, to be woken later. */
-struct told {
+/* The node of the thread that was notified last that its call was served, and those of threads that may sleep, to be woken later. */
+struct notified {
     struct wait_node *last;
     struct wait_node *sleepers[HULL_SHARED_SEATS_MAX];
     uint32_t count;
 };
 
-static void wake_sleepers_of(struct told *told) {
-    while (told->count > 0) {
-        wake_posted(told->sleepers[--told->count]);
+static void wake_sleepers_of(struct notified *notified) {
+    while (notified->count > 0) {
+        wake_posted(notified->sleepers[--notified->count]);
     }
 }
 
-/* Looks whether the thread that was told last may sleep. (One that woke by itself may sleep again, and be among the sleepers twice.) */
-static void note_sleeper(struct told *told) {
-    struct wait_node *node = told->last;
-    told->last = NULL;
+/* Looks whether the thread that was notified last may sleep. (One that woke by itself may sleep again, and be among the sleepers twice.) */
+static void note_sleeper(struct notified *notified) {
+    struct wait_node *node = notified->last;
+    notified->last = NULL;
     if (node != NULL && may_sleep(node)) {
-        if (told->count == HULL_SHARED_SEATS_MAX) {
-            wake_sleepers_of(told);
+        if (notified->count == HULL_SHARED_SEATS_MAX) {
+            wake_sleepers_of(notified);
         }
-        told->sleepers[told->count++] = node;
+        notified->sleepers[notified->count++] = node;
     }
 }
 
-/* Wakes all threads that were told and may sleep. */
-static void wake_told(struct told *told) {
-    note_sleeper(told);
-    wake_sleepers_of(told);
+/* Wakes all threads that were notified and may sleep. */
+static void wake_notified(struct notified *notified) {
+    note_sleeper(notified);
+    wake_sleepers_of(notified);
 }
 
-/* Tells the thread of a posted seat that its call was served. Whether it sleeps is looked up one call later, when the store of its notice has
+/* Notifies the thread of a posted seat that its call was served. Whether it sleeps is looked up one call later, when the store of its notice has
  * reached the other processor: so no step waits for that. */
-static void tell(struct told *told, struct wait_node *node) {
-    note_sleeper(told);
+static void notify_served(struct notified *notified, struct wait_node *node) {
+    note_sleeper(notified);
     __atomic_store_n(&node->has_turn, HAD_TURN, __ATOMIC_RELAXED);
     notify(node, IS_SERVED);
-    told->last = node;
+    notified->last = node;
 }
 
 /* Wakes those whose calls a thread served, and looks for the seat that is posted with a number a few times more: they make their next calls now.
  * Returns the seat; or 0, and the number is announced. */
-static uint32_t wait_and_claim(struct gate *gate, uint64_t number, struct told *told) {
+static uint32_t wait_and_claim(struct gate *gate, uint64_t number, struct notified *notified) {
     uint32_t seat = 0;
     unsigned looks;
-    wake_told(told);
+    wake_notified(notified);
     for (looks = 0; seat == 0 && looks < POST_LOOKS; looks++) {
         hull_pause(0);
         seat = claim(gate, number);
@@ -805,10 +805,10 @@ static uint32_t wait_and_claim(struct gate *gate, uint64_t number, struct told *
  * thread has to drain, which at first `held` lines say: then the thread of the next seat is to look. */
 OUT_OF_LINE void serve_claimed(const struct call *call, uint32_t seat, uint64_t number, uint32_t held) {
     struct gate *gate = call->gate;
-    struct told told;
+    struct notified notified;
     uint32_t served = 0, server = call->number;
     uint64_t end = end_of_serving(call);
-    told.last = NULL, told.count = 0;
+    notified.last = NULL, notified.count = 0;
     __atomic_store_n(&gate->server, server, __ATOMIC_RELAXED);
     while (seat != 0) {
         struct wait_node *node = node_of(gate, seat);
@@ -820,14 +820,14 @@ OUT_OF_LINE void serve_claimed(const struct call *call, uint32_t seat, uint64_t 
         served++;
         held = binding_of(node->seat)->reply.held;
         seat = claim(gate, ++number);
-        tell(&told, node);
+        notify_served(&notified, node);
         if (seat == 0) {
-            seat = wait_and_claim(gate, number, &told);
+            seat = wait_and_claim(gate, number, &notified);
         }
     }
     __atomic_compare_exchange_n(&gate->server, &server, 0, 0, __ATOMIC_RELAXED, __ATOMIC_RELAXED);
     __atomic_fetch_add(&gate->combined, served, __ATOMIC_RELAXED);
-    wake_told(&told);
+    wake_notified(&notified);
 }
 
 /* Serves the calls that are posted from this number on, which was handed on; at first the book has `held` lines. */

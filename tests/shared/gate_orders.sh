@@ -122,7 +122,7 @@ wrong_ones() {
     wrong 'who gives a notice looks before that whether the thread sleeps' '2 1 2 cc' \
         '/^    HULL_SHARED_STEP\("to notify"\);/{i\    node->padding[0] = __atomic_load_n(\&node->sleeps, __ATOMIC_SEQ_CST) != 0;
 }; s/^    return __atomic_load_n\(\&node->sleeps, __ATOMIC_SEQ_CST\) != 0;/    return node->padding[0];/'
-    wrong 'a thread that is told last is not woken' '2 1 2 cc' '/^static void wake_told/{n;s/^.*$/    ;/}'
+    wrong 'the thread that is notified last is not woken' '2 1 2 cc' '/^static void wake_notified/{n;s/^.*$/    ;/}'
     wrong 'a posted thread sleeps before it says so' '2 1 2 cc' 's/^( +)__atomic_store_n\(\&node->sleeps, 1, __ATOMIC_SEQ_CST\);/\1;/'
     wrong 'a notice is given before the call is served' '2 1 2 cc' \
         's/^        if \(served == HULL_SHARED_SERVES/        __atomic_store_n(\&node->notice, IS_SERVED, __ATOMIC_SEQ_CST);\n&/'

@@ -631,7 +631,7 @@ static uint64_t first_number;
 /* While seat 38 sleeps with its number: it is reported, and its call is made by this thread. */
 static void serve_last(void) {
     struct wait_node *node = node_of(gate, 39);
-    struct told told = {NULL, {NULL}, 0};
+    struct notified notified = {NULL, {NULL}, 0};
     hull_shared_reply reply;
     if (node->sleeps == 0) {
         return;
@@ -644,11 +644,11 @@ static void serve_last(void) {
     check("the seat after it", claim(gate, first_number + 1), 39);
     check("is served", (uint64_t)serve(gate, node), 1);
     check("the number that is served", gate->turn, first_number + 2);
-    tell(&told, node);
+    notify_served(&notified, node);
     check("it had its turn", node->has_turn, HAD_TURN);
     check("its notice", node->notice, IS_SERVED);
-    note_sleeper(&told);
-    check("its thread sleeps", told.count, 1);
+    note_sleeper(&notified);
+    check("its thread sleeps", notified.count, 1);
 }
 
 /* A thread serves two seats that are posted, of which one looks and one sleeps: both are counted, and only the sleeper is woken. */
