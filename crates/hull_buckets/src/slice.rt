@@ -1,5 +1,5 @@
 //! Slices of a bucket's vertices, as halves of a hull.
-ghost use Rattle.std.specs.Prelude.{◌≡◌, ◌<◌, ◌≤◌, ◌^◌, IfSome, length};
+ghost use Rattle.std.specs.Prelude.{◌≡◌, ◌<◌, ◌≤◌, ◌^◌, length};
 ghost use Rattle.lattice.specs.Plane as plane;
 ghost use Rattle.lattice.specs.Plane.{IsWithin, widest_side};
 ghost use Rattle.bridge_search.specs.OneWay.{IsBridged-prop};
@@ -87,17 +87,6 @@ impl<'a> Slice<'a> {
         Slice {
             bucket,
             mask: bucket.vertices(Side::Lower) | bucket.vertices(Side::Upper),
-        }
-    }
-
-    /// Returns the bucket, if the slice is all of its vertices.
-    pub fn whole(self) -> Option<&'a Bucket>
-        ensures { IfSome result (λ bucket. ⟦<Slice<'a> as Half>⟧.tree self.entry ≡ tree_of_slice bucket.now (all_of bucket.now)) }
-    {
-        if self.mask == self.bucket.vertices(Side::Lower) | self.bucket.vertices(Side::Upper) {
-            Some(self.bucket)
-        } else {
-            None
         }
     }
 
