@@ -64,21 +64,21 @@ put_back S k s l =
           1) S) n)
     ]
 
-    behind : (t : Pair) → Contains (point_at S k ∷ drop (k + 1) S) t → (t ≡ point_at S k) ⊎ Contains (without_place k
+    after : (t : Pair) → Contains (point_at S k ∷ drop (k + 1) S) t → (t ≡ point_at S k) ⊎ Contains (without_place k
         S) t
-    behind t (zero, l, e) = inl (sym e)
-    behind t (suc i, l, e) = inr (Contains-append_right (take k S) (drop (k + 1) S) t (i, omega (arith, l), e))
+    after t (zero, l, e) = inl (sym e)
+    after t (suc i, l, e) = inr (Contains-append_right (take k S) (drop (k + 1) S) t (i, omega (arith, l), e))
 
     back : (t : Pair) → Contains (take k S ++ point_at S k ∷ drop (k + 1) S) t
         → (t ≡ point_at S k) ⊎ Contains (without_place k S) t
     back t m = elim (Contains-append_cases (take k S) (point_at S k ∷ drop (k + 1) S) t m) [
       | inl n ↦ inr (Contains-append_left (take k S) (drop (k + 1) S) t n)
-      | inr n ↦ behind t n
+      | inr n ↦ after t n
     ]
 
 -- what is after the point after the first of two lists
-pub drop_behind : (xs : List Pair) (p : Pair) (ys : List Pair) → drop (length xs + 1) (xs ++ p ∷ ys) ≡ ys
-drop_behind xs p ys =
+pub drop_past : (xs : List Pair) (p : Pair) (ys : List Pair) → drop (length xs + 1) (xs ++ p ∷ ys) ≡ ys
+drop_past xs p ys =
     let e : length xs + 1 ≡ length (xs ++ p ∷ []) = let n = length-append xs (p ∷ []) in omega (arith, n) in
     ap (λ (k : ℕ). drop k (xs ++ p ∷ ys)) e
     ∙ ap (drop (length (xs ++ p ∷ []))) (sym (append_twice xs (p ∷ []) ys)) ∙ drop_front (xs ++ p ∷ []) ys
@@ -114,15 +114,15 @@ taken_away S k s l =
           m)),
     )
 
-    behind : (t : Pair) → ¬ (t ≡ point_at S k) → Contains (point_at S k ∷ drop (k + 1) S) t
+    after : (t : Pair) → ¬ (t ≡ point_at S k) → Contains (point_at S k ∷ drop (k + 1) S) t
         → Contains (drop (k + 1) S) t
-    behind t n (zero, l, e) = absurd (n (sym e))
-    behind t n (suc i, l, e) = (i, omega (arith, l), e)
+    after t n (zero, l, e) = absurd (n (sym e))
+    after t n (suc i, l, e) = (i, omega (arith, l), e)
 
     back : (t : Pair) → ¬ (t ≡ point_at S k)
         → Contains (take k S) t ⊎ Contains (point_at S k ∷ drop (k + 1) S) t → Contains (without_place k S) t
     back t n (inl m) = Contains-append_left (take k S) (drop (k + 1) S) t m
-    back t n (inr m) = Contains-append_right (take k S) (drop (k + 1) S) t (behind t n m)
+    back t n (inr m) = Contains-append_right (take k S) (drop (k + 1) S) t (after t n m)
 
 -- ---- positions
 
@@ -143,9 +143,9 @@ before_place S k t s l m =
     (0, omega arith, refl)
 
 -- and what is after it, after it
-pub behind_place : (S : List Pair) (k : ℕ) (t : Pair) → IsPointSet S → k < length S → Contains (drop (k + 1) S) t
+pub after_place : (S : List Pair) (k : ℕ) (t : Pair) → IsPointSet S → k < length S → Contains (drop (k + 1) S) t
     → IsBefore (point_at S k) t
-behind_place S k t s l m =
+after_place S k t s l m =
     All-contains (IsBefore (point_at S k)) (drop (k + 1) S) t
     (AllPairs-head (point_at S k) (drop (k + 1) S)
     (set_right (take k S) (point_at S k ∷ drop (k + 1) S) (subst IsPointSet (around S k l) s))) m
@@ -153,14 +153,14 @@ behind_place S k t s l m =
 -- ---- over an edge
 
 -- the point after the first ones
-point_behind : (xs : List Pair) (b : Pair) (rest : List Pair) → point_at (xs ++ b ∷ rest) (length xs) ≡ b
-point_behind [] b rest = refl
-point_behind (x ∷ xs) b rest = point_behind xs b rest
+point_after : (xs : List Pair) (b : Pair) (rest : List Pair) → point_at (xs ++ b ∷ rest) (length xs) ≡ b
+point_after [] b rest = refl
+point_after (x ∷ xs) b rest = point_after xs b rest
 
 -- the last of the first ones
 point_before : (front : List Pair) (a b : Pair) (rest : List Pair)
     → point_at ((front ++ a ∷ []) ++ b ∷ rest) (length (front ++ a ∷ []) - 1) ≡ a
-point_before front a b rest = grind (arith, common_steps, length-append, append_twice, point_behind)
+point_before front a b rest = grind (arith, common_steps, length-append, append_twice, point_after)
 
 -- a point is over the edge between the last of the first ones and the first of the others if it is not outwards of it
 pub over_returned : (side : Side) (left right front rest : List Pair) (a b p : Pair) → left ≡ front ++ a ∷ []
@@ -176,20 +176,20 @@ over_returned side left right front rest a b p e f =
     before : point_at chain (length (front ++ a ∷ []) - 1) ≡ a
     before = point_before front a b rest
 
-    behind : point_at chain (length (front ++ a ∷ [])) ≡ b
-    behind = point_behind (front ++ a ∷ []) b rest
+    after : point_at chain (length (front ++ a ∷ [])) ≡ b
+    after = point_after (front ++ a ∷ []) b rest
 
     there : orient_on side a p b ≤ℤ pos 0 → IsOverEdge side chain (length (front ++ a ∷ [])) p
     there h = (
       (let n = length-append front (a ∷ []) in omega (arith, n)),
       (let n = length-append (front ++ a ∷ []) (b ∷ rest) in omega (arith, n)),
       subst (λ (z : Pair). orient_on side z p (point_at chain (length (front ++ a ∷ []))) ≤ℤ pos 0) (sym before)
-          (subst (λ (z : Pair). orient_on side a p z ≤ℤ pos 0) (sym behind) h),
+          (subst (λ (z : Pair). orient_on side a p z ≤ℤ pos 0) (sym after) h),
     )
 
     back : IsOverEdge side chain (length (front ++ a ∷ [])) p → orient_on side a p b ≤ℤ pos 0
     back k = subst (λ (z : Pair). orient_on side z p b ≤ℤ pos 0) before
-        (subst (λ (z : Pair). orient_on side (point_at chain (length (front ++ a ∷ []) - 1)) p z ≤ℤ pos 0) behind k.2)
+        (subst (λ (z : Pair). orient_on side (point_at chain (length (front ++ a ∷ []) - 1)) p z ≤ℤ pos 0) after k.2)
 
 -- no vertex before it
 pub none_before : (side : Side) (left right : List Pair) (p : Pair) → left ≡ []
@@ -198,6 +198,6 @@ none_before side left right p e k = let n : length left ≡ 0 = ap (λ (z : List
     let s = k.0 in omega (arith, n, s)
 
 -- none after it
-pub none_behind : (side : Side) (left right : List Pair) (p : Pair) → right ≡ []
+pub none_after : (side : Side) (left right : List Pair) (p : Pair) → right ≡ []
     → ¬ (IsOverEdge side (left ++ right) (length left) p)
-none_behind side left right p e k = grind (arith, common_steps, length-append)
+none_after side left right p e k = grind (arith, common_steps, length-append)

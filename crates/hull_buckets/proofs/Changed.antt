@@ -22,7 +22,7 @@ use Rattle.hull_geometry.proofs.SetLaws.{members_with, ordered_with}
 use Rattle.hull_buckets.specs.Buckets.{BucketValue, IsBucket, IsMaskOf, WasMaskOf, IsMultiplicity, mask_on}
 use Rattle.hull_buckets.specs.Masks.{without_place}
 use Rattle.hull_buckets.specs.declared.TheConstants.{BUCKET_SIZE}
-use Rattle.hull_buckets.proofs.Around.{take_front, drop_behind, others_set, taken_away}
+use Rattle.hull_buckets.proofs.Around.{take_front, drop_past, others_set, taken_away}
 
 -- ---- lists
 
@@ -38,15 +38,15 @@ insert_is S p i s at =
     whole : S ≡ take i S ++ drop i S
     whole = cut S i at.0
 
-    behind : (t : Pair) → Contains (p ∷ drop i S) t → (t ≡ p) ⊎ Contains S t
-    behind t (zero, l, e) = inl (sym e)
-    behind t (suc k, l, e) = inr (subst (λ (z : List Pair). Contains z t) (sym whole)
+    after : (t : Pair) → Contains (p ∷ drop i S) t → (t ≡ p) ⊎ Contains S t
+    after t (zero, l, e) = inl (sym e)
+    after t (suc k, l, e) = inr (subst (λ (z : List Pair). Contains z t) (sym whole)
         (Contains-append_right (take i S) (drop i S) t (k, omega (arith, l), e)))
 
     there : (t : Pair) → Contains (take i S) t ⊎ Contains (p ∷ drop i S) t → (t ≡ p) ⊎ Contains S t
     there t (inl m) = inr (subst (λ (z : List Pair). Contains z t) (sym whole)
         (Contains-append_left (take i S) (drop i S) t m))
-    there t (inr m) = behind t m
+    there t (inr m) = after t m
 
     back : (t : Pair) → (t ≡ p) ⊎ Contains S t → Contains (insert S i p) t
     back t (inl e) = Contains-append_right (take i S) (p ∷ drop i S) t (0, omega arith, sym e)
@@ -63,7 +63,7 @@ insert_undone S p i l =
     ap (λ (k : ℕ). take k (insert S i p) ++ drop (i + 1) (insert S i p)) (sym n)
     ∙ ap (λ (z : List Pair). z ++ drop (i + 1) (insert S i p)) (take_front (take i S) (p ∷ drop i S))
     ∙ ap (λ (k : ℕ). take i S ++ drop (k + 1) (insert S i p)) (sym n)
-    ∙ ap (λ (z : List Pair). take i S ++ z) (drop_behind (take i S) p (drop i S)) ∙ sym (cut S i l)
+    ∙ ap (λ (z : List Pair). take i S ++ z) (drop_past (take i S) p (drop i S)) ∙ sym (cut S i l)
 
 -- a value removed from a list at its index
 pub removed : (S : List Pair) (i : ℕ) → remove S i ≡ without_place i S
@@ -126,7 +126,8 @@ grown b P T p i multiplicity lower upper k at space held e f m n = record {
   counted = ap (λ (z : List ℕ). length z) f
       ∙ (let a = length-insert b.multiplicities i multiplicity (omega (arith, k.counted, at.0)) in omega (arith, a, count, k.counted));
   held = subst (All IsMultiplicity) (sym f)
-      (All-append IsMultiplicity (take i b.multiplicities) (multiplicity ∷ drop i b.multiplicities) (All-take IsMultiplicity i b.multiplicities k.held)
+      (All-append IsMultiplicity (take i b.multiplicities) (multiplicity ∷ drop i b.multiplicities)
+      (All-take IsMultiplicity i b.multiplicities k.held)
       (All-cons IsMultiplicity multiplicity (drop i b.multiplicities) held (All-drop IsMultiplicity i b.multiplicities k.held)));
   vertices = on_both _ m n;
 }

@@ -15,7 +15,7 @@ use Rattle.hull_geometry.proofs.Passes.{convex_left, convex_right, passed_throug
 use Rattle.hull_buckets.specs.Buckets.{IsMaskOf}
 use Rattle.hull_buckets.specs.Masks.{at_places, without_place, AreApart}
 use Rattle.hull_buckets.proofs.Around.{take_front, drop_front, others_count, put_back, between_lists}
-use Rattle.hull_buckets.proofs.Around.{before_place, behind_place}
+use Rattle.hull_buckets.proofs.Around.{before_place, after_place}
 use Rattle.hull_buckets.proofs.Places.{separated, low_at, high_at, at_among, together}
 use Rattle.hull_buckets.proofs.Words.{divided, next_power, sum_within, power_le}
 
@@ -76,8 +76,8 @@ module _ (side : Side) (S : List Pair) (old k : ℕ) (ordered : IsPointSet S) (l
           ap (λ (n : ℕ). n % 2 ^ (k + 1)) z ∙ mod_low (old / 2 ^ k) (k + 1) 0 (pow_pos (k + 1))
 
   -- there is none after it up to its own index
-  pub high_behind : (old / 2 ^ k * 2 ^ (k + 1)) % 2 ^ (k + 1) ≡ 0
-  high_behind = let z : old / 2 ^ k * 2 ^ (k + 1) ≡ old / 2 ^ k * 2 ^ (k + 1) + 0 = omega arith in
+  pub high_after : (old / 2 ^ k * 2 ^ (k + 1)) % 2 ^ (k + 1) ≡ 0
+  high_after = let z : old / 2 ^ k * 2 ^ (k + 1) ≡ old / 2 ^ k * 2 ^ (k + 1) + 0 = omega arith in
       ap (λ (n : ℕ). n % 2 ^ (k + 1)) z ∙ mod_low (old / 2 ^ k) (k + 1) 0 (pow_pos (k + 1))
 
   -- both are within the list
@@ -102,7 +102,7 @@ module _ (side : Side) (S : List Pair) (old k : ℕ) (ordered : IsPointSet S) (l
       (λ t m. before_place S k t ordered l (at_among (old % 2 ^ k) (take k S) t
       (subst (λ (z : List Pair). Contains z t)
       (low_at S k (old % 2 ^ k) (omega (arith, l)) (mod_below old (2 ^ k) (pow_pos k))) m)))
-      (λ t m. behind_place S k t ordered l (at_among (old / 2 ^ k) (drop (k + 1) S) t
+      (λ t m. after_place S k t ordered l (at_among (old / 2 ^ k) (drop (k + 1) S) t
       (subst (λ (z : List Pair). Contains z t) (high_at S (k + 1) (old / 2 ^ k) (omega (arith, l))) m)))
 
   -- if the point is over an edge of the old chain, that edge stays
@@ -138,7 +138,7 @@ pub record AreBeside (side : Side) (S : List Pair) (k low high : ℕ) : Type 0 w
   pub apart : AreApart low high
   pub low_within : low < 2 ^ length S
   pub high_within : high < 2 ^ length S
-  pub high_behind : high % 2 ^ (k + 1) ≡ 0
+  pub high_after : high % 2 ^ (k + 1) ≡ 0
   pub left_convex : IsConvex side (at_places low S)
   pub right_convex : IsConvex side (at_places high S)
   pub stays : IsOverEdge side (at_places low S ++ at_places high S) (length (at_places low S)) (point_at S k)
@@ -159,7 +159,7 @@ beside side S old k low high s l m e f =
       apart = are_apart side S old k s l m;
       low_within = low_within side S old k s l m;
       high_within = high_within side S old k s l m;
-      high_behind = high_behind side S old k s l m;
+      high_after = high_after side S old k s l m;
       left_convex = left_convex side S old k s l m;
       right_convex = right_convex side S old k s l m;
       stays = stays side S old k s l m;

@@ -62,36 +62,36 @@ inner_of_two side xs (y ∷ rest) t s k = elim (inner_cut side xs y rest t k) [
 ]
 
 -- nothing is inner to points that are all after it
-behind_from : (side : Side) (a : Pair) (xs : List Pair) (t : Pair) → IsInnerFrom side a xs t → IsBefore t a
+before_from : (side : Side) (a : Pair) (xs : List Pair) (t : Pair) → IsInnerFrom side a xs t → IsBefore t a
     → All (IsBefore t) xs → ⊥
-behind_from side a [] t k b h = elim k [ ]
-behind_from side a (y ∷ ys) t (inl e) b h =
+before_from side a [] t k b h = elim k [ ]
+before_from side a (y ∷ ys) t (inl e) b h =
     before_irrefl y (subst (λ z. IsBefore z y) e (All-head (IsBefore t) y ys h))
-behind_from side a (y ∷ ys) t (inr (inl k)) b h = before_not t a b k.0
-behind_from side a (y ∷ ys) t (inr (inr k)) b h =
-    behind_from side y ys t k (All-head (IsBefore t) y ys h) (All-tail (IsBefore t) y ys h)
+before_from side a (y ∷ ys) t (inr (inl k)) b h = before_not t a b k.0
+before_from side a (y ∷ ys) t (inr (inr k)) b h =
+    before_from side y ys t k (All-head (IsBefore t) y ys h) (All-tail (IsBefore t) y ys h)
 
-pub none_behind : (side : Side) (xs : List Pair) (t : Pair) → IsInner side xs t → All (IsBefore t) xs → ⊥
-none_behind side [] t k h = elim k [ ]
-none_behind side (x ∷ xs) t (inl e) h =
+pub none_of_later : (side : Side) (xs : List Pair) (t : Pair) → IsInner side xs t → All (IsBefore t) xs → ⊥
+none_of_later side [] t k h = elim k [ ]
+none_of_later side (x ∷ xs) t (inl e) h =
     before_irrefl x (subst (λ z. IsBefore z x) e (All-head (IsBefore t) x xs h))
-none_behind side (x ∷ xs) t (inr k) h =
-    behind_from side x xs t k (All-head (IsBefore t) x xs h) (All-tail (IsBefore t) x xs h)
+none_of_later side (x ∷ xs) t (inr k) h =
+    before_from side x xs t k (All-head (IsBefore t) x xs h) (All-tail (IsBefore t) x xs h)
 
 -- nor to points that are all before it
-ahead_from : (side : Side) (a : Pair) (xs : List Pair) (t : Pair) → IsInnerFrom side a xs t
+after_from : (side : Side) (a : Pair) (xs : List Pair) (t : Pair) → IsInnerFrom side a xs t
     → All (λ u. IsBefore u t) xs → ⊥
-ahead_from side a [] t k h = elim k [ ]
-ahead_from side a (y ∷ ys) t (inl e) h =
+after_from side a [] t k h = elim k [ ]
+after_from side a (y ∷ ys) t (inl e) h =
     before_irrefl y (subst (IsBefore y) e (All-head (λ u. IsBefore u t) y ys h))
-ahead_from side a (y ∷ ys) t (inr (inl k)) h = before_not y t (All-head (λ u. IsBefore u t) y ys h) k.1
-ahead_from side a (y ∷ ys) t (inr (inr k)) h = ahead_from side y ys t k (All-tail (λ u. IsBefore u t) y ys h)
+after_from side a (y ∷ ys) t (inr (inl k)) h = before_not y t (All-head (λ u. IsBefore u t) y ys h) k.1
+after_from side a (y ∷ ys) t (inr (inr k)) h = after_from side y ys t k (All-tail (λ u. IsBefore u t) y ys h)
 
-pub none_ahead : (side : Side) (xs : List Pair) (t : Pair) → IsInner side xs t → All (λ u. IsBefore u t) xs → ⊥
-none_ahead side [] t k h = elim k [ ]
-none_ahead side (x ∷ xs) t (inl e) h =
+pub none_of_earlier : (side : Side) (xs : List Pair) (t : Pair) → IsInner side xs t → All (λ u. IsBefore u t) xs → ⊥
+none_of_earlier side [] t k h = elim k [ ]
+none_of_earlier side (x ∷ xs) t (inl e) h =
     before_irrefl x (subst (IsBefore x) e (All-head (λ u. IsBefore u t) x xs h))
-none_ahead side (x ∷ xs) t (inr k) h = ahead_from side x xs t k (All-tail (λ u. IsBefore u t) x xs h)
+none_of_earlier side (x ∷ xs) t (inr k) h = after_from side x xs t k (All-tail (λ u. IsBefore u t) x xs h)
 
 -- ---- the indices between
 
@@ -130,14 +130,14 @@ all_between T low high mask t s g hw (i, l, e) after before =
       | inl z ↦ omega (arith, z)
       | inr z ↦ elim (cases_lt i g.start) [
         | inr b ↦ omega (arith, b)
-        | inl b ↦ absurd (behind_last z b)
+        | inl b ↦ absurd (in_front z b)
       ]
     ]
       where
-        behind_last : 2 ^ (g.start - 1) ≤ low → i < g.start → ⊥
-        behind_last z b =
+        in_front : 2 ^ (g.start - 1) ≤ low → i < g.start → ⊥
+        in_front z b =
             let within : g.start - 1 < length T = omega (arith, b, g.order, g.within) in
-            let up : low < 2 ^ (g.start - 1 + 1) = subst (λ (n : ℕ). low < 2 ^ n) (omega (arith, b)) g.behind in
+            let up : low < 2 ^ (g.start - 1 + 1) = subst (λ (n : ℕ). low < 2 ^ n) (omega (arith, b)) g.low_before in
             let last = last_at T low (g.start - 1) z up within in
             let m : Contains (at_places low T) (point_at T (g.start - 1)) =
             subst (λ (z : List Pair). Contains z (point_at T (g.start - 1))) (sym last)
@@ -227,7 +227,7 @@ module _ (side : Side) (S : List Pair) (old k : ℕ) (s : IsPointSet S) (l : k <
         (whole.inner t (subst (λ (z : List Pair). Contains z t) (sym parts)
         (Contains-append_left (take k S) (drop k S) t m)))) [
           | inl i ↦ inl i
-          | inr (inl i) ↦ absurd (none_behind side right t i (all_of (IsBefore t) right
+          | inr (inl i) ↦ absurd (none_of_later side right t i (all_of (IsBefore t) right
               (λ u n. set_apart (take k S) (drop k S) t u in_row m (at_among (old / 2 ^ k) (drop k S) u n))))
           | inr (inr a) ↦ inr (inr (
             a.0,
@@ -249,7 +249,7 @@ module _ (side : Side) (S : List Pair) (old k : ℕ) (s : IsPointSet S) (l : k <
     others = λ t m. elim (inner_of_two side left right t whole.strict.ordered
         (whole.inner t (subst (λ (z : List Pair). Contains z t) (sym parts)
         (Contains-append_right (take k S) (drop k S) t m)))) [
-          | inl i ↦ absurd (none_ahead side left t i (all_of (λ u. IsBefore u t) left
+          | inl i ↦ absurd (none_of_earlier side left t i (all_of (λ u. IsBefore u t) left
               (λ u n. set_apart (take k S) (drop k S) u t in_row (at_among (old % 2 ^ k) (take k S) u n) m)))
           | inr (inl i) ↦ inr (inl i)
           | inr (inr a) ↦ inr (inr (

@@ -130,7 +130,7 @@ gap_within low high count mask g =
 -- and are after all of the lower one
 pub gap_after : (low high count mask : ℕ) → IsGap low high count mask → AreApart low mask
 gap_after low high count mask g =
-    (g.start, g.behind, ap (λ (n : ℕ). n % 2 ^ g.start) g.is ∙ gap_apart g.start g.end g.order)
+    (g.start, g.low_before, ap (λ (n : ℕ). n % 2 ^ g.start) g.is ∙ gap_apart g.start g.end g.order)
 
 -- the last vertex before the points between, by its index
 pub last_of_low : (S : List Pair) (low h : ℕ) (p : Pair) → low < 2 ^ length S → 2 ^ h ≤ low → low < 2 ^ (h + 1)
@@ -166,7 +166,7 @@ module _ (side : Side) (T : List Pair) (low high middle front : ℕ) (s : IsPoin
       let low_end = power_le g.start g.end g.order in
       record {
         within = within (length T) e.low_within w.1;
-        apart = (g.end, within g.end (let b = g.behind in omega (arith, b, low_end)) w.0, g.ahead);
+        apart = (g.end, within g.end (let b = g.low_before in omega (arith, b, low_end)) w.0, g.high_after);
         taken = taken;
         passed = passed;
         others = λ t m a. others t (all_between T low high middle t s g e.high_within m a.0 a.1) a;

@@ -20,7 +20,7 @@ use Rattle.hull_buckets.specs.Buckets.{AreEnds, IsAmid, IsMaskOf, WasMaskOf}
 use Rattle.hull_buckets.specs.Masks.{at_places, kept_before, without_place, AreApart}
 use Rattle.hull_buckets.proofs.Joined.{inner_of_two}
 use Rattle.hull_buckets.proofs.Around.{around, others_set, others_count, taken_away}
-use Rattle.hull_buckets.proofs.Around.{between_lists, before_place, behind_place}
+use Rattle.hull_buckets.proofs.Around.{between_lists, before_place, after_place}
 use Rattle.hull_buckets.proofs.Places.{separated, none_at, at_among, together}
 use Rattle.hull_buckets.proofs.Words.{next_power, sum_within, power_le}
 
@@ -121,8 +121,8 @@ module _ (side : Side) (S : List Pair) (old k : ℕ) (ordered : IsPointSet S) (l
   before_it t m = before_place S k t ordered l
       (at_among (old % 2 ^ k) (take k S) t (subst (λ (z : List Pair). Contains z t) (low_left S old k l) m))
 
-  behind_it : (t : Pair) → Contains right t → IsBefore (point_at S k) t
-  behind_it t m = behind_place S k t ordered l
+  after_it : (t : Pair) → Contains right t → IsBefore (point_at S k) t
+  after_it t m = after_place S k t ordered l
       (at_among (old / 2 ^ (k + 1)) (drop (k + 1) S) t
       (subst (λ (z : List Pair). Contains z t) (high_left S (old / 2 ^ (k + 1)) k l) m))
 
@@ -149,7 +149,7 @@ module _ (side : Side) (S : List Pair) (old k : ℕ) (ordered : IsPointSet S) (l
     chain = subst (IsChainOf side rest)
         (sym (together rest (old % 2 ^ k) (old / 2 ^ (k + 1) * 2 ^ k) are_apart high_within low_within))
         (delete_same side rest S (left ++ right) (point_at S k) (length left) ordered
-        (between_lists left right (point_at S k) before_it behind_it) (taken_away S k ordered l)
+        (between_lists left right (point_at S k) before_it after_it) (taken_away S k ordered l)
         (subst (λ (n : ℕ). IsChainOf side S (left ++ kept_before n (point_at S k) right)) none old_chain));
   }
 
@@ -169,14 +169,14 @@ module _ (side : Side) (S : List Pair) (old k : ℕ) (ordered : IsPointSet S) (l
       whole : IsChainOf side S (left ++ point_at S k ∷ right)
       whole = subst (λ (n : ℕ). IsChainOf side S (left ++ kept_before n (point_at S k) right)) one old_chain
 
-      behind : IsPointSet (point_at S k ∷ right)
-      behind = set_right left (point_at S k ∷ right) whole.strict.ordered
+      after : IsPointSet (point_at S k ∷ right)
+      after = set_right left (point_at S k ∷ right) whole.strict.ordered
 
       among : (t : Pair) → Contains S t × ¬ (t ≡ point_at S k)
           → IsInner side left t ⊎ (IsInner side right t ⊎ IsAmid left right t)
       among t (m, n) = elim (inner_of_two side left (point_at S k ∷ right) t whole.strict.ordered (whole.inner t m)) [
         | inl i ↦ inl i
-        | inr (inl i) ↦ elim (inner_of_two side (point_at S k ∷ []) right t behind i) [
+        | inr (inl i) ↦ elim (inner_of_two side (point_at S k ∷ []) right t after i) [
           | inl j ↦ absurd (elim j [ inl e ↦ n e | inr e ↦ e ])
           | inr (inl j) ↦ inr (inl j)
           | inr (inr a) ↦ inr (inr (

@@ -54,7 +54,7 @@ and_fits a c l = let m = and_le_l a c in omega (arith, l, m)
 -- the last index of the chain in the slice, or the slice's first
 pub record Leaves (chain slice place : ℕ) : Type 0 where
   pub set : bit_at slice place ≡ 1
-  pub none_behind : (i : ℕ) → bit_at slice i ≡ 1 → bit_at chain i ≡ 1 → i ≤ place
+  pub none_after : (i : ℕ) → bit_at slice i ≡ 1 → bit_at chain i ≡ 1 → i ≤ place
   pub ends : (bit_at chain place ≡ 1) ⊎ ((i : ℕ) → bit_at slice i ≡ 1 → place ≤ i)
 
 pub leaves : (chain slice : ℕ) → 0 < slice → slice < 2 ^ 64 → Leaves chain slice (end_of_slice chain slice)
@@ -63,7 +63,7 @@ leaves chain slice s f = go (bit_and slice chain) refl
     go : (own : ℕ) → bit_and slice chain ≡ own → Leaves chain slice (either_place own (lowest_of slice) (highest_of own))
     go zero e = record {
       set = lowest_set slice s f;
-      none_behind = λ i r c. absurd (let b = both_set slice chain i r c in
+      none_after = λ i r c. absurd (let b = both_set slice chain i r c in
           let z = ap (λ (n : ℕ). bit_at n i) e ∙ bit_at-zero i in omega (arith, b, z));
       ends = inr (λ i r. bit_from slice i s f r);
     }
@@ -73,7 +73,7 @@ leaves chain slice s f = go (bit_and slice chain) refl
         let both = set_in_both slice chain (highest_of (suc n)) (ap (λ (m : ℕ). bit_at m (highest_of (suc n))) e ∙ top) in
         record {
           set = both.0;
-          none_behind = λ i r c. bit_to (suc n) i (omega arith) fits
+          none_after = λ i r c. bit_to (suc n) i (omega arith) fits
               (sym (ap (λ (m : ℕ). bit_at m i) e) ∙ both_set slice chain i r c);
           ends = inl both.1;
         }
@@ -156,8 +156,8 @@ module _ (b : BucketValue) (k : IsBucket b) (slice : ℕ) (some : 0 < slice) (fi
   abbrev before_it : Tree
   before_it = tree_of_slice b (left_slice slice)
 
-  abbrev behind_it : Tree
-  behind_it = tree_of_slice b (right_slice slice)
+  abbrev after_it : Tree
+  after_it = tree_of_slice b (right_slice slice)
 
   -- the indices of the slice are indices of points
   in_list : (i : ℕ) → bit_at slice i ≡ 1 → i < length b.points
@@ -172,12 +172,12 @@ module _ (b : BucketValue) (k : IsBucket b) (slice : ℕ) (some : 0 < slice) (fi
       (left_fits slice some fits wide) (omega arith) t i
 
   -- one of the right half at an index after it
-  at_right : (t : Pair) → On behind_it t → PlaceIn b (right_slice slice) t
+  at_right : (t : Pair) → On after_it t → PlaceIn b (right_slice slice) t
   at_right t i = on_place (width_of (right_slice slice)) b (right_slice slice) (right_some slice some fits wide)
       (right_fits slice some fits wide) (omega arith) t i
 
   -- all of the left half is before all of the right one
-  pub all_before : IsAllBefore (On before_it) (On behind_it)
+  pub all_before : IsAllBefore (On before_it) (On after_it)
   all_before p q i j =
       let x = at_left p i in
       let y = at_right q j in
@@ -216,7 +216,7 @@ module _ (b : BucketValue) (k : IsBucket b) (slice : ℕ) (some : 0 < slice) (fi
 
   -- the halves part there
   separated_at : (side : Side) → AreSeparatedAt (at_places (mask_on side b) b.points)
-      (at_places (mask_on (opposite side) b) b.points) (On before_it) (On behind_it)
+      (at_places (mask_on (opposite side) b) b.points) (On before_it) (On after_it)
       (point_at b.points (end_of_slice (mask_on side b) (left_slice slice)))
       (point_at b.points (start_of_slice (mask_on side b) (right_slice slice)))
   separated_at side = record {
@@ -232,7 +232,7 @@ module _ (b : BucketValue) (k : IsBucket b) (slice : ℕ) (some : 0 < slice) (fi
         let x = at_left t i in
         let c = on_chain b.points k.ordered (mask_on side b) x.0 (left_in_list x.0 x.1)
         (subst (Contains (at_places (mask_on side b) b.points)) x.2 m) in
-        let l = (leaving side).none_behind x.0 x.1 c in
+        let l = (leaving side).none_after x.0 x.1 c in
         let g = lower_place b.points k.ordered (end_of_slice (mask_on side b) (left_slice slice)) x.0
         (left_in_list (end_of_slice (mask_on side b) (left_slice slice)) (leaving side).set) (left_in_list x.0 x.1)
         (subst (IsBefore (point_at b.points (end_of_slice (mask_on side b) (left_slice slice)))) x.2 h) in
@@ -271,10 +271,10 @@ module _ (b : BucketValue) (k : IsBucket b) (slice : ℕ) (some : 0 < slice) (fi
   }
 
   -- the edge between them is their bridge
-  pub halves_bridge : (side : Side) → IsBridge side (On before_it) (On behind_it)
+  pub halves_bridge : (side : Side) → IsBridge side (On before_it) (On after_it)
       (point_at b.points (end_of_slice (mask_on side b) (left_slice slice)))
       (point_at b.points (start_of_slice (mask_on side b) (right_slice slice)))
-  halves_bridge side = runs_bridge side (On before_it) (On behind_it) b.points (at_places (mask_on side b) b.points)
+  halves_bridge side = runs_bridge side (On before_it) (On after_it) b.points (at_places (mask_on side b) b.points)
       (at_places (mask_on (opposite side) b) b.points) _ _ (k.vertices side).chain (k.vertices (opposite side)).chain
       (separated_at side)
 

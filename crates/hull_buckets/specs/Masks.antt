@@ -35,9 +35,9 @@ pub record IsGap (low high count mask : ℕ) : Type 0 where
   pub start : ℕ
   pub end : ℕ
   pub is : mask ≡ 2 ^ end - 2 ^ start
-  pub behind : low < 2 ^ start
+  pub low_before : low < 2 ^ start
   pub next : (start ≡ 0) ⊎ (2 ^ (start - 1) ≤ low)
-  pub ahead : high % 2 ^ end ≡ 0
+  pub high_after : high % 2 ^ end ≡ 0
   pub last : (end ≡ count) ⊎ (high % 2 ^ (end + 1) ≡ 2 ^ end)
   pub order : start ≤ end
   pub within : end ≤ count

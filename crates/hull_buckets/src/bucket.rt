@@ -13,7 +13,7 @@ use super::BUCKET_SIZE;
 use super::mask::has;
 use super::positions::position_of;
 use super::repairing::{all_vertices, vertices_before, vertices_from, with_vertex, without_vertex};
-use super::row::{drain, put_behind, put_in, put_over};
+use super::row::{append, drain, put_in, put_over};
 use lattice::{Point, Side};
 use std::marker::Model;
 
@@ -184,8 +184,8 @@ impl Bucket {
     {
         let mut own_points = [points[0]; BUCKET_SIZE];
         let mut own_multiplicities = [multiplicities[0]; BUCKET_SIZE];
-        put_behind(&mut own_points, 0, points);
-        put_behind(&mut own_multiplicities, 0, multiplicities);
+        append(&mut own_points, 0, points);
+        append(&mut own_multiplicities, 0, multiplicities);
         Bucket {
             points: own_points,
             multiplicities: own_multiplicities,
@@ -235,8 +235,8 @@ impl Bucket {
         ensures multiplicities { self.new.multiplicities ≡ self.old.multiplicities ++ other.now.multiplicities }
     {
         let (more, more_multiplicities) = (other.points(), other.multiplicities());
-        put_behind(&mut self.points, self.len, more);
-        put_behind(&mut self.multiplicities, self.len, more_multiplicities);
+        append(&mut self.points, self.len, more);
+        append(&mut self.multiplicities, self.len, more_multiplicities);
         self.len += more.len();
         let points = &self.points[..self.len];
         self.lower = all_vertices(Side::Lower, points);

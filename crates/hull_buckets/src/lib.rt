@@ -1,8 +1,8 @@
 //! Buckets of lattice points: up to 64 of them in order in one array, with the vertices of both chains of their hull as the bits of two words.
 //!
 //! You can insert points into a [`Bucket`] and remove them, split it in the middle, and append a bucket that is after it; each change repairs the two
-//! words, by passes over the indices that it can affect. To a search of bridges and to questions it is a half of a hull, a [`Slice`] of its vertices. A
-//! leaf tree over buckets has a thirtieth of the forks that one over points has; `BucketTree` (crate `bucket_tree`) is one.
+//! words, by passes over the indices that it can affect. To a search of bridges and to questions it is a half of a hull, a [`Slice`] of its vertices.
+//! A leaf tree over buckets has a thirtieth of the forks that one over points has; `BucketTree` (crate `bucket_tree`) is one.
 //!
 //! # A worked example
 //!

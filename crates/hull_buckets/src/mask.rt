@@ -79,7 +79,7 @@ pub(crate) fn first(count: usize) -> u64
 }
 
 /// Returns the index after the highest one of a mask; the first if it has none.
-fn behind(mask: u64) -> usize
+fn index_after(mask: u64) -> usize
     ensures all { mask < 2 ^ result }
     ensures next { (result ≡ 0) ⊎ (2 ^ (result - 1) ≤ mask) }
     ensures within { result ≤ 64 }
@@ -112,5 +112,5 @@ pub(crate) fn between(low: u64, high: u64, count: usize) -> u64
     requires high_within { high < 2 ^ count }
     ensures { IsGap low high count result }
 {
-    first(ahead(high, count)) - first(behind(low))
+    first(ahead(high, count)) - first(index_after(low))
 }

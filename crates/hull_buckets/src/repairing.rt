@@ -17,7 +17,7 @@ fn is_covered(side: Side, points: &[Point], low: u64, high: u64, place: usize) -
     requires few { length points.now ≤ BUCKET_SIZE }
     requires within { place < length points.now }
     requires low_before { low < 2 ^ place }
-    requires high_behind { high % 2 ^ (place + 1) ≡ 0 }
+    requires high_after { high % 2 ^ (place + 1) ≡ 0 }
     requires high_within { high < 2 ^ length points.now }
     ensures { IsTrue result ↔ IsOverEdge side (at_places low points.now ++ at_places high points.now)
         (length (at_places low points.now)) (point_at points.now place) }
@@ -25,9 +25,9 @@ fn is_covered(side: Side, points: &[Point], low: u64, high: u64, place: usize) -
     if low == 0 || high == 0 {
         return false;
     }
-    let ahead = points[highest(low)];
-    let behind = points[lowest(high)];
-    !is_convex_at(side, ahead, points[place], behind)
+    let before = points[highest(low)];
+    let after = points[lowest(high)];
+    !is_convex_at(side, before, points[place], after)
 }
 
 /// Returns the mask of the chain of points of which the one at `place` is new; `old` is that of the others.

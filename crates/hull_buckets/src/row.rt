@@ -26,7 +26,7 @@ pub(crate) fn drain<T: Copy>(items: &mut [T], count: usize, place: usize)
 }
 
 /// Appends values after the first `count`.
-pub(crate) fn put_behind<T: Copy>(items: &mut [T], count: usize, more: &[T])
+pub(crate) fn append<T: Copy>(items: &mut [T], count: usize, more: &[T])
     requires space { count + length more.now ≤ length items.old }
     ensures items { take (count + length more.now) items.new ≡ take count items.old ++ more.now }
     ensures len { length items.new ≡ length items.old }

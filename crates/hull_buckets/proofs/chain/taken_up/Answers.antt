@@ -69,7 +69,7 @@ returns-then-next-kept-clause-passed c =
     let s = step c.args.points.now c.loop-left.kept c.loop-left.left c.lowest-place.result c.loop-left.invariant.apart
     c.lowest-place.ensures.least c.lowest-place.ensures.there
     (c.loop-left.invariant.within (length c.args.points.now) c.requires.chain_within c.requires.rest_within).1 in
-    let b = c.loop-left.invariant.behind c.if-not-is_first.true in
+    let b = c.loop-left.invariant.bends c.if-not-is_first.true in
     let next : c.pushed-next.result ≡ c.loop-left.kept + 2 ^ c.lowest-place.result =
     c.if-next-kept.true ∙ ap (λ (b : ℕ). c.loop-left.kept + b) c.bit.ensures in
     c.loop-left.invariant.passed (at_places (c.pushed-next.result + (c.loop-left.left - c.bit-left.result)) S)
@@ -100,7 +100,7 @@ loop-left-preserved c =
       convex = c.pushed-next.ensures.passed.strict.convex;
       rest_convex = convex_right c.args.side (point_at S c.lowest-place.result ∷ [])
           (at_places (c.loop-left.left - c.bit-left.result) S) convex;
-      behind = λ e. (ends.0, point_at S c.lowest-place.result, ends.1, convex);
+      bends = λ e. (ends.0, point_at S c.lowest-place.result, ends.1, convex);
       passed = λ new h. c.loop-left.invariant.passed new
           (passed_on s c.args.side c.pushed-next.result c.bit-left.result new c.bit-left.ensures
           c.pushed-next.ensures.passed h);

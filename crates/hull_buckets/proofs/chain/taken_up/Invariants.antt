@@ -12,7 +12,7 @@ invariant-loop-left l = record {
   within : (k : ℕ) → l.chain < 2 ^ k → l.rest < 2 ^ k → (l.kept < 2 ^ k) × (l.left < 2 ^ k);
   convex : IsConvex l.side (at_places l.kept l.points);
   rest_convex : IsConvex l.side (at_places l.left l.points);
-  behind : l.is_first ≡ false → (front : List Pair) × (q : Pair) × (at_places l.kept l.points ≡ front ++ q ∷ [])
+  bends : l.is_first ≡ false → (front : List Pair) × (q : Pair) × (at_places l.kept l.points ≡ front ++ q ∷ [])
       × IsConvex l.side (q ∷ at_places l.left l.points);
   passed : (new : List Pair) → IsPassed l.side (at_places l.kept l.points ++ at_places l.left l.points) new
       → IsPassed l.side (at_places l.chain l.points ++ at_places l.rest l.points) new;

@@ -22,27 +22,27 @@ pub first-requires : goal.first-requires
 first-requires c = omega (arith, c.ahead.ensures.within, c.requires.few)
 
 pub first-requires-2 : goal.first-requires-2
-first-requires-2 c = c.behind.ensures.within
+first-requires-2 c = c.index_after.ensures.within
 
 pub overflow_sub-result : goal.overflow_sub-result
 overflow_sub-result c =
-    let o = in_order c.args.low c.args.high c.args.count c.behind.result c.ahead.result c.requires.apart
-    c.requires.low_within c.behind.ensures.next c.ahead.ensures.next in
-    let p = power_le c.behind.result c.ahead.result o in
+    let o = in_order c.args.low c.args.high c.args.count c.index_after.result c.ahead.result c.requires.apart
+    c.requires.low_within c.index_after.ensures.next c.ahead.ensures.next in
+    let p = power_le c.index_after.result c.ahead.result o in
     omega (arith, p, c.first.ensures, c.first-2.ensures)
 
 pub returns : goal.returns
 returns c =
-    let some = pow_pos c.behind.result in
+    let some = pow_pos c.index_after.result in
     record {
-      start = c.behind.result;
+      start = c.index_after.result;
       end = c.ahead.result;
       is = omega (arith, some, c.first.ensures, c.first-2.ensures);
-      behind = c.behind.ensures.all;
-      next = c.behind.ensures.next;
-      ahead = c.ahead.ensures.none;
+      low_before = c.index_after.ensures.all;
+      next = c.index_after.ensures.next;
+      high_after = c.ahead.ensures.none;
       last = c.ahead.ensures.next;
-      order = in_order c.args.low c.args.high c.args.count c.behind.result c.ahead.result c.requires.apart
-          c.requires.low_within c.behind.ensures.next c.ahead.ensures.next;
+      order = in_order c.args.low c.args.high c.args.count c.index_after.result c.ahead.result c.requires.apart
+          c.requires.low_within c.index_after.ensures.next c.ahead.ensures.next;
       within = c.ahead.ensures.within;
     }

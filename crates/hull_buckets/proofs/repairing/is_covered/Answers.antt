@@ -12,7 +12,7 @@ use Rattle.lattice.specs.declared.side.Side.{Side}
 use Rattle.hull_geometry.specs.Mending.{IsOverEdge}
 use Rattle.hull_geometry.specs.Positions.{point_at}
 use Rattle.hull_buckets.specs.Masks.{at_places}
-use Rattle.hull_buckets.proofs.Around.{over_returned, none_before, none_behind}
+use Rattle.hull_buckets.proofs.Around.{over_returned, none_before, none_after}
 use Rattle.hull_buckets.proofs.Ends.{last_at}
 use Rattle.hull_buckets.proofs.Places.{none_at, first_at, read_at}
 use Rattle.hull_buckets.proofs.Words.{top_before}
@@ -41,7 +41,7 @@ returns-then-low-eq0 c = elim c.then-low-eq0.branch [
   | then-low-eq0-via-then-low-eq0 w ↦ not_so _ (none_before c.args.side (at_places c.args.low c.args.points.now)
       (at_places c.args.high c.args.points.now) (point_at c.args.points.now c.args.place)
       (none_there c.args.points.now c.args.low w.if-low-eq0.true))
-  | then-low-eq0-via-else-low-eq0+then-high-eq0 w ↦ not_so _ (none_behind c.args.side
+  | then-low-eq0-via-else-low-eq0+then-high-eq0 w ↦ not_so _ (none_after c.args.side
       (at_places c.args.low c.args.points.now) (at_places c.args.high c.args.points.now)
       (point_at c.args.points.now c.args.place) (none_there c.args.points.now c.args.high w.if-high-eq0.true))
 ]

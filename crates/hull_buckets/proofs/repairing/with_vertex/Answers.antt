@@ -14,10 +14,10 @@ moved_up-high-requires-clause-space c =
     let w = c.requires.mask.within in
     omega (arith, w, p)
 
-pub is_covered-requires-clause-high_behind : goal.is_covered-requires-clause-high_behind
-is_covered-requires-clause-high_behind c =
+pub is_covered-requires-clause-high_after : goal.is_covered-requires-clause-high_after
+is_covered-requires-clause-high_after c =
     (beside c.args.side c.args.points.now c.args.old c.args.place c.below-low.result c.moved_up-high.result
-    c.requires.ordered c.requires.within c.requires.mask c.below-low.ensures c.moved_up-high.ensures).high_behind
+    c.requires.ordered c.requires.within c.requires.mask c.below-low.ensures c.moved_up-high.ensures).high_after
 
 pub is_covered-requires-clause-high_within : goal.is_covered-requires-clause-high_within
 is_covered-requires-clause-high_within c =
@@ -47,7 +47,7 @@ pub taken_up-requires-clause-apart : goal.taken_up-requires-clause-apart
 taken_up-requires-clause-apart c =
     let b = beside c.args.side c.args.points.now c.args.old c.args.place c.below-low.result c.moved_up-high.result
     c.requires.ordered c.requires.within c.requires.mask c.below-low.ensures c.moved_up-high.ensures in
-    (c.args.place + 1, c.pushed-front.ensures.within, b.high_behind)
+    (c.args.place + 1, c.pushed-front.ensures.within, b.high_after)
 
 pub taken_up-requires-clause-chain_within : goal.taken_up-requires-clause-chain_within
 taken_up-requires-clause-chain_within c =

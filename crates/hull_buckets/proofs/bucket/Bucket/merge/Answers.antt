@@ -28,8 +28,8 @@ invariant_of-self c =
       merged (seen c.self.inside.len c.self.inside.points c.self.inside.multiplicities c.self.inside.lower c.self.inside.upper)
           more _
           c.multiplicities-more_multiplicities.result.now _ _ _ c.self.invariant.1 c.points-more.ensures.ordered counted
-          c.multiplicities-more_multiplicities.ensures.held order space c.put_behind.ensures.items
-          (ap (λ (k : ℕ). take (c.self.inside.len + k) c.put_behind-2.new.items) (sym counted)
-          ∙ c.put_behind-2.ensures.items)
+          c.multiplicities-more_multiplicities.ensures.held order space c.append.ensures.items
+          (ap (λ (k : ℕ). take (c.self.inside.len + k) c.append-2.new.items) (sym counted)
+          ∙ c.append-2.ensures.items)
           c.all_vertices-self-inside.ensures c.all_vertices-self-inside-2.ensures,
     )

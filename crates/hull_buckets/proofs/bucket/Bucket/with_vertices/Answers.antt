@@ -13,14 +13,14 @@ first_written {X} new more n e h =
 
 pub invariant_of-result : goal.invariant_of-result
 invariant_of-result c =
-    let P = first_written c.put_behind.new.items c.args.points.now (length c.args.points.now) (omega arith)
-    c.put_behind.ensures.items in
-    let T = first_written c.put_behind-2.new.items c.args.multiplicities.now (length c.args.points.now)
-    (omega (arith, c.requires.counted)) c.put_behind-2.ensures.items in (
+    let P = first_written c.append.new.items c.args.points.now (length c.args.points.now) (omega arith)
+    c.append.ensures.items in
+    let T = first_written c.append-2.new.items c.args.multiplicities.now (length c.args.points.now)
+    (omega (arith, c.requires.counted)) c.append-2.ensures.items in (
       c.requires.few,
       subst (λ (z : List Pair). IsBucket (record {
         points = z;
-        multiplicities = take (length c.args.points.now) c.put_behind-2.new.items;
+        multiplicities = take (length c.args.points.now) c.append-2.new.items;
         lower = c.args.lower;
         upper = c.args.upper;
       })) (sym P)
