@@ -14,8 +14,8 @@ use Rattle.hull_questions.specs.ChainRanges.{IsChainRange, IsChainRangeOf}
 use Rattle.hull_questions.specs.Walks.{IsListed, IsWalk, upright}
 use Rattle.hull_questions.proofs.Stretched.{chain_range_left, chain_range_right, chain_range_across, whole_chain_range}
 use Rattle.hull_questions.proofs.Walked.{both_listed, listed_over}
-use Rattle.bucket_tree.specs.Chains.{IsPassage}
-use Rattle.bucket_tree.specs.Nodes.{AreWhole, IsWhole, tree_at, tree_of}
+use Rattle.bucket_tree.specs.Chains.{HasRange, IsPassage}
+use Rattle.bucket_tree.specs.Nodes.{AreWhole, tree_at, tree_of}
 use Rattle.bucket_tree.specs.Runs.{IsListedOn, IsRangeOn, tree_on}
 use Rattle.bucket_tree.specs.declared.chains.Passage.{Passage}
 use Rattle.bucket_tree.specs.declared.node.Fork.{Fork}
@@ -59,31 +59,33 @@ pub passage_last : (side : Side) (f : Fork) (p : Passage) → IsPassage side f p
 passage_last Lower f p (a, b, c, d) = ap tree_of d
 passage_last Upper f p (a, b, c, d) = ap (λ n. tree_on Upper (tree_of n)) d
 
--- both halves of a passage are whole and bridged, and lower than the fork
-pub record IsBelow (f : Fork) (n : Node) : Type 0 where
-  pub whole : IsWhole n
-  pub bridged : IsBridged (tree_of n)
-  pub low : height_of (tree_of n) < height_of (tree_at f)
-
--- the left half is below the fork
-left_below : (f : Fork) (n : Node) → AreWhole f → IsBridged (tree_at f) → n ≡ f.left → IsBelow f n
-left_below f n w b e = rw e (record { whole = w.0; bridged = b.3; low = omega arith })
-
--- and so is the right one
-right_below : (f : Fork) (n : Node) → AreWhole f → IsBridged (tree_at f) → n ≡ f.right → IsBelow f n
-right_below f n w b e = rw e (record { whole = w.1; bridged = b.4; low = omega arith })
-
--- the first half of a passage is below the fork
-pub first_below : (side : Side) (f : Fork) (p : Passage) → IsPassage side f p → AreWhole f → IsBridged (tree_at f) → IsBelow f p.first.now
-first_below Lower f p (a, b, c, d) w h = left_below f p.first.now w h a
-first_below Upper f p (a, b, c, d) w h = right_below f p.first.now w h a
-
--- and so is the last one
-pub last_below : (side : Side) (f : Fork) (p : Passage) → IsPassage side f p → AreWhole f → IsBridged (tree_at f) → IsBelow f p.last.now
-last_below Lower f p (a, b, c, d) w h = right_below f p.last.now w h d
-last_below Upper f p (a, b, c, d) w h = left_below f p.last.now w h d
-
 -- ---- ranges
+
+-- a range of a half of a fork, which is lower than the fork
+abbrev pub IsRangeBelow : Side → Fork → Node → Pair → Pair → Type 0
+IsRangeBelow side f n from to = (height_of (tree_of n) < height_of (tree_at f)) × HasRange side n from to
+
+-- a range of the left half is one
+left_range : (side : Side) (f : Fork) (n : Node) (from to : Pair) → AreWhole f → IsBridged (tree_at f) → n ≡ f.left
+    → IsRangeOn side (tree_of n) from to → IsRangeBelow side f n from to
+left_range side f n from to w b e r = rw e (omega arith, record { whole = w.0; bridged = b.3; between = rw e at r })
+
+-- and so is one of the right half
+right_range : (side : Side) (f : Fork) (n : Node) (from to : Pair) → AreWhole f → IsBridged (tree_at f) → n ≡ f.right
+    → IsRangeOn side (tree_of n) from to → IsRangeBelow side f n from to
+right_range side f n from to w b e r = rw e (omega arith, record { whole = w.1; bridged = b.4; between = rw e at r })
+
+-- so a range of the first half of a passage is one
+pub first_range : (side : Side) (f : Fork) (p : Passage) (from to : Pair) → IsPassage side f p → AreWhole f → IsBridged (tree_at f)
+    → IsRangeOn side (tree_of p.first.now) from to → IsRangeBelow side f p.first.now from to
+first_range Lower f p from to (a, b, c, d) w h r = left_range Lower f p.first.now from to w h a r
+first_range Upper f p from to (a, b, c, d) w h r = right_range Upper f p.first.now from to w h a r
+
+-- and so is one of the last half
+pub last_range : (side : Side) (f : Fork) (p : Passage) (from to : Pair) → IsPassage side f p → AreWhole f → IsBridged (tree_at f)
+    → IsRangeOn side (tree_of p.last.now) from to → IsRangeBelow side f p.last.now from to
+last_range Lower f p from to (a, b, c, d) w h r = right_range Lower f p.last.now from to w h d r
+last_range Upper f p from to (a, b, c, d) w h r = left_range Upper f p.last.now from to w h d r
 
 -- a range of a node is one of a half, and what is listed of the node is listed of the half
 pub record IsPart (side : Side) (t : Tree) (n : Node) (from to : Pair) : Type 0 where

@@ -1,6 +1,6 @@
 -- A fork one of whose parts changed in place.
 use Rattle.std.proofs.lemmas.Grind.{common_steps}
-use Rattle.std.proofs.Common.{◌≡◌, ℕ, ◌+◌, ◌*◌, ◌≤◌, ◌<◌, max, Bool, true, false, cond, refl, sym, ap, ◌∙◌, subst, ◌++◌}
+use Rattle.std.proofs.Common.{◌≡◌, ℕ, ◌+◌, ◌*◌, ◌≤◌, ◌<◌, max, Bool, true, false, cond, not, refl, sym, ap, ◌∙◌, subst, ◌++◌}
 use Rattle.std.proofs.Common.{List, get_or, length, length-append, length-drop, length-take, arith}
 use Rattle.std.proofs.Common.{Box, Some, Ok, Err}
 use Rattle.std.specs.Box.{with_value}
@@ -23,9 +23,9 @@ use Rattle.hull_set.specs.Held.{once}
 use Rattle.bucket_tree.specs.Changes.{AreKept, HasEdgesAfter, HasEnds, IsBridgeBetween, IsUnaffectedOver, IsAfter}
 use Rattle.bucket_tree.specs.Changes.{IsEndUnlessClear, IsRenewed, IsSameBut, change_of, edge_on}
 use Rattle.bucket_tree.specs.Counts.{counted, multiplicity_at, Alters, Kind, Comes, Goes}
-use Rattle.bucket_tree.specs.InPlace.{AreFewFor, HasChanged, HasChangedIn, IsAfterPart, IsInPlace, IsRenewedAfter}
-use Rattle.bucket_tree.specs.Halves.{with_half}
-use Rattle.bucket_tree.specs.InPlace.{IsBetween, IsBetweenKept, IsToRenew, IsUnsearched, ends_of_part, part_of}
+use Rattle.bucket_tree.specs.InPlace.{AreFewFor, HasChanged, HasChangedIn, IsAfterHalf, IsInPlace, IsRenewedAfter}
+use Rattle.bucket_tree.specs.Halves.{ends_of_half, half_of, with_half}
+use Rattle.bucket_tree.specs.InPlace.{IsBetween, IsBetweenKept, IsToRenew, IsUnsearched}
 use Rattle.bucket_tree.specs.Nodes.{points_below, ends_in, multiplicities_below, node_height, AreNear, AreInRow}
 use Rattle.bucket_tree.specs.Nodes.{IsWellBuilt}
 use Rattle.bucket_tree.specs.declared.renewal.Change.{Change}
@@ -36,7 +36,7 @@ use Rattle.bucket_tree.specs.declared.node.Node.{Node, Leaf, Fork}
 use Rattle.bucket_tree.specs.declared.renewal.Affected.{Affected}
 use Rattle.bucket_tree.proofs.Added.{ends_at, lost_at}
 use Rattle.bucket_tree.proofs.BuiltLeaves.{leaf_built}
-use Rattle.bucket_tree.proofs.Kept.{DiffersAt, behind_as, differs_with, differs_without, unaffected_within, edges_as, ends_kept, same_edges}
+use Rattle.bucket_tree.proofs.Kept.{DiffersAt, after_as, differs_with, differs_without, unaffected_within, edges_as, ends_kept, same_edges}
 use Rattle.bucket_tree.proofs.Kept.{of_vertices, stored}
 use Rattle.bucket_tree.proofs.Parts.{BelongsTo, HasSpaceFor, IsAt, alters_with, at, unaffected_with, differs, few_with}
 use Rattle.bucket_tree.proofs.Parts.{row_with}
@@ -198,7 +198,7 @@ pub over_parts : (p : Pair) (sides : Affected) (l r : Node) (f : Below) → IsAf
     → IsAfter p sides l r (with_half false (with_half true f l) r)
 over_parts p sides l r f h =
     let g = with_half false (with_half true f l) r in
-    behind_as p sides l r f g h.unaffected h.clear (same_edges f g refl refl) record {
+    after_as p sides l r f g h.unaffected h.clear (same_edges f g refl refl) record {
       left = h.ends.left;
       right =
           h.ends.right;
@@ -246,21 +246,21 @@ edges_with left put p f k sides row b h d c =
     record { unaffected = e.0; clear = e.1 }
 
 -- and so is the fork
-behind_with : (left put : Bool) (p : Pair) (n : Node) (h : ℕ) (f : Below) (k : Node) (sides : Affected) → IsApart n h f
+after_with : (left put : Bool) (p : Pair) (n : Node) (h : ℕ) (f : Below) (k : Node) (sides : Affected) → IsApart n h f
     → IsWellBuilt k → AreInRow (cond left k f.left) (cond left f.right k)
     → Alters (kind_of put) p (cond left f.left f.right) k
     → DiffersAt p (points_below (cond left f.left f.right)) (points_below k) → IsUnaffectedOver p sides (points_below k)
-    → IsAfterPart left p sides (with_half left f k)
-behind_with true put p n h f k sides a w row h' d c = record {
+    → IsAfterHalf left p sides (with_half left f k)
+after_with true put p n h f k sides a w row h' d c = record {
   row = row;
   edges = edges_with true put p f k sides a.row a.edges h' d c;
-  right = a.ends.right;
+  other = a.ends.right;
   kept = ends_kept p f.left k f.left_ends a.row.left_built w d a.ends.left;
 }
-behind_with false put p n h f k sides a w row h' d c = record {
+after_with false put p n h f k sides a w row h' d c = record {
   row = row;
   edges = edges_with false put p f k sides a.row a.edges h' d c;
-  left = a.ends.left;
+  other = a.ends.left;
   kept = ends_kept p f.right k f.right_ends a.row.right_built w d a.ends.right;
 }
 
@@ -307,7 +307,7 @@ between_kept p n m e v w d is b = (b, ends)
 -- the ends that a fork stores of a part that changed stay if the point is between two others there
 between_with : (left put : Bool) (p : Pair) (n : Node) (h : ℕ) (f : Below) (k : Node) → IsApart n h f → IsWellBuilt k
     → DiffersAt p (points_below (cond left f.left f.right)) (points_below k) → IsBetween p (points_below k)
-    → IsBetweenKept p (ends_of_part left (with_half left f k)) (points_below (part_of left (with_half left f k)))
+    → IsBetweenKept p (ends_of_half left (with_half left f k)) (points_below (half_of left (with_half left f k)))
 between_with true put p n h f k a w d b = between_kept p f.left k f.left_ends a.row.left_built w d a.ends.left b
 between_with false put p n h f k a w d b = between_kept p f.right k f.right_ends a.row.right_built w d a.ends.right b
 
@@ -345,7 +345,7 @@ to_renew left put change p n h f g k below i d few low e m =
     let row = row_with left kind p n f.left f.right k i.at s.built b in
     subst (IsToRenew left change p below) (sym e)
     record {
-      behind = behind_with left put p n h f k below.sides i.apart s.built row b (differs kind p part k o.0.ordered b)
+      after = after_with left put p n h f k below.sides i.apart s.built row b (differs kind p part k o.0.ordered b)
           s.unaffected;
       end = λ side. end_with left put change side p n h f k below i d o.0 row m;
       few = few_with left kind p n f.left f.right k i.at b (space_by left put p n h f k below i d few);
@@ -354,34 +354,33 @@ to_renew left put change p n h f g k below i d few low e m =
       between = λ t. between_with left put p n h f k i.apart s.built (differs kind p part k o.0.ordered b) (s.between t);
     }
 
--- a fork whose part changed at a point between two others that affects no chain is renewed as it is
+-- the ends of one half and of the other one are those of both halves
+both_ends : (left : Bool) (f : Below) → ends_of_half left f ≡ ends_in (points_below (half_of left f))
+    → ends_of_half (not left) f ≡ ends_in (points_below (half_of (not left) f)) → HasEnds f.left f.right f
+both_ends true f h o = record { left = h; right = o }
+both_ends false f h o = record { left = o; right = h }
+
+-- a point between two others of a half is between two of both halves
+pub between_half : (left : Bool) (p : Pair) (f : Below) → IsBetween p (points_below (half_of left f))
+    → IsBetween p (points_below f.left ++ points_below f.right)
+between_half true p f b = between_left p (points_below f.left) (points_below f.right) b
+between_half false p f b = between_right p (points_below f.left) (points_below f.right) b
+
+-- a fork whose half changed at a point between two others that affects no chain is renewed as it is
 pub untouched : (left : Bool) (change : Change) (p : Pair) (below : Changed) (f : Below) → IsToRenew left change p below f
     → below.is_between ≡ true → below.sides.lower ≡ false → below.sides.upper ≡ false → IsRenewedAfter p below f f below
-untouched true change p below f r b l u = record {
+untouched left change p below f r b l u = record {
   renewed = record {
-    row = r.behind.row;
-    upper = of_vertices Upper f.left f.right f.upper r.behind.row (r.behind.edges.unaffected Upper u);
-    lower = of_vertices Lower f.left f.right f.lower r.behind.row (r.behind.edges.unaffected Lower l);
-    ends = record { left = (r.between b).1; right = r.behind.right };
+    row = r.after.row;
+    upper = of_vertices Upper f.left f.right f.upper r.after.row (r.after.edges.unaffected Upper u);
+    lower = of_vertices Lower f.left f.right f.lower r.after.row (r.after.edges.unaffected Lower l);
+    ends = both_ends left f (r.between b).1 r.after.other;
   };
   left = refl;
   right = refl;
   turns = omega arith;
   closes = λ side e. inl e;
-  between = λ _. between_left p (points_below f.left) (points_below f.right) (r.between b).0;
-}
-untouched false change p below f r b l u = record {
-  renewed = record {
-    row = r.behind.row;
-    upper = of_vertices Upper f.left f.right f.upper r.behind.row (r.behind.edges.unaffected Upper u);
-    lower = of_vertices Lower f.left f.right f.lower r.behind.row (r.behind.edges.unaffected Lower l);
-    ends = record { left = r.behind.left; right = (r.between b).1 };
-  };
-  left = refl;
-  right = refl;
-  turns = omega arith;
-  closes = λ side e. inl e;
-  between = λ _. between_right p (points_below f.left) (points_below f.right) (r.between b).0;
+  between = λ _. between_half left p f (r.between b).0;
 }
 
 -- the part to which a point belongs, by the comparison with the first point of the second one
@@ -470,7 +469,8 @@ module _ (p : Pair) (n : Node) (b : Box BucketValue _) (w v : BucketValue) (r : 
       go (Ok change) h = tt
       go (Err multiplicity) h = ap (λ z. Leaf (with_value b z)) (h ∙ d) ∙ sym e
 
-  pub leaf_returned : IfErr r (λ multiplicity. multiplicity ≡ counted w.points w.multiplicities p) → IfErr r (λ multiplicity. multiplicity ≡ multiplicity_at n p)
+  pub leaf_returned : IfErr r (λ multiplicity. multiplicity ≡ counted w.points w.multiplicities p)
+      → IfErr r (λ multiplicity. multiplicity ≡ multiplicity_at n p)
   leaf_returned h = subst (λ z. IfErr r (λ multiplicity. multiplicity ≡ z))
       (ap (λ (z : BucketValue). counted z.points z.multiplicities p) d ∙ sym (ap (λ z. multiplicity_at z p) e)) h
 

@@ -162,11 +162,11 @@ edges_as p sides l r f g unaffected clear same = (
       (clear side (subst (λ e. IsClearOf side e p) (same side) z)),
 )
 
-pub behind_as : (p : Pair) (sides : Affected) (l r : Node) (f g : Fork)
+pub after_as : (p : Pair) (sides : Affected) (l r : Node) (f g : Fork)
     → ((side : Side) → is_affected side sides ≡ false → IsBridgeBetween side l r (edge_on side f))
     → ((side : Side) → IsClearOf side (edge_on side f) p → IsBridgeBetween side l r (edge_on side f))
     → ((side : Side) → edge_on side g ≡ edge_on side f) → HasEnds l r g → IsAfter p sides l r g
-behind_as p sides l r f g unaffected clear same ends =
+after_as p sides l r f g unaffected clear same ends =
     let e = edges_as p sides l r f g unaffected clear same in
     record { ends = ends; unaffected = e.0; clear = e.1 }
 

@@ -80,20 +80,20 @@ from_place s (suc i) (x ∷ xs) (t ∷ ts) a b =
     (from_place s i xs ts (All-tail (λ t. IsBefore t s) x (take i xs) a) b)
 
 -- no point after one that is not before the start is before the start
-none_behind : (s : Pair) (i : ℕ) (S : List Pair) → IsPointSet S → (i < length S → ¬ IsBefore (point_at S i) s)
+none_after : (s : Pair) (i : ℕ) (S : List Pair) → IsPointSet S → (i < length S → ¬ IsBefore (point_at S i) s)
     → All (λ t. ¬ IsBefore t s) (drop i S)
-none_behind s zero [] h n = λ k d l. absurd (omega (arith, l))
-none_behind s zero (x ∷ xs) h n = All-cons (λ t. ¬ IsBefore t s) x xs (n (omega arith))
+none_after s zero [] h n = λ k d l. absurd (omega (arith, l))
+none_after s zero (x ∷ xs) h n = All-cons (λ t. ¬ IsBefore t s) x xs (n (omega arith))
     (All-weaker (IsBefore x) (λ t. ¬ IsBefore t s) (λ t c b. n (omega arith) (before_trans x t s c b)) xs
     (AllPairs-head x xs h))
-none_behind s (suc i) [] h n = λ k d l. absurd (omega (arith, l))
-none_behind s (suc i) (x ∷ xs) h n = none_behind s i xs (AllPairs-tail x xs h) (λ l. n (omega (arith, l)))
+none_after s (suc i) [] h n = λ k d l. absurd (omega (arith, l))
+none_after s (suc i) (x ∷ xs) h n = none_after s i xs (AllPairs-tail x xs h) (λ l. n (omega (arith, l)))
 
 -- the index of the start, or the index at which it would be
 pub from_position : (s : Pair) (S : List Pair) (T : List ℕ) (i : ℕ) → IsPointSet S → IsPositionOf S s (Ok i)
     → entries_from s (paired S T) ≡ drop i (paired S T)
 from_position s S T i h at = from_place s i S T at.2
-    (none_behind s i S h (λ l b. before_irrefl s (subst (λ z. IsBefore z s) (at.1 origin) b)))
+    (none_after s i S h (λ l b. before_irrefl s (subst (λ z. IsBefore z s) (at.1 origin) b)))
 
 pub from_gap : (s : Pair) (S : List Pair) (T : List ℕ) (i : ℕ) → IsPositionOf S s (Err i)
     → entries_from s (paired S T) ≡ drop i (paired S T)
@@ -101,10 +101,10 @@ from_gap s S T i at = from_place s i S T at.1 (All-weaker (IsBefore s) (λ t. ¬
     (drop i S) at.2)
 
 -- as many of those after what was there as there is capacity for
-first_behind : {A : Type 0} (m n : ℕ) (old xs : List A) → m ≡ length old + n → take m (old ++ xs) ≡ old ++ take n xs
-first_behind m n [] xs e = let f : m ≡ n = omega (arith, e) in ap (λ (k : ℕ). take k xs) f
-first_behind zero n (x ∷ old) xs e = absurd (omega (arith, e))
-first_behind (suc m) n (x ∷ old) xs e = ap (λ z. x ∷ z) (first_behind m n old xs (omega (arith, e)))
+take_past : {A : Type 0} (m n : ℕ) (old xs : List A) → m ≡ length old + n → take m (old ++ xs) ≡ old ++ take n xs
+take_past m n [] xs e = let f : m ≡ n = omega (arith, e) in ap (λ (k : ℕ). take k xs) f
+take_past zero n (x ∷ old) xs e = absurd (omega (arith, e))
+take_past (suc m) n (x ∷ old) xs e = ap (λ z. x ∷ z) (take_past m n old xs (omega (arith, e)))
 
 -- what a bucket lists from an index on, until there are enough
 pub bucket_from : (S : List Pair) (T : List ℕ) (f count m : ℕ) (old : List (Pair × ℕ)) → length T ≡ length S
@@ -120,4 +120,4 @@ bucket_from S T f count m old e l c k =
     ∙ ap (λ (z : List (Pair × ℕ)). take (f + count - f) z) (paired_drop f S T e)
     ∙ ap (λ (z : ℕ). take z (drop f (paired S T))) n
     ∙ take_least (m - length old) (length S - f) (drop f (paired S T)) long)
-    ∙ sym (first_behind m (m - length old) old (drop f (paired S T)) (omega (arith, k)))
+    ∙ sym (take_past m (m - length old) old (drop f (paired S T)) (omega (arith, k)))

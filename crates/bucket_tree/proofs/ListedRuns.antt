@@ -2,7 +2,7 @@
 use Rattle.std.proofs.Common.{inl, inr, ◌≡◌, ◌∙◌, refl, sym, ap, subst, pos, ◌≤ℤ◌, ◌<ℤ◌, suc, List, [], ◌∷◌}
 use Rattle.std.proofs.Common.{◌++◌, map, take, drop, append_assoc, arith}
 use Rattle.std.specs.Prelude.{reverse}
-use Rattle.std.specs.List.{All, Contains}
+use Rattle.std.specs.List.{Contains}
 use Rattle.std.proofs.lemmas.List.{reverse-append}
 use Rattle.std.proofs.lemmas.List.Elements.{All-contains, Contains-append_left, Contains-append_right, Contains-append_cases}
 use Rattle.lattice.specs.Plane.{Pair, orient, IsBefore, turned_point}
@@ -29,7 +29,7 @@ use Rattle.hull_buckets.specs.Slices.{tree_of_slice, all_of as vertices_of}
 use Rattle.hull_buckets.specs.Walks.{along}
 use Rattle.hull_buckets.proofs.SliceBridges.{chain_on_tree, vertices_among}
 use Rattle.hull_questions.specs.Chains.{IsLowerVertex}
-use Rattle.hull_questions.specs.Walks.{IsWalk, upright}
+use Rattle.hull_questions.specs.Walks.{upright}
 use Rattle.hull_questions.proofs.Walked.{end_turned}
 use Rattle.bucket_tree.specs.Runs.{IsAhead, IsInOrder, IsListedOn, IsRangeOn, IsRunOf, tree_on}
 use Rattle.bucket_tree.proofs.ChainWalks.{upright_order}

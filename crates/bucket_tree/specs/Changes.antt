@@ -48,8 +48,8 @@ ReturnsOf side e p Covered = IsInwards side e.0 e.1 p
 ReturnsOf side e p Clear = IsClearOf side e p
 ReturnsOf side e p Touching = ¬ IsClearOf side e p
 
--- the change of a fork of which one half changed at a point: the left one if the first word is true, otherwise the right one; the point was added to it
--- if the second word is true
+-- the change of a fork of which one half changed at a point: the left one if the first word is true, otherwise the right one; the point was added
+-- to it if the second word is true
 abbrev pub change_of : Bool → Bool → Change
 change_of true true = AddedLeft
 change_of false true = AddedRight
@@ -62,8 +62,9 @@ pub record AreInnerTo (side : Side) (l r : Node) (e : Pair × Pair) : Type 0 whe
   pub left : (t : Pair) → Contains (points_below l) t → IsInnerToEdge side e.0 e.1 t
   pub right : (t : Pair) → Contains (points_below r) t → IsInnerToEdge side e.0 e.1 t
 
--- a point that was added is one of its half; each bridge of the two halves, as they are now, ends at it, and its other end is not nearer to the split than
--- that of the edge that was the bridge before the change; if none was added, all points are inner to this edge, and one of its ends is still there
+-- a point that was added is one of its half; each bridge of the two halves, as they are now, ends at it, and its other end is not nearer to the
+-- split than that of the edge that was the bridge before the change; if none was added, all points are inner to this edge, and one of its ends is
+-- still there
 abbrev pub IsEndOf : Change → Side → Pair → Node → Node → Pair × Pair → Type 0
 IsEndOf AddedLeft side p l r old = Contains (points_below l) p
     × ((e : Pair × Pair) → IsBridgeBetween side l r e → (e.0 ≡ p) × ¬ IsBefore e.1 old.1)
@@ -101,20 +102,6 @@ ClosesBy p before after S =
 pub record HasEdgesAfter (p : Pair) (sides : Affected) (f : Fork) : Type 0 where
   pub unaffected : (side : Side) → is_affected side sides ≡ false → IsBridgeBetween side f.left f.right (edge_on side f)
   pub clear : (side : Side) → IsClearOf side (edge_on side f) p → IsBridgeBetween side f.left f.right (edge_on side f)
-
--- a fork whose left subtree changed at p since its edges and the ends there were stored
-pub record IsAfterLeft (p : Pair) (sides : Affected) (f : Fork) : Type 0 where
-  pub row : AreInRow f.left f.right
-  pub edges : HasEdgesAfter p sides f
-  pub right : f.right_ends ≡ ends_in (points_below f.right)
-  pub kept : AreKept p f.left_ends (points_below f.left)
-
--- a fork whose right subtree changed in the same way
-pub record IsAfterRight (p : Pair) (sides : Affected) (f : Fork) : Type 0 where
-  pub row : AreInRow f.left f.right
-  pub edges : HasEdgesAfter p sides f
-  pub left : f.left_ends ≡ ends_in (points_below f.left)
-  pub kept : AreKept p f.right_ends (points_below f.right)
 
 -- a fork whose edges are the bridges of the vertices of its two subtrees, and which stores their ends
 pub record IsRenewed (f : Fork) : Type 0 where

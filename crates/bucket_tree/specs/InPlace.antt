@@ -1,5 +1,5 @@
 -- A change in place: no subtree moves.
-use Rattle.std.specs.Prelude.{◌≡◌, ◌≤◌, ◌<◌, ◌+◌, ◌*◌, ◌++◌, ℕ, Some, Bool, true, false, List, length, max}
+use Rattle.std.specs.Prelude.{◌≡◌, ◌≤◌, ◌<◌, ◌+◌, ◌*◌, ◌++◌, ℕ, Some, Bool, true, false, not, List, length, max}
 use Rattle.std.specs.List.{Contains}
 use Rattle.lattice.specs.Covers.{with_point, without_point}
 use Rattle.lattice.specs.Plane.{Pair, IsBefore}
@@ -13,9 +13,10 @@ use Rattle.bucket_tree.specs.declared.node.Node.{Node}
 use Rattle.bucket_tree.specs.declared.node.Ends.{Ends}
 use Rattle.bucket_tree.specs.declared.node.Fork.{Fork}
 use Rattle.bucket_tree.specs.declared.renewal.Affected.{Affected}
-use Rattle.bucket_tree.specs.Changes.{ClosesBy, IsAfterLeft, IsAfterRight, IsEndUnlessClear, IsUnaffectedOver, IsRenewed, edge_on}
+use Rattle.bucket_tree.specs.Changes.{AreKept, ClosesBy, HasEdgesAfter, IsEndUnlessClear, IsUnaffectedOver, IsRenewed, edge_on}
 use Rattle.bucket_tree.specs.Counts.{counted, multiplicity_at, HasGained, HasLost}
-use Rattle.bucket_tree.specs.Nodes.{points_below, ends_in, node_height, IsWellBuilt}
+use Rattle.bucket_tree.specs.Halves.{ends_of_half, half_of}
+use Rattle.bucket_tree.specs.Nodes.{points_below, ends_in, node_height, AreInRow, IsWellBuilt}
 use Rattle.bucket_tree.specs.Turns.{most_turns}
 
 -- p is between two points of a list
@@ -82,28 +83,21 @@ abbrev pub HasChangedIn : Bool → Pair → BucketValue → BucketValue → Chan
 HasChangedIn true = HasPutInto
 HasChangedIn false = HasTakenFrom
 
--- a fork of which one subtree, the left one or else the right one, changed at p since its edges were stored
-abbrev pub IsAfterPart : Bool → Pair → Affected → Fork → Type 0
-IsAfterPart true = IsAfterLeft
-IsAfterPart false = IsAfterRight
-
--- the subtree that changed, and its ends as the fork stores them
-abbrev pub part_of : Bool → Fork → Node
-part_of true f = f.left
-part_of false f = f.right
-
-abbrev pub ends_of_part : Bool → Fork → Ends
-ends_of_part true f = f.left_ends
-ends_of_part false f = f.right_ends
+-- a fork of which one half, the left one or else the right one, changed at p since its edges and the ends there were stored
+pub record IsAfterHalf (left : Bool) (p : Pair) (sides : Affected) (f : Fork) : Type 0 where
+  pub row : AreInRow f.left f.right
+  pub edges : HasEdgesAfter p sides f
+  pub other : ends_of_half (not left) f ≡ ends_in (points_below (half_of (not left) f))
+  pub kept : AreKept p (ends_of_half left f) (points_below (half_of left f))
 
 -- the fork has to be renewed, and can be
 pub record IsToRenew (left : Bool) (change : Change) (p : Pair) (below : Changed) (f : Fork) : Type 0 where
-  pub behind : IsAfterPart left p below.sides f
+  pub after : IsAfterHalf left p below.sides f
   pub end : (side : Side) → IsEndUnlessClear change side p f.left f.right (edge_on side f)
   pub few : length (points_below f.left ++ points_below f.right) ≤ POINT_LIMIT
   pub low : max (node_height f.left) (node_height f.right) ≤ 28
   pub turns : below.turns ≤ 9208
-  pub between : below.is_between ≡ true → IsBetweenKept p (ends_of_part left f) (points_below (part_of left f))
+  pub between : below.is_between ≡ true → IsBetweenKept p (ends_of_half left f) (points_below (half_of left f))
 
 -- it became g, with its subtrees in their places; its searches are added to those below
 pub record IsRenewedAfter (p : Pair) (below : Changed) (f g : Fork) (above : Changed) : Type 0 where

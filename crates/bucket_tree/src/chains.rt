@@ -7,7 +7,7 @@ ghost use Rattle.lattice.specs.Vertices.{IsVertexList};
 ghost use Rattle.bridge_search.specs.Leaves.{points_of};
 ghost use Rattle.bridge_search.specs.Trees.{IsBridged, size_of};
 ghost use Rattle.hull_geometry.specs.Edges.{IsAlong};
-ghost use Rattle.bucket_tree.specs.Chains.{IsPassage};
+ghost use Rattle.bucket_tree.specs.Chains.{HasRange, IsPassage};
 ghost use Rattle.bucket_tree.specs.Nodes.{tree_of, tree_at, IsWhole, AreWhole};
 ghost use Rattle.bucket_tree.specs.Runs.{IsListedOn, IsRangeOn};
 
@@ -70,9 +70,7 @@ fn push_range(
     to: &Point,
     out: &mut Vec<Point, Heap>,
 ) -> Result<(), AllocError>
-    requires whole { IsWhole node.now }
-    requires bridged { IsBridged (tree_of node.now) }
-    requires between { IsRangeOn side (tree_of node.now) from.now to.now }
+    requires { HasRange side node.now from.now to.now }
     ensures { IfOk result (λ _. IsListedOn side (tree_of node.now) from.now to.now out.old.items out.new.items) }
 {
     if *from == *to {
@@ -90,9 +88,7 @@ fn push_long_range(
     to: &Point,
     out: &mut Vec<Point, Heap>,
 ) -> Result<(), AllocError>
-    requires whole { IsWhole node.now }
-    requires bridged { IsBridged (tree_of node.now) }
-    requires between { IsRangeOn side (tree_of node.now) from.now to.now }
+    requires { HasRange side node.now from.now to.now }
     ensures { IfOk result (λ _. IsListedOn side (tree_of node.now) from.now to.now out.old.items out.new.items) }
 {
     match node {

@@ -6,8 +6,10 @@ ghost use Rattle.hull_buckets.specs.Buckets.{IsBucket};
 ghost use Rattle.hull_set.specs.declared.TheConstants.{POINT_LIMIT};
 ghost use Rattle.bucket_tree.specs.Counts.{counted, multiplicity_at};
 ghost use Rattle.bucket_tree.specs.InPlace.{AreFewFor, HasChanged, HasChangedIn, HasPutIn, HasTakenOut, IsRenewedAfter};
-ghost use Rattle.bucket_tree.specs.Changes.{AreKept};
-ghost use Rattle.bucket_tree.specs.InPlace.{IsBetween, IsBetweenKept, IsToRenew};
+ghost use Rattle.bucket_tree.specs.Changes.{AreKept, IsAfter, edge_on};
+ghost use Rattle.bucket_tree.specs.Halves.{ends_of_half, half_of};
+ghost use Rattle.bucket_tree.specs.InPlace.{IsAfterHalf, IsBetween, IsBetweenKept, IsToRenew};
+ghost use Rattle.lattice.specs.declared.side.Side.{Side};
 ghost use Rattle.bucket_tree.specs.Nodes.{points_below, ends_in, node_height, HasBuckets, IsLabelled, IsWellBuilt};
 
 use crate::find::find_multiplicity;
@@ -140,33 +142,23 @@ fn renew_ends_around(ends: &mut Ends, node: &Node, p: Point, is_between: bool) -
     false
 }
 
-/// Renews a fork whose left subtree changed at a point.
+/// Renews the ends that a fork stores of a half that changed at a point, the left one or else the right one. Returns whether the point is known to be
+/// between two others there.
 #[inline(always)]
-fn after_left(fork: &mut Fork, p: Point, change: Change, below: Changed) -> Changed
-    requires { IsToRenew true change p below fork.old }
-    ensures { IsRenewedAfter p below fork.old fork.new result }
+fn renew_half_ends(fork: &mut Fork, is_left: bool, p: Point, below: Changed) -> bool
+    requires half { IsAfterHalf is_left p below.sides fork.old }
+    requires between { below.is_between ≡ true
+        → IsBetweenKept p (ends_of_half is_left fork.old) (points_below (half_of is_left fork.old)) }
+    ensures after { IsAfter p below.sides fork.old.left fork.old.right fork.new }
+    ensures left { fork.new.left ≡ fork.old.left }
+    ensures right { fork.new.right ≡ fork.old.right }
+    ensures edges { (side : Side) → edge_on side fork.new ≡ edge_on side fork.old }
+    ensures between { result ≡ true → IsBetween p (points_below (half_of is_left fork.old)) }
 {
-    let is_between = renew_ends_around(&mut fork.left_ends, &fork.left, p, below.is_between);
-    let above = renew_edges(fork, p, change, below.sides);
-    Changed {
-        turns: below.turns + above.turns,
-        sides: above.sides,
-        is_between,
-    }
-}
-
-/// Renews a fork whose right subtree changed at a point.
-#[inline(always)]
-fn after_right(fork: &mut Fork, p: Point, change: Change, below: Changed) -> Changed
-    requires { IsToRenew false change p below fork.old }
-    ensures { IsRenewedAfter p below fork.old fork.new result }
-{
-    let is_between = renew_ends_around(&mut fork.right_ends, &fork.right, p, below.is_between);
-    let above = renew_edges(fork, p, change, below.sides);
-    Changed {
-        turns: below.turns + above.turns,
-        sides: above.sides,
-        is_between,
+    if is_left {
+        renew_ends_around(&mut fork.left_ends, &fork.left, p, below.is_between)
+    } else {
+        renew_ends_around(&mut fork.right_ends, &fork.right, p, below.is_between)
     }
 }
 
@@ -180,10 +172,12 @@ fn after_half(fork: &mut Fork, is_left: bool, p: Point, change: Change, below: C
     if below.is_between && !below.sides.lower && !below.sides.upper {
         return below;
     }
-    if is_left {
-        after_left(fork, p, change, below)
-    } else {
-        after_right(fork, p, change, below)
+    let is_between = renew_half_ends(fork, is_left, p, below);
+    let above = renew_edges(fork, p, change, below.sides);
+    Changed {
+        turns: below.turns + above.turns,
+        sides: above.sides,
+        is_between,
     }
 }
 

@@ -95,7 +95,7 @@ fn merge(left: Node, right: Node, place: Box<Fork, Heap>, p: Point, sides: Affec
     requires left { node_height left ≡ 0 }
     requires right { node_height right ≡ 0 }
     requires few { length (points_below left) + length (points_below right) ≤ 48 }
-    requires behind { IsAfter p sides left right place.value }
+    requires after { IsAfter p sides left right place.value }
     ensures built { IsWellBuilt result.node }
     ensures points { points_below result.node ≡ points_below left ++ points_below right }
     ensures multiplicities { multiplicities_below result.node ≡ multiplicities_below left ++ multiplicities_below right }
@@ -130,7 +130,7 @@ fn prepare(
 ) -> Renewed
     requires row { AreInRow left right }
     requires few { length (points_below left ++ points_below right) ≤ POINT_LIMIT }
-    requires behind { IsAfter p sides left right place.value }
+    requires after { IsAfter p sides left right place.value }
     requires end { (side : Side) → IsEndUnlessClear change side p left right (edge_on side place.value) }
     requires near_left { node_height left ≤ node_height right + 2 }
     requires near_right { node_height right ≤ node_height left + 2 }

@@ -123,8 +123,8 @@ pub(crate) struct RenewedEdges {
     pub(crate) sides: Affected,
 }
 
-/// Searches the bridge on a side between the halves of a fork after the left one changed: from the end that is still there to the left half, and back.
-/// If that leads to the same end, it is the bridge; else both ends are searched. Returns the bridge and the turns of the searches.
+/// Searches the bridge on a side between the halves of a fork after the left one changed: from the end that is still there to the left half, and
+/// back. If that leads to the same end, it is the bridge; else both ends are searched. Returns the bridge and the turns of the searches.
 fn search_by_end(side: Side, fork: &Fork) -> ((Point, Point), u32)
     requires row { AreInRow fork.now.left fork.now.right }
     requires few { length (points_below fork.now.left ++ points_below fork.now.right) ≤ POINT_LIMIT }
@@ -296,7 +296,7 @@ pub(crate) fn renew_edges(
 ) -> RenewedEdges
     requires row { AreInRow fork.old.left fork.old.right }
     requires few { length (points_below fork.old.left ++ points_below fork.old.right) ≤ POINT_LIMIT }
-    requires behind { IsAfter p sides fork.old.left fork.old.right fork.old }
+    requires after { IsAfter p sides fork.old.left fork.old.right fork.old }
     requires end { (side : Side) → IsEndUnlessClear change side p fork.old.left fork.old.right (edge_on side fork.old) }
     requires low { max (node_height fork.old.left) (node_height fork.old.right) ≤ 28 }
     ensures renewed { IsRenewed fork.new }
@@ -353,7 +353,7 @@ pub(crate) fn balance(
 ) -> Renewed
     requires row { AreInRow left right }
     requires few { length (points_below left ++ points_below right) ≤ POINT_LIMIT }
-    requires behind { IsAfter p sides left right place.value }
+    requires after { IsAfter p sides left right place.value }
     requires end { (side : Side) → IsEndUnlessClear change side p left right (edge_on side place.value) }
     requires near_left { node_height left ≤ node_height right + 2 }
     requires near_right { node_height right ≤ node_height left + 2 }

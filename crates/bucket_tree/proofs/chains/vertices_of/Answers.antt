@@ -11,14 +11,19 @@ use Rattle.bucket_tree.proofs.ChainWalks.{both_chains, lower_range, upper_range}
 use Rattle.bucket_tree.proofs.chains.vertices_of.Goals as goal
 use Rattle.bucket_tree.proofs.chains.vertices_of.Goals.{then-before+in_ok-push_range+in_ok-push_range-2, else-before+in_ok-push}
 
-pub push_range-requires-clause-between : goal.push_range-requires-clause-between
-push_range-requires-clause-between c =
-    lower_range (tree_of c.args.node.now) _ _ c.requires.bridged c.first_vertex-first.ensures c.last_vertex-last.ensures
+pub push_range-requires : goal.push_range-requires
+push_range-requires c = record {
+  whole = c.requires.whole;
+  bridged = c.requires.bridged;
+  between = lower_range (tree_of c.args.node.now) _ _ c.requires.bridged c.first_vertex-first.ensures c.last_vertex-last.ensures;
+}
 
-pub push_range-requires-then-before-clause-between :
-    goal.push_range-requires-then-before-clause-between
-push_range-requires-then-before-clause-between c =
-    upper_range (tree_of c.args.node.now) _ _ c.requires.bridged c.first_vertex-first.ensures c.last_vertex-last.ensures
+pub push_range-requires-then-before : goal.push_range-requires-then-before
+push_range-requires-then-before c = record {
+  whole = c.requires.whole;
+  bridged = c.requires.bridged;
+  between = upper_range (tree_of c.args.node.now) _ _ c.requires.bridged c.first_vertex-first.ensures c.last_vertex-last.ensures;
+}
 
 pub returns-clause-vertices : goal.returns-clause-vertices
 returns-clause-vertices c =

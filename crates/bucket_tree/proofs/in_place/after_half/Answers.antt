@@ -1,7 +1,9 @@
--- a fork that the change below does not reach stays as it is
-use Rattle.std.proofs.Common.{◌≡◌, Bool, true, false, not, refl}
+-- a fork that the change below does not reach stays as it is; otherwise its edges are renewed over the ends of its halves
+use Rattle.std.proofs.Common.{◌≡◌, ◌∙◌, Bool, true, false, not, refl, subst, sym, arith}
 use Rattle.std.proofs.lemmas.Bool.{false≢true}
-use Rattle.bucket_tree.proofs.InPlace.{untouched}
+use Rattle.bucket_tree.specs.Changes.{IsEndUnlessClear, edge_on}
+use Rattle.bucket_tree.proofs.InPlace.{between_half, untouched}
+use Rattle.bucket_tree.proofs.Added.{end_as}
 use Rattle.bucket_tree.proofs.in_place.after_half.Goals as goal
 
 off : (b : Bool) → not b ≡ true → b ≡ false
@@ -12,3 +14,24 @@ pub returns-then-not-below-2 : goal.returns-then-not-below-2
 returns-then-not-below-2 c =
     untouched c.args.is_left c.args.change c.args.p c.args.below c.args.fork.now c.requires c.if-below.true
     (off c.args.below.sides.lower c.if-not-below.true) (off c.args.below.sides.upper c.if-not-below-2.true)
+
+pub renew_edges-above-requires-clause-end : goal.renew_edges-above-requires-clause-end
+renew_edges-above-requires-clause-end c = λ side.
+    let e = c.renew_half_ends-is_between.ensures in
+    let f = c.args.fork.now in
+    let g = c.renew_half_ends-is_between.new.fork in
+    subst (λ z. IsEndUnlessClear c.args.change side c.args.p z g.right (edge_on side g)) (sym e.left)
+    (subst (λ z. IsEndUnlessClear c.args.change side c.args.p f.left z (edge_on side g)) (sym e.right)
+    (end_as c.args.change c.args.p f.left f.right f g e.edges c.requires.end side))
+
+pub returns : goal.returns
+returns c =
+    let e = c.renew_half_ends-is_between.ensures in
+    record {
+      renewed = c.renew_edges-above.ensures.renewed;
+      left = c.renew_edges-above.ensures.left ∙ e.left;
+      right = c.renew_edges-above.ensures.right ∙ e.right;
+      turns = (let t = rw (e.left, e.right) at c.renew_edges-above.ensures.turns in omega (arith, t));
+      closes = rw (e.left, e.right) at c.renew_edges-above.ensures.closes;
+      between = λ t. between_half c.args.is_left c.args.p c.args.fork.now (e.between t);
+    }

@@ -9,7 +9,7 @@ use Rattle.bucket_tree.specs.Nodes.{points_below, node_height}
 use Rattle.bucket_tree.specs.declared.node.Fork.{Fork}
 use Rattle.bucket_tree.proofs.MostTurns.{one_fork, few_sum}
 use Rattle.bucket_tree.proofs.Gained.{passed, failed}
-use Rattle.bucket_tree.proofs.Kept.{behind_as, unaffected_within, ends_kept, same_edges}
+use Rattle.bucket_tree.proofs.Kept.{after_as, unaffected_within, ends_kept, same_edges}
 use Rattle.bucket_tree.proofs.Added.{ends_after}
 use Rattle.bucket_tree.proofs.InPlace.{among_with}
 use Rattle.bucket_tree.proofs.Parts.{alters_with, at, unaffected_with, differs, few_with, row_with, stands_with}
@@ -39,13 +39,13 @@ renew_ends-requires-clause-kept t c =
     ends_kept _ _ _ _ o.row.left_built c.insert-change.ensures.built d
     (ap (λ (f : Fork). f.left_ends) c.deref_mut.ensures.value ∙ o.ends.left)
 
-pub balance-above-requires-clause-behind : goal.balance-above-requires-clause-behind
-balance-above-requires-clause-behind t c =
+pub balance-above-requires-clause-after : goal.balance-above-requires-clause-after
+balance-above-requires-clause-after t c =
     let o = c.take_apart-left.ensures in
     let d = differs (Comes c.insert-change.result.refused) c.args.p c.take_apart-left.result.0
     c.insert-change.result.node o.row.left_built.ordered c.insert-change.ensures.gained in
     let f = c.take_apart-left.result.2.value in
-    behind_as _ _ c.insert-change.result.node c.take_apart-left.result.1 f _
+    after_as _ _ c.insert-change.result.node c.take_apart-left.result.1 f _
     (unaffected_with true (Comes c.insert-change.result.refused) _ _ _ c.insert-change.result.node _ f o.row o.stored
     c.insert-change.ensures.gained d c.insert-change.ensures.unaffected)
     (λ side. stands_with true side _ c.take_apart-left.result.0 c.take_apart-left.result.1 c.insert-change.result.node _
@@ -141,13 +141,13 @@ renew_ends-requires-else-before-clause-kept t c =
     ends_kept _ _ _ _ o.row.right_built c.insert-change-else-before.ensures.built d
     (ap (λ (f : Fork). f.right_ends) c.deref_mut-else-before.ensures.value ∙ o.ends.right)
 
-pub balance-above-requires-else-before-clause-behind : goal.balance-above-requires-else-before-clause-behind
-balance-above-requires-else-before-clause-behind t c =
+pub balance-above-requires-else-before-clause-after : goal.balance-above-requires-else-before-clause-after
+balance-above-requires-else-before-clause-after t c =
     let o = c.take_apart-left.ensures in
     let d = differs (Comes c.insert-change-else-before.result.refused) c.args.p c.take_apart-left.result.1
     c.insert-change-else-before.result.node o.row.right_built.ordered c.insert-change-else-before.ensures.gained in
     let f = c.take_apart-left.result.2.value in
-    behind_as _ _ c.take_apart-left.result.0 c.insert-change-else-before.result.node f _
+    after_as _ _ c.take_apart-left.result.0 c.insert-change-else-before.result.node f _
     (unaffected_with false (Comes c.insert-change-else-before.result.refused) _ _ _
     c.insert-change-else-before.result.node _ f o.row o.stored c.insert-change-else-before.ensures.gained d
     c.insert-change-else-before.ensures.unaffected)

@@ -13,7 +13,8 @@ unreachable-requires c = let z = count_none c.args.bucket.now.points c.args.buck
 
 pub returns-clause-held : goal.returns-clause-held
 returns-clause-held c q =
-    counted_over c.args.bucket.now.points c.set_multiplicity.new.self.points c.args.bucket.now.multiplicities c.set_multiplicity.new.self.multiplicities
+    counted_over c.args.bucket.now.points c.set_multiplicity.new.self.points c.args.bucket.now.multiplicities
+    c.set_multiplicity.new.self.multiplicities
     c.in-Ok.place c.args.multiplicity c.args.p q c.buckets_are_sound.ensures.ordered c.buckets_are_sound.ensures.counted
     (subst (IsPositionOf c.args.bucket.now.points c.args.p) c.in-Ok.is c.place_of.ensures) c.set_multiplicity.ensures.points
     c.set_multiplicity.ensures.multiplicities

@@ -10,7 +10,7 @@ use Rattle.bucket_tree.specs.Nodes.{points_below, node_height}
 use Rattle.bucket_tree.specs.declared.node.Fork.{Fork}
 use Rattle.bucket_tree.proofs.MostTurns.{one_fork, few_sum, below_fork}
 use Rattle.bucket_tree.proofs.Gained.{passed, failed}
-use Rattle.bucket_tree.proofs.Kept.{behind_as, unaffected_within, ends_kept, same_edges}
+use Rattle.bucket_tree.proofs.Kept.{after_as, unaffected_within, ends_kept, same_edges}
 use Rattle.bucket_tree.proofs.InPlace.{among_with}
 use Rattle.bucket_tree.proofs.Lost.{prepared_left, prepared_right}
 use Rattle.bucket_tree.proofs.Parts.{alters_with, at, unaffected_with, differs, few_with, lost_with_none, row_with, same_at}
@@ -73,15 +73,15 @@ renew_ends-requires-clause-kept t c =
     ends_kept _ _ _ _ o.row.left_built lost.0 d
     (ap (λ (f : Fork). f.left_ends) c.deref_mut.ensures.value ∙ o.ends.left)
 
-pub prepare-above-requires-clause-behind : goal.prepare-above-requires-clause-behind
-prepare-above-requires-clause-behind t c =
+pub prepare-above-requires-clause-after : goal.prepare-above-requires-clause-after
+prepare-above-requires-clause-after t c =
     let o = c.take_apart-left.ensures in
     let lost = subst (HasLost c.args.p c.take_apart-left.result.0) c.in-Some.is c.remove-rest.ensures.lost in
     let d = differs Goes c.args.p c.take_apart-left.result.0 c.in-Some.rest o.row.left_built.ordered (lost.1, lost.2) in
     let unaffected = subst (λ z. IfSome z (λ n. IsUnaffectedOver c.args.p c.remove-rest.result.sides (points_below n)))
     c.in-Some.is c.remove-rest.ensures.unaffected in
     let f = c.take_apart-left.result.2.value in
-    behind_as _ _ c.in-Some.rest c.take_apart-left.result.1 f _
+    after_as _ _ c.in-Some.rest c.take_apart-left.result.1 f _
     (unaffected_with true Goes _ _ _ c.in-Some.rest _ f o.row o.stored (lost.1, lost.2) d (λ _. unaffected))
     (λ side. stands_with true side _ c.take_apart-left.result.0 c.take_apart-left.result.1 c.in-Some.rest _
     (o.stored side) d)
@@ -217,8 +217,8 @@ renew_ends-requires-else-before-clause-kept t c =
     ends_kept _ _ _ _ o.row.right_built lost.0 d
     (ap (λ (f : Fork). f.right_ends) c.deref_mut-else-before.ensures.value ∙ o.ends.right)
 
-pub prepare-above-requires-else-before-clause-behind : goal.prepare-above-requires-else-before-clause-behind
-prepare-above-requires-else-before-clause-behind t c =
+pub prepare-above-requires-else-before-clause-after : goal.prepare-above-requires-else-before-clause-after
+prepare-above-requires-else-before-clause-after t c =
     let o = c.take_apart-left.ensures in
     let lost = subst (HasLost c.args.p c.take_apart-left.result.1) c.in-Some-rest.is
     c.remove-rest-else-before.ensures.lost in
@@ -228,7 +228,7 @@ prepare-above-requires-else-before-clause-behind t c =
     (λ n. IsUnaffectedOver c.args.p c.remove-rest-else-before.result.sides (points_below n))) c.in-Some-rest.is
     c.remove-rest-else-before.ensures.unaffected in
     let f = c.take_apart-left.result.2.value in
-    behind_as _ _ c.take_apart-left.result.0 c.in-Some-rest.rest f _
+    after_as _ _ c.take_apart-left.result.0 c.in-Some-rest.rest f _
     (unaffected_with false Goes _ _ _ c.in-Some-rest.rest _ f o.row o.stored (lost.1, lost.2) d (λ _. unaffected))
     (λ side. stands_with false side _ c.take_apart-left.result.0 c.take_apart-left.result.1 c.in-Some-rest.rest _
     (o.stored side) d)

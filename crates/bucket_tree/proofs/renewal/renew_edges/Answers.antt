@@ -10,20 +10,20 @@ use Rattle.bucket_tree.proofs.Kept.{closes_by}
 use Rattle.bucket_tree.proofs.renewal.renew_edges.Goals as goal
 
 pub renew_edge-upper_turns-requires-clause-unaffected : goal.renew_edge-upper_turns-requires-clause-unaffected
-renew_edge-upper_turns-requires-clause-unaffected c = c.requires.behind.unaffected Upper
+renew_edge-upper_turns-requires-clause-unaffected c = c.requires.after.unaffected Upper
 
 pub renew_edge-upper_turns-requires-clause-clear : goal.renew_edge-upper_turns-requires-clause-clear
-renew_edge-upper_turns-requires-clause-clear c = c.requires.behind.clear Upper
+renew_edge-upper_turns-requires-clause-clear c = c.requires.after.clear Upper
 
 pub renew_edge-lower_turns-requires-clause-unaffected : goal.renew_edge-lower_turns-requires-clause-unaffected
 renew_edge-lower_turns-requires-clause-unaffected c = λ e.
     lower_moved c.args.fork.now c.renew_edge-upper_turns.new.fork c.renew_edge-upper_turns.ensures.same
-    (c.requires.behind.unaffected Lower e)
+    (c.requires.after.unaffected Lower e)
 
 pub renew_edge-lower_turns-requires-clause-clear : goal.renew_edge-lower_turns-requires-clause-clear
 renew_edge-lower_turns-requires-clause-clear c = λ h.
     lower_moved c.args.fork.now c.renew_edge-upper_turns.new.fork c.renew_edge-upper_turns.ensures.same
-    (c.requires.behind.clear Lower (subst (λ z. IsClearOf Lower z c.args.p) c.renew_edge-upper_turns.ensures.same.other h))
+    (c.requires.after.clear Lower (subst (λ z. IsClearOf Lower z c.args.p) c.renew_edge-upper_turns.ensures.same.other h))
 
 pub returns-clause-closes : goal.returns-clause-closes
 returns-clause-closes c =
@@ -38,7 +38,7 @@ returns-clause-closes c =
 pub renew_edge-lower_turns-requires-clause-ends : goal.renew_edge-lower_turns-requires-clause-ends
 renew_edge-lower_turns-requires-clause-ends c =
     ends_moved Upper c.args.fork.now c.renew_edge-upper_turns.new.fork c.renew_edge-upper_turns.ensures.same
-    c.requires.behind.ends
+    c.requires.after.ends
 
 pub renew_edge-upper_turns-requires-clause-end : goal.renew_edge-upper_turns-requires-clause-end
 renew_edge-upper_turns-requires-clause-end c = c.requires.end Upper
