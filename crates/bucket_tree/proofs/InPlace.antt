@@ -486,7 +486,7 @@ leaf_in_place p b c v change f h u = record {
 }
 
 -- p was added to a bucket, or removed from it
-changed_leaf : (put : Bool) (p : Pair) (b c : Box BucketValue _) (v : BucketValue) (change : Changed) → c.value ≡ v
+pub changed_leaf : (put : Bool) (p : Pair) (b c : Box BucketValue _) (v : BucketValue) (change : Changed) → c.value ≡ v
     → IsBucket v → HasChangedIn put p b.value v change → HasChanged put p (Leaf b) (Leaf c) change
 changed_leaf true p b c v change f h d = record {
   absent = d.absent;

@@ -19,6 +19,7 @@ pub mod ListedParts
 pub mod Kept
 pub mod Parts
 pub mod InPlace
+pub mod ChangedBelow
 pub mod OtherEnds
 pub mod SomeBridge
 pub mod EdgeEnds

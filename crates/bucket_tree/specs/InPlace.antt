@@ -1,21 +1,21 @@
 -- A change in place: no subtree moves.
-use Rattle.std.specs.Prelude.{◌≡◌, ◌≤◌, ◌<◌, ◌+◌, ◌*◌, ◌++◌, ℕ, Some, Bool, true, false, not, List, length, max}
+use Rattle.std.specs.Prelude.{◌≡◌, ◌≤◌, ◌<◌, ◌+◌, ◌*◌, ◌++◌, ◌⊎◌, ℕ, Some, Bool, true, false, not, List, length, max}
 use Rattle.std.specs.List.{Contains}
 use Rattle.lattice.specs.Covers.{with_point, without_point}
 use Rattle.lattice.specs.Plane.{Pair, IsBefore}
-use Rattle.hull_buckets.specs.Buckets.{BucketValue}
+use Rattle.hull_buckets.specs.Buckets.{BucketValue, IsBucket}
 use Rattle.hull_set.specs.Held.{once}
 use Rattle.hull_set.specs.declared.TheConstants.{POINT_LIMIT}
 use Rattle.lattice.specs.declared.side.Side.{Side}
 use Rattle.bucket_tree.specs.declared.renewal.Change.{Change}
 use Rattle.bucket_tree.specs.declared.renewal.Changed.{Changed}
-use Rattle.bucket_tree.specs.declared.node.Node.{Node}
+use Rattle.bucket_tree.specs.declared.node.Node.{Node, Leaf, Fork', Taken}
 use Rattle.bucket_tree.specs.declared.node.Ends.{Ends}
 use Rattle.bucket_tree.specs.declared.node.Fork.{Fork}
 use Rattle.bucket_tree.specs.declared.renewal.Affected.{Affected}
 use Rattle.bucket_tree.specs.Changes.{AreKept, ClosesBy, HasEdgesAfter, IsEndUnlessClear, IsUnaffectedOver, IsRenewed, edge_on}
 use Rattle.bucket_tree.specs.Counts.{counted, multiplicity_at, HasGained, HasLost}
-use Rattle.bucket_tree.specs.Halves.{ends_of_half, half_of}
+use Rattle.bucket_tree.specs.Halves.{ends_of_half, half_of, with_half}
 use Rattle.bucket_tree.specs.Nodes.{points_below, ends_in, node_height, AreInRow, IsWellBuilt}
 use Rattle.bucket_tree.specs.Turns.{most_turns}
 
@@ -82,6 +82,45 @@ pub record HasTakenFrom (p : Pair) (old new : BucketValue) (change : Changed) : 
 abbrev pub HasChangedIn : Bool → Pair → BucketValue → BucketValue → Changed → Type 0
 HasChangedIn true = HasPutInto
 HasChangedIn false = HasTakenFrom
+
+-- The bucket below a node to which p belongs was changed, and nothing else: of each fork on the way only the half that contains it is another one, so the
+-- edges and ends there are those of before.
+abbrev pub HasChangedBelow : Bool → Pair → Node → Node → Changed → Type 0
+HasChangedBelow put p (Leaf b) (Leaf c) change = IsBucket c.value × HasChangedIn put p b.value c.value change
+HasChangedBelow put p (Fork' h i old_left_ends old_left old_right_ends old_right old_upper old_lower)
+    (Fork' k j left_ends left right_ends right upper lower) change =
+    let old : Fork = record {
+      left_ends = old_left_ends;
+      left = old_left;
+      right_ends = old_right_ends;
+      right = old_right;
+      upper = old_upper;
+      lower = old_lower;
+    } in
+    let new : Fork = record {
+      left_ends = left_ends;
+      left = left;
+      right_ends = right_ends;
+      right = right;
+      upper = upper;
+      lower = lower;
+    } in
+    (k ≡ h)
+    × ((IsBefore p old_right_ends.first × (new ≡ with_half true old left) × HasChangedBelow put p old_left left change)
+    ⊎ ((¬ IsBefore p old_right_ends.first) × (new ≡ with_half false old right) × HasChangedBelow put p old_right right change))
+HasChangedBelow put p n m change = ⊥
+
+-- a change alters nothing above it: the point is between two others there, and on neither chain
+pub record IsContained (change : Changed) : Type 0 where
+  pub between : change.is_between ≡ true
+  pub lower : change.sides.lower ≡ false
+  pub upper : change.sides.upper ≡ false
+
+-- a point can be added below a node, or removed
+pub record IsChangeable (put : Bool) (n : Node) : Type 0 where
+  pub built : IsWellBuilt n
+  pub few : AreFewFor put (length (points_below n))
+  pub low : node_height n ≤ 28
 
 -- a fork of which one half, the left one or else the right one, changed at p since its edges and the ends there were stored
 pub record IsAfterHalf (left : Bool) (p : Pair) (sides : Affected) (f : Fork) : Type 0 where

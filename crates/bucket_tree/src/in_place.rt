@@ -5,10 +5,11 @@ ghost use Rattle.lattice.specs.Plane.{IsBefore};
 ghost use Rattle.hull_buckets.specs.Buckets.{IsBucket};
 ghost use Rattle.hull_set.specs.declared.TheConstants.{POINT_LIMIT};
 ghost use Rattle.bucket_tree.specs.Counts.{counted, multiplicity_at};
-ghost use Rattle.bucket_tree.specs.InPlace.{AreFewFor, HasChanged, HasChangedIn, HasPutIn, HasTakenOut, IsRenewedAfter};
+ghost use Rattle.bucket_tree.specs.InPlace.{AreFewFor, HasChanged, HasChangedBelow, HasChangedIn, HasPutIn, HasTakenOut, IsChangeable, IsContained};
+ghost use Rattle.bucket_tree.specs.InPlace.{IsAfterHalf, IsBetween, IsBetweenKept, IsRenewedAfter, IsToRenew};
 ghost use Rattle.bucket_tree.specs.Changes.{AreKept, IsAfter, edge_on};
 ghost use Rattle.bucket_tree.specs.Halves.{ends_of_half, half_of};
-ghost use Rattle.bucket_tree.specs.InPlace.{IsAfterHalf, IsBetween, IsBetweenKept, IsToRenew};
+ghost use Rattle.bucket_tree.specs.declared.node.Node.{Node};
 ghost use Rattle.lattice.specs.declared.side.Side.{Side};
 ghost use Rattle.bucket_tree.specs.Nodes.{points_below, ends_in, node_height, HasBuckets, IsLabelled, IsWellBuilt};
 
@@ -169,7 +170,7 @@ fn after_half(fork: &mut Fork, is_left: bool, p: Point, change: Change, below: C
     requires { IsToRenew is_left change p below fork.old }
     ensures { IsRenewedAfter p below fork.old fork.new result }
 {
-    if below.is_between && !below.sides.lower && !below.sides.upper {
+    if is_contained(below) {
         return below;
     }
     let is_between = renew_half_ends(fork, is_left, p, below);
@@ -213,8 +214,62 @@ fn is_before(p: Point, q: Point) -> bool
     has_less_x(p, q) | (has_same_x(p, q) & has_less_y(p, q))
 }
 
+/// Whether a change alters nothing above it: the point is between two others there, and on neither chain.
+#[inline(always)]
+fn is_contained(change: Changed) -> bool
+    ensures { IsTrue result ↔ IsContained change }
+{
+    change.is_between && !change.sides.lower && !change.sides.upper
+}
+
+/// Changes the bucket below a node that a point belongs to, if no subtree has to move; the forks above it stay as they are. Otherwise leaves all
+/// unchanged. Writes the change, or the multiplicity of the point there: since nothing is returned, the descent is a loop.
+fn change_bucket<C: InPlace>(node: &mut Node, p: Point, outcome: &mut Result<Changed, u16>)
+    requires { IsWellBuilt node.old }
+    ensures change { IfOk outcome.new (HasChangedBelow C.puts p node.old node.new) }
+    ensures same { IfErr outcome.new (λ _. node.new ≡ node.old) }
+    ensures returned { IfErr outcome.new (λ multiplicity. multiplicity ≡ multiplicity_at node.old p) }
+{
+    if C::merges(node) {
+        *outcome = Err(find_multiplicity(node, p));
+        return;
+    }
+    match node {
+        Node::Leaf(bucket) => *outcome = C::change(bucket, p),
+        Node::Fork(_, fork) => {
+            let is_left = is_before(p, fork.right_ends.first);
+            change_bucket::<C>(fork.half_mut(is_left), p, outcome);
+        }
+        Node::Taken => unreachable!(),
+    }
+}
+
+/// Renews the forks below a node on the way to the bucket that changed at a point. At first the change is that of the bucket, in the end that of the
+/// node.
+fn renew_path<C: InPlace>(node: &mut Node, p: Point, change: &mut Changed)
+    requires { (n : Node) × IsChangeable C.puts n × HasChangedBelow C.puts p n node.old change.old }
+    ensures { (n : Node) → IsChangeable C.puts n → HasChangedBelow C.puts p n node.old change.old
+        → HasChanged C.puts p n node.new change.new }
+{
+    match node {
+        Node::Leaf(_) => {}
+        Node::Fork(_, fork) => {
+            let is_left = is_before(p, fork.right_ends.first);
+            renew_path::<C>(fork.half_mut(is_left), p, change);
+            *change = after_half(
+                fork,
+                is_left,
+                p,
+                change_at(is_left, C::is_adding()),
+                *change,
+            );
+        }
+        Node::Taken => unreachable!(),
+    }
+}
+
 /// Changes the bucket below a node that a point belongs to, and renews the forks above it, if no subtree has to move. Otherwise leaves all unchanged,
-/// and returns the multiplicity of the point there.
+/// and returns the multiplicity of the point there. Most changes alter nothing above the bucket, and go down once.
 fn change_in_place<C: InPlace>(node: &mut Node, p: Point) -> Result<Changed, u16>
     requires built { IsWellBuilt node.old }
     requires few { AreFewFor C.puts (length (points_below node.old)) }
@@ -223,26 +278,13 @@ fn change_in_place<C: InPlace>(node: &mut Node, p: Point) -> Result<Changed, u16
     ensures same { IfErr result (λ _. node.new ≡ node.old) }
     ensures returned { IfErr result (λ multiplicity. multiplicity ≡ multiplicity_at node.old p) }
 {
-    if C::merges(node) {
-        return Err(find_multiplicity(node, p));
+    let mut outcome = Err(0);
+    change_bucket::<C>(node, p, &mut outcome);
+    let mut change = outcome?;
+    if !is_contained(change) {
+        renew_path::<C>(node, p, &mut change);
     }
-    match node {
-        Node::Leaf(bucket) => C::change(bucket, p),
-        Node::Fork(_, fork) => {
-            let is_left = is_before(p, fork.right_ends.first);
-            match change_in_place::<C>(fork.half_mut(is_left), p) {
-                Ok(below) => Ok(after_half(
-                    fork,
-                    is_left,
-                    p,
-                    change_at(is_left, C::is_adding()),
-                    below,
-                )),
-                Err(multiplicity) => Err(multiplicity),
-            }
-        }
-        Node::Taken => unreachable!(),
-    }
+    Ok(change)
 }
 
 /// Adds a new point below a node, with multiplicity one, if the bucket that it belongs to has capacity left. Otherwise leaves all unchanged, and

@@ -1,19 +1,14 @@
 -- a fork that the change below does not reach stays as it is; otherwise its edges are renewed over the ends of its halves
-use Rattle.std.proofs.Common.{◌≡◌, ◌∙◌, Bool, true, false, not, refl, subst, sym, arith}
-use Rattle.std.proofs.lemmas.Bool.{false≢true}
+use Rattle.std.proofs.Common.{◌∙◌, subst, sym, arith}
 use Rattle.bucket_tree.specs.Changes.{IsEndUnlessClear, edge_on}
 use Rattle.bucket_tree.proofs.InPlace.{between_half, untouched}
 use Rattle.bucket_tree.proofs.Added.{end_as}
 use Rattle.bucket_tree.proofs.in_place.after_half.Goals as goal
 
-off : (b : Bool) → not b ≡ true → b ≡ false
-off true e = absurd (false≢true e)
-off false e = refl
-
-pub returns-then-not-below-2 : goal.returns-then-not-below-2
-returns-then-not-below-2 c =
-    untouched c.args.is_left c.args.change c.args.p c.args.below c.args.fork.now c.requires c.if-below.true
-    (off c.args.below.sides.lower c.if-not-below.true) (off c.args.below.sides.upper c.if-not-below-2.true)
+pub returns-then-is_contained : goal.returns-then-is_contained
+returns-then-is_contained c =
+    let s = c.is_contained.ensures.0 c.if-is_contained.true in
+    untouched c.args.is_left c.args.change c.args.p c.args.below c.args.fork.now c.requires s.between s.lower s.upper
 
 pub renew_edges-above-requires-clause-end : goal.renew_edges-above-requires-clause-end
 renew_edges-above-requires-clause-end c = λ side.

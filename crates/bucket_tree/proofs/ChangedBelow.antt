@@ -1,0 +1,163 @@
+-- A bucket below a node that changed, and the forks above it.
+use Rattle.std.proofs.Common.{◌≡◌, ℕ, ◌≤◌, length, Bool, true, false, cond, refl, sym, ap, ◌∙◌, subst, Box, inl, inr, ◌+◌, arith}
+use Rattle.lattice.specs.Plane.{Pair, IsBefore}
+use Rattle.hull_buckets.specs.Buckets.{BucketValue}
+use Rattle.bucket_tree.specs.Changes.{change_of}
+use Rattle.bucket_tree.specs.Halves.{half_of, with_half}
+use Rattle.bucket_tree.specs.InPlace.{HasChanged, HasChangedBelow, IsChangeable, IsContained, IsRenewedAfter, IsToRenew}
+use Rattle.bucket_tree.specs.Nodes.{points_below, node_height, IsWellBuilt}
+use Rattle.bucket_tree.specs.declared.renewal.Change.{Change}
+use Rattle.bucket_tree.specs.declared.renewal.Changed.{Changed}
+use Rattle.bucket_tree.specs.declared.node.Fork.{Fork as Below}
+use Rattle.bucket_tree.specs.declared.node.Node.{Node, Leaf, Fork, Fork', Taken}
+use Rattle.bucket_tree.proofs.InPlace.{IsForkAt, changed_leaf, changed_with, fork_at, part_at, to_renew, untouched}
+use Rattle.bucket_tree.proofs.Parts.{BelongsTo}
+
+-- the half to which p belongs is well built, and lower than the node
+pub built_half : (left : Bool) (p : Pair) (n : Node) (h : ℕ) (f : Below) → IsForkAt left p n h f
+    → IsWellBuilt (half_of left f) × (node_height (half_of left f) + 1 ≤ node_height n)
+built_half true p n h f i = (i.apart.row.left_built, omega (arith, i.apart.height))
+built_half false p n h f i = (i.apart.row.right_built, omega (arith, i.apart.height))
+
+-- the half to which p belongs of a node that can be changed can be changed
+pub changeable_half : (left put : Bool) (p : Pair) (n : Node) (h : ℕ) (f : Below) → IsForkAt left p n h f → IsChangeable put n
+    → IsChangeable put (half_of left f)
+changeable_half left put p n h f i c =
+    let o = part_at left put n h f i.apart c.few c.low in record { built = o.0; few = o.1; low = o.2 }
+
+-- a bucket changed below a fork if it did below the half to which p belongs
+pub below_with : (left put : Bool) (p : Pair) (n : Node) (h : ℕ) (b c : Box Below _) (k : Node) (below : Changed) → n ≡ Fork h b
+    → BelongsTo left p b.value.right_ends.first → c.value ≡ with_half left b.value k
+    → HasChangedBelow put p (half_of left b.value) k below → HasChangedBelow put p n (Fork h c) below
+below_with true put p n h b c k below e here v d =
+    subst (λ z. HasChangedBelow put p z (Fork h c) below) (sym e)
+    (refl, inl (here, v ∙ ap (with_half true b.value) (sym same), subst (λ z. HasChangedBelow put p b.value.left z below) (sym same) d))
+  where
+    same : c.value.left ≡ k
+    same = ap (λ (z : Below). z.left) v
+below_with false put p n h b c k below e here v d =
+    subst (λ z. HasChangedBelow put p z (Fork h c) below) (sym e)
+    (refl, inr (here, v ∙ ap (with_half false b.value) (sym same), subst (λ z. HasChangedBelow put p b.value.right z below) (sym same) d))
+  where
+    same : c.value.right ≡ k
+    same = ap (λ (z : Below). z.right) v
+
+-- a fork below which a bucket changed, as it was before
+pub record IsOpened (left put : Bool) (p : Pair) (n : Node) (h : ℕ) (g : Below) (below : Changed) : Type 0 where
+  pub old : Below
+  pub at : IsForkAt left p n h old
+  pub value : g ≡ with_half left old (half_of left g)
+  pub changed : HasChangedBelow put p (half_of left old) (half_of left g) below
+
+-- if a bucket changed below a fork, it did below the half to which p belongs
+pub opened : (left put : Bool) (p : Pair) (n : Node) (h : ℕ) (b : Box Below _) (below : Changed) → IsWellBuilt n
+    → BelongsTo left p b.value.right_ends.first → HasChangedBelow put p n (Fork h b) below → IsOpened left put p n h b.value below
+opened left put p (Leaf c) h b below w here d = absurd d
+opened left put p Taken h b below w here d = absurd d
+opened true put p (Fork' k i le l re r u lo) h b below w here (e, inl (first, v, d)) = record {
+  old = record { left_ends = le; left = l; right_ends = re; right = r; upper = u; lower = lo };
+  at = fork_at true p _ h _ _ _ (ap (λ z. Fork' z i le l re r u lo) (sym e)) refl refl w first;
+  value = v;
+  changed = d;
+}
+opened true put p (Fork' k i le l re r u lo) h b below w here (e, inr (first, v, d)) =
+    absurd (first (subst (IsBefore p) (ap (λ (z : Below). z.right_ends.first) v) here))
+opened false put p (Fork' k i le l re r u lo) h b below w here (e, inl (first, v, d)) =
+    absurd (here (subst (IsBefore p) (sym (ap (λ (z : Below). z.right_ends.first) v)) first))
+opened false put p (Fork' k i le l re r u lo) h b below w here (e, inr (first, v, d)) = record {
+  old = record { left_ends = le; left = l; right_ends = re; right = r; upper = u; lower = lo };
+  at = fork_at false p _ h _ _ _ (ap (λ z. Fork' z i le l re r u lo) (sym e)) refl refl w first;
+  value = v;
+  changed = d;
+}
+
+-- a fork has changed at p as its half, if it is well built as it is: no edge is affected
+kept_above : (left put : Bool) (p : Pair) (n : Node) (h : ℕ) (b : Box Below _) (below : Changed) → IsChangeable put n
+    → (o : IsOpened left put p n h b.value below) → HasChanged put p (half_of left o.old) (half_of left b.value) below
+    → IsContained below → HasChanged put p n (Fork h b) below
+kept_above left put p n h b below c o d s =
+    changed_with left put p n h o.old b.value (half_of left b.value) below below b o.at d c.few c.low o.value
+    (untouched left (change_of left put) p below b.value
+    (to_renew left put (change_of left put) p n h o.old b.value (half_of left b.value) below o.at d c.few c.low o.value refl)
+    s.between s.lower s.upper)
+
+-- if a bucket changed at a point that is between two others there and on no chain, all above it is well built as it is
+pub unreached : (put : Bool) (p : Pair) (n m : Node) (below : Changed) → IsChangeable put n → HasChangedBelow put p n m below
+    → IsContained below → HasChanged put p n m below
+unreached put p (Leaf b) (Leaf c) below w d s = changed_leaf put p b c c.value below refl d.0 d.1
+unreached put p (Leaf b) (Fork' k i le l re r u lo) below w d s = absurd d
+unreached put p (Leaf b) Taken below w d s = absurd d
+unreached put p Taken m below w d s = absurd d
+unreached put p (Fork' h j xe x ye y q t) (Leaf c) below w d s = absurd d
+unreached put p (Fork' h j xe x ye y q t) Taken below w d s = absurd d
+unreached put p (Fork' h j xe x ye y q t) (Fork' k i le l re r u lo) below w (e, inl (first, v, d)) s =
+    let at = fork_at true p _ k _ _ _ (ap (λ z. Fork' z j xe x ye y q t) (sym e)) refl refl w.built first in
+    kept_above true put p (Fork' h j xe x ye y q t) k _ below w record {
+      old = record { left_ends = xe; left = x; right_ends = ye; right = y; upper = q; lower = t };
+      at = at;
+      value = v;
+      changed = d;
+    }
+    (unreached put p x l below (changeable_half true put p _ k _ at w) d s) s
+unreached put p (Fork' h j xe x ye y q t) (Fork' k i le l re r u lo) below w (e, inr (first, v, d)) s =
+    let at = fork_at false p _ k _ _ _ (ap (λ z. Fork' z j xe x ye y q t) (sym e)) refl refl w.built first in
+    kept_above false put p (Fork' h j xe x ye y q t) k _ below w record {
+      old = record { left_ends = xe; left = x; right_ends = ye; right = y; upper = q; lower = t };
+      at = at;
+      value = v;
+      changed = d;
+    }
+    (unreached put p y r below (changeable_half false put p _ k _ at w) d s) s
+
+-- a bucket that changed is a leaf that changed
+pub leaf_below : (put : Bool) (p : Pair) (n m : Node) (b : Box BucketValue _) (below : Changed) → m ≡ Leaf b → HasChangedBelow put p n m below
+    → HasChanged put p n m below
+leaf_below put p n m b below e d =
+    subst (λ z. HasChanged put p n z below) (sym e) (go n (subst (λ z. HasChangedBelow put p n z below) e d))
+  where
+    go : (n : Node) → HasChangedBelow put p n (Leaf b) below → HasChanged put p n (Leaf b) below
+    go (Leaf c) d = changed_leaf put p c b b.value below refl d.0 d.1
+    go (Fork' k i le l re r u lo) d = absurd d
+    go Taken d = absurd d
+
+-- nothing changed below a gap
+pub none_below : (put : Bool) (p : Pair) (n m : Node) (below : Changed) → m ≡ Taken → ¬ HasChangedBelow put p n m below
+none_below put p n m below e d = go n (subst (λ z. HasChangedBelow put p n z below) e d)
+  where
+    go : (n : Node) → ¬ HasChangedBelow put p n Taken below
+    go (Leaf c) d = d
+    go (Fork' k i le l re r u lo) d = d
+    go Taken d = d
+
+-- of two nodes put into one half after the other the second one stays
+with_again : (left : Bool) (f : Below) (k m : Node) → with_half left (with_half left f k) m ≡ with_half left f m
+with_again true f k m = refl
+with_again false f k m = refl
+
+-- the half is lower than the fork
+pub half_lower : (left : Bool) (m : Node) (h : ℕ) (b : Box Below _) → m ≡ Fork h b → node_height (half_of left b.value) + 1 ≤ node_height m
+half_lower true m h b e = let s = ap node_height e in omega (arith, s)
+half_lower false m h b e = let s = ap node_height e in omega (arith, s)
+
+-- ---- a fork g whose half, below which a bucket changed, was renewed
+
+module _ (left put : Bool) (p : Pair) (m : Node) (h : ℕ) (b : Box Below _) (g : Below) (k : Node) (below above : Changed) (e : m ≡ Fork h b)
+    (here : BelongsTo left p b.value.right_ends.first) (v : g ≡ with_half left b.value k)
+    (rec : (x : Node) → IsChangeable put x → HasChangedBelow put p x (half_of left b.value) below → HasChanged put p x k above) where
+  module _ (n : Node) (c : IsChangeable put n) (d : HasChangedBelow put p n m below) where
+    o : IsOpened left put p n h b.value below
+    o = opened left put p n h b below c.built here (subst (λ z. HasChangedBelow put p n z below) e d)
+
+    half : HasChanged put p (half_of left o.old) k above
+    half = rec (half_of left o.old) (changeable_half left put p n h o.old o.at c) o.changed
+
+    value : g ≡ with_half left o.old k
+    value = v ∙ ap (λ z. with_half left z k) o.value ∙ with_again left o.old (half_of left b.value) k
+
+    -- it is to be renewed
+    pub renewable : (change : Change) → change ≡ change_of left put → IsToRenew left change p above g
+    renewable change is = to_renew left put change p n h o.old g k above o.at half c.few c.low value is
+
+    -- and renewed it has changed
+    pub renewed : (a : Box Below _) (last : Changed) → IsRenewedAfter p above g a.value last → HasChanged put p n (Fork h a) last
+    renewed a last r = changed_with left put p n h o.old g k above last a o.at half c.few c.low value r
