@@ -14,9 +14,11 @@ use Rattle.lattice.proofs.LineCrossings.{orient_other}
 use Rattle.hull_geometry.proofs.PointLists.{all_of}
 use Rattle.hull_geometry.proofs.SetLaws.{ordered_with}
 use Rattle.hull_geometry.proofs.UniqueVertices.{vertex_list_unique}
-use Rattle.hull_polygon.specs.Insertions.{put_between}
+use Rattle.hull_polygon.specs.Insertions.{IsGap, IsInsertion, put_between}
+use Rattle.hull_polygon.specs.Polygons.{HoldsOfSetsOf}
 use Rattle.hull_polygon.specs.Rounds.{vertex}
 use Rattle.hull_polygon.specs.Steps.{left_of}
+use Rattle.hull_polygon.specs.declared.insertions.Insertion.TheVariants.{Between}
 use Rattle.hull_polygon.proofs.Inserted.{at_put, length_put}
 use Rattle.hull_polygon.proofs.Shields.{product_left}
 use Rattle.prepared_set.specs.Patches.{PutsIn, count_after}
@@ -51,10 +53,13 @@ no_fault r OutOfRange P Q e o z p n = o.0 e p
 no_fault r ZeroDirection P Q e o z p n = n (z.0 e)
 
 -- the vertices with a new one are those between which it was put, and as many are after it as there were from there on
-pub put_there : (S V W : List Pair) (a b i : ℕ) (p : Pair) → a < b → b ≤ length V
-    → IsVertexList (with_point p S) (put_between V a b p) → PutsIn S V W p i
+pub put_there : (S U V W : List Pair) (a b i : ℕ) (p : Pair) → U ≡ V → IsGap U (Between a b)
+    → HoldsOfSetsOf U (IsInsertion U p (Between a b)) → PutsIn S V W p i
     → (put_between V a b p ≡ W) × (count_after W i ≡ length V - b) × (length W + b ≡ length V + a + 2)
-put_there S V W a b i p l u v q =
+put_there S U V W a b i p s g h q =
+    let l = g.0 in
+    let u : b ≤ length V = subst (λ (Z : List Pair). b ≤ length Z) s g.1 in
+    let v = (subst (λ (Z : List Pair). HoldsOfSetsOf Z (IsInsertion Z p (Between a b))) s h S q.old).2 in
     let e = vertex_list_unique (with_point p S) (put_between V a b p) W v q.new in
     let n = length_put V a b p (omega (arith, l, u)) u in
     let k : length W + b ≡ length V + a + 2 = subst (λ (Z : List Pair). length Z + b ≡ length V + a + 2) e n in

@@ -1,4 +1,4 @@
--- What is left of an array after a point was written and what is behind it moved down.
+-- What is left of an array after a point was written and what is after it moved down.
 use Rattle.std.proofs.Common.{◌≡◌, ℕ, suc, ◌+◌, ◌-◌, ◌≤◌, ◌<◌, List, [], ◌∷◌, ◌++◌, length, take, drop, set, sym, ap, ◌∙◌, arith}
 use Rattle.std.proofs.Common.{length-drop, length-set}
 use Rattle.std.proofs.lemmas.List.{append_assoc, take_more_set, take_rest, drop-set-lt, set_split}

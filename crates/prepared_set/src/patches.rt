@@ -29,14 +29,14 @@ fn put_in(vertices: &mut Kept, moves: &mut usize, after: usize, before: usize, p
     ensures refused { IsFalse result → length vertices.old < POINT_LIMIT → length vertices.old - before ≤ moves.old
         → before ≡ after + 1 }
 {
-    let behind = vertices.count() - before;
-    if behind > *moves || vertices.count() >= POINT_LIMIT as usize {
+    let moved = vertices.count() - before;
+    if moved > *moves || vertices.count() >= POINT_LIMIT as usize {
         return false;
     }
     if vertices.put_between(after, before, p).is_err() {
         return false;
     }
-    *moves -= behind;
+    *moves -= moved;
     true
 }
 
@@ -86,8 +86,8 @@ fn take_out<S: HullSet>(vertices: &mut Kept, moves: &mut usize, i: usize, set: &
     ensures refused { IsFalse result → count_after vertices.old i ≤ moves.old
         → ¬ TakesOut (S.held set.now).points vertices.old i }
 {
-    let behind = vertices.count() - (i + 1);
-    if behind > *moves {
+    let moved = vertices.count() - (i + 1);
+    if moved > *moves {
         return false;
     }
     let Some((a, b)) = vertices.neighbours(i) else {
@@ -97,7 +97,7 @@ fn take_out<S: HullSet>(vertices: &mut Kept, moves: &mut usize, i: usize, set: &
         return false;
     }
     vertices.remove(i);
-    *moves -= behind;
+    *moves -= moved;
     true
 }
 

@@ -1,53 +1,51 @@
 -- the point stays inside, is put between two vertices, or comes beyond them
-use Rattle.std.proofs.Common.{◌≤◌, List, inl, inr, length, sym, ◌∙◌, subst, arith}
+use Rattle.std.proofs.Common.{◌≡◌, List, inl, inr, sym, ◌∙◌, subst, arith}
 use Rattle.lattice.specs.Covers.{with_point}
 use Rattle.lattice.specs.Plane.{Pair}
 use Rattle.lattice.specs.Vertices.{IsVertexList}
 use Rattle.hull_polygon.specs.Insertions.{IsInsertion}
 use Rattle.hull_polygon.specs.Polygons.{HoldsOfSetsOf}
+use Rattle.hull_polygon.specs.declared.insertions.Insertion.{Insertion}
 use Rattle.hull_polygon.specs.declared.insertions.Insertion.TheVariants.{Between, Covered, Beyond}
 use Rattle.prepared_set.proofs.Patching.{decided, put_there}
 use Rattle.prepared_set.proofs.patches.take_in.Goals as goal
 
+-- what was found of the polygon's vertices holds of the vertices
+found_of : (U V : List Pair) (p : Pair) (found : Insertion) → U ≡ V → HoldsOfSetsOf U (IsInsertion U p found)
+    → HoldsOfSetsOf V (IsInsertion V p found)
+found_of U V p found e h = subst (λ (Z : List Pair). HoldsOfSetsOf Z (IsInsertion Z p found)) e h
+
 pub put_in-requires-clause-insertion : goal.put_in-requires-clause-insertion
 put_in-requires-clause-insertion c =
-    subst (λ (V : List Pair). HoldsOfSetsOf V (IsInsertion V c.args.p (Between c.in-Between.after c.in-Between.before)))
-    c.polygon.ensures.vertices c.in-Between.ensures.insertion
+    found_of _ _ c.args.p (Between c.in-Between.after c.in-Between.before) c.polygon.ensures.vertices c.in-Between.ensures.insertion
 
 pub returns-in-Covered-clause-with_it : goal.returns-in-Covered-clause-with_it
 returns-in-Covered-clause-with_it c = λ t S o.
-    (subst (λ (V : List Pair). HoldsOfSetsOf V (IsInsertion V c.args.p Covered)) c.polygon.ensures.vertices
-    c.in-Covered.ensures.insertion S o).1
+    (found_of _ _ c.args.p Covered c.polygon.ensures.vertices c.in-Covered.ensures.insertion S o).1
 
 pub returns-in-Covered-clause-put : goal.returns-in-Covered-clause-put
 returns-in-Covered-clause-put c = λ S W i q l m.
-    absurd (q.outside (subst (λ (V : List Pair). HoldsOfSetsOf V (IsInsertion V c.args.p Covered)) c.polygon.ensures.vertices
-    c.in-Covered.ensures.insertion S q.old).0)
+    absurd (q.outside (found_of _ _ c.args.p Covered c.polygon.ensures.vertices c.in-Covered.ensures.insertion S q.old).0)
 
 pub returns-in-Covered-clause-spent : goal.returns-in-Covered-clause-spent
 returns-in-Covered-clause-spent c = λ S W i q l.
-    absurd (q.outside (subst (λ (V : List Pair). HoldsOfSetsOf V (IsInsertion V c.args.p Covered)) c.polygon.ensures.vertices
-    c.in-Covered.ensures.insertion S q.old).0)
+    absurd (q.outside (found_of _ _ c.args.p Covered c.polygon.ensures.vertices c.in-Covered.ensures.insertion S q.old).0)
 
 pub returns-in-Between-clause-with_it : goal.returns-in-Between-clause-with_it
 returns-in-Between-clause-with_it c = λ t S o.
     subst (IsVertexList (with_point c.args.p S)) (sym (c.put_in.ensures.put t))
-    (subst (λ (V : List Pair). HoldsOfSetsOf V (IsInsertion V c.args.p (Between c.in-Between.after c.in-Between.before)))
-    c.polygon.ensures.vertices c.in-Between.ensures.insertion S o).2
+    (found_of _ _ c.args.p (Between c.in-Between.after c.in-Between.before) c.polygon.ensures.vertices
+    c.in-Between.ensures.insertion S o).2
 
 pub returns-in-Between-clause-stay : goal.returns-in-Between-clause-stay
 returns-in-Between-clause-stay c = λ S o k.
-    absurd ((subst (λ (V : List Pair). HoldsOfSetsOf V (IsInsertion V c.args.p (Between c.in-Between.after c.in-Between.before)))
-    c.polygon.ensures.vertices c.in-Between.ensures.insertion S o).0 k)
+    absurd ((found_of _ _ c.args.p (Between c.in-Between.after c.in-Between.before) c.polygon.ensures.vertices
+    c.in-Between.ensures.insertion S o).0 k)
 
 pub returns-in-Between-clause-put : goal.returns-in-Between-clause-put
 returns-in-Between-clause-put c = λ S W i q l m.
-    let h = subst (λ (V : List Pair). HoldsOfSetsOf V (IsInsertion V c.args.p (Between c.in-Between.after c.in-Between.before)))
-    c.polygon.ensures.vertices c.in-Between.ensures.insertion S q.old in
-    let within : c.in-Between.before ≤ length c.args.vertices.now =
-    subst (λ (V : List Pair). c.in-Between.before ≤ length V) c.polygon.ensures.vertices c.in-Between.ensures.gap.1 in
-    let f = put_there S c.args.vertices.now W c.in-Between.after c.in-Between.before i c.args.p c.in-Between.ensures.gap.0 within
-    h.2 q in
+    let f = put_there S _ c.args.vertices.now W c.in-Between.after c.in-Between.before i c.args.p c.polygon.ensures.vertices
+    c.in-Between.ensures.gap c.in-Between.ensures.insertion q in
     elim (decided c.put_in.result) [
       | inl t ↦ inl (t, c.put_in.ensures.put t ∙ f.0, (let s = c.put_in.ensures.spent t in omega (arith, s, f.1)))
       | inr n ↦ inr (n, (let r = c.put_in.ensures.refused n l (omega (arith, f.1, m)) in omega (arith, r, f.2)))
@@ -55,12 +53,8 @@ returns-in-Between-clause-put c = λ S W i q l m.
 
 pub returns-in-Between-clause-spent : goal.returns-in-Between-clause-spent
 returns-in-Between-clause-spent c = λ S W i q m.
-    let h = subst (λ (V : List Pair). HoldsOfSetsOf V (IsInsertion V c.args.p (Between c.in-Between.after c.in-Between.before)))
-    c.polygon.ensures.vertices c.in-Between.ensures.insertion S q.old in
-    let within : c.in-Between.before ≤ length c.args.vertices.now =
-    subst (λ (V : List Pair). c.in-Between.before ≤ length V) c.polygon.ensures.vertices c.in-Between.ensures.gap.1 in
-    let f = put_there S c.args.vertices.now W c.in-Between.after c.in-Between.before i c.args.p c.in-Between.ensures.gap.0 within
-    h.2 q in
+    let f = put_there S _ c.args.vertices.now W c.in-Between.after c.in-Between.before i c.args.p c.polygon.ensures.vertices
+    c.in-Between.ensures.gap c.in-Between.ensures.insertion q in
     elim (decided c.put_in.result) [
       | inl t ↦ absurd (let s = c.put_in.ensures.spent t in omega (arith, s, f.1, m))
       | inr n ↦ n
@@ -68,10 +62,8 @@ returns-in-Between-clause-spent c = λ S W i q m.
 
 pub returns-in-Beyond-clause-stay : goal.returns-in-Beyond-clause-stay
 returns-in-Beyond-clause-stay c = λ S o k.
-    absurd ((subst (λ (V : List Pair). HoldsOfSetsOf V (IsInsertion V c.args.p Beyond)) c.polygon.ensures.vertices
-    c.in-Beyond.ensures.insertion S o).0 k)
+    absurd ((found_of _ _ c.args.p Beyond c.polygon.ensures.vertices c.in-Beyond.ensures.insertion S o).0 k)
 
 pub returns-in-Beyond-clause-put : goal.returns-in-Beyond-clause-put
 returns-in-Beyond-clause-put c = λ S W i q l m.
-    absurd ((subst (λ (V : List Pair). HoldsOfSetsOf V (IsInsertion V c.args.p Beyond)) c.polygon.ensures.vertices
-    c.in-Beyond.ensures.insertion S q.old).1 q.amid)
+    absurd ((found_of _ _ c.args.p Beyond c.polygon.ensures.vertices c.in-Beyond.ensures.insertion S q.old).1 q.amid)

@@ -1,4 +1,4 @@
--- the point is written, and what is behind moves down to it
+-- the point is written, and what is after it moves down to it
 use Rattle.std.proofs.Common.{ap, ◌∙◌, ◌+◌, ◌-◌, take, arith}
 use Rattle.prepared_set.proofs.Spliced.{moved, written}
 use Rattle.prepared_set.proofs.splicing.replace.Goals as goal
