@@ -79,6 +79,26 @@ fn regroup(
     }
 }
 
+/// Returns the edges, on a side, of the forks that a rotation makes of `whole`, the upper fork, and of `part`, the lower one, as [`regroup`] does.
+fn regroup_forks(
+    side: Side,
+    rotation: Rotation,
+    whole: &Fork,
+    part: &Fork,
+    first: &Node,
+    second: &Node,
+) -> Regrouped
+    requires row { AreInRow first.now second.now }
+    requires few { length (points_below first.now ++ points_below second.now) ≤ POINT_LIMIT }
+    ensures edges { IsRegrouped side rotation (edge_on side whole.now) (edge_on side part.now) part.now.right_ends.first
+        (tree_of first.now) (tree_of second.now) result }
+    ensures turns { result.turns ≤ 2 * max (node_height first.now) (node_height second.now) + 12 }
+{
+    let (upper, lower) = (*whole.edge(side), *part.edge(side));
+    let split = part.right_ends.first;
+    regroup(side, rotation, upper, lower, split, first, second)
+}
+
 /// The edges on a side of the three forks that a double rotation makes of four subtrees, and the turns of the searches.
 #[derive(Clone, Copy)]
 pub(crate) struct RegroupedTwice {
@@ -90,14 +110,13 @@ pub(crate) struct RegroupedTwice {
 
 /// Returns the edges, on a side, of the forks over `a` and `b`, over `c` and `d`, and over both, which a double
 /// rotation makes: that of the lower two forks in the other direction, and then that of the upper two. `whole`, `low`
-/// and `middle` are the edges of the three forks before, from the top, and `split` is the first point of `c`.
+/// and `middle` are the three forks before, from the top.
 fn regroup_twice(
     side: Side,
     rotation: Rotation,
-    whole: (Point, Point),
-    low: (Point, Point),
-    middle: (Point, Point),
-    split: Point,
+    whole: &Fork,
+    low: &Fork,
+    middle: &Fork,
     a: &Node,
     b: &Node,
     c: &Node,
@@ -105,19 +124,21 @@ fn regroup_twice(
 ) -> RegroupedTwice
     requires row { AreFourInRow a.now b.now c.now d.now }
     requires few { length ((points_below a.now ++ points_below b.now) ++ (points_below c.now ++ points_below d.now)) ≤ POINT_LIMIT }
-    requires split { split ≡ first_in (points_below c.now) }
+    requires split { middle.now.right_ends.first ≡ first_in (points_below c.now) }
     requires low { max (max (node_height a.now) (node_height b.now)) (max (node_height c.now) (node_height d.now)) ≤ 28 }
-    requires edges { AreEdgesOfFour rotation side (tree_of a.now) (tree_of b.now) (tree_of c.now) (tree_of d.now) whole low middle }
+    requires edges { AreEdgesOfFour rotation side (tree_of a.now) (tree_of b.now) (tree_of c.now) (tree_of d.now)
+        (edge_on side whole.now) (edge_on side low.now) (edge_on side middle.now) }
     ensures left { IsBridge side (On (tree_of a.now)) (On (tree_of b.now)) result.left.0 result.left.1 }
     ensures right { IsBridge side (On (tree_of c.now)) (On (tree_of d.now)) result.right.0 result.right.1 }
     ensures outer { IsBridge side (IsOnEither (tree_of a.now) (tree_of b.now)) (IsOnEither (tree_of c.now) (tree_of d.now))
         result.outer.0 result.outer.1 }
     ensures turns { result.turns ≤ 2 * max (node_height a.now) (node_height b.now) + 2 * max (node_height c.now) (node_height d.now) + 24 }
 {
+    let (edge, split) = (*whole.edge(side), middle.right_ends.first);
     match rotation {
         Rotation::Left => {
-            let lower = regroup(side, Rotation::Right, low, middle, split, c, d);
-            let upper = regroup(side, Rotation::Left, whole, lower.outer, split, a, b);
+            let lower = regroup_forks(side, Rotation::Right, low, middle, c, d);
+            let upper = regroup(side, Rotation::Left, edge, lower.outer, split, a, b);
             RegroupedTwice {
                 left: upper.inner,
                 right: lower.inner,
@@ -126,8 +147,8 @@ fn regroup_twice(
             }
         }
         Rotation::Right => {
-            let lower = regroup(side, Rotation::Left, low, middle, split, a, b);
-            let upper = regroup(side, Rotation::Right, whole, lower.outer, split, c, d);
+            let lower = regroup_forks(side, Rotation::Left, low, middle, a, b);
+            let upper = regroup(side, Rotation::Right, edge, lower.outer, split, c, d);
             RegroupedTwice {
                 left: lower.inner,
                 right: upper.inner,
@@ -141,7 +162,7 @@ fn regroup_twice(
 /// Makes the tree over four neighbouring subtrees after a double rotation. The edges in the boxes are those of the
 /// three forks before, from the top.
 fn rotate_twice(
-    rotation: Rotation,
+    turn: Rotation,
     a: Node,
     b: Node,
     c: Node,
@@ -153,7 +174,7 @@ fn rotate_twice(
     requires row { AreFourInRow a b c d }
     requires few { length ((points_below a ++ points_below b) ++ (points_below c ++ points_below d)) ≤ POINT_LIMIT }
     requires split { middle.value.right_ends.first ≡ first_in (points_below c) }
-    requires edges { (side : Side) → AreEdgesOfFour rotation side (tree_of a) (tree_of b) (tree_of c) (tree_of d)
+    requires edges { (side : Side) → AreEdgesOfFour turn side (tree_of a) (tree_of b) (tree_of c) (tree_of d)
         (edge_on side place.value) (edge_on side below.value) (edge_on side middle.value) }
     requires near_left { AreNear (node_height a) (node_height b) }
     requires near_right { AreNear (node_height c) (node_height d) }
@@ -166,31 +187,8 @@ fn rotate_twice(
     ensures height { node_height result.0 ≡ max (max (node_height a) (node_height b)) (max (node_height c) (node_height d)) + 2 }
     ensures turns { result.1 ≤ 8 * max (max (node_height a) (node_height b)) (max (node_height c) (node_height d)) + 48 }
 {
-    let split = middle.right_ends.first;
-    let upper = regroup_twice(
-        Side::Upper,
-        rotation,
-        place.upper,
-        below.upper,
-        middle.upper,
-        split,
-        &a,
-        &b,
-        &c,
-        &d,
-    );
-    let lower = regroup_twice(
-        Side::Lower,
-        rotation,
-        place.lower,
-        below.lower,
-        middle.lower,
-        split,
-        &a,
-        &b,
-        &c,
-        &d,
-    );
+    let upper = regroup_twice(Side::Upper, turn, &place, &below, &middle, &a, &b, &c, &d);
+    let lower = regroup_twice(Side::Lower, turn, &place, &below, &middle, &a, &b, &c, &d);
     let left = fork_over(a, b, below, upper.left, lower.left);
     let right = fork_over(c, d, place, upper.right, lower.right);
     let whole = fork_over(left, right, middle, upper.outer, lower.outer);
@@ -215,25 +213,8 @@ pub(crate) fn rotate_right(left: Node, right: Node, place: Box<Fork, Heap>) -> (
     let (outer, inner, below) = take_apart(left);
     let turn = Rotation::Right;
     if height_of(&outer) >= height_of(&inner) {
-        let split = below.right_ends.first;
-        let upper = regroup(
-            Side::Upper,
-            turn,
-            place.upper,
-            below.upper,
-            split,
-            &inner,
-            &right,
-        );
-        let lower = regroup(
-            Side::Lower,
-            turn,
-            place.lower,
-            below.lower,
-            split,
-            &inner,
-            &right,
-        );
+        let upper = regroup_forks(Side::Upper, turn, &place, &below, &inner, &right);
+        let lower = regroup_forks(Side::Lower, turn, &place, &below, &inner, &right);
         let second = fork_over(inner, right, place, upper.inner, lower.inner);
         let whole = fork_over(outer, second, below, upper.outer, lower.outer);
         return (whole, upper.turns + lower.turns);
@@ -269,25 +250,8 @@ pub(crate) fn rotate_left(left: Node, right: Node, place: Box<Fork, Heap>) -> (N
     let (inner, outer, below) = take_apart(right);
     let turn = Rotation::Left;
     if height_of(&outer) >= height_of(&inner) {
-        let split = below.right_ends.first;
-        let upper = regroup(
-            Side::Upper,
-            turn,
-            place.upper,
-            below.upper,
-            split,
-            &left,
-            &inner,
-        );
-        let lower = regroup(
-            Side::Lower,
-            turn,
-            place.lower,
-            below.lower,
-            split,
-            &left,
-            &inner,
-        );
+        let upper = regroup_forks(Side::Upper, turn, &place, &below, &left, &inner);
+        let lower = regroup_forks(Side::Lower, turn, &place, &below, &left, &inner);
         let first = fork_over(left, inner, place, upper.inner, lower.inner);
         let whole = fork_over(first, outer, below, upper.outer, lower.outer);
         return (whole, upper.turns + lower.turns);

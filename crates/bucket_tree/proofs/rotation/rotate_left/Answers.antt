@@ -12,14 +12,14 @@ use Rattle.bucket_tree.proofs.NodeRows.{in_row, front, back, with_front}
 use Rattle.bucket_tree.proofs.RotatedNodes.{edges_left, four_left, rotated_left}
 use Rattle.bucket_tree.proofs.rotation.rotate_left.Goals as goal
 
-pub regroup-upper-requires-clause-row : goal.regroup-upper-requires-clause-row
-regroup-upper-requires-clause-row c =
+pub regroup_forks-upper-requires-clause-row : goal.regroup_forks-upper-requires-clause-row
+regroup_forks-upper-requires-clause-row c =
     in_row c.args.left c.take_apart-inner.result.0 c.requires.row.left_built c.take_apart-inner.ensures.row.left_built
     (front (points_below c.args.left) (points_below c.args.right) (points_below c.take_apart-inner.result.0)
     (points_below c.take_apart-inner.result.1) c.requires.row.in_order c.take_apart-inner.ensures.points)
 
-pub regroup-lower-requires-clause-row : goal.regroup-lower-requires-clause-row
-regroup-lower-requires-clause-row c =
+pub regroup_forks-lower-requires-clause-row : goal.regroup_forks-lower-requires-clause-row
+regroup_forks-lower-requires-clause-row c =
     in_row c.args.left c.take_apart-inner.result.0 c.requires.row.left_built c.take_apart-inner.ensures.row.left_built
     (front (points_below c.args.left) (points_below c.args.right) (points_below c.take_apart-inner.result.0)
     (points_below c.take_apart-inner.result.1) c.requires.row.in_order c.take_apart-inner.ensures.points)
@@ -41,48 +41,44 @@ fork_over-whole-requires-clause-row c =
 pub fork_over-first-requires-clause-upper : goal.fork_over-first-requires-clause-upper
 fork_over-first-requires-clause-upper c = (rotated_left Upper c.args.left c.args.right c.take_apart-inner.result.0
     c.take_apart-inner.result.1
-    c.take_apart-inner.result.2.value c.args.place.value _ _ _ c.regroup-upper.result c.requires.row
+    c.take_apart-inner.result.2.value c.args.place.value _ _ _ c.regroup_forks-upper.result c.requires.row
     c.take_apart-inner.ensures.row c.take_apart-inner.ensures.tree (c.take_apart-inner.ensures.stored Upper)
-    (ap (λ (z : Fork). z.right_ends.first) c.deref.ensures ∙ c.take_apart-inner.ensures.split) (c.requires.edges Upper)
-    (ap (λ (z : Fork). z.upper) c.deref-then-height_of.ensures) (ap (λ (z : Fork). z.upper)
-    c.deref-then-height_of-2.ensures)
-    c.regroup-upper.ensures.edges).0
+    (ap (λ (z : Fork). z.right_ends.first) c.deref-then-height_of.ensures ∙ c.take_apart-inner.ensures.split) (c.requires.edges Upper)
+    (ap (edge_on Upper) c.deref.ensures) (ap (edge_on Upper) c.deref-then-height_of.ensures)
+    c.regroup_forks-upper.ensures.edges).0
 
 pub fork_over-whole-requires-clause-upper : goal.fork_over-whole-requires-clause-upper
 fork_over-whole-requires-clause-upper c =
-    let e = c.regroup-upper.result.outer in
+    let e = c.regroup_forks-upper.result.outer in
     subst (λ z. IsBridge Upper (On z) (On (tree_of c.take_apart-inner.result.1)) e.0 e.1) (sym
     c.fork_over-first.ensures.tree)
     (rotated_left Upper c.args.left c.args.right c.take_apart-inner.result.0 c.take_apart-inner.result.1
-    c.take_apart-inner.result.2.value c.args.place.value _ _ _ c.regroup-upper.result c.requires.row
+    c.take_apart-inner.result.2.value c.args.place.value _ _ _ c.regroup_forks-upper.result c.requires.row
     c.take_apart-inner.ensures.row c.take_apart-inner.ensures.tree (c.take_apart-inner.ensures.stored Upper)
-    (ap (λ (z : Fork). z.right_ends.first) c.deref.ensures ∙ c.take_apart-inner.ensures.split) (c.requires.edges Upper)
-    (ap (λ (z : Fork). z.upper) c.deref-then-height_of.ensures) (ap (λ (z : Fork). z.upper)
-    c.deref-then-height_of-2.ensures)
-    c.regroup-upper.ensures.edges).1
+    (ap (λ (z : Fork). z.right_ends.first) c.deref-then-height_of.ensures ∙ c.take_apart-inner.ensures.split) (c.requires.edges Upper)
+    (ap (edge_on Upper) c.deref.ensures) (ap (edge_on Upper) c.deref-then-height_of.ensures)
+    c.regroup_forks-upper.ensures.edges).1
 
 pub fork_over-first-requires-clause-lower : goal.fork_over-first-requires-clause-lower
 fork_over-first-requires-clause-lower c = (rotated_left Lower c.args.left c.args.right c.take_apart-inner.result.0
     c.take_apart-inner.result.1
-    c.take_apart-inner.result.2.value c.args.place.value _ _ _ c.regroup-lower.result c.requires.row
+    c.take_apart-inner.result.2.value c.args.place.value _ _ _ c.regroup_forks-lower.result c.requires.row
     c.take_apart-inner.ensures.row c.take_apart-inner.ensures.tree (c.take_apart-inner.ensures.stored Lower)
-    (ap (λ (z : Fork). z.right_ends.first) c.deref.ensures ∙ c.take_apart-inner.ensures.split) (c.requires.edges Lower)
-    (ap (λ (z : Fork). z.lower) c.deref-then-height_of-3.ensures) (ap (λ (z : Fork). z.lower)
-    c.deref-then-height_of-4.ensures)
-    c.regroup-lower.ensures.edges).0
+    (ap (λ (z : Fork). z.right_ends.first) c.deref-then-height_of-3.ensures ∙ c.take_apart-inner.ensures.split) (c.requires.edges Lower)
+    (ap (edge_on Lower) c.deref-then-height_of-2.ensures) (ap (edge_on Lower) c.deref-then-height_of-3.ensures)
+    c.regroup_forks-lower.ensures.edges).0
 
 pub fork_over-whole-requires-clause-lower : goal.fork_over-whole-requires-clause-lower
 fork_over-whole-requires-clause-lower c =
-    let e = c.regroup-lower.result.outer in
+    let e = c.regroup_forks-lower.result.outer in
     subst (λ z. IsBridge Lower (On z) (On (tree_of c.take_apart-inner.result.1)) e.0 e.1) (sym
     c.fork_over-first.ensures.tree)
     (rotated_left Lower c.args.left c.args.right c.take_apart-inner.result.0 c.take_apart-inner.result.1
-    c.take_apart-inner.result.2.value c.args.place.value _ _ _ c.regroup-lower.result c.requires.row
+    c.take_apart-inner.result.2.value c.args.place.value _ _ _ c.regroup_forks-lower.result c.requires.row
     c.take_apart-inner.ensures.row c.take_apart-inner.ensures.tree (c.take_apart-inner.ensures.stored Lower)
-    (ap (λ (z : Fork). z.right_ends.first) c.deref.ensures ∙ c.take_apart-inner.ensures.split) (c.requires.edges Lower)
-    (ap (λ (z : Fork). z.lower) c.deref-then-height_of-3.ensures) (ap (λ (z : Fork). z.lower)
-    c.deref-then-height_of-4.ensures)
-    c.regroup-lower.ensures.edges).1
+    (ap (λ (z : Fork). z.right_ends.first) c.deref-then-height_of-3.ensures ∙ c.take_apart-inner.ensures.split) (c.requires.edges Lower)
+    (ap (edge_on Lower) c.deref-then-height_of-2.ensures) (ap (edge_on Lower) c.deref-then-height_of-3.ensures)
+    c.regroup_forks-lower.ensures.edges).1
 
 pub rotate_twice-requires-clause-row : goal.rotate_twice-requires-clause-row
 rotate_twice-requires-clause-row c =

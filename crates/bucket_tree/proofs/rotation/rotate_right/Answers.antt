@@ -12,15 +12,15 @@ use Rattle.bucket_tree.proofs.NodeRows.{in_row, front, back, with_back}
 use Rattle.bucket_tree.proofs.RotatedNodes.{edges_right, four_right, rotated_right}
 use Rattle.bucket_tree.proofs.rotation.rotate_right.Goals as goal
 
-pub regroup-upper-requires-clause-row : goal.regroup-upper-requires-clause-row
-regroup-upper-requires-clause-row c =
+pub regroup_forks-upper-requires-clause-row : goal.regroup_forks-upper-requires-clause-row
+regroup_forks-upper-requires-clause-row c =
     in_row c.take_apart-outer.result.1 c.args.right c.take_apart-outer.ensures.row.right_built
     c.requires.row.right_built
     (back (points_below c.args.left) (points_below c.args.right) (points_below c.take_apart-outer.result.0)
     (points_below c.take_apart-outer.result.1) c.requires.row.in_order c.take_apart-outer.ensures.points)
 
-pub regroup-lower-requires-clause-row : goal.regroup-lower-requires-clause-row
-regroup-lower-requires-clause-row c =
+pub regroup_forks-lower-requires-clause-row : goal.regroup_forks-lower-requires-clause-row
+regroup_forks-lower-requires-clause-row c =
     in_row c.take_apart-outer.result.1 c.args.right c.take_apart-outer.ensures.row.right_built
     c.requires.row.right_built
     (back (points_below c.args.left) (points_below c.args.right) (points_below c.take_apart-outer.result.0)
@@ -44,48 +44,44 @@ fork_over-whole-requires-clause-row c =
 pub fork_over-second-requires-clause-upper : goal.fork_over-second-requires-clause-upper
 fork_over-second-requires-clause-upper c = (rotated_right Upper c.args.left c.args.right c.take_apart-outer.result.0
     c.take_apart-outer.result.1
-    c.take_apart-outer.result.2.value c.args.place.value _ _ _ c.regroup-upper.result c.requires.row
+    c.take_apart-outer.result.2.value c.args.place.value _ _ _ c.regroup_forks-upper.result c.requires.row
     c.take_apart-outer.ensures.row c.take_apart-outer.ensures.tree (c.take_apart-outer.ensures.stored Upper)
-    (ap (λ (z : Fork). z.right_ends.first) c.deref.ensures ∙ c.take_apart-outer.ensures.split) (c.requires.edges Upper)
-    (ap (λ (z : Fork). z.upper) c.deref-then-height_of.ensures) (ap (λ (z : Fork). z.upper)
-    c.deref-then-height_of-2.ensures)
-    c.regroup-upper.ensures.edges).0
+    (ap (λ (z : Fork). z.right_ends.first) c.deref-then-height_of.ensures ∙ c.take_apart-outer.ensures.split) (c.requires.edges Upper)
+    (ap (edge_on Upper) c.deref.ensures) (ap (edge_on Upper) c.deref-then-height_of.ensures)
+    c.regroup_forks-upper.ensures.edges).0
 
 pub fork_over-whole-requires-clause-upper : goal.fork_over-whole-requires-clause-upper
 fork_over-whole-requires-clause-upper c =
-    let e = c.regroup-upper.result.outer in
+    let e = c.regroup_forks-upper.result.outer in
     subst (λ z. IsBridge Upper (On (tree_of c.take_apart-outer.result.0)) (On z) e.0 e.1) (sym
     c.fork_over-second.ensures.tree)
     (rotated_right Upper c.args.left c.args.right c.take_apart-outer.result.0 c.take_apart-outer.result.1
-    c.take_apart-outer.result.2.value c.args.place.value _ _ _ c.regroup-upper.result c.requires.row
+    c.take_apart-outer.result.2.value c.args.place.value _ _ _ c.regroup_forks-upper.result c.requires.row
     c.take_apart-outer.ensures.row c.take_apart-outer.ensures.tree (c.take_apart-outer.ensures.stored Upper)
-    (ap (λ (z : Fork). z.right_ends.first) c.deref.ensures ∙ c.take_apart-outer.ensures.split) (c.requires.edges Upper)
-    (ap (λ (z : Fork). z.upper) c.deref-then-height_of.ensures) (ap (λ (z : Fork). z.upper)
-    c.deref-then-height_of-2.ensures)
-    c.regroup-upper.ensures.edges).1
+    (ap (λ (z : Fork). z.right_ends.first) c.deref-then-height_of.ensures ∙ c.take_apart-outer.ensures.split) (c.requires.edges Upper)
+    (ap (edge_on Upper) c.deref.ensures) (ap (edge_on Upper) c.deref-then-height_of.ensures)
+    c.regroup_forks-upper.ensures.edges).1
 
 pub fork_over-second-requires-clause-lower : goal.fork_over-second-requires-clause-lower
 fork_over-second-requires-clause-lower c = (rotated_right Lower c.args.left c.args.right c.take_apart-outer.result.0
     c.take_apart-outer.result.1
-    c.take_apart-outer.result.2.value c.args.place.value _ _ _ c.regroup-lower.result c.requires.row
+    c.take_apart-outer.result.2.value c.args.place.value _ _ _ c.regroup_forks-lower.result c.requires.row
     c.take_apart-outer.ensures.row c.take_apart-outer.ensures.tree (c.take_apart-outer.ensures.stored Lower)
-    (ap (λ (z : Fork). z.right_ends.first) c.deref.ensures ∙ c.take_apart-outer.ensures.split) (c.requires.edges Lower)
-    (ap (λ (z : Fork). z.lower) c.deref-then-height_of-3.ensures) (ap (λ (z : Fork). z.lower)
-    c.deref-then-height_of-4.ensures)
-    c.regroup-lower.ensures.edges).0
+    (ap (λ (z : Fork). z.right_ends.first) c.deref-then-height_of-3.ensures ∙ c.take_apart-outer.ensures.split) (c.requires.edges Lower)
+    (ap (edge_on Lower) c.deref-then-height_of-2.ensures) (ap (edge_on Lower) c.deref-then-height_of-3.ensures)
+    c.regroup_forks-lower.ensures.edges).0
 
 pub fork_over-whole-requires-clause-lower : goal.fork_over-whole-requires-clause-lower
 fork_over-whole-requires-clause-lower c =
-    let e = c.regroup-lower.result.outer in
+    let e = c.regroup_forks-lower.result.outer in
     subst (λ z. IsBridge Lower (On (tree_of c.take_apart-outer.result.0)) (On z) e.0 e.1) (sym
     c.fork_over-second.ensures.tree)
     (rotated_right Lower c.args.left c.args.right c.take_apart-outer.result.0 c.take_apart-outer.result.1
-    c.take_apart-outer.result.2.value c.args.place.value _ _ _ c.regroup-lower.result c.requires.row
+    c.take_apart-outer.result.2.value c.args.place.value _ _ _ c.regroup_forks-lower.result c.requires.row
     c.take_apart-outer.ensures.row c.take_apart-outer.ensures.tree (c.take_apart-outer.ensures.stored Lower)
-    (ap (λ (z : Fork). z.right_ends.first) c.deref.ensures ∙ c.take_apart-outer.ensures.split) (c.requires.edges Lower)
-    (ap (λ (z : Fork). z.lower) c.deref-then-height_of-3.ensures) (ap (λ (z : Fork). z.lower)
-    c.deref-then-height_of-4.ensures)
-    c.regroup-lower.ensures.edges).1
+    (ap (λ (z : Fork). z.right_ends.first) c.deref-then-height_of-3.ensures ∙ c.take_apart-outer.ensures.split) (c.requires.edges Lower)
+    (ap (edge_on Lower) c.deref-then-height_of-2.ensures) (ap (edge_on Lower) c.deref-then-height_of-3.ensures)
+    c.regroup_forks-lower.ensures.edges).1
 
 pub rotate_twice-requires-clause-row : goal.rotate_twice-requires-clause-row
 rotate_twice-requires-clause-row c =
