@@ -30,8 +30,8 @@ fn first_block(points: &[Point], p: Point) -> usize
     start
 }
 
-/// Returns the first index whose point is not before `p`. Unlike in a binary search, no address depends on a comparison, so points that are not in the
-/// cache are fetched at the same time.
+/// Returns the first index whose point is not before `p`. Unlike in a binary search, no address depends on a comparison, so points that are not in
+/// the cache are fetched at the same time.
 fn first_not_before(points: &[Point], p: Point) -> usize
     requires few { length points.now ≤ BUCKET_SIZE }
     requires ordered { IsPointSet points.now }

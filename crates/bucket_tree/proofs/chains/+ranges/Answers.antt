@@ -10,8 +10,10 @@ use Rattle.bucket_tree.proofs.chains.+ranges.Goals as goal
 
 pub push_through-push_long_range-requires : goal.push_through-push_long_range-requires
 push_through-push_long_range-requires t c =
-    let r = first_range c.args.side c.args.fork.now c.passage_on-passage.result c.args.from.now c.args.to.now c.passage_on-passage.ensures c.requires.whole c.requires.bridged
-    ((part_first c.args.side c.args.fork.now c.passage_on-passage.result c.args.from.now c.args.to.now c.passage_on-passage.ensures c.requires.bridged c.requires.between
+    let r = first_range c.args.side c.args.fork.now c.passage_on-passage.result c.args.from.now c.args.to.now
+    c.passage_on-passage.ensures c.requires.whole c.requires.bridged
+    ((part_first c.args.side c.args.fork.now c.passage_on-passage.result c.args.from.now c.args.to.now
+    c.passage_on-passage.ensures c.requires.bridged c.requires.between
     (failed c.is_along.result _ c.if-not-is_along.true c.is_along.ensures)).between) in
     (omega (arith, c.decreases, r.0), r.1)
 
@@ -24,8 +26,10 @@ push_through-returns-then-not-is_along t c =
 
 pub push_through-push_long_range-requires-then-not-is_along-2 : goal.push_through-push_long_range-requires-then-not-is_along-2
 push_through-push_long_range-requires-then-not-is_along-2 t c =
-    let r = last_range c.args.side c.args.fork.now c.passage_on-passage.result c.args.from.now c.args.to.now c.passage_on-passage.ensures c.requires.whole c.requires.bridged
-    ((part_last c.args.side c.args.fork.now c.passage_on-passage.result c.args.from.now c.args.to.now c.passage_on-passage.ensures c.requires.bridged c.requires.between
+    let r = last_range c.args.side c.args.fork.now c.passage_on-passage.result c.args.from.now c.args.to.now
+    c.passage_on-passage.ensures c.requires.whole c.requires.bridged
+    ((part_last c.args.side c.args.fork.now c.passage_on-passage.result c.args.from.now c.args.to.now
+    c.passage_on-passage.ensures c.requires.bridged c.requires.between
     (failed c.is_along-2.result _ c.if-not-is_along-2.true c.is_along-2.ensures)).between) in
     (omega (arith, c.decreases, r.0), r.1)
 
@@ -38,16 +42,20 @@ push_through-returns-then-not-is_along-2 t c =
 
 pub push_through-push_range-requires : goal.push_through-push_range-requires
 push_through-push_range-requires t c =
-    let r = first_range c.args.side c.args.fork.now c.passage_on-passage.result c.args.from.now _ c.passage_on-passage.ensures c.requires.whole c.requires.bridged
-    ((across c.args.side c.args.fork.now c.passage_on-passage.result c.args.from.now c.args.to.now c.passage_on-passage.ensures c.requires.bridged c.requires.between
+    let r = first_range c.args.side c.args.fork.now c.passage_on-passage.result c.args.from.now _ c.passage_on-passage.ensures
+    c.requires.whole c.requires.bridged
+    ((across c.args.side c.args.fork.now c.passage_on-passage.result c.args.from.now c.args.to.now c.passage_on-passage.ensures
+    c.requires.bridged c.requires.between
     (passed c.is_along.result _ c.if-not-is_along.false c.is_along.ensures)
     (passed c.is_along-2.result _ c.if-not-is_along-2.false c.is_along-2.ensures)).first) in
     (omega (arith, c.decreases, r.0), r.1)
 
 pub push_through-push_range-requires-2 : goal.push_through-push_range-requires-2
 push_through-push_range-requires-2 t c =
-    let r = last_range c.args.side c.args.fork.now c.passage_on-passage.result _ c.args.to.now c.passage_on-passage.ensures c.requires.whole c.requires.bridged
-    ((across c.args.side c.args.fork.now c.passage_on-passage.result c.args.from.now c.args.to.now c.passage_on-passage.ensures c.requires.bridged c.requires.between
+    let r = last_range c.args.side c.args.fork.now c.passage_on-passage.result _ c.args.to.now c.passage_on-passage.ensures
+    c.requires.whole c.requires.bridged
+    ((across c.args.side c.args.fork.now c.passage_on-passage.result c.args.from.now c.args.to.now c.passage_on-passage.ensures
+    c.requires.bridged c.requires.between
     (passed c.is_along.result _ c.if-not-is_along.false c.is_along.ensures)
     (passed c.is_along-2.result _ c.if-not-is_along-2.false c.is_along-2.ensures)).last) in
     (omega (arith, c.decreases, r.0), r.1)
