@@ -1,7 +1,6 @@
 -- the set is the set after the changes
 use Rattle.std.proofs.Common.{arith}
 use Rattle.std.proofs.lemmas.Grind.{common_steps}
-use Rattle.hull_snapshots.specs.Changes.{changed}
 use Rattle.hull_snapshots.proofs.Changed.{changed_by-one_more}
 use Rattle.hull_shared.proofs.Changes.{held_by_changes}
 use Rattle.hull_shared.proofs.publishing.announce.Goals as goal
