@@ -15,7 +15,7 @@ module _ (w : WaitingSeat) (lock : HullLock) (n t : ℕ) (book : SharedHullBoxed
     (finds : Finds says_shared_hull (head_of lock) n (ticket_seen w.ticket) t book) (is : lock ≡ lock_of w.lock)
     (numbered : n ≡ w.number) where
   -- the book found has the head at opening
-  found_head : boxed_head book ≡ head_of (lock_of w.lock)
+  pub found_head : boxed_head book ≡ head_of (lock_of w.lock)
   found_head = finds.same_head ∙ ap (λ (l : HullLock). head_of l) is
 
   -- the seat's ledger is one of the book found

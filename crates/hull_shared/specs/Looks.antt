@@ -14,7 +14,7 @@ use Rattle.hull_reply.specs.declared.code.Code.TheVariants as code
 use Rattle.hull_reply.specs.declared.reply.HullReply.{HullReply}
 use Rattle.ticket_lock.specs.Tokens.{seat_seen, ticket_looks, ticket_number, ticket_seen}
 use Rattle.hull_shared.specs.Asked.{IsAsked}
-use Rattle.hull_shared.specs.SharedHullBooks.{HasServedAt}
+use Rattle.hull_shared.specs.SharedHullBooks.{HasServedAt, Serves}
 use Rattle.hull_shared.specs.declared.answer.StateAfter.{StateAfter}
 use Rattle.hull_shared.specs.declared.answer.SharedHullAnswer.{SharedHullAnswer}
 use Rattle.hull_shared.specs.declared.answer.SharedHullAnswer.TheVariants.{Written, Unwritten, Full}
@@ -51,27 +51,35 @@ IsBareReply c r = IsBare c r.encoded × (r.turn ≡ 0) × EncodesNothing r
 abbrev pub IsReplyOf : Code → WaitingSeat → SeatReply → Type 0
 IsReplyOf c w r = IsBare c r.encoded × (r.turn ≡ ticket_number w.ticket) × EncodesNothing r
 
--- the reply to a request for a number if the seat can take none: there is no seat, or it has one already
-abbrev pub IsRefusal : SharedSeat → Option SeatReply → Type 0
-IsRefusal Vacant (Some r) = IsBareReply code.Vacant r
-IsRefusal (Idle i) None = Unit {0}
-IsRefusal (Waiting w) (Some r) = IsReplyOf code.Waiting w r
-IsRefusal seat refusal = ⊥
+-- the seat has no number
+abbrev pub IsIdle : SharedSeat → Type 0
+IsIdle (Idle i) = Unit {0}
+IsIdle seat = ⊥
 
--- the result of asking a seat with no number for a call, or for none
-abbrev pub TakesFor : IdleSeat → SharedSeat → SeatReply → Result Call Code → Type 0
-TakesFor i new r (Ok call) = (w : WaitingSeat) × (new ≡ Waiting w) × WaitsFor i w call × IsReplyOf code.Taken w r
-TakesFor i new r (Err fault) = (new ≡ Idle i) × IsBareReply fault r
+-- the reply of a seat that takes no number: there is no seat, it has a number already, or it is asked for no call
+abbrev pub IsRefused : Result Call Code → SharedSeat → SeatReply → Type 0
+IsRefused asked Vacant r = IsBareReply code.Vacant r
+IsRefused asked (Waiting w) r = IsReplyOf code.Waiting w r
+IsRefused (Err fault) (Idle i) r = IsBareReply fault r
+IsRefused (Ok call) (Idle i) r = ⊥
 
--- only a seat with no number takes one; else nothing changes
-abbrev pub TakesAsked : Result Call Code → SharedSeat → SharedSeat → SeatReply → Type 0
-TakesAsked asked Vacant new r = (new ≡ Vacant) × IsBareReply code.Vacant r
-TakesAsked asked (Idle i) new r = TakesFor i new r asked
-TakesAsked asked (Waiting w) new r = (new ≡ Waiting w) × IsReplyOf code.Waiting w r
+-- the call that a seat with no number is asked for, or the reply of a seat that takes none
+abbrev pub CanTake : Result Call Code → SharedSeat → Result Call SeatReply → Type 0
+CanTake asked seat (Ok call) = IsIdle seat × (asked ≡ Ok call)
+CanTake asked seat (Err r) = IsRefused asked seat r
+
+-- a seat with no number that is asked for a call does this; any other is unchanged, and the reply says why
+abbrev pub Accepts : (IdleSeat → Call → SharedSeat → SeatReply → Type 0) → Result Call Code → SharedSeat → SharedSeat → SeatReply → Type 0
+Accepts does (Ok call) (Idle i) new r = does i call new r
+Accepts does asked old new r = (new ≡ old) × IsRefused asked old r
+
+-- the seat takes a number for the call
+abbrev pub TakesNumber : IdleSeat → Call → SharedSeat → SeatReply → Type 0
+TakesNumber i call new r = (w : WaitingSeat) × (new ≡ Waiting w) × WaitsFor i w call × IsReplyOf code.Taken w r
 
 -- a take, for the requested call
 abbrev pub HasTaken : ℕ → ℤ → ℤ → SharedSeat → SharedSeat → SeatReply → Type 0
-HasTaken kind x y old new r = (asked : Result Call Code) × IsAsked kind x y asked × TakesAsked asked old new r
+HasTaken kind x y old new r = (asked : Result Call Code) × IsAsked kind x y asked × Accepts TakesNumber asked old new r
 
 -- the seat looked once more and still waits: the same seat of the same lock, with the same number and call, that has
 -- seen the same lines
@@ -92,14 +100,14 @@ pub record HasFound (w : WaitingSeat) (i : IdleSeat) (so : List MarkedLine → T
 
 -- The call was served with this answer and this state after it, by the number that the seat had taken, and handed on
 -- the journal that the seat has seen now.
-abbrev pub WasServed : WaitingSeat → IdleSeat → SharedHullAnswer → StateAfter → Type 0
-WasServed w i answer state_after = HasFound w i (λ found. HasServedAt (head_of (lock_of w.lock)) (ticket_number w.ticket) w.number
+abbrev pub WasServed : {A : Type 0} → Serves A → WaitingSeat → IdleSeat → A → StateAfter → Type 0
+WasServed served w i answer state_after = HasFound w i (λ found. served (head_of (lock_of w.lock)) (ticket_number w.ticket) w.number
     w.call found (seat_seen i.seat) answer state_after)
 
--- the seat still waits, or its call was served
-abbrev pub HasLooked : WaitingSeat → Looked → Type 0
-HasLooked w (looked.NotYet v) = WaitsOn w v
-HasLooked w (looked.Served i answer state_after) = WasServed w i answer state_after
+-- the seat still waits, and the service was not used; or the service served its call
+abbrev pub HasLooked : {S A : Type 0} → (S → Serves A) → WaitingSeat → S → Looked S A → Type 0
+HasLooked served w service (looked.NotYet v left) = WaitsOn w v × (left ≡ service)
+HasLooked served w service (looked.Served i answer state_after) = WasServed (served service) w i answer state_after
 
 -- the reply has an answer: the numbers of the set's reply, or that the book is full
 abbrev pub EncodesAnswer : HullReply → SharedHullAnswer → Type 0
@@ -119,12 +127,17 @@ IsCounted (Written r) = r ≢ reply.Already
 IsCounted (Unwritten r) = r ≢ reply.Already
 IsCounted Full = Unit {0}
 
+-- no answer that was seen is `already`
+abbrev pub IsSeenCounted : Seen → Type 0
+IsSeenCounted (Unserved reply) = Unit {0}
+IsSeenCounted (Served answer turn state_after) = IsCounted answer
+
 -- a look: a seat with no number is unchanged; one with a number still waits, or its call was served, under its number
 abbrev pub HasSeen : SharedSeat → SharedSeat → Seen → Type 0
 HasSeen Vacant new s = (new ≡ Vacant) × ((r : SeatReply) × (s ≡ Unserved r) × IsBareReply code.Vacant r)
 HasSeen (Idle i) new s = (new ≡ Idle i) × ((r : SeatReply) × (s ≡ Unserved r) × IsBareReply code.NoNumber r)
 HasSeen (Waiting w) (Waiting v) s = WaitsOn w v × ((r : SeatReply) × (s ≡ Unserved r) × IsReplyOf code.NotYet w r)
-HasSeen (Waiting w) (Idle i) s = (answer : SharedHullAnswer) × (state_after : StateAfter) × WasServed w i answer state_after
+HasSeen (Waiting w) (Idle i) s = (answer : SharedHullAnswer) × (state_after : StateAfter) × WasServed HasServedAt w i answer state_after
     × (s ≡ Served answer (ticket_number w.ticket) state_after)
 HasSeen (Waiting w) Vacant s = ⊥
 
@@ -147,15 +160,13 @@ PutsSeen before after (Served answer turn state_after) r =
 abbrev pub HasReplied : SharedSeat → SharedSeat → SeatReply → Type 0
 HasReplied old new r = (seen : Seen) × HasSeen old new seen × EncodesSeen seen r
 
--- A take and a look: a seat with no number that was asked for a call took a number for it, and looked; else it is a take,
--- which took none.
-abbrev pub TakesAndLooks : Result Call Code → SharedSeat → SharedSeat → SeatReply → Type 0
-TakesAndLooks (Ok call) (Idle i) new r = (w : WaitingSeat) × WaitsFor i w call × HasReplied (Waiting w) new r
-TakesAndLooks asked old new r = TakesAsked asked old new r
+-- the seat takes a number for the call, and looks
+abbrev pub TakesAndLooks : IdleSeat → Call → SharedSeat → SeatReply → Type 0
+TakesAndLooks i call new r = (w : WaitingSeat) × WaitsFor i w call × HasReplied (Waiting w) new r
 
 -- a take and a look, for the requested call
 abbrev pub HasTakenAndLooked : ℕ → ℤ → ℤ → SharedSeat → SharedSeat → SeatReply → Type 0
-HasTakenAndLooked kind x y old new r = (asked : Result Call Code) × IsAsked kind x y asked × TakesAndLooks asked old new r
+HasTakenAndLooked kind x y old new r = (asked : Result Call Code) × IsAsked kind x y asked × Accepts TakesAndLooks asked old new r
 
 -- a look, whose answer is in the reply, with vertices written to the array
 abbrev pub HasRepliedInto : SharedSeat → SharedSeat → List Pair → List Pair → SeatReply → Type 0

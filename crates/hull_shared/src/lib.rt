@@ -76,6 +76,7 @@ mod reopening;
 mod seat;
 mod segment;
 mod segments;
+mod service;
 mod serving;
 mod setting_readers;
 mod setting_up;

@@ -2,6 +2,5 @@
 use Rattle.std.proofs.Common.{refl}
 use Rattle.hull_shared.proofs.looking.after_take.Goals as goal
 
-pub returns-in-Ok : goal.returns-in-Ok
-returns-in-Ok c = rw (c.in-Idle.is, c.in-Ok.is)
-    (c.with_number-waiting.result, refl, c.with_number-waiting.ensures, c.of_waiting-reply-in-Ok.ensures)
+pub returns : goal.returns
+returns c = rw c.in-Idle.is (c.with_number-waiting.result, refl, c.with_number-waiting.ensures, c.of_waiting-reply.ensures)

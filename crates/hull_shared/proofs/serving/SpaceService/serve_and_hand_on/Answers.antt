@@ -12,23 +12,23 @@ use Rattle.ticket_lock.specs.Tokens.{guard_book, guard_number, seat_seen}
 use Rattle.hull_shared.specs.SharedHullBooks.{SharedHullValue, HasDrainedAt, shared_hull_answer_of, shared_hull_head}
 use Rattle.hull_shared.specs.Lines.{number_if_written}
 use Rattle.hull_shared.proofs.Served.{number_is}
-use Rattle.hull_shared.proofs.serving.drain_and_hand_on_awake.Goals as goal
+use Rattle.hull_shared.proofs.serving.SpaceService.serve_and_hand_on.Goals as goal
 
-pub returns-clause-drained : goal.returns-clause-drained
-returns-clause-drained c =
+pub returns-clause-served : goal.returns-clause-served
+returns-clause-served c =
     let b = c.deref_mut-book.result.now in let made = c.drain-drained in
     let same : b ≡ box_value (guard_book c.args.guard) = cc in
     let seen = c.hand_on_awake-seat.ensures.seen in
-    subst (λ (d : SharedHullValue). HasDrainedAt (shared_hull_head d) (guard_number c.args.guard) c.args.number c.args.call d.book.lines
-    (seat_seen c.hand_on_awake-seat.result) c.args.storage made.result
+    subst (λ (d : SharedHullValue). HasDrainedAt c.args.self (shared_hull_head d) (guard_number c.args.guard) c.args.number c.args.call
+    d.book.lines (seat_seen c.hand_on_awake-seat.result) made.result
     (record { line = c.line_of_drain-line.result; held = c.held-held.result })) same record {
       holds_none = made.ensures.holds_none;
-      served = subst (λ (ls : List MarkedLine). HasServedWith b.book.head.journal (Drain c.args.storage)
+      served = subst (λ (ls : List MarkedLine). HasServedWith b.book.head.journal (Drain c.args.self)
           (guard_number c.args.guard) c.args.number c.args.call b.book.lines ls made.result) (sym seen)
-          (subst (λ (t : ℕ). HasServedWith b.book.head.journal (Drain c.args.storage) t c.args.number c.args.call
+          (subst (λ (t : ℕ). HasServedWith b.book.head.journal (Drain c.args.self) t c.args.number c.args.call
           b.book.lines made.new.self.book.lines made.result)
           (ap (λ (d : SharedHullValue). d.book.turn) same ∙ c.requires.may.turn)
-          (call_served bucket_set (Drain c.args.storage) made.result b.book made.new.self.book c.args.number c.args.call _
+          (call_served bucket_set (Drain c.args.self) made.result b.book made.new.self.book c.args.number c.args.call _
           (subst (λ (d : SharedHullValue). IsLawful bucket_set (whole d.book)) (sym same) c.requires.may.lawful)
           made.ensures.lawful made.ensures.full made.ensures.ok made.ensures.segment made.ensures.err made.ensures.back));
       is_after = record {
