@@ -1403,12 +1403,13 @@ private:
 // is destroyed.
 class Reader {
 public:
-    Reader(Reader &&) noexcept = default;
+    Reader(Reader &&other) noexcept { *this = std::move(other); }
     Reader &operator=(Reader &&other) noexcept {
         if (this != &other) {
             release();
             shared_ = std::move(other.shared_), at_ = std::move(other.at_), vertices_ = std::move(other.vertices_);
-            count_ = other.count_, lines_ = other.lines_, is_copied_ = other.is_copied_, line_ = other.line_;
+            count_ = std::exchange(other.count_, 0), line_ = std::exchange(other.line_, std::nullopt);
+            lines_ = other.lines_, is_copied_ = other.is_copied_;
         }
         return *this;
     }

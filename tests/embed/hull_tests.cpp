@@ -590,6 +590,10 @@ static void readers() {
     CHECK(refuses(Refusal::seats_out, [&] { h.close(); }));
     one = std::move(two);
     CHECK(one.snapshot().size() == 2 && refuses(Refusal::vacant, [&] { two.read(); }));
+    CHECK(two.snapshot().size() == 0 && two.snapshot().place({1, 1}) == Place::outside && !two.line());
+    two = hull::Reader(std::move(one));
+    CHECK(one.snapshot().size() == 0 && !one.line() && refuses(Refusal::vacant, [&] { one.newest(); }));
+    one = std::move(two);
     one.release();
     CHECK(refuses(Refusal::vacant, [&] { one.is_newest(); }) && !h.close().empty());
     CHECK(refuses(Refusal::not_open, [&] { h.acquire_reader(); }));
