@@ -1,4 +1,5 @@
-// The types of exchange.js: doubles to integer coordinates and back, directions in doubles, and vertices as well-known text.
+// The types of exchange.js: doubles to integer coordinates and back, directions in doubles, and vertices as well-known text. A power is an
+// integer: else OutOfRange.
 import type { Point } from "./hull.js";
 
 /** Returns the coordinate nearest to value * 2^power, ties to even, and whether it was rounded. OutOfRange if there is none. */

@@ -2,13 +2,18 @@
 //
 // If your coordinates are doubles, choose a power of two: v becomes the integer next to v * 2^power. A number that was not on the
 // lattice is rounded, and the call reports that: all answers are exact for the rounded points.
-import { COORDINATE_LIMIT, OutOfRange } from "./hull.js";
+import { COORDINATE_LIMIT, OutOfRange, _checkIterable } from "./hull.js";
 
 const FURTHEST = 4000; // powers beyond it take every double out of range, or to 0
 const word = new DataView(new ArrayBuffer(8));
 
+function checkPower(power) {
+    if (!Number.isInteger(power)) throw new OutOfRange(`the power of two is a whole Number, and not ${typeof power} ${String(power)}`);
+}
+
 /** Returns v * 2^power. Only numbers smaller than any coordinate lose bits. */
 export function scaled(value, power) {
+    checkPower(power);
     let left = Math.max(-FURTHEST, Math.min(FURTHEST, power));
     for (; left > 1000; left -= 1000) value *= 2 ** 1000;
     for (; left < -1000; left += 1000) value *= 2 ** -1000;
@@ -30,6 +35,7 @@ export function fromFloat(value, power) {
 
 /** Returns the points of the lattice next to points in doubles, as [x0, y0, x1, y1, ..], and how many of these numbers were rounded. */
 export function fromFloats(points, power) {
+    _checkIterable(points, "an iterable of pairs");
     let rounded = 0;
     const coordinates = Float64Array.from(Array.from(points, ([x, y]) => [x, y]).flat(), (value) => {
         const { coordinate, isRounded } = fromFloat(value, power);
@@ -41,6 +47,7 @@ export function fromFloats(points, power) {
 
 /** Returns the double of a coordinate: coordinate / 2^power. */
 export function toFloat(coordinate, power) {
+    checkPower(power);
     return scaled(coordinate, -power);
 }
 
@@ -64,6 +71,7 @@ export function directionOf(dx, dy) {
 /** Returns vertices as well-known text (OGC 06-103r4), their coordinates divided by 2^power: a polygon's ring is closed and runs
  * counterclockwise. */
 export function wkt(vertices, power = 0) {
+    _checkIterable(vertices, "an iterable of vertices");
     const texts = Array.from(vertices, (vertex) => Array.from(vertex, (it) => toFloat(it, power)).join(" "));
     if (texts.length === 0) return "POLYGON EMPTY";
     if (texts.length === 1) return `POINT (${texts[0]})`;

@@ -19,7 +19,7 @@ export class TooMany extends HullError {}
 export class NoMemory extends HullError {}
 /** The hull or polygon was freed. */
 export class Ended extends HullError {}
-/** What was passed as points is no iterable of pairs, and no array of numbers. */
+/** What was passed as points is no iterable of pairs, and no array of numbers; or as polygons, segments or vertices, no iterable. */
 export class NoPoints extends HullError {}
 /** The points are not a convex polygon, or another polygon is not of the same module. */
 export class NoPolygon extends HullError {}

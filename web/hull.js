@@ -89,13 +89,14 @@ function flat(points) {
 /** Returns an integer of the module. */
 const whole = (value) => BigInt(checked(value));
 
-function checkIterable(values, wanted) {
-    if (typeof values?.[Symbol.iterator] !== "function" || typeof values === "string") throw new NoPoints(`points are ${wanted}`);
+/** Throws NoPoints unless the values are an iterable that is no text; no part of what the package offers. */
+export function _checkIterable(values, wanted) {
+    if (typeof values?.[Symbol.iterator] !== "function" || typeof values === "string") throw new NoPoints(`${wanted} was wanted`);
 }
 
 /** Returns a copy of an array's numbers, which no other code writes during a call. */
 function numbersOf(points) {
-    checkIterable(points, "an iterable of pairs, or an array of numbers");
+    _checkIterable(points, "an iterable of pairs, or an array of numbers,");
     if (points instanceof Float64Array) return points.slice();
     if (points instanceof BigInt64Array || points instanceof BigUint64Array) return Float64Array.from(points, Number);
     if (ArrayBuffer.isView(points)) return Float64Array.from(points);
@@ -435,7 +436,7 @@ class HullOfInstance extends Questions {
     }
 
     loadHeld(held) {
-        checkIterable(held, "an iterable of points with their multiplicities");
+        _checkIterable(held, "an iterable of points with their multiplicities");
         const rows = Array.from(held, (it) => {
             const multiplicity = it?.multiplicity;
             if (!Number.isInteger(multiplicity) || multiplicity < 1 || multiplicity > MULTIPLICITY_LIMIT) throw new OutOfRange("a multiplicity is from 1 to 65535");

@@ -1,5 +1,5 @@
 // Many convex polygons at once, and polygons that move: each function makes one call of the module, whose answers are proved.
-import { COORDINATE_LIMIT, OutOfRange, _results } from "./hull.js";
+import { COORDINATE_LIMIT, OutOfRange, _checkIterable, _results } from "./hull.js";
 
 const { Answers, RELATIONS, POINT, HIT } = _results;
 // structs of hull.h, in bytes: what follows the hit of a hull_motion, the size of a hull_pair, and of an index
@@ -17,10 +17,16 @@ function checked(numbers, limit = COORDINATE_LIMIT) {
     return numbers;
 }
 
+/** Returns the elements of an iterable; throws NoPoints if it is none. */
+function listOf(elements, wanted) {
+    _checkIterable(elements, wanted);
+    return Array.from(elements);
+}
+
 /** Returns the coordinates of the elements of an iterable, so many of each, one after the other. */
 function flat(elements, size) {
     const all = [];
-    for (const element of Array.from(elements)) {
+    for (const element of listOf(elements, `an iterable of arrays of ${size} coordinates`)) {
         if (element?.length !== size) throw new OutOfRange(`${size} coordinates were wanted, and not ${String(element)}`);
         all.push(...checked(Array.prototype.slice.call(element, 0, size)));
     }
@@ -53,7 +59,7 @@ function bytesFor(name, { instance, words }, integers, count) {
 
 /** Returns the relations of the polygon to each of the others, in their order. */
 export function relations(polygon, others) {
-    const list = Array.from(others);
+    const list = listOf(others, "an iterable of polygons");
     const numbers = bytesFor("hull_polygon_relations", polygon._polygonWords(polygon), spansOf(polygon, list), list.length);
     return numbers.map((number) => RELATIONS[number]);
 }
@@ -72,7 +78,7 @@ export function pairsWithinDistance(polygons, numerator = 0, denominator = 1) {
     if (!isWhole(numerator) || !isWhole(denominator) || denominator < 1 || denominator >= 2 ** 32) {
         throw new OutOfRange("a length is a whole Number from 0 on by one from 1 to 2^32 - 1");
     }
-    const list = Array.from(polygons);
+    const list = listOf(polygons, "an iterable of polygons");
     if (list.length === 0) return []; // (of no module that could be asked)
     const { instance } = list[0]._polygonWords(list[0]);
     return withArray(instance, spansOf(list[0], list), (at) => {

@@ -431,6 +431,14 @@ await tried("doubles at the ends of what there is", () => {
         [2 ** 39, 2 ** 39]]);
     assert.deepEqual(fromFloats([[0.1, 1], [2, 0.3], [0.7, 0.9]], 0).rounded, 4);
     assert.equal(wkt([[1, 2], [3, 4], [5, 9]], -1), "POLYGON ((2 4, 6 8, 10 18, 2 4))");
+    for (const power of [0.5, NaN, Infinity, null, "1", [2], 1n]) {
+        const calls = [() => fromFloat(1, power), () => toFloat(1, power), () => fromFloats([[1, 2]], power), () => wkt([[1, 2]], power)];
+        for (const call of [...calls, () => scaled(1, power)]) assert.throws(call, faults.OutOfRange, String(power));
+    }
+    assert.throws(() => toFloat(3), faults.OutOfRange);
+    for (const wrong of [5, {}, null, undefined, "", "12", true]) {
+        for (const call of [() => fromFloats(wrong, 0), () => wkt(wrong)]) assert.throws(call, faults.NoPoints);
+    }
 });
 await tried("journals at the ends of their numbers, and one beyond", () => {
     const text = ({ version = 3, first = 0, limit = 5, capacity = 9, lines = [] }) => {

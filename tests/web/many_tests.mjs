@@ -135,6 +135,13 @@ await tried("the nearest of several at the same distance is the first by x and t
     hull.load([[-FAR, -FAR]]);
     assert.deepEqual(nearestHeld(hull, FAR, FAR), { point: [-FAR, -FAR], squared: 2n ** 83n });
 });
+await tried("what is no iterable is refused, and not taken for an empty one", () => {
+    const one = new Polygon([[0, 0], [4, 0], [4, 4]]);
+    for (const wrong of [5, {}, null, undefined, true, 7n, "", "12", Promise.resolve([]), { length: 0 }, { 0: one, length: 1 }]) {
+        const calls = [() => relations(one, wrong), () => intersectsSegments(one, wrong), () => indices(one, wrong), () => pairsWithinDistance(wrong)];
+        for (const call of calls) assert.throws(call, faults.NoPoints);
+    }
+});
 await tried("a polygon of another module, a freed one and what is none are refused, wherever they are", async () => {
     const another = await load(bytes), box = [[0, 0], [4, 0], [4, 4], [0, 4]], one = new Polygon(box), hull = new Hull();
     const wrong = [new another.Polygon(box), new another.Polygon([]), hull, box, {}, null, undefined];
