@@ -337,6 +337,23 @@ fn opens_a_journal() {
     assert_eq!(SharedHull::open(limits).unwrap().durable(), Err(Fault::NotOpen));
 }
 
+/// With a time of 0 the lines are written at once, with the longest one not in this test's time.
+#[test]
+fn times_between_writes() {
+    let limits = Limits { points: 9, first: 0, capacity: 50, seats: 1 };
+    for (name, every) in [("often", Duration::ZERO), ("late", Duration::MAX)] {
+        let folder = Folder::new(name);
+        let hull = SharedHull::open_journal(folder.file(), limits, Some(every)).unwrap();
+        hull.acquire_seat(0).unwrap().add(point(1, 2)).unwrap();
+        let end = Instant::now() + Duration::from_secs(if every.is_zero() { 60 } else { 0 });
+        while hull.durable() == Ok(0) && Instant::now() < end {
+            thread::sleep(Duration::from_millis(1));
+        }
+        assert_eq!(hull.durable().unwrap() > 0, every.is_zero());
+        hull.close().unwrap();
+    }
+}
+
 /// A seat with no line waits for none; files that are refused are closed, and say why.
 #[test]
 fn files_that_are_refused() {

@@ -464,7 +464,8 @@ impl Opening {
     pub fn open_journal(self, path: impl AsRef<Path>, limits: Limits, every: Option<Duration>) -> Result<SharedHull, Fault> {
         let shared = self.shared;
         let path = name_of(path.as_ref())?;
-        let every = every.map_or(0, |time| u64::try_from(time.as_nanos()).unwrap_or(u64::MAX / 2).min(u64::MAX / 2));
+        // (0 nanoseconds would be never)
+        let every = every.map_or(0, |time| u64::try_from(time.as_nanos()).unwrap_or(u64::MAX).clamp(1, u64::MAX / 2));
         let mut journal = null_mut();
         // SAFETY: the path ends with a 0.
         let reply = unsafe { raw::hull_shared_journal_open(path.as_ptr(), &mut journal) };
