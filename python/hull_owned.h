@@ -7,6 +7,8 @@
 #ifndef HULL_OWNED_H
 #define HULL_OWNED_H
 
+#include "../c/forks.h"
+
 #include <pthread.h>
 
 typedef struct hull_owned {
@@ -42,7 +44,7 @@ static void hull_end_torn(void) {
 }
 
 __attribute__((constructor)) static void hull_watch_forks(void) {
-    pthread_atfork(hull_lock_all, hull_unlock_all, hull_end_torn);
+    hull_at_fork(hull_lock_all, hull_unlock_all, hull_end_torn);
 }
 
 /* Makes the lock of an object, before any other call on it. */

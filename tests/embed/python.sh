@@ -60,6 +60,25 @@ threads() {
     attempt "refused memory is reported" python_slowed "$here/lives_tests.py" Refusals
 }
 
+# whether all names that a shared object needs are in GNU's C library for its processor: FILE TOOLS, the prefix of the tools for it
+needs_what_is_there() {
+    "$top/tools/product.sh" put "$1" "$room/object.so" || return 1
+    nm -D "$("${2}gcc" -print-file-name=libc.so.6)" | sed -n 's/^[0-9a-f]* [A-Za-z] \([^@]*\).*/\1/p' | sort -u >"$room/names"
+    nm -D --undefined-only "$room/object.so" | sed -n 's/^ *U //p' | sort -u >"$room/needed"
+    [ -s "$room/needed" ] && ! comm -13 "$room/names" "$room/needed" | grep .
+}
+
+objects() {
+    for processor in x86_64 aarch64; do
+        tools=$processor-linux-gnu-
+        [ "$processor" != "$(uname -m)" ] || tools=
+        if ! is_there "${tools}gcc"; then skip "the shared objects for $processor" "${tools}gcc"; continue; fi
+        for object in hull hull_shared; do
+            attempt "lib$object.so needs nothing that the C library for $processor does not have" needs_what_is_there "$processor/lib$object.so" "$tools"
+        done
+    done
+}
+
 # writes a program with the lines of docs/PLANNERS.md
 planners() {
     { echo 'import hull'; listings python 'listed = True' ''; } >"$room/planners.py"
@@ -103,6 +122,7 @@ tests_by python3
 random_calls
 replays Python python "$here/replay.py"
 threads
+objects
 documents
 modules
 # shellcheck disable=SC2086 # the versions are separated by spaces

@@ -1,0 +1,26 @@
+/* Functions that are called when the process forks. It is pthread_atfork, for code that is also in a shared object which is linked with no C
+ * library: GNU's has that function in the part that a linker adds, and exports it only on its first processors; musl has no other name for it. */
+#ifndef HULL_FORKS_H
+#define HULL_FORKS_H
+
+#include <pthread.h>
+#include <stddef.h>
+
+#if defined(__linux__)
+extern int __register_atfork(void (*before)(void), void (*in_parent)(void), void (*in_child)(void), void *object);
+#pragma weak __register_atfork
+#pragma weak pthread_atfork
+#endif
+
+/* Has these called: the first before each fork, the others after it, in the parent and in the child. */
+static inline void hull_at_fork(void (*before)(void), void (*in_parent)(void), void (*in_child)(void)) {
+#if defined(__linux__)
+    if (__register_atfork != NULL) {
+        __register_atfork(before, in_parent, in_child, NULL);
+        return;
+    }
+#endif
+    pthread_atfork(before, in_parent, in_child);
+}
+
+#endif
