@@ -491,8 +491,8 @@ def test_each_place(tests):
         alone = (1, f"{wanted['CHANGELOG.md']}\n{count - 1} passed, 1 failed\n")
         tests.same("--write writes all but the list of changes, which is by hand", 
             [run(top, "tools/table.py", *it) for it in (["--write"], [])], [alone] * 2)
-        coming = "## Coming\n\nMore.\n\n- Still more.\n"
-        write(f"{top}/CHANGELOG.md", kit.text_of(f"{TOP}/CHANGELOG.md").replace(f"## {version}", f"{coming}\n## 9.9.9\n\n- New.\n\n## {version}", 1))
+        coming, released = "## Coming\n\nMore.\n\n- Still more.\n", kit.text_of(f"{TOP}/CHANGELOG.md").partition(f"\n## {version}\n")[2]
+        write(f"{top}/CHANGELOG.md", f"# Changes\n\n{coming}\n## 9.9.9\n\n- New.\n\n## {version}\n{released}")
         tests.same("which may begin with what is coming", run(top, "tools/table.py"), (0, f"{count} passed, 0 failed\n"))
 
 
