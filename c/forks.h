@@ -12,15 +12,14 @@ extern int __register_atfork(void (*before)(void), void (*in_parent)(void), void
 #pragma weak pthread_atfork
 #endif
 
-/* Has these called: the first before each fork, the others after it, in the parent and in the child. */
-static inline void hull_at_fork(void (*before)(void), void (*in_parent)(void), void (*in_child)(void)) {
+/* Has these called: the first before each fork, the others after it, in the parent and in the child. Returns whether memory was there. */
+static inline int hull_at_fork(void (*before)(void), void (*in_parent)(void), void (*in_child)(void)) {
 #if defined(__linux__)
     if (__register_atfork != NULL) {
-        __register_atfork(before, in_parent, in_child, NULL);
-        return;
+        return __register_atfork(before, in_parent, in_child, NULL) == 0;
     }
 #endif
-    pthread_atfork(before, in_parent, in_child);
+    return pthread_atfork(before, in_parent, in_child) == 0;
 }
 
 #endif

@@ -16,6 +16,7 @@
 #include <sys/resource.h>
 #include <sys/stat.h>
 #include <sys/syscall.h>
+#include <sys/wait.h>
 #include <time.h>
 #include <unistd.h>
 
@@ -441,6 +442,64 @@ static void closes_beside_waiters(void) {
         }
         syncs_take = 0;
     }
+}
+
+/* Begins a process that lives until it is killed; returns it after it has begun. */
+static pid_t begin_idle(void) {
+    int ends[2];
+    char byte = 0;
+    check("a pipe", (uint64_t)pipe(ends), 0);
+    pid_t child = fork();
+    if (child == 0) {
+        for (ssize_t done = write(ends[1], &byte, 1); done == 1;) {
+            pause();
+        }
+        _exit(1);
+    }
+    check("a child", (uint64_t)read(ends[0], &byte, 1), 1);
+    close(ends[0]), close(ends[1]);
+    return child;
+}
+
+static void end_idle(pid_t child) {
+    kill(child, SIGKILL);
+    check("the child's end", (uint64_t)(waitpid(child, NULL, 0) == child), 1);
+}
+
+/* Children of forks live on: the file may be opened again after it was closed, and after its process was killed. */
+static void leaves_no_child_its_file(void) {
+    int ends[2];
+    pid_t idle[2], service;
+    hull_shared_journal *journal = start(0, 1000);
+    check("durable", add_durably(journal, 1, 1).code, HULL_DURABLE);
+    idle[0] = begin_idle();
+    check("and after the fork", add_durably(journal, 2, 2).code, HULL_DURABLE);
+    stop(journal, HULL_CLOSED);
+    check("compact", hull_shared_journal_compact(path).code, HULL_DURABLE);
+    check("a pipe", (uint64_t)pipe(ends), 0);
+    service = fork();
+    if (service == 0) {
+        start(4, 9);
+        idle[1] = begin_idle();
+        _exit(write(ends[1], &idle[1], sizeof idle[1]) == sizeof idle[1] && pause() != 0);
+    }
+    check("its child", (uint64_t)read(ends[0], &idle[1], sizeof idle[1]), sizeof idle[1]);
+    check("killed", (uint64_t)kill(service, SIGKILL), 0);
+    check("its end", waitpid(service, NULL, 0) == service, 1);
+    hull_shared_journal_close(open_journal(4));
+    check("killed, too", (uint64_t)kill(idle[1], SIGKILL), 0);
+    end_idle(idle[0]);
+}
+
+/* A process with no other thread opens a journal, and a child of it continues with that: the file is locked as long as one of both has it. */
+static void may_be_continued_by_a_child(void) {
+    hull_shared_journal *journal = open_journal(0), *another;
+    pid_t child = begin_idle();
+    check("close", hull_shared_journal_close(journal).code, HULL_CLOSED);
+    hull_reply r = hull_shared_journal_open(path, &another);
+    check("the child has it", r.code == HULL_NO_FILE && r.number == EWOULDBLOCK, 1);
+    end_idle(child);
+    hull_shared_journal_close(open_journal(0));
 }
 
 /* ---- what is reported */
@@ -1505,6 +1564,8 @@ static const struct {
     {"closes_with_a_seat_of_no_gate_out", closes_with_a_seat_of_no_gate_out},
     {"closes_after_its_thread_rests", closes_after_its_thread_rests},
     {"closes_beside_waiters", closes_beside_waiters},
+    {"leaves_no_child_its_file", leaves_no_child_its_file},
+    {"may_be_continued_by_a_child", may_be_continued_by_a_child},
     {"syncs_before_it_reports", syncs_before_it_reports},
     {"answers_all_waiters", answers_all_waiters},
     {"wakes_who_falls_asleep_late", wakes_who_falls_asleep_late},
