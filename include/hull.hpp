@@ -75,11 +75,11 @@ enum class Refusal : std::uint32_t {
     out_of_order = HULL_OUT_OF_ORDER,       // a point does not follow the one before it, by x and then y
     no_polygon = HULL_NO_POLYGON,           // the points are not a convex polygon
     out_of_limits = HULL_OUT_OF_LIMITS,     // a limit, a capacity or a number of seats is 0 or too great
-    no_seat = HULL_NO_SEAT,                 // the seat is acquired, or there is none of this number
-    not_open = HULL_NOT_OPEN,               // the shared hull is closed
+    no_seat = HULL_NO_SEAT,                 // the seat is acquired, or there is none of this number; or no reader is free
+    not_open = HULL_NOT_OPEN,               // the shared hull is closed, or has no journal file
     seats_out = HULL_SEATS_OUT,             // a seat of the shared hull is acquired: it stays open
     full = HULL_FULL,                       // the journal is full: the call was not made
-    vacant = HULL_VACANT,                   // the seat was released, or moved away
+    vacant = HULL_VACANT,                   // the seat or reader was released, or moved away
     ended = HULL_ENDED,                     // the hull, shared hull or segment was moved away
     busy = HULL_BUSY,                       // the call was not admitted for as long as the seat waits
     no_journal = HULL_NO_JOURNAL,           // the text is not a journal: number() is its first wrong line, from 1
@@ -110,12 +110,12 @@ private:
         case Refusal::out_of_order: return "the points are not in order";
         case Refusal::no_polygon: return "the points are not a convex polygon";
         case Refusal::out_of_limits: return "a limit of a hull is out of range";
-        case Refusal::no_seat: return "there is no such seat at the hull";
-        case Refusal::not_open: return "the hull is closed";
+        case Refusal::no_seat: return "no such seat, or no reader, of the hull is free";
+        case Refusal::not_open: return "the hull is closed, or has no journal file";
         case Refusal::seats_out: return "a seat of the hull is acquired";
         case Refusal::full: return "the journal of the hull is full";
         case Refusal::busy: return "the hull was in use by others for too long";
-        case Refusal::vacant: return "the seat was released";
+        case Refusal::vacant: return "the seat or reader was released";
         case Refusal::ended: return "it was moved away";
         case Refusal::no_journal: return "the text is not a journal, from this line on";
         case Refusal::old_rules: return "journals before version 3 do not count points";

@@ -341,9 +341,9 @@ _FAULTS: Dict[int, Callable[[], Exception]] = {
     _Code.NO_MEMORY: lambda: MemoryError("memory was refused"),
     _Code.OUT_OF_ORDER: lambda: ValueError("the points are not in order"),
     _Code.OUT_OF_LIMITS: lambda: ValueError("a limit, a capacity or a number of seats is out of range"),
-    _Code.NO_SEAT: lambda: NoSeat("there is no such seat at the hull"),
-    _Code.NOT_OPEN: lambda: ValueError("the hull is closed"),
-    _Code.VACANT: lambda: ValueError("the seat was released"),
+    _Code.NO_SEAT: lambda: NoSeat("no such seat, or no reader, of the hull is free"),
+    _Code.NOT_OPEN: lambda: ValueError("the hull is closed, or has no journal file"),
+    _Code.VACANT: lambda: ValueError("the seat or reader was released"),
     _Code.SEATS_OUT: lambda: SeatsOut("a seat of the hull is acquired"),
     _Code.FULL: lambda: JournalFull("the journal of the hull is full"),
     _Code.BUSY: lambda: Busy("the hull was in use by others for too long"),
@@ -1876,7 +1876,7 @@ class SharedHull:
         time = 0 if every is None else max(1, int(min(every, 1e9) * 1e9))
         reply = _shared_library().hull_python_open_journal(hull._shared, _file(path), words[0], words[2], words[3], time)
         if reply.code != _Code.OPEN:
-            _check_journal_file(reply, reply.number)
+            _check_journal_file(reply, reply.number, path)
             _raise_code(reply.code)
         return hull
 
@@ -1889,7 +1889,7 @@ class SharedHull:
         synced after the new file took its name.
         """
         reply = _shared_library().hull_python_compact(_file(path))
-        _check_journal_file(reply, reply.number)
+        _check_journal_file(reply, reply.number, path)
         _check_code(reply.code)
         return int(reply.number)
 
@@ -1991,10 +1991,10 @@ def _file(path: "Union[str, bytes, os.PathLike[str]]") -> bytes:
     return file
 
 
-def _check_journal_file(reply: _Reply, errno: int) -> None:
-    """Raises the exception of a journal file, if the reply has one."""
+def _check_journal_file(reply: _Reply, errno: int, path: "Union[str, bytes, os.PathLike[str], None]" = None) -> None:
+    """Raises the exception of a journal file, if the reply has one; it names the path, if one is passed."""
     if reply.code == _Code.NO_FILE:
-        raise OSError(errno, os.strerror(errno))
+        raise OSError(errno, os.strerror(errno), path)
     if reply.code == _Code.DAMAGED:
         raise JournalFault(f"line {reply.number}: the file is damaged, or not a journal")
     if reply.code == _Code.ILLEGAL:

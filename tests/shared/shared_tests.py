@@ -3,6 +3,7 @@
 Eight threads make calls at once; the journal of those goes to the file that JOURNAL names.
 """
 import copy
+import functools
 import os
 import random
 import tempfile
@@ -216,7 +217,11 @@ class Calls(unittest.TestCase):
             with open(path, "w", encoding="ascii") as file:
                 file.write("somebody's\n")
             self.assertRaises(JournalFault, SharedHull.open_journal, path, capacity=1, seats=1)
-            self.assertRaises(FileNotFoundError, SharedHull.open_journal, os.path.join(folder, "none", "at all"), capacity=1, seats=1)
+            for missing in (os.path.join(folder, "none", "at all"), os.fsencode(os.path.join(folder, "none", "at all"))):
+                for call in (functools.partial(SharedHull.open_journal, capacity=1, seats=1), SharedHull.compact):
+                    with self.assertRaises(FileNotFoundError) as refused:
+                        call(missing)
+                    self.assertEqual(refused.exception.filename, missing)
             self.assertRaises(ValueError, SharedHull.open_journal, os.path.join(folder, "new"), capacity=1, seats=SEAT_LIMIT)
 
     def test_a_file_stays_open_while_a_reader_is_acquired(self):
@@ -276,7 +281,7 @@ class Calls(unittest.TestCase):
                         self.assertIn("waits for durable lines", str(fault))
                 for thread in threads:
                     thread.join()
-                self.assertEqual(ends, ["the hull is closed"] * 3)
+                self.assertEqual(ends, ["the hull is closed, or has no journal file"] * 3)
                 with open(path, encoding="ascii") as file:
                     self.assertEqual(sum(" add " in line for line in file), 300)
 
@@ -500,7 +505,7 @@ class Locks(unittest.TestCase):
         self.assertTrue(is_asked.wait(300))
         seat.release()
         thread.join(300)
-        self.assertEqual((thread.is_alive(), faults), (False, ["the seat was released"]))
+        self.assertEqual((thread.is_alive(), faults), (False, ["the seat or reader was released"]))
         self.assertEqual(hull_module._shared_library().hull_overlaps(), 0)
 
 

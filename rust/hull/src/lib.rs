@@ -67,11 +67,11 @@ pub enum Fault {
     OutOfOrder,
     /// A limit, a capacity or a number of seats is 0 or too great.
     BadLimit,
-    /// The seat is acquired, or the shared hull has none of this number.
+    /// The seat is acquired, or the shared hull has none of this number; or as many readers as it may have are acquired.
     NoSeat,
     /// The points are not a convex polygon.
     NoPolygon,
-    /// The shared hull is closed.
+    /// The shared hull is closed, or has no journal file.
     NotOpen,
     /// A seat or a reader of the shared hull is acquired.
     SeatsOut,
@@ -112,8 +112,8 @@ impl fmt::Display for Fault {
             Fault::OutOfOrder => "the points are not in order",
             Fault::BadLimit => "a limit of a hull is out of range",
             Fault::NoPolygon => "the points are not a convex polygon",
-            Fault::NoSeat => "there is no such seat at the hull",
-            Fault::NotOpen => "the hull is closed",
+            Fault::NoSeat => "no such seat, or no reader, of the hull is free",
+            Fault::NotOpen => "the hull is closed, or has no journal file",
             Fault::SeatsOut => "a seat of the hull is acquired",
             Fault::Full => "the journal of the hull is full",
             Fault::Busy => "the hull was in use by others for too long",
