@@ -2060,12 +2060,27 @@ class JournalSegment:
 
 
 class Snapshot(Polygon):
-    """The vertices of a shared hull as of one line of its journal: a Polygon."""
+    """The vertices of a shared hull as of one line of its journal: a Polygon. Copies and pickles have the line too."""
 
     __slots__ = ("line",)
 
     #: The number of that line; None if the hull had none.
     line: Optional[int]
+
+    def __init__(self, vertices: Any) -> None:
+        super().__init__(vertices)
+        self.line = None
+
+    def __reduce__(self) -> Any:
+        return _snapshot_again, (self._flat_vertices(), self.line)
+
+
+def _snapshot_again(vertices: "array[int]", line: Optional[int]) -> Snapshot:
+    """Returns the snapshot of a pickle, whose vertices are tested like any others."""
+    made = Snapshot(())
+    made._set_vertices(_polygon_again(vertices)._flat_vertices())
+    made.line = line
+    return made
 
 
 class Reader:

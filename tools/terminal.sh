@@ -55,6 +55,7 @@ count_refused() {
     script=
     for word in "$@"; do
         [ "${last:-}" = --capacity ] && capacity=$word
+        case $word in --capacity=*) capacity=${word#*=} ;; esac
         [ "$word" = --after ] && return
         [ -f "$word" ] && [ "${last:-}" != --after ] && script=$word
         last=$word

@@ -5,6 +5,7 @@ Eight threads make calls at once; the journal of those goes to the file that JOU
 import copy
 import functools
 import os
+import pickle
 import random
 import tempfile
 import threading
@@ -94,6 +95,9 @@ class Calls(unittest.TestCase):
             seat.remove(8, 0)
             self.assertEqual((two.snapshot().vertices(), two.snapshot().line), ([(0, 0), (0, 8)], 10))
             self.assertTrue(snapshot.contains(two.snapshot()))
+            for again in (copy.copy(snapshot), copy.deepcopy(snapshot), pickle.loads(pickle.dumps(snapshot))):
+                self.assertEqual((type(again), again, again.line), (hull_module.Snapshot, snapshot, snapshot.line))
+                self.assertEqual((again.vertices(), again.place(1, 1)), (snapshot.vertices(), Place.INSIDE))
             for i in range(100):
                 seat.add(8, 8) if i % 2 == 0 else seat.remove(8, 8)
                 self.assertEqual(len(one.snapshot()), 3 - i % 2)

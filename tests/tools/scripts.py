@@ -194,7 +194,8 @@ def test_terminal(tests):
         tests.see("a run reads standard input", shown.startswith("from a pipe\nsaid run /dev/stdin"), shown)
         for words, wanted in ((("five", "--capacity", "2"), "hullbook: 3 of 5 calls found the journal full: see --capacity"),
                               (("--capacity", "4", "five"), "hullbook: 1 of 5 calls"), (("five", "--capacity", "5"), ""), (("five",), ""),
-                              (("five", "--limit", "2"), ""), (("five", "--capacity", "2", "--after", "other"), ""), (("none", "--capacity", "2"), "")):
+                              (("five", "--limit", "2"), ""), (("five", "--capacity", "2", "--after", "other"), ""),
+                              (("five", "--capacity=3"), "hullbook: 2 of 5 calls"), (("none", "--capacity", "2"), "")):
             status, shown = on_terminal(top, "bin/hullbook", "run", *words, env=env)
             tests.see(f"a run of {words}", status == 0 and (wanted in shown if wanted else "found the journal" not in shown), f"{status}: {shown}")
         for count, wanted in ((65536, ""), (65537, "hullbook: 1 of 65537 calls found the journal full")):
