@@ -123,17 +123,21 @@ const char *hull_library_version(void) {
     return HULL_VERSION;
 }
 
-/* (the kinds that only ask leave the set unchanged) */
+/* Whether calls of this kind change a set or a growing hull, so that they can't be asked. */
+static int is_change(uint32_t kind) {
+    return kind == HULL_KIND_ADD || kind == HULL_KIND_REMOVE;
+}
+
 hull_reply hull_ask(const hull_set *h, uint32_t kind, int64_t x, int64_t y) {
     hull_set *set;
     memcpy(&set, &h, sizeof set);
-    return hull_call(set, kind, x, y);
+    return is_change(kind) ? hull_refusal(HULL_UNKNOWN_KIND) : hull_call(set, kind, x, y);
 }
 
 hull_reply hull_growing_ask(const hull_growing *g, uint32_t kind, int64_t x, int64_t y) {
     hull_growing *hull;
     memcpy(&hull, &g, sizeof hull);
-    return hull_growing_call(hull, kind, x, y);
+    return is_change(kind) ? hull_refusal(HULL_UNKNOWN_KIND) : hull_growing_call(hull, kind, x, y);
 }
 
 /* written by tools/table.py: functions */

@@ -105,7 +105,7 @@ hull_reply hull_gather(hull_set *h);
  * returns HULL_UNKNOWN_KIND if there is no such kind. Only HULL_KIND_ADD and HULL_KIND_VERTICES allocate. */
 hull_reply hull_call(hull_set *h, uint32_t kind, int64_t x, int64_t y);
 
-/* Makes a call of the kinds that change nothing: HULL_KIND_PLACE and those after it. */
+/* Makes a call of the kinds that change nothing: HULL_KIND_PLACE and those after it; returns HULL_UNKNOWN_KIND for any other. */
 hull_reply hull_ask(const hull_set *h, uint32_t kind, int64_t x, int64_t y);
 
 /* Returns the version of the library, to compare with HULL_VERSION of the headers that a program was compiled with. */
@@ -298,7 +298,7 @@ static inline void hull_growing_free(hull_growing *g) {
  * returns HULL_UNKNOWN_KIND for all others. Only HULL_KIND_ADD and HULL_KIND_VERTICES allocate. */
 hull_reply hull_growing_call(hull_growing *g, uint32_t kind, int64_t x, int64_t y);
 
-/* Makes a call of those kinds but HULL_KIND_ADD, which change nothing. */
+/* Makes a call of those kinds but HULL_KIND_ADD, which change nothing; returns HULL_UNKNOWN_KIND for any other. */
 hull_reply hull_growing_ask(const hull_growing *g, uint32_t kind, int64_t x, int64_t y);
 
 /* Adds the point (x, y). Returns its place before: HULL_OUTSIDE, and the hull has grown; or HULL_ON or HULL_INSIDE, and it is

@@ -1237,6 +1237,10 @@ static void check_calls(void) {
         CHECK(bare(hull_call(h, kind, 0, 0), HULL_UNKNOWN_KIND));
         CHECK(hull_calls(h, bad, 3, replies, 16) == 2 && number(replies[0], HULL_NUMBER, 2) && bare(replies[1], HULL_UNKNOWN_KIND));
     }
+    for (uint32_t kind = HULL_KIND_ADD; kind <= HULL_KIND_REMOVE; kind++) { /* a question changes nothing */
+        CHECK(bare(hull_ask(h, kind, 77, 7), HULL_UNKNOWN_KIND) && bare(hull_ask(h, kind, 4, 0), HULL_UNKNOWN_KIND));
+    }
+    CHECK(number(hull_multiplicity(h, 4, 0), HULL_NUMBER, 1) && bare(hull_ask(h, 10, 4, 0), HULL_UNKNOWN_KIND));
     bad[1].kind = HULL_KIND_PLACE, bad[1].y = INT64_MIN;
     CHECK(hull_calls(h, bad, 3, replies, 16) == 2 && bare(replies[1], HULL_OUT_OF_RANGE));
     CHECK(number(hull_count(h), HULL_NUMBER, 2));

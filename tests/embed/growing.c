@@ -174,6 +174,7 @@ static void check_codes(void) {
             CHECK(is_taken || bare(hull_growing_call(g, kind, over, over), HULL_UNKNOWN_KIND));
         }
         CHECK(bare(hull_growing_call(g, UINT32_MAX, 0, 0), HULL_UNKNOWN_KIND));
+        CHECK(bare(hull_growing_ask(g, HULL_KIND_ADD, 99, 99), HULL_UNKNOWN_KIND)); /* a question changes nothing */
         CHECK(is_number(hull_growing_vertices(g, NULL, 0), HULL_TOO_SMALL, again ? 4 : 1)); /* (0, 0), by its kind */
         for (int64_t i = 0; i < 4; i++) {
             CHECK(bare(hull_growing_add(g, 10 * (i & 1), 10 * (i >> 1)), again || i == 0 ? HULL_ON : HULL_OUTSIDE));
