@@ -24,6 +24,7 @@
 #include "hull_shared.h"
 
 #include <algorithm>
+#include <cerrno>
 #include <chrono>
 #include <cstdio>
 #include <cstdlib>
@@ -1529,7 +1530,7 @@ public:
         SharedHull hull(new_resources(limits.readers));
         detail::SharedResources &shared = *hull.shared_;
         hull_shared_journal *journal = nullptr;
-        hull_reply r = hull_shared_journal_open(path.c_str(), &journal);
+        hull_reply r = hull_shared_journal_open(name_of(path), &journal);
         check_open(r.code, r.number);
         r = hull_shared_journal_start(journal, shared.at_, &shared.gate_, limits.points, limits.capacity, limits.seats,
                                       static_cast<std::uint64_t>(every.count()));
@@ -1545,7 +1546,7 @@ public:
     // returned. Fails with Refusal::no_file, damaged, illegal, no_memory, and the file is unchanged, or leaves the same points
     // (hull_shared_journal_compact).
     static std::uint64_t compact(const std::string &path) {
-        const hull_reply r = hull_shared_journal_compact(path.c_str());
+        const hull_reply r = hull_shared_journal_compact(name_of(path));
         if (r.code != HULL_DURABLE) {
             detail::fail(r.code, r.number);
         }
@@ -1633,6 +1634,14 @@ private:
     }
 
     explicit SharedHull(std::shared_ptr<detail::SharedResources> shared) : shared_(std::move(shared)) {}
+
+    // Returns a path as C takes it; fails if it contains a zero, at which C would cut it off.
+    static const char *name_of(const std::string &path) {
+        if (path.find('\0') != std::string::npos) {
+            detail::fail(HULL_NO_FILE, EINVAL);
+        }
+        return path.c_str();
+    }
 
     // Returns a shared hull that is not open, for so many readers.
     static std::shared_ptr<detail::SharedResources> new_resources(std::uint32_t readers) {

@@ -643,7 +643,9 @@ static void journal_files() {
     late = SharedHull({4, 0, 4, 1}).acquire_seat(0); // the last that has the hull closes its file
     CHECK(folder.additions() == 11);
     SharedHull h = SharedHull::open_journal(folder.file(), limits);
-    CHECK(refuses(Refusal::no_file, [&] { SharedHull::open_journal(folder.file(), limits); }));
+    for (const std::string &path : {folder.file(), folder.path + std::string("/cut\0off", 8)}) {
+        CHECK(refuses(Refusal::no_file, [&] { SharedHull::open_journal(path, limits); }) && refuses(Refusal::no_file, [&] { SharedHull::compact(path); }));
+    }
     h = SharedHull::open_journal(folder.path + "/other", limits);
     CHECK(std::remove((folder.path + "/other").c_str()) == 0);
     h = SharedHull::open_journal(folder.file(), limits);
