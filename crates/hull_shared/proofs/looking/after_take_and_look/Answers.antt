@@ -2,4 +2,4 @@
 use Rattle.hull_shared.proofs.looking.after_take_and_look.Goals as goal
 
 pub returns : goal.returns
-returns c = rw c.in-Idle.is (c.with_number-waiting.result, c.with_number-waiting.ensures, c.replied_after_look.ensures)
+returns c = rw c.in-Idle.is (c.with_number.result, c.with_number.ensures, c.replied_after_look_of.ensures)
