@@ -15,13 +15,12 @@ renew_path-requires g t c κs within =
     let left = c.is_before-is_left.result in
     let b = c.in-Fork.fork in
     let here = subst (λ z. BelongsTo left c.args.p z.right_ends.first) c.deref.ensures
-        (belongs _ _ _ c.is_before-is_left.ensures.0 c.is_before-is_left.ensures.1) in
+    (belongs _ _ _ c.is_before-is_left.ensures.0 c.is_before-is_left.ensures.1) in
     let half = c.half_mut.ensures.value ∙ ap (half_of left) c.deref_mut.ensures.value in
     let o = opened left g.C.InPlace.puts c.args.p c.requires.0 c.in-Fork.field-0 b c.args.change.now c.requires.1.built here
-        (subst (λ z. HasChangedBelow g.C.InPlace.puts c.args.p c.requires.0 z c.args.change.now) c.in-Fork.is c.requires.2) in
+    (subst (λ z. HasChangedBelow g.C.InPlace.puts c.args.p c.requires.0 z c.args.change.now) c.in-Fork.is c.requires.2) in
     let low = half_lower left c.args.node.now c.in-Fork.field-0 b c.in-Fork.is in
-    let same = ap node_height half in
-    (
+    let same = ap node_height half in (
       omega (arith, c.decreases, low, same),
       (
         within,
@@ -37,7 +36,7 @@ pub after_half-requires : goal.after_half-requires
 after_half-requires g t c =
     let left = c.is_before-is_left.result in
     let here = subst (λ z. BelongsTo left c.args.p z.right_ends.first) c.deref.ensures
-        (belongs _ _ _ c.is_before-is_left.ensures.0 c.is_before-is_left.ensures.1) in
+    (belongs _ _ _ c.is_before-is_left.ensures.0 c.is_before-is_left.ensures.1) in
     let half = c.half_mut.ensures.value ∙ ap (half_of left) c.deref_mut.ensures.value in
     renewable left g.C.InPlace.puts c.args.p c.args.node.now _ c.in-Fork.fork c.deref_mut-in-Fork.result.now c.renew_path.new.node
     c.args.change.now c.renew_path.new.change c.in-Fork.is here
@@ -57,7 +56,7 @@ pub returns-in-Fork : goal.returns-in-Fork
 returns-in-Fork g t c =
     let left = c.is_before-is_left.result in
     let here = subst (λ z. BelongsTo left c.args.p z.right_ends.first) c.deref.ensures
-        (belongs _ _ _ c.is_before-is_left.ensures.0 c.is_before-is_left.ensures.1) in
+    (belongs _ _ _ c.is_before-is_left.ensures.0 c.is_before-is_left.ensures.1) in
     let half = c.half_mut.ensures.value ∙ ap (half_of left) c.deref_mut.ensures.value in
     λ n w d. renewed left g.C.InPlace.puts c.args.p c.args.node.now _ c.in-Fork.fork c.deref_mut-in-Fork.result.now c.renew_path.new.node
     c.args.change.now c.renew_path.new.change c.in-Fork.is here
