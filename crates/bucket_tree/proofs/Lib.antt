@@ -1,6 +1,7 @@
 pub mod NodePoints
 pub mod NodeCandidateLists
 pub mod NodeSizes
+pub mod OneHalf
 pub mod NodeAnswers
 pub mod NodeRows
 pub mod BuiltLeaves

@@ -100,29 +100,6 @@ module _ (S : List Pair) (T : List ℕ) (i : ℕ) (p : Pair) (s : IsPointSet S) 
   pub held_alone : length S ≡ 1 → (q : Pair) → counted S T q ≡ once p q
   held_alone l q = grind (arith, common_steps, counted, without_point, remove, only_point, without_only, held_without)
 
--- ---- heights
-
--- two that are over halves of which the left one may be one lower
-pub lower_left : (a l r h n : ℕ) → a ≤ l → l ≤ a + 1 → AreNear l r → n ≡ max l r + 1 → IsHeightOver a r h
-    → (h ≤ n) × (n ≤ h + 1)
-lower_left a l r h n u v w e k = grind (arith, common_steps, cases_lt)
-
--- or the right one
-pub lower_right : (a l r h n : ℕ) → a ≤ r → r ≤ a + 1 → AreNear l r → n ≡ max l r + 1 → IsHeightOver l a h
-    → (h ≤ n) × (n ≤ h + 1)
-lower_right a l r h n u v w e k = grind (arith, common_steps, cases_lt)
-
--- or that are one bucket, if the fork over both was the only one
-pub prepared_left : (a l r h n m : ℕ) → a ≤ l → l ≤ a + 1 → AreNear l r → n ≡ max l r + 1 → m ≡ n
-    → IsHeightOver a r h ⊎ ((m ≡ 1) × (h ≡ 0)) → (h ≤ n) × (n ≤ h + 1)
-prepared_left a l r h n m u v w e f (inl k) = lower_left a l r h n u v w e k
-prepared_left a l r h n m u v w e f (inr k) = (omega (arith, k.0, k.1, f), omega (arith, k.0, k.1, f))
-
-pub prepared_right : (a l r h n m : ℕ) → a ≤ r → r ≤ a + 1 → AreNear l r → n ≡ max l r + 1 → m ≡ n
-    → IsHeightOver l a h ⊎ ((m ≡ 1) × (h ≡ 0)) → (h ≤ n) × (n ≤ h + 1)
-prepared_right a l r h n m u v w e f (inl k) = lower_right a l r h n u v w e k
-prepared_right a l r h n m u v w e f (inr k) = (omega (arith, k.0, k.1, f), omega (arith, k.0, k.1, f))
-
 -- ---- finding
 
 -- the multiplicity of a point at an index is the count there

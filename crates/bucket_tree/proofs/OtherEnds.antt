@@ -1,9 +1,10 @@
 -- One turn of the search for the other end of a bridge, by the turns of bridge search and by the bounds of the end.
 use Rattle.std.proofs.Common.{◌≡◌, ℕ, ◌+◌, refl, sym, arith, inl, inr, Some, None, subst}
 use lib.IntN.{pos}
-use Rattle.lattice.specs.Bridges.{IsBridge, IsNotBeyond, IsUpperBridge}
+use Rattle.lattice.specs.Bridges.{IsBridge, IsNotBeyond}
 use Rattle.lattice.specs.Plane.{Pair, IsBefore, orient, turned_point}
 use Rattle.lattice.specs.Signs.{le_or_lt}
+use Rattle.lattice.specs.declared.side.Side.{Side}
 use Rattle.lattice.specs.declared.side.Side.TheVariants.{Lower, Upper}
 use Rattle.lattice.proofs.Order.{before_total, before_trans, equal_by}
 use Rattle.lattice.proofs.TurnedBridges.{turned_twice, before_turned_back, before_turned}
@@ -45,15 +46,15 @@ not_after c last q k n b = elim (before_total c last) [
 
 -- ---- both ends
 
--- a half beside a point has an end of the upper bridge
-some_end : (end : BridgeEnd) (p : Pair) (v : Tree) → IsBridged v → IsBeside end p v → (q : Pair)
-    × IsEndAt end Upper p v q
-some_end Start p v b o =
-    let s = some_bridge Upper v (Leaf p) b tt o in
-    (s.0, subst (λ z. IsUpperBridge (On v) (On (Leaf p)) s.0 z) s.2.to_right s.2)
-some_end End p v b o =
-    let s = some_bridge Upper (Leaf p) v tt b o in
-    (s.1, subst (λ z. IsUpperBridge (On (Leaf p)) (On v) z s.1) s.2.from_left s.2)
+-- a half beside a point has an end of the bridge on each side
+some_end : (end : BridgeEnd) (side : Side) (p : Pair) (v : Tree) → IsBridged v → IsBeside end p v → (q : Pair)
+    × IsEndAt end side p v q
+some_end Start side p v b o =
+    let s = some_bridge side v (Leaf p) b tt o in
+    (s.0, subst (λ z. IsBridge side (On v) (On (Leaf p)) s.0 z) s.2.to_right s.2)
+some_end End side p v b o =
+    let s = some_bridge side (Leaf p) v tt b o in
+    (s.1, subst (λ z. IsBridge side (On (Leaf p)) (On v) z s.1) s.2.from_left s.2)
 
 -- and only one
 one_end : (end : BridgeEnd) (p : Pair) (v : Tree) (q t : Pair) → IsBeside end p v → IsEndAt end Upper p v q
@@ -103,7 +104,7 @@ of_part End p v w q i h j = record {
 from_part : (end : BridgeEnd) (p : Pair) (v w : Tree) → IsBridged w → IsBeside end p w → ((t : Pair) → On v t → On w t)
     → ((q : Pair) → IsEndAt end Upper p w q → On v q) → (q : Pair) → IsEndAt end Upper p v q → IsEndAt end Upper p w q
 from_part end p v w b o i in_part q k =
-    let s = some_end end p w b o in
+    let s = some_end end Upper p w b o in
     subst (IsEndAt end Upper p w)
     (one_end end p v s.0 q (part_beside end p v w i o) (of_part end p v w s.0 i s.1 (in_part s.0 s.1)) k) s.1
 
@@ -262,13 +263,18 @@ one_turn_more end p w v z first last a b n h k = record {
   lower = omega (arith, h.lower, k.lower);
 }
 
--- if the bounds meet, they are the end
+-- bounds that meet are the end
+pub meeting_bounds : (end : BridgeEnd) (side : Side) (p : Pair) (v : Tree) (first last : Pair) → IsBridged v
+    → IsBeside end p v → IsEndWithin end side p v first last → first ≡ last → IsEndAt end side p v first
+meeting_bounds end side p v first last b o i e =
+    let s = some_end end side p v b o in
+    let k = i s.0 s.1 in
+    subst (IsEndAt end side p v) (equal_by s.0 first k.0 (subst (λ z. ¬ IsBefore z s.0) (sym e) k.1)) s.1
+
+-- so they are the end if they meet after some turns
 pub bounds_met : (end : BridgeEnd) (p : Pair) (w v : Tree) (first last : Pair) (n : ℕ) → IsBridged v
     → IsRange end p w v first last n → first ≡ last → IsEndAt end Upper p w first
-bounds_met end p w v first last n b r e =
-    let s = some_end end p v b r.beside in
-    let i = r.within s.0 s.1 in
-    subst (IsEndAt end Upper p w) (equal_by s.0 first i.0 (subst (λ z. ¬ IsBefore z s.0) (sym e) i.1)) (r.lifts s.0 s.1)
+bounds_met end p w v first last n b r e = r.lifts first (meeting_bounds end Upper p v first last b r.beside r.within e)
 
 -- if they do not, and the end is found, it is the one point that is left
 pub one_left : (end : BridgeEnd) (p : Pair) (w v : Tree) (first last : Pair) (n : ℕ) → IsBridged v

@@ -15,11 +15,11 @@ ghost use Rattle.bucket_tree.specs.Nodes.{points_below, ends_in, node_height, Ha
 
 use crate::find::find_multiplicity;
 use crate::insertion::{affected_at, put_at};
-use crate::node::{Ends, Fork, Node, ends_of};
+use crate::node::{Fork, Node};
 use crate::removal::are_few;
-use crate::renewal::{Change, Changed, change_at, renew_edges};
+use crate::renewal::{Change, Changed, change_at, renew_edges, renew_ends_around};
 use hull_buckets::{Bucket, buckets_are_sound};
-use lattice::{Point, before};
+use lattice::Point;
 
 /// A change that adds or removes a point of a tree without moving a subtree.
 trait InPlace {
@@ -123,34 +123,14 @@ impl InPlace for Going {
     }
 }
 
-/// Renews the ends of a subtree that changed at a point, unless the point is known to be between two others there. Returns whether it is.
-#[inline(always)]
-fn renew_ends_around(ends: &mut Ends, node: &Node, p: Point, is_between: bool) -> bool
-    requires buckets { HasBuckets node.now }
-    requires labelled { IsLabelled node.now }
-    requires kept { AreKept p ends.old (points_below node.now) }
-    requires between { is_between ≡ true → IsBetweenKept p ends.old (points_below node.now) }
-    ensures ends { ends.new ≡ ends_in (points_below node.now) }
-    ensures between { result ≡ true → IsBetween p (points_below node.now) }
-{
-    if is_between {
-        return true;
-    }
-    if before(ends.first, p) && before(p, ends.last) {
-        return true;
-    }
-    *ends = ends_of(node);
-    false
-}
-
 /// Renews the ends that a fork stores of a half that changed at a point, the left one or else the right one. Returns whether the point is known to be
 /// between two others there.
 #[inline(always)]
-fn renew_half_ends(fork: &mut Fork, is_left: bool, p: Point, below: Changed) -> bool
-    requires half { IsAfterHalf is_left p below.sides fork.old }
-    requires between { below.is_between ≡ true
+fn renew_half_ends(fork: &mut Fork, is_left: bool, p: Point, below: &Changed) -> bool
+    requires half { IsAfterHalf is_left p below.now.sides fork.old }
+    requires between { below.now.is_between ≡ true
         → IsBetweenKept p (ends_of_half is_left fork.old) (points_below (half_of is_left fork.old)) }
-    ensures after { IsAfter p below.sides fork.old.left fork.old.right fork.new }
+    ensures after { IsAfter p below.now.sides fork.old.left fork.old.right fork.new }
     ensures left { fork.new.left ≡ fork.old.left }
     ensures right { fork.new.right ≡ fork.old.right }
     ensures edges { (side : Side) → edge_on side fork.new ≡ edge_on side fork.old }
@@ -163,23 +143,20 @@ fn renew_half_ends(fork: &mut Fork, is_left: bool, p: Point, below: Changed) -> 
     }
 }
 
-/// Renews a fork of which one half changed at a point, the left one or else the right one. Nothing is altered if the point is between two others of
-/// that half and neither chain is affected.
+/// Renews a fork of which one half changed at a point, the left one or else the right one. At first the change is that of the half, in the end that
+/// of the fork. Nothing is altered if the point is between two others of that half and neither chain is affected.
 #[inline(always)]
-fn after_half(fork: &mut Fork, is_left: bool, p: Point, change: Change, below: Changed) -> Changed
-    requires { IsToRenew is_left change p below fork.old }
-    ensures { IsRenewedAfter p below fork.old fork.new result }
+fn renew_fork(fork: &mut Fork, is_left: bool, p: Point, change: Change, changed: &mut Changed)
+    requires { IsToRenew is_left change p changed.old fork.old }
+    ensures { IsRenewedAfter p changed.old fork.old fork.new changed.new }
 {
-    if is_contained(below) {
-        return below;
+    if is_contained(changed) {
+        return;
     }
-    let is_between = renew_half_ends(fork, is_left, p, below);
-    let above = renew_edges(fork, p, change, below.sides);
-    Changed {
-        turns: below.turns + above.turns,
-        sides: above.sides,
-        is_between,
-    }
+    changed.is_between = renew_half_ends(fork, is_left, p, changed);
+    let above = renew_edges(fork, p, change, changed.sides);
+    changed.turns += above.turns;
+    changed.sides = above.sides;
 }
 
 /// Whether the x of `p` is less than that of `q`.
@@ -216,8 +193,8 @@ fn is_before(p: Point, q: Point) -> bool
 
 /// Whether a change alters nothing above it: the point is between two others there, and on neither chain.
 #[inline(always)]
-fn is_contained(change: Changed) -> bool
-    ensures { IsTrue result ↔ IsContained change }
+fn is_contained(change: &Changed) -> bool
+    ensures { IsTrue result ↔ IsContained change.now }
 {
     change.is_between && !change.sides.lower && !change.sides.upper
 }
@@ -256,13 +233,7 @@ fn renew_path<C: InPlace>(node: &mut Node, p: Point, change: &mut Changed)
         Node::Fork(_, fork) => {
             let is_left = is_before(p, fork.right_ends.first);
             renew_path::<C>(fork.half_mut(is_left), p, change);
-            *change = after_half(
-                fork,
-                is_left,
-                p,
-                change_at(is_left, C::is_adding()),
-                *change,
-            );
+            renew_fork(fork, is_left, p, change_at(is_left, C::is_adding()), change);
         }
         Node::Taken => unreachable!(),
     }
@@ -281,7 +252,7 @@ fn change_in_place<C: InPlace>(node: &mut Node, p: Point) -> Result<Changed, u16
     let mut outcome = Err(0);
     change_bucket::<C>(node, p, &mut outcome);
     let mut change = outcome?;
-    if !is_contained(change) {
+    if !is_contained(&change) {
         renew_path::<C>(node, p, &mut change);
     }
     Ok(change)

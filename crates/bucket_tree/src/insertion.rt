@@ -12,7 +12,7 @@ ghost use Rattle.bucket_tree.specs.Nodes.{points_below, node_height, IsWellBuilt
 ghost use Rattle.bucket_tree.specs.Turns.{most_turns};
 ghost use Rattle.bucket_tree.specs.declared.node.Node.{Leaf};
 
-use crate::join::{join, take_apart};
+use crate::join::{join, swap_unless, take_apart};
 use crate::load::blank;
 use crate::node::{Node, height_of};
 use crate::renewal::{Affected, balance, change_at, renew_ends};
@@ -194,39 +194,23 @@ pub fn insert(alloc: Heap, node: Node, p: Point) -> Inserted
         return insert_leaf(alloc, bucket_of(node), p);
     }
     let (left, right, mut place) = take_apart(node);
-    if before(p, place.right_ends.first) {
-        let change = insert(alloc, left, p);
-        renew_ends(&mut place.left_ends, &change.node, p);
-        let above = balance(
-            change.node,
-            right,
-            place,
-            p,
-            change_at(true, !change.refused),
-            change.sides,
-        );
-        Inserted {
-            node: above.node,
-            refused: change.refused,
-            turns: above.turns + change.turns,
-            sides: above.sides,
-        }
-    } else {
-        let change = insert(alloc, right, p);
-        renew_ends(&mut place.right_ends, &change.node, p);
-        let above = balance(
-            left,
-            change.node,
-            place,
-            p,
-            change_at(false, !change.refused),
-            change.sides,
-        );
-        Inserted {
-            node: above.node,
-            refused: change.refused,
-            turns: above.turns + change.turns,
-            sides: above.sides,
-        }
+    let is_left = before(p, place.right_ends.first);
+    let (half, other) = swap_unless(is_left, left, right);
+    let change = insert(alloc, half, p);
+    renew_ends(&mut place, is_left, &change.node, p);
+    let (left, right) = swap_unless(is_left, change.node, other);
+    let above = balance(
+        left,
+        right,
+        place,
+        p,
+        change_at(is_left, !change.refused),
+        change.sides,
+    );
+    Inserted {
+        node: above.node,
+        refused: change.refused,
+        turns: above.turns + change.turns,
+        sides: above.sides,
     }
 }

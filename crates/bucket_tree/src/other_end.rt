@@ -115,10 +115,9 @@ fn upper_end<H: Half>(end: BridgeEnd, p: Point, half: H, first: Point, last: Poi
     (range.half.first(), turns)
 }
 
-/// Returns an end, among the vertices below a node, of the bridge on a side between them and a point, which is before
-/// them if its end is searched, and after them if its start is, and the turns of the search. The end is neither before
-/// `first` nor after `last`.
-pub(crate) fn other_end(
+/// Searches an end, as [`other_end`], whether its bounds meet or not.
+#[inline(never)]
+fn search_end(
     end: BridgeEnd,
     side: Side,
     p: Point,
@@ -148,4 +147,29 @@ pub(crate) fn other_end(
             (found.turned(), turns)
         }
     }
+}
+
+/// Returns an end, among the vertices below a node, of the bridge on a side between them and a point, which is before
+/// them if its end is searched, and after them if its start is, and the turns of the search. The end is neither before
+/// `first` nor after `last`; if these are the same point, it is the end.
+#[inline(always)]
+pub(crate) fn other_end(
+    end: BridgeEnd,
+    side: Side,
+    p: Point,
+    node: &Node,
+    first: Point,
+    last: Point,
+) -> (Point, u32)
+    requires built { IsWellBuilt node.now }
+    requires few { length (points_below node.now) ≤ POINT_LIMIT }
+    requires beside { IsBeside end p (tree_of node.now) }
+    requires within { IsEndWithin end side p (tree_of node.now) first last }
+    ensures end { IsEndAt end side p (tree_of node.now) result.0 }
+    ensures turns { result.1 ≤ node_height node.now + 6 }
+{
+    if first == last {
+        return (first, 0);
+    }
+    search_end(end, side, p, node, first, last)
 }

@@ -10,10 +10,10 @@ ghost use Rattle.bucket_tree.specs.Turns.{most_turns};
 ghost use Rattle.bucket_tree.specs.declared.node.Node.{Leaf};
 
 use crate::insertion::{affected_at, bucket_of};
-use crate::join::take_apart;
+use crate::join::{swap_unless, take_apart};
 use crate::node::{Fork, Node, height_of};
 use crate::renewal::{
-    Affected, Change, EdgePosition, Renewed, balance, edge_position_of, renew_ends,
+    Affected, Change, EdgePosition, Renewed, balance, change_at, edge_position_of, renew_ends,
 };
 use heap::Heap;
 use hull_buckets::{Bucket, buckets_are_sound};
@@ -180,29 +180,26 @@ pub fn remove(node: Node, p: Point) -> Removed
         return remove_leaf(bucket_of(node), p);
     }
     let (left, right, mut place) = take_apart(node);
-    if before(p, place.right_ends.first) {
-        let Removed { rest, turns, sides } = remove(left, p);
-        let Some(rest) = rest else {
-            return other_part(right, turns);
-        };
-        renew_ends(&mut place.left_ends, &rest, p);
-        let above = prepare(rest, right, place, p, Change::OtherLeft, sides, height);
-        Removed {
-            rest: Some(above.node),
-            turns: above.turns + turns,
-            sides: above.sides,
-        }
-    } else {
-        let Removed { rest, turns, sides } = remove(right, p);
-        let Some(rest) = rest else {
-            return other_part(left, turns);
-        };
-        renew_ends(&mut place.right_ends, &rest, p);
-        let above = prepare(left, rest, place, p, Change::OtherRight, sides, height);
-        Removed {
-            rest: Some(above.node),
-            turns: above.turns + turns,
-            sides: above.sides,
-        }
+    let is_left = before(p, place.right_ends.first);
+    let (half, other) = swap_unless(is_left, left, right);
+    let Removed { rest, turns, sides } = remove(half, p);
+    let Some(rest) = rest else {
+        return other_part(other, turns);
+    };
+    renew_ends(&mut place, is_left, &rest, p);
+    let (left, right) = swap_unless(is_left, rest, other);
+    let above = prepare(
+        left,
+        right,
+        place,
+        p,
+        change_at(is_left, false),
+        sides,
+        height,
+    );
+    Removed {
+        rest: Some(above.node),
+        turns: above.turns + turns,
+        sides: above.sides,
     }
 }

@@ -1,5 +1,5 @@
 //! The forks above a point that was added or removed: a bridge that the change cannot have altered is kept.
-ghost use Rattle.std.specs.Prelude.{◌≡◌, ◌≤◌, ◌+◌, ◌*◌, ◌++◌, ◌⊎◌, ◌↔◌, IsTrue, true, false, max, length};
+ghost use Rattle.std.specs.Prelude.{◌≡◌, ◌≤◌, ◌+◌, ◌*◌, ◌++◌, ◌⊎◌, ◌↔◌, IsTrue, true, false, not, max, length};
 ghost use Rattle.lattice.specs.declared.side.Side.{Side};
 ghost use Rattle.std.specs.Prelude.{pos, ◌≤ℤ◌, ◌<ℤ◌};
 ghost use Rattle.lattice.specs.Orientations as orientations;
@@ -10,6 +10,8 @@ ghost use Rattle.hull_set.specs.declared.TheConstants.{POINT_LIMIT};
 ghost use Rattle.bucket_tree.specs.Changes.{IsAfter, IsBridgeBetween, IsClearOf, IsRenewed, IsSameBut, ReturnsOf, ClosesBy, edge_on};
 ghost use Rattle.std.specs.List.{Contains};
 ghost use Rattle.bucket_tree.specs.Changes.{AreInnerTo, AreKept, HasEnds, IsEndOf, IsEndUnlessClear, change_of};
+ghost use Rattle.bucket_tree.specs.Halves.{ends_of_half};
+ghost use Rattle.bucket_tree.specs.InPlace.{IsBetween, IsBetweenKept};
 ghost use Rattle.bucket_tree.specs.Nodes.{tree_of, points_below, multiplicities_below, node_height, AreInRow, IsWellBuilt};
 ghost use Rattle.bucket_tree.specs.Nodes.{AreNear, HasBuckets, IsHeightOver, IsLabelled, ends_in};
 
@@ -65,6 +67,7 @@ fn is_inwards(side: Side, edge: &(Point, Point), p: Point) -> bool
 }
 
 /// Returns the position of a point relative to an edge on a side.
+#[inline(always)]
 pub(crate) fn edge_position_of(side: Side, edge: &(Point, Point), p: Point) -> EdgePosition
     ensures { ReturnsOf side edge.now p result }
 {
@@ -233,36 +236,26 @@ fn search_after(side: Side, fork: &Fork, p: Point, change: Change) -> ((Point, P
     }
 }
 
-/// Renews the edge of a fork on an affected chain after one subtree changed at a point: searches it if it may not be a bridge any more. Returns how
-/// many turns the search took, and whether the chain is still affected.
+/// Searches the edge of a fork on a side after one subtree changed at a point, and replaces it. Returns the turns of the search.
 #[inline(never)]
-fn renew_affected_edge(side: Side, fork: &mut Fork, p: Point, change: Change) -> (u32, bool)
+fn search_edge(side: Side, fork: &mut Fork, p: Point, change: Change) -> u32
     requires row { AreInRow fork.old.left fork.old.right }
     requires few { length (points_below fork.old.left ++ points_below fork.old.right) ≤ POINT_LIMIT }
-    requires clear { IsClearOf side (edge_on side fork.old) p
-        → IsBridgeBetween side fork.old.left fork.old.right (edge_on side fork.old) }
     requires low { max (node_height fork.old.left) (node_height fork.old.right) ≤ 28 }
     requires ends { HasEnds fork.old.left fork.old.right fork.old }
-    requires end { IsEndUnlessClear change side p fork.old.left fork.old.right (edge_on side fork.old) }
+    requires end { IsEndOf change side p fork.old.left fork.old.right (edge_on side fork.old) }
     ensures same { IsSameBut side fork.old fork.new }
     ensures bridge { IsBridge side (On (tree_of fork.old.left)) (On (tree_of fork.old.right))
         (edge_on side fork.new).0 (edge_on side fork.new).1 }
-    ensures turns { result.0 ≤ 4 * max (node_height fork.old.left) (node_height fork.old.right) + 24 }
-    ensures closes { result.1 ≡ false
-        → IsCovered side p (points_below fork.old.left ++ points_below fork.old.right) }
+    ensures turns { result ≤ 4 * max (node_height fork.old.left) (node_height fork.old.right) + 24 }
 {
-    match edge_position_of(side, fork.edge(side), p) {
-        EdgePosition::Covered => (0, false),
-        EdgePosition::Clear => (0, true),
-        EdgePosition::Touching => {
-            let (edge, turns) = search_after(side, fork, p, change);
-            fork.set_edge(side, edge);
-            (turns, true)
-        }
-    }
+    let (edge, turns) = search_after(side, fork, p, change);
+    fork.set_edge(side, edge);
+    turns
 }
 
-/// Renews the edge of a fork on a side, as [`renew_affected_edge`]; an unaffected chain is skipped.
+/// Renews the edge of a fork on a side after one subtree changed at a point: searches it if it may not be a bridge any more. An unaffected chain is
+/// skipped. Returns how many turns the search took, and whether the chain is still affected.
 #[inline(always)]
 fn renew_edge(side: Side, fork: &mut Fork, p: Point, change: Change, at_issue: bool) -> (u32, bool)
     requires row { AreInRow fork.old.left fork.old.right }
@@ -283,7 +276,11 @@ fn renew_edge(side: Side, fork: &mut Fork, p: Point, change: Change, at_issue: b
     if !at_issue {
         return (0, false);
     }
-    renew_affected_edge(side, fork, p, change)
+    match edge_position_of(side, fork.edge(side), p) {
+        EdgePosition::Covered => (0, false),
+        EdgePosition::Clear => (0, true),
+        EdgePosition::Touching => (search_edge(side, fork, p, change), true),
+    }
 }
 
 /// Renews the edges of a fork on the affected chains, after one subtree changed at a point.
@@ -376,16 +373,38 @@ pub(crate) fn balance(
     }
 }
 
-/// Renews the ends of a subtree that changed at a point: they stay if the change was between them.
+/// Renews the ends of a subtree that changed at a point, unless the point is known to be between two others there. Returns whether it is.
 #[inline(always)]
-pub(crate) fn renew_ends(ends: &mut Ends, node: &Node, p: Point)
+pub(crate) fn renew_ends_around(ends: &mut Ends, node: &Node, p: Point, is_between: bool) -> bool
     requires buckets { HasBuckets node.now }
     requires labelled { IsLabelled node.now }
     requires kept { AreKept p ends.old (points_below node.now) }
-    ensures { ends.new ≡ ends_in (points_below node.now) }
+    requires between { is_between ≡ true → IsBetweenKept p ends.old (points_below node.now) }
+    ensures ends { ends.new ≡ ends_in (points_below node.now) }
+    ensures between { result ≡ true → IsBetween p (points_below node.now) }
 {
+    if is_between {
+        return true;
+    }
     if before(ends.first, p) && before(p, ends.last) {
-        return;
+        return true;
     }
     *ends = ends_of(node);
+    false
+}
+
+/// Renews the ends that a fork stores of one half, the left one or else the right one, which changed at a point and is this node now.
+pub(crate) fn renew_ends(fork: &mut Fork, is_left: bool, node: &Node, p: Point)
+    requires buckets { HasBuckets node.now }
+    requires labelled { IsLabelled node.now }
+    requires kept { AreKept p (ends_of_half is_left fork.old) (points_below node.now) }
+    ensures ends { ends_of_half is_left fork.new ≡ ends_in (points_below node.now) }
+    ensures other { ends_of_half (not is_left) fork.new ≡ ends_of_half (not is_left) fork.old }
+    ensures edges { (side : Side) → edge_on side fork.new ≡ edge_on side fork.old }
+{
+    let _ = if is_left {
+        renew_ends_around(&mut fork.left_ends, node, p, false)
+    } else {
+        renew_ends_around(&mut fork.right_ends, node, p, false)
+    };
 }

@@ -32,8 +32,8 @@ renew_path-requires g t c κs within =
       ),
     )
 
-pub after_half-requires : goal.after_half-requires
-after_half-requires g t c =
+pub renew_fork-requires : goal.renew_fork-requires
+renew_fork-requires g t c =
     let left = c.is_before-is_left.result in
     let here = subst (λ z. BelongsTo left c.args.p z.right_ends.first) c.deref.ensures
     (belongs _ _ _ c.is_before-is_left.ensures.0 c.is_before-is_left.ensures.1) in
@@ -63,4 +63,4 @@ returns-in-Fork g t c =
     (c.deref_mut-in-Fork.ensures.value ∙ ap (λ z. with_half left z c.renew_path.new.node) c.deref_mut.ensures.value)
     (subst (λ z. (x : Node) → IsChangeable g.C.InPlace.puts x → HasChangedBelow g.C.InPlace.puts c.args.p x z c.args.change.now
     → HasChanged g.C.InPlace.puts c.args.p x c.renew_path.new.node c.renew_path.new.change) half c.renew_path.ensures)
-    n w d _ c.after_half.result c.after_half.ensures
+    n w d _ c.renew_fork.new.changed c.renew_fork.ensures

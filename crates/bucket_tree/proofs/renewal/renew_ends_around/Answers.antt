@@ -3,7 +3,7 @@ use Rattle.bucket_tree.specs.Nodes.{points_below}
 use Rattle.bucket_tree.proofs.Gained.{passed}
 use Rattle.bucket_tree.proofs.InPlace.{between_ends}
 use Rattle.bucket_tree.proofs.NodePoints.{some_below}
-use Rattle.bucket_tree.proofs.in_place.renew_ends_around.Goals as goal
+use Rattle.bucket_tree.proofs.renewal.renew_ends_around.Goals as goal
 
 pub returns-then-before-2-clause-between : goal.returns-then-before-2-clause-between
 returns-then-before-2-clause-between c = λ _.
