@@ -71,14 +71,16 @@ opened false put p (Fork' k i le l re r u lo) h b below w here (e, inr (first, v
   changed = d;
 }
 
--- a fork has changed at p as its half, if it is well built as it is: no edge is affected
-kept_above : (left put : Bool) (p : Pair) (n : Node) (h : ℕ) (b : Box Below _) (below : Changed) → IsChangeable put n
-    → (o : IsOpened left put p n h b.value below) → HasChanged put p (half_of left o.old) (half_of left b.value) below
+-- a fork has changed at p as its half, if nothing else changed and no edge is affected
+changed_above : (left put : Bool) (p : Pair) (n : Node) (h : ℕ) (old : Below) (b : Box Below _) (below : Changed) → IsForkAt left p n h old
+    → b.value ≡ with_half left old (half_of left b.value) → IsChangeable put n
+    → (IsChangeable put (half_of left old) → HasChanged put p (half_of left old) (half_of left b.value) below)
     → IsContained below → HasChanged put p n (Fork h b) below
-kept_above left put p n h b below c o d s =
-    changed_with left put p n h o.old b.value (half_of left b.value) below below b o.at d c.few c.low o.value
+changed_above left put p n h old b below at v c changed s =
+    let d = changed (changeable_half left put p n h old at c) in
+    changed_with left put p n h old b.value (half_of left b.value) below below b at d c.few c.low v
     (untouched left (change_of left put) p below b.value
-    (to_renew left put (change_of left put) p n h o.old b.value (half_of left b.value) below o.at d c.few c.low o.value refl)
+    (to_renew left put (change_of left put) p n h old b.value (half_of left b.value) below at d c.few c.low v refl)
     s.between s.lower s.upper)
 
 -- if a bucket changed at a point that is between two others there and on no chain, all above it is well built as it is
@@ -90,24 +92,14 @@ unreached put p (Leaf b) Taken below w d s = absurd d
 unreached put p Taken m below w d s = absurd d
 unreached put p (Fork' h j xe x ye y q t) (Leaf c) below w d s = absurd d
 unreached put p (Fork' h j xe x ye y q t) Taken below w d s = absurd d
-unreached put p (Fork' h j xe x ye y q t) (Fork' k i le l re r u lo) below w (e, inl (first, v, d)) s =
-    let at = fork_at true p _ k _ _ _ (ap (λ z. Fork' z j xe x ye y q t) (sym e)) refl refl w.built first in
-    kept_above true put p (Fork' h j xe x ye y q t) k _ below w record {
-      old = record { left_ends = xe; left = x; right_ends = ye; right = y; upper = q; lower = t };
-      at = at;
-      value = v;
-      changed = d;
-    }
-    (unreached put p x l below (changeable_half true put p _ k _ at w) d s) s
-unreached put p (Fork' h j xe x ye y q t) (Fork' k i le l re r u lo) below w (e, inr (first, v, d)) s =
-    let at = fork_at false p _ k _ _ _ (ap (λ z. Fork' z j xe x ye y q t) (sym e)) refl refl w.built first in
-    kept_above false put p (Fork' h j xe x ye y q t) k _ below w record {
-      old = record { left_ends = xe; left = x; right_ends = ye; right = y; upper = q; lower = t };
-      at = at;
-      value = v;
-      changed = d;
-    }
-    (unreached put p y r below (changeable_half false put p _ k _ at w) d s) s
+unreached put p (Fork' h j xe x ye y q t) (Fork' k i le l re r u lo) below w (e, d) s =
+    let same = ap (λ z. Fork' z j xe x ye y q t) (sym e) in
+    elim d [
+      | inl (first, v, d) ↦ changed_above true put p (Fork' h j xe x ye y q t) k _ _ below
+          (fork_at true p _ k _ _ _ same refl refl w.built first) v w (λ c. unreached put p x l below c d s) s
+      | inr (first, v, d) ↦ changed_above false put p (Fork' h j xe x ye y q t) k _ _ below
+          (fork_at false p _ k _ _ _ same refl refl w.built first) v w (λ c. unreached put p y r below c d s) s
+    ]
 
 -- a bucket that changed is a leaf that changed
 pub leaf_below : (put : Bool) (p : Pair) (n m : Node) (b : Box BucketValue _) (below : Changed) → m ≡ Leaf b → HasChangedBelow put p n m below
