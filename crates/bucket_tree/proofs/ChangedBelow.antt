@@ -1,11 +1,11 @@
 -- A bucket below a node that changed, and the forks above it.
-use Rattle.std.proofs.Common.{◌≡◌, ℕ, ◌≤◌, length, Bool, true, false, cond, refl, sym, ap, ◌∙◌, subst, Box, inl, inr, ◌+◌, arith}
+use Rattle.std.proofs.Common.{◌≡◌, ℕ, ◌≤◌, Bool, true, false, refl, sym, ap, ◌∙◌, subst, Box, inl, inr, ◌+◌, arith}
 use Rattle.lattice.specs.Plane.{Pair, IsBefore}
 use Rattle.hull_buckets.specs.Buckets.{BucketValue}
 use Rattle.bucket_tree.specs.Changes.{change_of}
 use Rattle.bucket_tree.specs.Halves.{half_of, with_half}
 use Rattle.bucket_tree.specs.InPlace.{HasChanged, HasChangedBelow, IsChangeable, IsContained, IsRenewedAfter, IsToRenew}
-use Rattle.bucket_tree.specs.Nodes.{points_below, node_height, IsWellBuilt}
+use Rattle.bucket_tree.specs.Nodes.{node_height, IsWellBuilt}
 use Rattle.bucket_tree.specs.declared.renewal.Change.{Change}
 use Rattle.bucket_tree.specs.declared.renewal.Changed.{Changed}
 use Rattle.bucket_tree.specs.declared.node.Fork.{Fork as Below}

@@ -1,10 +1,9 @@
 -- A point that is removed from one of two nodes in a row.
 use Rattle.std.proofs.lemmas.Grind.{common_steps}
-use Rattle.std.proofs.Common.{◌≡◌, ◌⊎◌, ℕ, zero, suc, ◌+◌, ◌≤◌, ◌<◌, refl, sym, ap, ◌∙◌, subst, List, []}
+use Rattle.std.proofs.Common.{◌≡◌, ℕ, zero, suc, ◌+◌, ◌<◌, refl, sym, ap, ◌∙◌, subst, List, []}
 use Rattle.std.proofs.Common.{◌∷◌}
-use Rattle.std.proofs.Common.{length, arith, inl, inr, Ok, Err, get_or, max}
+use Rattle.std.proofs.Common.{length, arith, Ok, Err, get_or}
 use Rattle.std.specs.Prelude.{take, drop}
-use Rattle.std.proofs.lemmas.Bool.{cases_lt}
 use Rattle.hull_buckets.proofs.Around.{taken_away}
 use Rattle.hull_buckets.proofs.Changed.{removed}
 use Rattle.std.specs.List.{All, Contains, remove}
@@ -21,7 +20,6 @@ use Rattle.hull_set.specs.Held.{once}
 use Rattle.hull_set.proofs.HeldMultiplicities.{same_false, same_true}
 use Rattle.bucket_tree.specs.Counts.{counted}
 use Rattle.leaf_trees.specs.Entries.{several}
-use Rattle.bucket_tree.specs.Nodes.{AreNear, IsHeightOver}
 
 -- a list of one point without it
 pub without_only : (p : Pair) → without_point p (p ∷ []) ≡ []

@@ -1,14 +1,14 @@
 -- A fork taken apart at the half to which a point belongs, and the two halves after that one has changed.
 use Rattle.std.proofs.lemmas.Grind.{common_steps}
 use Rattle.std.proofs.lemmas.Bool.{cases_lt}
-use Rattle.std.proofs.Common.{◌≡◌, ◌⊎◌, ℕ, ◌+◌, ◌≤◌, max, Bool, true, false, cond, not, refl, ap, ◌∙◌, inl, inr, arith}
-use Rattle.std.proofs.Common.{List, ◌++◌, length, length-append, subst, sym}
+use Rattle.std.proofs.Common.{◌≡◌, ◌⊎◌, ℕ, ◌+◌, ◌≤◌, max, Bool, true, false, cond, not, ap, ◌∙◌, inl, inr, arith}
+use Rattle.std.proofs.Common.{List, length, length-append, subst, sym}
 use Rattle.std.specs.List.{Contains}
 use Rattle.std.proofs.lemmas.List.Elements.{Contains-append_left, Contains-append_right}
 use Rattle.lattice.specs.Plane.{Pair}
 use Rattle.bucket_tree.specs.Changes.{HasEnds}
 use Rattle.bucket_tree.specs.Halves.{ends_of_half}
-use Rattle.bucket_tree.specs.Nodes.{points_below, ends_in, node_height, AreInRow, AreNear, IsHeightOver, IsWellBuilt}
+use Rattle.bucket_tree.specs.Nodes.{points_below, ends_in, node_height, AreNear, IsHeightOver, IsWellBuilt}
 use Rattle.bucket_tree.specs.declared.node.Fork.{Fork}
 use Rattle.bucket_tree.specs.declared.node.Node.{Node}
 use Rattle.bucket_tree.proofs.Parts.{IsAt}

@@ -9,7 +9,7 @@ use Rattle.hull_set.specs.declared.TheConstants.{POINT_LIMIT}
 use Rattle.lattice.specs.declared.side.Side.{Side}
 use Rattle.bucket_tree.specs.declared.renewal.Change.{Change}
 use Rattle.bucket_tree.specs.declared.renewal.Changed.{Changed}
-use Rattle.bucket_tree.specs.declared.node.Node.{Node, Leaf, Fork', Taken}
+use Rattle.bucket_tree.specs.declared.node.Node.{Node, Leaf, Fork'}
 use Rattle.bucket_tree.specs.declared.node.Ends.{Ends}
 use Rattle.bucket_tree.specs.declared.node.Fork.{Fork}
 use Rattle.bucket_tree.specs.declared.renewal.Affected.{Affected}

@@ -1,7 +1,7 @@
 -- a change that is contained alters nothing above
 use Rattle.std.proofs.Common.{subst}
 use Rattle.std.specs.Prelude.{IfOk}
-use Rattle.bucket_tree.specs.InPlace.{HasChangedBelow, IsChangeable}
+use Rattle.bucket_tree.specs.InPlace.{HasChangedBelow}
 use Rattle.bucket_tree.proofs.ChangedBelow.{unreached}
 use Rattle.bucket_tree.proofs.in_place.change_in_place.Goals as goal
 
