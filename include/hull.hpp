@@ -762,7 +762,9 @@ public:
         return made;
     }
 
-    const std::vector<Point> &vertices() const noexcept { return vertices_; }
+    // Returns the vertices: of a polygon that is about to end, as hull.polygon().vertices(), as a value.
+    const std::vector<Point> &vertices() const & noexcept { return vertices_; }
+    std::vector<Point> vertices() && noexcept { return std::move(vertices_); }
 
     // Returns the polygon translated by a vector. Fails with Refusal::out_of_range if a coordinate would be.
     Polygon translate(Point by) const {

@@ -68,6 +68,10 @@ static_assert(!std::is_copy_constructible_v<hull::GrowingHull> && std::is_nothro
 static_assert(!std::is_copy_constructible_v<Seat> && std::is_nothrow_move_constructible_v<Seat>);
 static_assert(!std::is_copy_constructible_v<SharedHull> && std::is_nothrow_move_assignable_v<SharedHull>);
 
+// a loop over the vertices of a polygon that nothing else keeps
+static_assert(std::is_same_v<decltype(std::declval<hull::Polygon>().vertices()), std::vector<Point>>);
+static_assert(std::is_same_v<decltype(std::declval<hull::Polygon &>().vertices()), const std::vector<Point> &>);
+
 static const std::vector<Point> square = {{0, 0}, {10, 0}, {10, 10}, {0, 10}};
 constexpr std::int64_t far = HULL_COORDINATE_MAX;
 
@@ -93,6 +97,11 @@ static void polygons() {
     CHECK(refuses(Refusal::no_polygon, [] { hull::Polygon({{1, 0}, {0, 0}}); }));
     std::vector<Point> backward(square.rbegin(), square.rend());
     CHECK(hull::Polygon::of(backward).vertices() == square && hull::Polygon::of({}) == hull::Polygon());
+    std::vector<Point> looped;
+    for (const Point &vertex : hull::Polygon::of(backward).vertices()) {
+        looped.push_back(vertex);
+    }
+    CHECK(looped == square);
     backward.push_back({5, 5});
     CHECK(hull::Polygon::of(backward).vertices() == square && refuses(Refusal::out_of_range, [] { hull::Polygon::of({{0, far + 1}}); }));
     CHECK(hull::Polygon().place({0, 0}) == Place::outside && hull::Polygon() == hull::Polygon(std::vector<Point>()) && polygon != hull::Polygon());
