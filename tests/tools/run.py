@@ -273,6 +273,25 @@ def test_each_suite(tests):
         tests.see("and for none that needs none", not os.path.exists(f"{top}/asked"))
 
 
+def test_two_runs(tests):
+    """A run of bin/test beside another is refused, and changes nothing of the other's; one after it is not."""
+    if not shutil.which("flock"):
+        print("two runs of bin/test: skipped, there is no flock")
+        return
+    with tempfile.TemporaryDirectory() as top:
+        lay_tools(top)
+        suite = f"touch {top}/begun; for try in $(seq 200); do [ -e {top}/go ] || sleep 0.1; done; echo 3 passed, 0 failed"
+        write(f"{top}/tests/files/run.sh", f"#!/bin/sh\n{suite}\n", 0o755)
+        first = subprocess.Popen(["bin/test", "files"], cwd=top, stdin=subprocess.DEVNULL, stdout=subprocess.PIPE, text=True)
+        while not os.path.exists(f"{top}/begun"):
+            time.sleep(0.02)
+        tests.refuses("a run beside another", "another run writes to out/test", top, "bin/test", "files", status=2)
+        write(f"{top}/go", "")
+        said = first.communicate(timeout=60)[0]
+        tests.see("which ends as it would alone", first.returncode == 0 and said.endswith("\n3 passed, 0 failed\n"), said)
+        tests.accepts("a run after it", top, "bin/test", "files")
+
+
 def test_reports(tests):
     """bin/test prints each suite's counts and seconds, and of one that fails the tests that failed and the end; an interrupt ends all suites."""
     with tempfile.TemporaryDirectory() as top:
@@ -416,7 +435,8 @@ def test_tables(tests):
 
 SUITES = {
     "tools": (test_tables, *judges.TESTS, *outputs.TESTS, *made.TESTS, *flows.TESTS),
-    "scripts": (test_suites, test_left_out, test_each_suite, test_reports, test_gate, test_gate_after_the_proof, *scripts.TESTS, *lines.TESTS),
+    "scripts": (test_suites, test_left_out, test_each_suite, test_two_runs, test_reports, test_gate,
+                test_gate_after_the_proof, *scripts.TESTS, *lines.TESTS),
     "packages": (installs.test_install, installs.test_needed, installs.test_no_dpkg, installs.test_package_words, installs.test_packages,
         *packed.TESTS),
     "toolchain": (test_mutants,),
