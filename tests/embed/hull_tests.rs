@@ -591,6 +591,8 @@ fn floats() {
     }
     assert_eq!(Lattice { power: 1100 }.point(5e-324, 0.0).unwrap().point.x, 1 << 26);
     assert!(!Lattice { power: -2000 }.point(1e300, 0.0).unwrap().is_exact);
+    assert_eq!(Lattice { power: i32::MIN }.floats(point(1, 0)), (f64::INFINITY, 0.0));
+    assert_eq!(Lattice { power: i32::MAX }.floats(point(1, 0)), (0.0, 0.0));
     assert_eq!(Lattice { power: 40 }.point(1.0, -1.0).unwrap().point, point(COORDINATE_LIMIT, -COORDINATE_LIMIT));
     for wrong in [f64::NAN, f64::INFINITY, -1e308, 1.0000001] {
         assert_eq!(Lattice { power: 40 }.point(0.0, wrong), Err(Fault::OutOfRange));

@@ -62,7 +62,8 @@ impl Lattice {
 
     /// Returns the floats of a point: exact for powers from -960 to 1000.
     pub fn floats(self, point: Point) -> (f64, f64) {
-        (scaled(point.x as f64, -self.power), scaled(point.y as f64, -self.power))
+        let power = self.power.saturating_neg();
+        (scaled(point.x as f64, power), scaled(point.y as f64, power))
     }
 }
 
