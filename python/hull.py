@@ -334,6 +334,7 @@ class _Motion(ctypes.Structure):
     moves: int
 # end of what tools/table.py writes
 
+_NOT_YET = int(_Code.NOT_YET)
 _FAULTS: Dict[int, Callable[[], Exception]] = {
     _Code.OUT_OF_RANGE: lambda: OutOfRange("a coordinate is out of range"),
     _Code.ZERO_DIRECTION: lambda: ZeroDirection("a direction is zero"),
@@ -361,6 +362,14 @@ def _check_code(code: int) -> None:
     fault = _FAULTS.get(code)
     if fault is not None:
         raise fault()
+
+
+def _waited(function: Callable[..., Any], *words: Any) -> Any:
+    """Returns the reply of a function that waits in pieces, between which signal handlers run: one may raise, and end the wait."""
+    reply = function(*words, 0)
+    while reply.code == _NOT_YET:
+        reply = function(*words, reply.number)
+    return reply
 
 
 def _raise_code(code: int) -> NoReturn:
@@ -434,12 +443,12 @@ def _shared_library() -> ctypes.CDLL:
         ("python_wait_for_space", [at, number], number), ("python_wait_at_most", [at, long], number), ("python_stats", [at, at], number),
         ("python_reopen", [at, at, size, number, number], _Reply),
         ("python_compact", [ctypes.c_char_p], _Reply),
-        ("python_open_journal", [at, ctypes.c_char_p, number, number, number, long], _Reply), ("python_durable", [at, number], _Reply),
-        ("python_wait_durable", [at], _Reply), ("python_close", [at], _Reply), ("python_text", [at, at, size], _Reply),
+        ("python_open_journal", [at, ctypes.c_char_p, number, number, number, long], _Reply), ("python_durable", [at], _Reply),
+        ("python_sync", [at, long], _Reply), ("python_wait_durable", [at, long], _Reply), ("python_close", [at], _Reply), ("python_text", [at, at, size], _Reply),
         ("python_acquired_seats", [at], long), ("python_seat_new", [], at), ("python_seat_free", [at], None),
         ("python_acquire_seat", [at, at, number], number),
-        ("python_release_seat", [at], None), ("python_ask", [at, number, whole, whole], _Reply),
-        ("python_ask_vertices", [at, at, size], _Reply), ("python_drain", [at, at], _Reply),
+        ("python_release_seat", [at], None), ("python_ask", [at, number, whole, whole, long], _Reply),
+        ("python_ask_vertices", [at, at, size, long], _Reply), ("python_drain", [at, at, long], _Reply),
         ("python_capacity", [at], number), ("python_turn", [at, at], number),
         ("python_set_max_readers", [at, number], number), ("python_reader_new", [], at), ("python_reader_free", [at], None),
         ("python_acquire_reader", [at, at], number), ("python_release_reader", [at], None), ("python_is_newest", [at], number),
@@ -1898,14 +1907,14 @@ class SharedHull:
 
         ValueError if the hull has no file, or is closed; OSError if a write failed: no later line will be durable.
         """
-        return self._durable(0)
+        return self._number_of(_shared_library().hull_python_durable(self._shared))
 
     def sync(self) -> int:
         """Waits until the lines of all calls that have returned are durable; returns the number of the first line that is not."""
-        return self._durable(1)
+        return self._number_of(_waited(_shared_library().hull_python_sync, self._shared))
 
-    def _durable(self, waits: int) -> int:
-        reply = _shared_library().hull_python_durable(self._shared, waits)
+    def _number_of(self, reply: _Reply) -> int:
+        """Returns the number of the first line that is not durable, of a reply that has it."""
         _check_journal_file(reply, reply.high)
         _check_code(reply.code)
         return int(reply.number)
@@ -2047,6 +2056,10 @@ class JournalSegment:
         """
         return _text(_shared_library().hull_python_segment_text, self._at)
 
+    def _has_lines(self) -> bool:
+        """Returns whether a drain took lines."""
+        return bool(_shared_library().hull_python_segment_text_from(self._at, 0, 0, 0).code == _Code.TOO_SMALL)
+
     def pieces(self, size: SupportsIndex = 1 << 16) -> Iterator[str]:
         """Returns that text in blocks of whole lines, each of at most `size` bytes, or one line that is longer.
 
@@ -2144,11 +2157,12 @@ class Seat:
     released by `release`, at the end of a `with`, and when it is collected.
     """
 
-    __slots__ = ("_at", "_is_acquired", "_number", "_segment", "_space", "__weakref__")
+    __slots__ = ("_at", "_is_acquired", "_number", "_segments", "_space", "__weakref__")
 
     def __init__(self, shared: Any, number: int) -> None:
         self._number, self._space, self._is_acquired = number, 64, False
-        self._segment: Optional[JournalSegment] = None
+        # what a drain takes now, and what the one before it took
+        self._segments: Tuple[Optional[JournalSegment], Optional[JournalSegment]] = None, None
         self._at = _at(_shared_kinds()[1], _shared_library().hull_python_seat_new())
         _check_code(_shared_library().hull_python_acquire_seat(self._at, shared, number))
         self._is_acquired = True
@@ -2169,7 +2183,7 @@ class Seat:
 
     def _served(self, function: Callable[..., Any], *words: int) -> _Reply:
         """Returns the reply of a function that waits for the seat's turn, or raises its exception."""
-        reply: _Reply = function(self._at, *words)
+        reply: _Reply = _waited(function, self._at, *words)
         _check_code(reply.code)
         return reply
 
@@ -2196,7 +2210,7 @@ class Seat:
 
         Busy if they are not by then; else what `SharedHull.durable` raises.
         """
-        reply = _shared_library().hull_python_wait_durable(self._at)
+        reply = _waited(_shared_library().hull_python_wait_durable, self._at)
         _check_journal_file(reply, reply.high)
         _check_code(reply.code)
 
@@ -2243,16 +2257,17 @@ class Seat:
         if capacity == 0:
             self._ask(_Kind.COUNT)  # which raises, and says why
         segment = JournalSegment(capacity)
-        before, self._segment = self._segment, segment
-        reply = _shared_library().hull_python_drain(self._at, segment._at)
-        if reply.code in _FAULTS:
-            self._segment = before
-            _check_code(reply.code)
+        self._segments = segment, self.last_segment()
+        try:
+            self._served(_shared_library().hull_python_drain, segment._at)
+        finally:
+            self._segments = self.last_segment(), None
         return segment
 
     def last_segment(self) -> Optional[JournalSegment]:
         """Returns what the last drain took; None if there was none."""
-        return self._segment
+        newest, before = self._segments
+        return newest if newest is not None and newest._has_lines() else before
 
     def vertex_count(self) -> int:
         """Returns how many vertices there are."""

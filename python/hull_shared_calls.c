@@ -1,7 +1,13 @@
 /* The calls of include/hull_shared.h as functions of libhull_shared.so for python/hull.py: shared hulls, seats and segments that own
- * what they use, with one call at a time on each. ctypes releases the interpreter's lock while one of them waits. */
+ * what they use, with one call at a time on each. ctypes releases the interpreter's lock while one of them waits.
+ *
+ * A function that waits takes a word, 0 at first, and returns NOT_YET after a piece of its time, with the word for the next piece as
+ * `number`: so Python runs the handlers of signals meanwhile, of which one may end the wait. */
 #include "hull_shared.h"
 #include "hull_owned.h"
+
+/* The first piece of a wait, in nanoseconds. */
+enum { HULL_PYTHON_PIECE = 100000000 };
 
 /* A shared hull with its gate and its journal file; it ends when the Python object and all acquired seats and readers have dropped
  * it. */
@@ -13,6 +19,7 @@ typedef struct hull_python_shared {
     uint32_t owners;
     uint32_t waiters; /* how many threads wait for durable lines of the journal file */
     hull_shared_journal *journal; /* null if it has no journal file */
+    hull_reply closed;            /* what its closing returned */
 } hull_python_shared;
 
 /* The storage of a seat. */
@@ -50,6 +57,7 @@ hull_python_shared *hull_python_shared_new(void) {
     shared->owners = 1;
     shared->waiters = 0;
     shared->journal = NULL;
+    memset(&shared->closed, 0, sizeof shared->closed);
     hull_shared_gate_init(&shared->gate, 1);
     hull_begin(&shared->owned, 0);
     return shared;
@@ -138,26 +146,45 @@ static void end_wait(hull_python_shared *shared) {
     }
 }
 
-/* Return which lines of the file are durable: now, after all calls that were answered (sync), or after a line (wait), for so many
- * nanoseconds. NOT_OPEN if there is no journal file. */
+/* Returns the reply to a piece of a wait: if only the piece has ended, NOT_YET with the word for the next one. (Before its end a full journal
+ * is one for whose space calls do not wait.) */
+static hull_reply in_pieces(hull_reply reply, uint64_t piece_end, uint64_t end, uint64_t word) {
+    if ((reply.code == HULL_BUSY || reply.code == HULL_FULL) && piece_end < end && hull_shared_now() >= piece_end) {
+        reply.code = HULL_NOT_YET;
+        reply.number = word;
+    }
+    return reply;
+}
+
+/* Return which lines of the file are durable: now, after all calls that were answered (sync), or after a line (wait). A wait ends at a time.
+ * NOT_OPEN if there is no journal file; one that was closed during an earlier piece of the wait has what closing it returned. */
 enum { HULL_PYTHON_NOW, HULL_PYTHON_SYNC, HULL_PYTHON_WAIT };
-static hull_reply durable(hull_python_shared *shared, uint32_t how, uint64_t line, uint64_t time) {
+static hull_reply durable(hull_python_shared *shared, uint32_t how, uint64_t line, uint64_t end, int is_first) {
     hull_shared_journal *journal = begin_wait(shared);
-    uint64_t now = hull_shared_now(), until = time < HULL_SHARED_NEVER - now ? now + time : HULL_SHARED_NEVER;
     hull_reply reply;
     memset(&reply, 0, sizeof reply);
     reply.code = shared->owned.is_ended ? HULL_ENDED : HULL_NOT_OPEN;
     if (journal != NULL) {
         reply = how == HULL_PYTHON_NOW    ? hull_shared_journal_durable(journal)
-                : how == HULL_PYTHON_SYNC ? hull_shared_journal_sync(journal, until)
-                                          : hull_shared_journal_wait(journal, line, until);
+                : how == HULL_PYTHON_SYNC ? hull_shared_journal_sync(journal, end)
+                                          : hull_shared_journal_wait(journal, line, end);
         end_wait(shared);
+    } else if (!is_first && !shared->owned.is_ended) {
+        reply = shared->closed;
+        reply.code = reply.code == HULL_CLOSED ? HULL_DURABLE : reply.code;
     }
     return reply;
 }
 
-hull_reply hull_python_durable(hull_python_shared *shared, uint32_t waits) {
-    return durable(shared, waits ? HULL_PYTHON_SYNC : HULL_PYTHON_NOW, 0, HULL_SHARED_NEVER);
+hull_reply hull_python_durable(hull_python_shared *shared) {
+    return durable(shared, HULL_PYTHON_NOW, 0, 0, 1);
+}
+
+/* Waits in pieces, each twice as long as the one before, since each asks for what was answered by its own beginning, and one write of the
+ * file may take longer than a piece. */
+hull_reply hull_python_sync(hull_python_shared *shared, uint64_t piece) {
+    uint64_t time = piece != 0 ? piece : HULL_PYTHON_PIECE, end = hull_shared_now() + time;
+    return in_pieces(durable(shared, HULL_PYTHON_SYNC, 0, end, piece == 0), end, HULL_SHARED_NEVER, 2 * time);
 }
 
 /* Closes the shared hull and its journal file; IN_USE while a thread waits for durable lines. */
@@ -169,7 +196,10 @@ static hull_reply close_shared(hull_python_shared *shared) {
         reply.code = shared->waiters != 0 ? HULL_IN_USE : HULL_CLOSED;
         if (reply.code == HULL_CLOSED) {
             reply = hull_shared_journal_close(shared->journal);
-            shared->journal = reply.code == HULL_SEATS_OUT || reply.code == HULL_IN_USE ? shared->journal : NULL;
+            if (reply.code != HULL_SEATS_OUT && reply.code != HULL_IN_USE) {
+                shared->journal = NULL;
+                shared->closed = reply;
+            }
         }
         return reply;
     }
@@ -228,8 +258,7 @@ uint32_t hull_python_wait_at_most(hull_python_seat *s, uint64_t nanoseconds) {
 }
 
 /* Returns until when a call that begins now waits. */
-static uint64_t until(const hull_python_seat *s) {
-    uint64_t now = hull_shared_now();
+static uint64_t until(const hull_python_seat *s, uint64_t now) {
     return s->patience == 0 ? 0 : s->patience < HULL_SHARED_NEVER - now ? now + s->patience : HULL_SHARED_NEVER;
 }
 
@@ -278,13 +307,14 @@ void hull_python_seat_free(hull_python_seat *s) {
     }
 }
 
-/* Makes a call that waits for its turn: VACANT if the storage has no seat. */
-static hull_reply ask(hull_python_seat *s, uint32_t kind, int64_t x, int64_t y, hull_shared_target to) {
+/* Makes a call that waits for its turn, in pieces, whose word is until when: VACANT if the storage has no seat. */
+static hull_reply ask(hull_python_seat *s, uint32_t kind, int64_t x, int64_t y, hull_shared_target to, uint64_t end) {
+    uint64_t now = hull_shared_now(), whole = end != 0 ? end : until(s, now), piece = now + HULL_PYTHON_PIECE;
     hull_shared_reply reply;
     memset(&reply, 0, sizeof reply);
     reply.answer.code = HULL_VACANT;
     if (s->shared != NULL) {
-        reply = hull_shared_call_into(&s->shared->gate, s->seat, kind, x, y, to, until(s));
+        reply = hull_shared_call_into(&s->shared->gate, s->seat, kind, x, y, to, whole < piece ? whole : piece);
     }
     switch (reply.answer.code) {
     case HULL_VACANT:
@@ -297,41 +327,42 @@ static hull_reply ask(hull_python_seat *s, uint32_t kind, int64_t x, int64_t y, 
             s->has_turn = 1, s->turn = reply.line;
         }
     }
-    return reply.answer;
+    return in_pieces(reply.answer, piece, whole, whole);
 }
 
-hull_reply hull_python_ask(hull_python_seat *s, uint32_t kind, int64_t x, int64_t y) {
+hull_reply hull_python_ask(hull_python_seat *s, uint32_t kind, int64_t x, int64_t y, uint64_t end) {
     hull_shared_target nowhere = {NULL, 0, NULL};
-    HULL_REPLY_OF(s, ask(s, kind, x, y, nowhere));
+    HULL_REPLY_OF(s, ask(s, kind, x, y, nowhere, end));
 }
 
-hull_reply hull_python_ask_vertices(hull_python_seat *s, hull_point *out, size_t capacity) {
+hull_reply hull_python_ask_vertices(hull_python_seat *s, hull_point *out, size_t capacity, uint64_t end) {
     hull_shared_target to = {out, capacity, NULL};
-    HULL_REPLY_OF(s, ask(s, HULL_KIND_VERTICES, 0, 0, to));
+    HULL_REPLY_OF(s, ask(s, HULL_KIND_VERTICES, 0, 0, to, end));
 }
 
-static hull_reply drain(hull_python_seat *s, hull_python_segment *segment) {
+static hull_reply drain(hull_python_seat *s, hull_python_segment *segment, uint64_t end) {
     hull_shared_target to = {NULL, 0, segment->at};
-    HULL_REPLY_OF(s, ask(s, HULL_KIND_COUNT, 0, 0, to));
+    HULL_REPLY_OF(s, ask(s, HULL_KIND_COUNT, 0, 0, to, end));
 }
 
 /* Asks how many points there are, and drains into the segment, which has space for as many lines as the shared hull keeps at most. */
-hull_reply hull_python_drain(hull_python_seat *s, hull_python_segment *segment) {
-    HULL_REPLY_OF(segment, drain(s, segment));
+hull_reply hull_python_drain(hull_python_seat *s, hull_python_segment *segment, uint64_t end) {
+    HULL_REPLY_OF(segment, drain(s, segment, end));
 }
 
-/* Waits until the line of the seat's last call is durable in the file of its shared hull, for as long as its calls wait: VACANT if
- * it has no shared hull. The seat may be released meanwhile, so the call keeps the seat's shared hull. */
-hull_reply hull_python_wait_durable(hull_python_seat *s) {
+/* Waits until the line of the seat's last call is durable in the file of its shared hull, for as long as its calls wait, in pieces, whose
+ * word is until when: VACANT if it has no shared hull. The seat may be released meanwhile, so a piece keeps the seat's shared hull. */
+hull_reply hull_python_wait_durable(hull_python_seat *s, uint64_t end) {
     hull_python_shared *shared = NULL;
-    uint64_t line = 0, time = 0;
+    uint64_t now = hull_shared_now(), piece = now + HULL_PYTHON_PIECE, line = 0, whole = end;
     uint32_t how = HULL_PYTHON_NOW;
     hull_reply reply;
     memset(&reply, 0, sizeof reply);
     reply.code = s->owned.is_ended ? HULL_ENDED : HULL_VACANT;
     if (hull_enter(&s->owned)) {
         shared = s->shared;
-        line = s->turn, time = s->patience, how = s->has_turn ? HULL_PYTHON_WAIT : HULL_PYTHON_NOW;
+        line = s->turn, how = s->has_turn ? HULL_PYTHON_WAIT : HULL_PYTHON_NOW;
+        whole = end != 0 ? end : until(s, now);
         if (shared != NULL && hull_enter(&shared->owned)) {
             shared->owners++;
             hull_leave(&shared->owned);
@@ -339,10 +370,10 @@ hull_reply hull_python_wait_durable(hull_python_seat *s) {
         hull_leave(&s->owned);
     }
     if (shared != NULL) {
-        reply = durable(shared, how, line, time);
+        reply = durable(shared, how, line, whole < piece ? whole : piece, end == 0);
         hull_python_shared_free(shared);
     }
-    return reply;
+    return in_pieces(reply, piece, whole, whole);
 }
 
 uint32_t hull_python_capacity(hull_python_seat *s) {

@@ -7,6 +7,7 @@ import functools
 import os
 import pickle
 import random
+import signal
 import tempfile
 import threading
 import time
@@ -367,6 +368,66 @@ class Calls(unittest.TestCase):
             hull.close()
         for wrong in (-1, -1e-9, float("nan")):
             self.assertRaises(ValueError, SharedHull.open_journal, "never", capacity=50, seats=1, every=wrong)
+
+    def interrupted(self, wait):
+        """Asserts that a signal handler runs while a call waits for ever, and ends the wait by what it raises."""
+        def handle(*_):
+            raise KeyboardInterrupt
+
+        before = signal.signal(signal.SIGALRM, handle)
+        try:
+            signal.setitimer(signal.ITIMER_REAL, 0.3)
+            self.assertRaises(KeyboardInterrupt, wait)
+        finally:
+            signal.setitimer(signal.ITIMER_REAL, 0)
+            signal.signal(signal.SIGALRM, before)
+
+    def test_signals_beside_waits(self):
+        """A call that waits for space is ended by a signal, and not made; one that is not ended waits until there is space."""
+        hull, calls = SharedHull(capacity=3, seats=2, waits=True), []
+        with hull.acquire_seat(0) as seat, hull.acquire_seat(1) as other:
+            first = seat.drain()
+            for x in range(3):
+                seat.add(x, 0)
+            drains = threading.Timer(20, other.drain)  # so that the call ends anyway
+            drains.start()
+            self.interrupted(lambda: seat.add(3, 0))
+            drains.cancel()
+            self.assertEqual((seat.turn(), hull.stats().for_space, seat.last_segment() is first), (3, 0, True))
+            thread = threading.Thread(target=lambda: calls.append(seat.add(4, 0)))
+            thread.start()
+            time.sleep(0.3)  # some pieces of its wait
+            self.assertEqual(([], 1), (calls, hull.stats().for_space))
+            self.assertEqual(len(list(other.drain())), 6)
+            thread.join()
+            self.assertEqual((calls, other.count()), ([1], 4))
+            seat.add(5, 0)
+            seat.wait_at_most(0.25)
+            begun = time.monotonic()
+            self.assertRaises(JournalFull, seat.add, 6, 0)
+            self.assertGreaterEqual(time.monotonic() - begun, 0.24)
+
+    def test_pieces_of_a_sync(self):
+        """A sync whose write takes long is made in pieces, which get longer; one beside a close has what closing returned."""
+        library, pieces = hull_module._shared_library(), []
+        with tempfile.TemporaryDirectory() as folder:
+            hull = SharedHull.open_journal(os.path.join(folder, "zone.journal"), capacity=50, seats=1)
+            with hull.acquire_seat(0) as seat:
+                seat.add(1, 1)
+            sync = library.hull_python_sync
+
+            def late(at, piece):
+                pieces.append(piece)
+                if len(pieces) == 3:
+                    hull.close()
+                return sync(at, piece) if len(pieces) > 2 else hull_module._Reply(hull_module._Code.NOT_YET, number=2 * (piece or 1))
+
+            library.hull_python_sync = late
+            try:
+                self.assertEqual((hull.sync(), pieces), (1, [0, 2, 4]))
+            finally:
+                library.hull_python_sync = sync
+            self.assertRaises(ValueError, hull.sync)
 
     def test_a_file_that_is_refused_is_closed(self):
         with tempfile.TemporaryDirectory() as folder:
