@@ -86,14 +86,17 @@ run_on_terminal() {
         "$program" "$@" <&3 3<&- &
         child=$!
         # (a program in the background does not get the terminal's interrupt, and ignores one that it is sent)
-        interrupted=
-        trap 'interrupted=yes; kill -TERM $child 2>/dev/null' INT
+        ended_by=
+        for signal in 1 2 3 15; do
+            # shellcheck disable=SC2064 # the signal is that of now
+            trap "ended_by=$signal; kill -TERM $child 2>/dev/null" $signal
+        done
         # (a `sleep` of it may outlast the program, and would keep a pipe open that the output goes to)
         show_time $child >/dev/null &
         watcher=$!
         wait $child 2>/dev/null
         status=$?
-        [ -z "$interrupted" ] || { wait $child 2>/dev/null; status=130; }
+        [ -z "$ended_by" ] || { wait $child 2>/dev/null; status=$((128 + ended_by)); }
         kill $watcher 2>/dev/null && wait $watcher 2>/dev/null
     else
         "$program" "$@"

@@ -172,7 +172,7 @@ def test_meanings(tests):
 
 
 def test_terminal(tests):
-    """On a terminal there is the synopsis, the version, the time of a run, and how many calls found the journal full; an interrupt ends it."""
+    """On a terminal there is the synopsis, the version, the time of a run, and how many calls found the journal full; a signal ends it."""
     with tempfile.TemporaryDirectory() as top:
         env = lay(top)
         write(f"{top}/five", "0 add 1 1\n" * 5 + "join\n# a comment\n"), write(f"{top}/other", "0 add 1 1\n")
@@ -223,6 +223,11 @@ def test_terminal(tests):
         while os.path.exists(f"/proc/{kit.text_of(f'{top}/pid').strip()}") and time.monotonic() < until:
             time.sleep(0.05)
         tests.see("an interrupt ends the program, too", status == 130 and not os.path.exists(f"/proc/{kit.text_of(f'{top}/pid').strip()}"), f"{status}: {shown}")
+        for name, wanted in (("HUP", 129), ("TERM", 143)):
+            os.remove(f"{top}/pid")
+            ends = f"while [ ! -s {top}/pid ]; do sleep 0.05; done; kill -{name} $at; wait $at"
+            came = on_terminal(top, "sh", "-c", f"bin/hullbook run five & at=$!; {ends}", env={**env, "SLEEP": "20", "PID": f"{top}/pid"})
+            tests.same(f"{name} ends the program, too", (came, os.path.exists(f"/proc/{kit.text_of(f'{top}/pid').strip()}")), ((wanted, ""), False))
 
 
 TESTS = (test_lib, test_programs, test_meanings, test_terminal, *completions.TESTS, *transcripts.TESTS)
