@@ -444,7 +444,8 @@ def _shared_library() -> ctypes.CDLL:
         ("python_reopen", [at, at, size, number, number], _Reply),
         ("python_compact", [ctypes.c_char_p], _Reply),
         ("python_open_journal", [at, ctypes.c_char_p, number, number, number, long], _Reply), ("python_durable", [at], _Reply),
-        ("python_sync", [at, long], _Reply), ("python_wait_durable", [at, long], _Reply), ("python_close", [at], _Reply), ("python_text", [at, at, size], _Reply),
+        ("python_sync", [at, long], _Reply), ("python_wait_durable", [at, long], _Reply), ("python_close", [at], _Reply),
+        ("python_text", [at, at, size], _Reply),
         ("python_acquired_seats", [at], long), ("python_seat_new", [], at), ("python_seat_free", [at], None),
         ("python_acquire_seat", [at, at, number], number),
         ("python_release_seat", [at], None), ("python_ask", [at, number, whole, whole, long], _Reply),
@@ -591,7 +592,8 @@ def _like(points: object, numbers: Any) -> Any:
     """Returns the numbers, as an array of numpy if the points were one."""
     numpy = _of_numpy(points)
     if numpy is not None:
-        return numpy.frombuffer(numbers, dtype=numpy.uint8 if isinstance(numbers, bytes) else numpy.uint32)
+        # (of bytes themselves numpy makes an array that can't be written)
+        return numpy.frombuffer(bytearray(numbers), dtype=numpy.uint8 if isinstance(numbers, bytes) else numpy.uint32)
     return numbers
 
 
@@ -1578,10 +1580,12 @@ class Polygon(_Questions):
 
 def _length(distance: Union[int, float, Fraction]) -> Tuple[Fraction, bool]:
     """Returns a distance as the fraction that it is, and whether the library takes it."""
-    if isinstance(distance, str):
-        raise TypeError("a distance is a number, and not a str")
+    number: Any = distance
+    if not hasattr(number, "as_integer_ratio") and not hasattr(number, "denominator"):
+        raise TypeError(f"a distance is a number, and not {type(number).__name__}")
     try:
-        length = Fraction(distance)
+        above, below = number.as_integer_ratio() if hasattr(number, "as_integer_ratio") else (number.numerator, number.denominator)
+        length = Fraction(int(above), int(below))
     except (OverflowError, ValueError):  # not finite
         length = Fraction(-1)
     if length < 0:
@@ -1671,16 +1675,32 @@ class FloatHull:
     """A set of points in floats, with results in floats: a Hull on the lattice of steps of 2**-power.
 
     Each number goes to the nearest step (`from_floats`), and answers are exact for the rounded points: `rounded` counts the coordinates of
-    added points that had to be rounded. `hull` is the Hull itself.
+    added points that had to be rounded. `hull` is the Hull itself. Two are equal if they have equal hulls and the same steps.
     """
 
-    __slots__ = ("hull", "power", "rounded")
+    __slots__ = ("hull", "power", "rounded", "__weakref__")
+    __hash__ = None  # type: ignore[assignment] # it changes
 
     def __init__(self, points: Any = (), power: SupportsIndex = 20, limit: SupportsIndex = POINT_LIMIT) -> None:
         self.power = operator.index(power)
         made = from_floats(points, self.power)
         self.hull = Hull(made.points, limit)
         self.rounded = made.rounded
+
+    def __reduce__(self) -> Any:
+        """Copies and pickles have the same points, multiplicities, limit, steps and count of what was rounded."""
+        return _float_hull_of, (self.hull, self.power, self.rounded)
+
+    def __eq__(self, other: object) -> bool:
+        if not isinstance(other, FloatHull):
+            return NotImplemented
+        return self.power == other.power and self.hull == other.hull
+
+    def copy(self) -> FloatHull:
+        """Returns another hull with the same points, multiplicities, limit, steps and count of what was rounded."""
+        return _float_hull_of(self.hull.copy(), self.power, self.rounded)
+
+    __copy__ = copy
 
     def __len__(self) -> int:
         return len(self.hull)
@@ -1757,6 +1777,13 @@ class FloatHull:
     def wkt(self) -> str:
         """Returns the hull as well-known text."""
         return self.hull.wkt(self.power)
+
+
+def _float_hull_of(hull: Hull, power: int, rounded: int) -> FloatHull:
+    """Returns the hull in floats over this one."""
+    made = FloatHull.__new__(FloatHull)
+    made.hull, made.power, made.rounded = hull, power, rounded
+    return made
 
 
 class _State(ctypes.Structure):

@@ -821,6 +821,23 @@ class Arrays(unittest.TestCase):
                 (self.square.reshape(5, 2, 1), r"has \(5, 2, 1\)"), (self.square[:, :1], r"has \(5, 1\)")):
             self.assertRaisesRegex(ValueError, message, self.hull.place_all, points)
 
+    def test_results_can_be_written(self):
+        polygon, growing = self.hull.polygon(), hull_module.GrowingHull()
+        for result in (self.hull.place_all(self.square), polygon.place_all(self.square), growing.add_all(self.square), self.hull.add_all(self.square),
+                       polygon.intersects_segments(self.square[:4].reshape(2, 4)), *self.hull.tangents_all(self.square), polygon.vertex_array(),
+                       self.hull.extreme_all(self.square + 1)):
+            result[...] = 1
+            self.assertTrue((result == 1).all())
+
+    def test_distances(self):
+        polygon, other = self.hull.polygon(), hull_module.Polygon([(13, 0)])
+        for kind in (numpy.int8, numpy.uint64, numpy.float16, numpy.float32, numpy.float64, numpy.longdouble):
+            self.assertEqual([polygon.within_distance(other, kind(distance)) for distance in (2, 3)], [False, True], kind)
+            self.assertEqual(hull_module.pairs_within_distance([polygon, other], kind(3)), [(0, 1)], kind)
+        for wrong in (numpy.array([3]), numpy.bool_(True)):
+            self.assertRaises(TypeError, polygon.within_distance, other, wrong)
+        self.assertRaises(OutOfRange, polygon.within_distance, other, numpy.float32("nan"))
+
     def test_shapes_of_segments(self):
         polygon = hull_module.Polygon([(0, 0), (10, 0), (10, 10)])
         ends = numpy.array([[0, 0, 5, 5], [20, 20, 30, 30], [5, 1, 6, 1]])

@@ -1,11 +1,14 @@
 """Tests the module hull at its limits: numbers at both ends of each range and beyond, blocks and lengths that do not fit, floats that are
 rounded, hulls that differ only by multiplicities, and what shared hulls, seats and readers do when they are full, released or late."""
+import copy
 import itertools
+import pickle
 import random
 import sys
 import threading
 import time
 import unittest
+import weakref
 from array import array
 from decimal import Decimal
 from fractions import Fraction
@@ -146,6 +149,8 @@ class Lengths(unittest.TestCase):
         for wrong in (-1, -0.5, float("nan"), float("inf"), Fraction(-1, 10 ** 30)):
             self.assertRaises(hull.OutOfRange, hull.pairs_within_distance, cells, wrong)
             self.assertRaises(hull.OutOfRange, cells[0].within_distance, cells[1], wrong)
+        for wrong in ("3", None, 3j, [3]):
+            self.assertRaisesRegex(TypeError, f"a distance is a number, and not {type(wrong).__name__}$", cells[0].within_distance, cells[1], wrong)
         self.assertRaises(TypeError, cells[0].within_distance, cells[1], "1")
 
     def test_features(self):
@@ -206,6 +211,18 @@ class Floats(unittest.TestCase):
         self.assertRaises(ValueError, zone.distance, FloatHull([(1, 3)], power=5))
         self.assertEqual((FloatHull(power=2).area(), FloatHull([(0, 0), (3, 0), (3, 5)], power=2).area(), zone.wkt()), (0, 7.5,
                 "POLYGON ((0.0 0.0, 1.0 0.0, 1.0 1.0, 0.0 1.0, 0.0 0.0))"))
+
+    def test_copies_in_floats(self):
+        zone = FloatHull([(0, 0), (0.1, 1), (0.1, 1)], power=4, limit=5)
+        copies = [zone.copy(), copy.copy(zone), copy.deepcopy(zone), *(pickle.loads(pickle.dumps(zone, protocol)) for protocol in range(6))]
+        for other in copies:
+            self.assertEqual((other, list(other.hull.items()), other.hull.limit(), other.power, other.rounded),
+                             (zone, list(zone.hull.items()), 5, 4, zone.rounded))
+            other.add(3, 3)
+            self.assertNotEqual(other, zone)
+        self.assertEqual((len(zone), len(copies[0]), zone == FloatHull(zone, power=5), zone == zone.hull), (2, 3, False, False))
+        self.assertIs(weakref.ref(zone)(), zone)
+        self.assertRaises(TypeError, hash, zone)
 
     def test_arrays_of_numpy(self):
         try:
