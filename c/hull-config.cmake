@@ -1,5 +1,7 @@
 # find_package(hull): the targets hull::hull (hull.h, hull.hpp) and hull::shared (hull_shared.h), both static.
-get_filename_component(_hull_prefix "${CMAKE_CURRENT_LIST_DIR}/../../.." ABSOLUTE)
+# (links are resolved first: this may have been found in /lib, a link to /usr/lib)
+get_filename_component(_hull_prefix "${CMAKE_CURRENT_LIST_DIR}" REALPATH)
+get_filename_component(_hull_prefix "${_hull_prefix}/../../.." ABSOLUTE)
 foreach(_hull_name IN ITEMS hull shared)
     if(NOT TARGET hull::${_hull_name})
         add_library(hull::${_hull_name} STATIC IMPORTED)

@@ -197,6 +197,12 @@ def test_again(tests, top, prefix, work):
     tests.same("by a link, from another folder", run("/", f"{work}.link", f"{prefix}.linked", env={"TMPDIR": work}), (0, ""))
     tests.same("all its files", found(f"{prefix}.linked"), wanted(mine, mine == "x86_64"))
     run(top, "bin/install", prefix)
+    gone = "share/an older/file.txt"
+    write(f"{prefix}/{gone}", "of an older version\n"), write(f"{prefix}/bin/others", "of others\n")
+    write(f"{prefix}/share/hullbook/installed", contents(f"{prefix}/share/hullbook/installed").decode() + f"{gone}\n")
+    tests.same("the libraries only, over all", run(top, "bin/install", "--library", prefix), (0, ""))
+    tests.same("what only the installation before had is gone", found(prefix), {**wanted(mine, False), "lib/others.txt": 0o644, "bin/others": 0o644})
+    tests.same("with its folders", os.path.exists(f"{prefix}/share/an older"), False)
 
 
 def test_version_file(tests, prefix):
@@ -204,11 +210,20 @@ def test_version_file(tests, prefix):
     if not shutil.which("cmake"):
         print("skipped: the version that CMake finds: there is no cmake")
         return
+    ranged = 'set(PACKAGE_FIND_VERSION_RANGE_MAX "{1}")\nset(PACKAGE_FIND_VERSION_MAX "{2}")\n{0}'
     script = 'set(PACKAGE_FIND_VERSION "{0}")\nset(PACKAGE_FIND_VERSION_MAJOR "{1}")\ninclude("{2}/lib/cmake/hull/hull-config-version.cmake")\n' \
              'message("${{PACKAGE_VERSION}} ${{PACKAGE_VERSION_COMPATIBLE}} ${{PACKAGE_VERSION_EXACT}}")\n'
     for asked, answer in (("7.8.9", "TRUE TRUE"), ("7.8.9.0", "TRUE TRUE"), ("7.8", "TRUE "), ("7.9", "FALSE "), ("8.0", "FALSE "), ("6.0", "FALSE "), ("7", "TRUE ")):
         write(f"{prefix}.cmake", script.format(asked, asked.partition(".")[0], prefix))
         tests.same(f"CMake asks for {asked}", run("/", "cmake", "-P", f"{prefix}.cmake")[1].rstrip("\n"), f"7.8.9 {answer}")
+    for end, greatest, answer in (("INCLUDE", "7.8.9", "TRUE "), ("INCLUDE", "7.8.8", "FALSE "), ("EXCLUDE", "7.8.9", "FALSE "), ("EXCLUDE", "8", "TRUE ")):
+        write(f"{prefix}.cmake", ranged.format(script.format("7.0", "7", prefix), end, greatest))
+        tests.same(f"up to {greatest}, {end}", run("/", "cmake", "-P", f"{prefix}.cmake")[1].rstrip("\n"), f"7.8.9 {answer}")
+    os.makedirs(f"{prefix}.root"), os.symlink(f"{prefix}/lib", f"{prefix}.root/lib")
+    write(f"{prefix}.cmake", f'function(add_library)\nendfunction()\nfunction(set_target_properties)\nmessage("${{ARGN}}")\nendfunction()\n'
+                             f'include("{prefix}.root/lib/cmake/hull/hull-config.cmake")\n')
+    said = run("/", "cmake", "-P", f"{prefix}.cmake")[1]
+    tests.see("by a link to its folder it finds what is installed", f"IMPORTED_LOCATION;{prefix}/lib/libhull.a;" in said and f"{prefix}/include" in said, said)
 
 
 # ---- packages
