@@ -1447,16 +1447,24 @@ public:
     // Returns whether the snapshot is still the newest: one load.
     bool is_newest() const { return is_copied_ && hull_shared_is_newest(alive()) == 1; }
 
-    // Returns the snapshot, and the number of its line; none if it is that of a hull with no line.
-    PolygonView snapshot() const noexcept { return PolygonView(vertices_.data(), count_); }
+    // Returns the snapshot, and the number of its line; none if it is that of a hull with no line. The snapshot of a reader that is about to end,
+    // as hull.acquire_reader().newest(), owns its vertices.
+    PolygonView snapshot() const & noexcept { return PolygonView(vertices_.data(), count_); }
+    Polygon snapshot() && {
+        return Polygon(detail::with_memory([this] { return std::vector<Point>(vertices_.data(), vertices_.data() + count_); }));
+    }
     std::optional<std::uint64_t> line() const noexcept { return line_; }
 
     // Returns the newest snapshot: this one, or another that is taken.
-    PolygonView newest() {
+    PolygonView newest() & {
         if (!is_newest()) {
             read();
         }
         return snapshot();
+    }
+    Polygon newest() && {
+        newest();
+        return std::move(*this).snapshot();
     }
 
 private:

@@ -2180,7 +2180,7 @@ class Reader:
 class Seat:
     """A seat of a shared hull, for one thread at a time: calls on one seat from several threads wait for each other.
 
-    Each call waits for its turn, and other threads of Python run meanwhile; it raises JournalFull if the journal is full. A seat is
+    Each call waits for its turn, and other threads and signal handlers run meanwhile; it raises JournalFull if the journal is full. A seat is
     released by `release`, at the end of a `with`, and when it is collected.
     """
 

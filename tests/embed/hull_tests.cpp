@@ -565,6 +565,15 @@ static void acquisitions() {
 
 static_assert(!std::is_copy_constructible_v<hull::Reader> && std::is_nothrow_move_assignable_v<hull::Reader>);
 
+// snapshots of readers that are gone
+static void kept_snapshots() {
+    SharedHull h({10, 7, 20, 1, 1});
+    h.acquire_seat(0).add({3, 4});
+    const auto newest = h.acquire_reader().newest(), first = h.acquire_reader().snapshot();
+    static_assert(std::is_same_v<decltype(newest), const hull::Polygon> && std::is_same_v<decltype(first), const hull::Polygon>);
+    CHECK(newest == hull::Polygon({{3, 4}}) && first == newest);
+}
+
 // readers, with their snapshots
 static void readers() {
     CHECK(refuses(Refusal::no_seat, [&] { SharedHull({10, 7, 20, 1}).acquire_reader(); }));
@@ -766,6 +775,7 @@ int main(int words, char **word) {
     exchange();
     shared();
     readers();
+    kept_snapshots();
     journal_files();
     closed_beside_waiters();
     if (hull_overlaps != nullptr) {
