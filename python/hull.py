@@ -717,10 +717,14 @@ def direction_of(dx: float, dy: float) -> Tuple[Pair, bool]:
     """Returns the direction of two floats in integers, and whether it was rounded: ((x, y), rounded).
 
     Both are multiplied by the power of two that makes the greater one at least 2^39 and less than 2^40 in size. If both are integers then,
-    it is the same direction; else each is rounded to the nearest, ties to even. (0, 0) stays (0, 0). OutOfRange if one is not finite.
+    it is the same direction; else each is rounded to the nearest, ties to even. (0, 0) stays (0, 0). OutOfRange if one is not finite, or is
+    greater than all floats.
     """
     greatest = max(abs(dx), abs(dy))
-    power = 0 if greatest == 0 or not math.isfinite(greatest) else 40 - math.frexp(greatest)[1]
+    try:
+        power = 0 if greatest == 0 or not math.isfinite(greatest) else 40 - math.frexp(greatest)[1]
+    except OverflowError:
+        raise _out_of_range() from None
     (x, at_x), (y, at_y) = _from_float(dx, power), _from_float(dy, power)
     return (x, y), at_x or at_y
 
@@ -1766,6 +1770,8 @@ class FloatHull:
 
     def distance(self, other: FloatHull) -> Optional[float]:
         """Returns the distance of another hull with the same steps, 0 if they intersect; None if one has no point."""
+        if not isinstance(other, FloatHull):
+            raise TypeError(f"the other one is a FloatHull, and not {type(other).__name__}")
         if other.power != self.power:
             raise ValueError(f"the hulls have steps of 2**{-self.power} and of 2**{-other.power}")
         return self._root(self.hull.polygon().squared_distance(other.hull.polygon()))
@@ -1870,7 +1876,7 @@ class SharedHull:
         lines count as drained: the texts of this hull have only lines of later calls, and `hullbook check OLD NEW..` judges all in order.
         JournalFault if the text can't be continued.
         """
-        text = text.encode() if isinstance(text, str) else bytes(text)
+        text = text.encode() if isinstance(text, str) else bytes(memoryview(text))  # (bytes of a number would be zeros)
         capacity, seats = operator.index(capacity), operator.index(seats)
         if not (0 <= capacity < 1 << 32 and 0 <= seats < 1 << 32):
             _check_code(_Code.OUT_OF_LIMITS)

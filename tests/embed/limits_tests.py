@@ -198,6 +198,9 @@ class Floats(unittest.TestCase):
         for wrong in (float("nan"), float("-inf")):
             for pair in ((wrong, 1), (1, wrong)):
                 self.assertRaises(hull.OutOfRange, hull.direction_of, *pair)
+        for wrong in (10 ** 400, -10 ** 400, Fraction(10 ** 400, 3)):
+            self.assertRaises(hull.OutOfRange, hull.direction_of, wrong, 1)
+            self.assertRaises(hull.OutOfRange, Hull(SQUARE).extreme_d, 1, wrong)
         self.assertEqual(hull.to_floats([(1, -3)], 2), [(0.25, -0.75)])
 
     def test_hulls_in_floats(self):
@@ -223,6 +226,7 @@ class Floats(unittest.TestCase):
         self.assertEqual((len(zone), len(copies[0]), zone == FloatHull(zone, power=5), zone == zone.hull), (2, 3, False, False))
         self.assertIs(weakref.ref(zone)(), zone)
         self.assertRaises(TypeError, hash, zone)
+        self.assertRaisesRegex(TypeError, "the other one is a FloatHull, and not Hull", zone.distance, zone.hull)
 
     def test_arrays_of_numpy(self):
         try:

@@ -70,6 +70,10 @@ class Calls(unittest.TestCase):
         old = head + "5 1 add 0 0 = added\n6 0 add 4 0 = added\nend 2\n"
         for capacity, seats in ((0, 2), (-1, 2), (CAPACITY_LIMIT + 1, 2), (4, 0), (4, SEAT_LIMIT + 1), (4, 1 << 32)):
             self.assertRaises(ValueError, SharedHull.reopen, old, capacity, seats)
+        for wrong in (5, None, [1, 2], 2.5):
+            self.assertRaises(TypeError, SharedHull.reopen, wrong, 4, 2)
+        for text in (bytearray(old.encode()), memoryview(old.encode())):
+            SharedHull.reopen(text, 4, 2).close()
         with SharedHull.reopen(old.encode(), 4, 2) as hull:
             with hull.acquire_seat(1) as seat:
                 self.assertEqual((seat.add(0, 0), seat.turn(), seat.count()), (2, 7, 2))
