@@ -1,0 +1,14 @@
+-- `hull_shared_end` meets its contract.
+use Rattle.hull_reply.proofs.Steps.{w32, []}
+use Rattle.hull_reply.proofs.Lends.{lends, number}
+use Rattle.hull_shared.specs.contracts.shared_hull.SharedHull.{the_row}
+use Rattle.hull_shared.specs.SharedHulls.{HasEnded}
+use Rattle.hull_shared.proofs.exports.closing.hull_shared_end.Statement.{statement}
+use Rattle.hull_shared.proofs.exports.closing.hull_shared_end.Code as code
+use Rattle.hull_shared.proofs.closing.end.Met.{met}
+
+pub hull_shared_end_spec : {M : Type 1} → statement M
+hull_shared_end_spec 𝓤 𝓛 𝓜 𝓡 wired =
+    lends 𝓤 𝓛 𝓜 𝓡 0 [] tt the_row (number 𝓛 w32)
+    (λ κs a t new ws u. HasEnded t new u) (code.unfolded 𝓤 𝓛.H 𝓜 𝓡 wired)
+    (λ x. met 𝓤 𝓛 𝓜 𝓡 (code.calls-hull_shared::closing::end 𝓡.env wired) (x, tt))
