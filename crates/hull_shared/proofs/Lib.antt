@@ -1,6 +1,7 @@
 mod LendsBoth
 mod Makes
 mod SeatReplies
+pub mod AllLedgers
 pub mod Books
 pub mod Changes
 mod JournalSnapshots
