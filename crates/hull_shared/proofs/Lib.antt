@@ -12,4 +12,5 @@ pub mod Served
 pub mod Found
 mod SnapshotReplies
 pub mod SnapshotSlots
+pub mod Seen
 pub mod Takes

@@ -56,22 +56,36 @@ abbrev pub IsIdle : SharedSeat → Type 0
 IsIdle (Idle i) = Unit {0}
 IsIdle seat = ⊥
 
--- the reply of a seat that takes no number: there is no seat, it has a number already, or it is asked for no call
-abbrev pub IsRefused : Result Call Code → SharedSeat → SeatReply → Type 0
-IsRefused asked Vacant r = IsBareReply code.Vacant r
-IsRefused asked (Waiting w) r = IsReplyOf code.Waiting w r
-IsRefused (Err fault) (Idle i) r = IsBareReply fault r
-IsRefused (Ok call) (Idle i) r = ⊥
+-- the number that the seat has, or 0 if it has none
+abbrev pub turn_of : SharedSeat → ℕ
+turn_of Vacant = 0
+turn_of (Idle i) = 0
+turn_of (Waiting w) = ticket_number w.ticket
 
--- the call that a seat with no number is asked for, or the reply of a seat that takes none
-abbrev pub CanTake : Result Call Code → SharedSeat → Result Call SeatReply → Type 0
-CanTake asked seat (Ok call) = IsIdle seat × (asked ≡ Ok call)
-CanTake asked seat (Err r) = IsRefused asked seat r
+-- the reply of a seat that takes no number: this code, the number that it has already, and nothing else
+abbrev pub IsRefusal : Code → SharedSeat → SeatReply → Type 0
+IsRefusal c seat r = IsBare c r.encoded × (r.turn ≡ turn_of seat) × EncodesNothing r
+
+-- why a seat takes no number: there is none, it has a number already, or it is asked for no call
+abbrev pub IsWhyRefused : Result Call Code → SharedSeat → Code → Type 0
+IsWhyRefused asked Vacant c = c ≡ code.Vacant
+IsWhyRefused asked (Waiting w) c = c ≡ code.Waiting
+IsWhyRefused (Err fault) (Idle i) c = c ≡ fault
+IsWhyRefused (Ok call) (Idle i) c = ⊥
+
+-- the call that these numbers request of a seat with no number, or why the seat takes none
+abbrev pub CanTake : ℕ → ℤ → ℤ → SharedSeat → Result Call Code → Type 0
+CanTake kind x y seat (Ok call) = IsIdle seat × IsAsked kind x y (Ok call)
+CanTake kind x y seat (Err c) = (asked : Result Call Code) × IsAsked kind x y asked × IsWhyRefused asked seat c
 
 -- a seat with no number that is asked for a call does this; any other is unchanged, and the reply says why
 abbrev pub Accepts : (IdleSeat → Call → SharedSeat → SeatReply → Type 0) → Result Call Code → SharedSeat → SharedSeat → SeatReply → Type 0
 Accepts does (Ok call) (Idle i) new r = does i call new r
-Accepts does asked old new r = (new ≡ old) × IsRefused asked old r
+Accepts does asked old new r = (new ≡ old) × ((c : Code) × IsWhyRefused asked old c × IsRefusal c old r)
+
+-- so does a seat with no number, if these numbers request a call; any other is unchanged, and the reply says why
+abbrev pub AcceptsRequest : (IdleSeat → Call → SharedSeat → SeatReply → Type 0) → ℕ → ℤ → ℤ → SharedSeat → SharedSeat → SeatReply → Type 0
+AcceptsRequest does kind x y old new r = (asked : Result Call Code) × IsAsked kind x y asked × Accepts does asked old new r
 
 -- the seat takes a number for the call
 abbrev pub TakesNumber : IdleSeat → Call → SharedSeat → SeatReply → Type 0
@@ -79,7 +93,7 @@ TakesNumber i call new r = (w : WaitingSeat) × (new ≡ Waiting w) × WaitsFor 
 
 -- a take, for the requested call
 abbrev pub HasTaken : ℕ → ℤ → ℤ → SharedSeat → SharedSeat → SeatReply → Type 0
-HasTaken kind x y old new r = (asked : Result Call Code) × IsAsked kind x y asked × Accepts TakesNumber asked old new r
+HasTaken = AcceptsRequest TakesNumber
 
 -- the seat looked once more and still waits: the same seat of the same lock, with the same number and call, that has
 -- seen the same lines
@@ -105,9 +119,10 @@ WasServed served w i answer state_after = HasFound w i (λ found. served (head_o
     w.call found (seat_seen i.seat) answer state_after)
 
 -- the seat still waits, and the service was not used; or the service served its call
-abbrev pub HasLooked : {S A : Type 0} → (S → Serves A) → WaitingSeat → S → Looked S A → Type 0
-HasLooked served w service (looked.NotYet v left) = WaitsOn w v × (left ≡ service)
-HasLooked served w service (looked.Served i answer state_after) = WasServed (served service) w i answer state_after
+abbrev pub HasLooked : {S A : Type 0} → (S → Serves A) → WaitingSeat → SharedSeat → S → Looked S A → Type 0
+HasLooked served w (Waiting v) service (looked.NotYet left) = WaitsOn w v × (left ≡ service)
+HasLooked served w (Idle i) service (looked.Served answer state_after) = WasServed (served service) w i answer state_after
+HasLooked served w new service seen = ⊥
 
 -- the reply has an answer: the numbers of the set's reply, or that the book is full
 abbrev pub EncodesAnswer : HullReply → SharedHullAnswer → Type 0
@@ -166,7 +181,7 @@ TakesAndLooks i call new r = (w : WaitingSeat) × WaitsFor i w call × HasReplie
 
 -- a take and a look, for the requested call
 abbrev pub HasTakenAndLooked : ℕ → ℤ → ℤ → SharedSeat → SharedSeat → SeatReply → Type 0
-HasTakenAndLooked kind x y old new r = (asked : Result Call Code) × IsAsked kind x y asked × Accepts TakesAndLooks asked old new r
+HasTakenAndLooked = AcceptsRequest TakesAndLooks
 
 -- a look, whose answer is in the reply, with vertices written to the array
 abbrev pub HasRepliedInto : SharedSeat → SharedSeat → List Pair → List Pair → SeatReply → Type 0

@@ -1,22 +1,15 @@
--- the seat takes a number for the requested call, and looks
-use Rattle.std.proofs.Common.{rules, subst}
-use Rattle.std.specs.Prelude.{Result}
-use Rattle.hull_set.specs.declared.call.Call.{Call}
-use Rattle.hull_shared.specs.Looks.{CanTake, TakesAndLooks}
-use Rattle.hull_shared.specs.declared.looking.SeatReply.{SeatReply}
+-- the request was accepted or refused
+use Rattle.std.proofs.Common.{rules}
+use Rattle.hull_shared.specs.Looks.{TakesAndLooks}
 use Rattle.hull_shared.proofs.Takes.{accepted, refused}
 use Rattle.hull_shared.proofs.looking.take_and_look.Goals as goal
 
 pub returns-in-Ok : goal.returns-in-Ok
 returns-in-Ok c =
-    let asked = c.call_to_take.ensures in
-    let can = subst (λ (taken : Result Call SeatReply). CanTake asked.0 c.args.seat.now taken) c.in-Ok.is asked.2 in
-    let is = asked.1 in
-    (asked.0, search rules, accepted TakesAndLooks asked.0 _ _ _ _ can c.replace_with.ensures)
+    let did = accepted TakesAndLooks _ _ _ _ _ _ c.call_to_take.ensures _ _ c.in-Ok.is c.replace_with.ensures in
+    let is = did.1 in (did.0, search rules, did.2)
 
 pub returns-in-Err : goal.returns-in-Err
 returns-in-Err c =
-    let asked = c.call_to_take.ensures in
-    let refusal = subst (λ (taken : Result Call SeatReply). CanTake asked.0 c.args.seat.now taken) c.in-Err.is asked.2 in
-    let is = asked.1 in
-    (asked.0, search rules, refused TakesAndLooks asked.0 _ _ refusal)
+    let did = refused TakesAndLooks _ _ _ _ _ _ c.call_to_take.ensures _ c.in-Err.is c.of_refused.ensures in
+    let is = did.1 in (did.0, search rules, did.2)
