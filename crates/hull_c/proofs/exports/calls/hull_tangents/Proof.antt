@@ -1,0 +1,17 @@
+-- `hull_tangents` meets its contract.
+use Rattle.hull_reply.proofs.Steps.{w64, [], ◌∷◌}
+use Rattle.hull_reply.proofs.Lends.{integer, lends, reply}
+use Rattle.hull_c.specs.contracts.hull.Hull.{the_row}
+use Rattle.bucket_tree.specs.Sets.{bucket_set}
+use Rattle.hull_reply.specs.Requests.{kind_number}
+use Rattle.hull_reply.specs.Served.{IsAnswered}
+use Rattle.hull_reply.specs.declared.kind.Kind.TheVariants.{Tangents}
+use Rattle.hull_c.proofs.exports.calls.hull_tangents.Statement.{statement}
+use Rattle.hull_c.proofs.exports.calls.hull_tangents.Code as code
+use Rattle.hull_c.proofs.calls.tangents.Met.{met}
+
+pub hull_tangents_spec : {M : Type 1} → statement M
+hull_tangents_spec 𝓤 𝓛 𝓜 𝓡 wired =
+    lends 𝓤 𝓛 𝓜 𝓡 0 (integer 𝓛 w64 ∷ integer 𝓛 w64 ∷ []) tt the_row (reply 𝓛)
+    (λ κs a t new ws u. IsAnswered bucket_set (kind_number Tangents) a.0 a.1.0 t new u) (code.unfolded 𝓤 𝓛.H 𝓜 𝓡 wired)
+    (λ x. met 𝓤 𝓛 𝓜 𝓡 (code.calls-hull_c::calls::tangents 𝓡.env wired) (x, tt))
