@@ -30,4 +30,5 @@ returns g c =
       );
       seat = sym c.args.self.holding.1;
       seen = returned.seen;
+      woken = search rules;
     }
