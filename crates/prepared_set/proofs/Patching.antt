@@ -1,5 +1,5 @@
 -- What the change of an array at one place says of the set.
-use Rattle.std.proofs.Common.{◌≡◌, ℕ, ◌+◌, ◌-◌, ◌<◌, ◌≤◌, ◌⊎◌, ℤ, pos, ◌-ℤ◌, ◌≤ℤ◌, neg_ℤ, Bool, true, false, List, [], length}
+use Rattle.std.proofs.Common.{◌≡◌, ℕ, ◌+◌, ◌-◌, ◌≤◌, ◌⊎◌, ℤ, pos, ◌-ℤ◌, ◌≤ℤ◌, neg_ℤ, Bool, true, false, List, [], length}
 use Rattle.std.proofs.Common.{IsTrue, IsFalse, inl, inr, refl, sym, ap, ◌∙◌, subst, arith}
 use Rattle.std.specs.Prelude.{Result, Err, ◌↔◌}
 use Rattle.std.proofs.lemmas.Int.{ints}
@@ -7,7 +7,7 @@ use Rattle.std.proofs.lemmas.List.Elements.{All-contains}
 use Rattle.lattice.specs.Covers.{with_point}
 use Rattle.lattice.specs.Places.{IsFarthest}
 use Rattle.lattice.specs.Plane.{Pair, orient, product}
-use Rattle.lattice.specs.Vertices.{IsLeftOf, IsVertexList}
+use Rattle.lattice.specs.Vertices.{IsLeftOf}
 use Rattle.lattice.specs.declared.fault.LatticeFault.{LatticeFault}
 use Rattle.lattice.specs.declared.fault.LatticeFault.TheVariants.{OutOfRange, ZeroDirection}
 use Rattle.lattice.proofs.LineCrossings.{orient_other}

@@ -1,5 +1,5 @@
 //! The vertices of a set, as long as they are known.
-ghost use Rattle.std.specs.Prelude.{◌≡◌, ◌≢◌, ◌⊎◌, ◌+◌, ◌-◌, ◌<◌, ◌≤◌, ℕ, List, [], IfSome, MatchOption, length};
+ghost use Rattle.std.specs.Prelude.{◌≡◌, ◌≢◌, ◌⊎◌, ◌+◌, ◌-◌, ◌^◌, ◌<◌, ◌≤◌, ℕ, List, [], IfSome, MatchOption, length, min};
 ghost use Rattle.std.specs.List.{remove};
 ghost use Rattle.lattice.specs.Plane.{Pair};
 ghost use Rattle.lattice.specs.Covers.{Covers, IsExtreme, with_point, without_point};
@@ -144,7 +144,7 @@ impl Vertices {
         requires { AreVerticesOf (S.held set.now).points self.old }
         ensures vertices { AreVerticesOf (S.held set.now).points self.new }
         ensures known { (V : List Pair) (m : ℕ) → self.old ≡ Known V m → self.new ≡ Known V (refilled V m) }
-        ensures counted { (m n : ℕ) → self.old ≡ Unknown m → self.new ≡ Unknown n → n ≡ m + 1 ⊎ n ≡ m }
+        ensures counted { (m n : ℕ) → self.old ≡ Unknown m → self.new ≡ Unknown n → n ≡ min (m + 1) (2 ^ 32 - 1) }
         ensures moves { (V : List Pair) (m n : ℕ) → self.old ≡ Unknown n → self.new ≡ Known V m → m ≡ full V }
     {
         match self {
