@@ -11,7 +11,10 @@ hullbook=$("$top/tools/product.sh" program hullbook) || hullbook=$top/dist/$(una
 # installs into `prefix`, or takes what bin/test has installed for all its suites; without a C compiler, or if it cannot, this is the end
 install_libraries() {
     is_there cc || { skip "all" cc; end; }
-    if [ -f "${INSTALLED:-}/include/hull.h" ]; then prefix=$INSTALLED && return; fi
+    if [ -f "${INSTALLED:-}/include/hull.h" ]; then
+        # (by a path without spaces, since those separate the flags of compilers)
+        ln -s "$INSTALLED" "$prefix" && return
+    fi
     attempt "bin/install" "$top/bin/install" --library "$prefix"
     [ "$failed" -eq 0 ] || end
 }

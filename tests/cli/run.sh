@@ -64,15 +64,16 @@ outcome() {
 
 hullbook=$("$top/tools/program.sh" --path hullbook) || exit
 
-for case in $(find "$here/cases" -name '*.case' | sort); do
+for name in $(cd "$here/cases" && find . -name '*.case' | sort); do
+    case=$here/cases/$name
     why=$(outcome "$case" '')
     case $(head_of "$case" words) in
         'run '*INPUT*) [ "$why" ] || why=$(outcome "$case" --buckets) ;;
     esac
     if [ -z "$why" ]; then
-        said "$(basename "$case" .case)" ok
+        said "$(basename "$name" .case)" ok
     else
-        said "$(basename "$case" .case)" "FAILED, $why"
+        said "$(basename "$name" .case)" "FAILED, $why"
     fi
 done
 end

@@ -48,6 +48,21 @@ def test_lib(tests):
         tests.same("no folder is left", os.listdir(f"{top}/rooms"), [])
 
 
+def test_spaces(tests):
+    """In a folder whose name has a space the cases of the program run, and the flags of compilers name what is installed."""
+    with tempfile.TemporaryDirectory() as room:
+        top = f"{room}/a repository"
+        for it in ("lib.sh", "libraries.sh", "cli/run.sh"):
+            write(f"{top}/tests/{it}", kit.text_of(f"{TOP}/tests/{it}"), 0o755)
+        write(f"{top}/tools/program.sh", "#!/bin/sh\necho echo\n", 0o755), write(f"{top}/tools/product.sh", "#!/bin/sh\n", 0o755)
+        write(f"{top}/tests/cli/cases/words.case", "words: check JOURNAL\nstatus: 0\noutput:\n|check journal\n")
+        tests.same("a case", run(top, "tests/cli/run.sh"), (0, "words: ok\n1 passed, 0 failed\n"))
+        write(f"{top}/installed/include/hull.h", "it is there\n"), write(f"{top}/path/cc", "#!/bin/sh\n", 0o755)
+        script = 'here=$PWD/tests/cli; . tests/lib.sh; . tests/libraries.sh; install_libraries; cat $prefix/include/hull.h'
+        env = {"PATH": f"{top}/path:{os.environ['PATH']}", "INSTALLED": f"{top}/installed"}
+        tests.same("what is installed", run(top, "sh", "-c", script, env=env), (0, "it is there\n"))
+
+
 # ---- programs
 
 # finds the program at PROGRAM, or ends with FOUND; makes one, or ends with MADE
@@ -230,4 +245,4 @@ def test_terminal(tests):
             tests.same(f"{name} ends the program, too", (came, os.path.exists(f"/proc/{kit.text_of(f'{top}/pid').strip()}")), ((wanted, ""), False))
 
 
-TESTS = (test_lib, test_programs, test_meanings, test_terminal, *completions.TESTS, *transcripts.TESTS)
+TESTS = (test_lib, test_spaces, test_programs, test_meanings, test_terminal, *completions.TESTS, *transcripts.TESTS)
