@@ -38,6 +38,14 @@ PLATFORMS = "manylinux2014_{0}.musllinux_1_1_{0}"
 MEMBER_TIME, ZIP_TIME = 315532800, (1980, 1, 1, 0, 0, 0)
 DESCRIPTION = "An exact dynamic planar convex hull of lattice points, formally verified"
 MAINTAINER = "Rubzhegi maintainers <maintainers@users.noreply.rubzhegi.example>"
+# what docs/INSTALLED.md says otherwise in the package for dpkg, in which files are elsewhere
+DEB_PAGE = (
+    ("`import hull`, with `lib/hull` on the module path;", "`import hull`;"),
+    ("the crate in `lib/rust/hull`: `cargo add --path`", "the crate in `/usr/share/hullbook/rust/hull`: `cargo add --path`, and `HULL_PREFIX=/usr` set for `cargo`"),
+    ("`man hullbook`; completions are in `share/hullbook/completions`", "`man hullbook`; bash, zsh and fish find their completions"),
+    ("`LICENSE` (MIT) and `CHANGELOG.md` are", "`copyright` (MIT) and `changelog.gz` are"),
+    ("`bin/install --uninstall PREFIX` of the repository, or your\npackage manager.", "`dpkg -r hullbook`."),
+)
 # what the archive for pip needs of the repository
 FOR_PIP = ("LICENSE", "README.md", "CHANGELOG.md", "VERSION", "HANDLES", "crates.txt", "pyproject.toml", "bin", "tools", "include", "c", "python",
            "rust", "man", "docs/INSTALLED.md")
@@ -137,6 +145,11 @@ def needed_library(path):
     return f"libc6 (>= {'.'.join(str(it) for it in max(symbols))})" if is_dynamic and symbols else ""
 
 
+def write(path, text):
+    with open(path, "w", encoding="utf-8") as file:
+        file.write(text)
+
+
 def write_gzip(path, text):
     with open(path, "wb") as file:
         file.write(gzip.compress(text, 9, mtime=0))
@@ -164,14 +177,20 @@ def make_deb(out):
         os.rename(f"{about}/LICENSE", f"{about}/copyright")
         os.remove(f"{about}/CHANGELOG.md")
         write_gzip(f"{about}/changelog.gz", kit.bytes_of(f"{TOP}/CHANGELOG.md"))
+        page = kit.text_of(f"{about}/README.md")
+        for old, new in DEB_PAGE:
+            if page.count(old) != 1:
+                sys.exit(f"bin/package: docs/INSTALLED.md does not say once what DEB_PAGE of tools/packages.py replaces: {old}")
+            page = page.replace(old, new)
+        write(f"{about}/README.md", page)
         entry = f"hullbook ({version()}) unstable; urgency=low\n\n  * Release {version()}: see changelog.gz.\n\n -- {MAINTAINER}  Fri, 27 Nov 2026 00:00:00 +0000\n"
         write_gzip(f"{about}/changelog.Debian.gz", entry.encode())
         for it in [*kit.files_below(f"{work}/usr/share/man")]:
             write_gzip(f"{work}/usr/share/man/{it}.gz", kit.bytes_of(f"{work}/usr/share/man/{it}"))
             os.remove(f"{work}/usr/share/man/{it}")
         os.makedirs(f"{work}/usr/share/lintian/overrides")
-        with open(f"{work}/usr/share/lintian/overrides/hullbook", "w", encoding="utf-8") as text:
-            text.write("# the programs are what was proved and tested, whatever C library there is\nhullbook: statically-linked-binary\n")
+        write(f"{work}/usr/share/lintian/overrides/hullbook",
+              "# the programs are what was proved and tested, whatever C library there is\nhullbook: statically-linked-binary\n")
         size = sum(os.path.getsize(f"{work}/{it}") for it in kit.files_below(work)) // 1024
         needed = {needed_library(f"{work}/usr/bin/{it}") for it in ("hullbook", "hulldraw")} - {""}
         os.makedirs(f"{work}/DEBIAN")

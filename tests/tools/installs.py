@@ -7,6 +7,7 @@ import hashlib
 import io
 import json
 import os
+import re
 import shutil
 import stat
 import struct
@@ -336,6 +337,10 @@ def test_deb(tests, room, out):
     tests.same("its folders", folders_of(f"{room}/deb") | {stat.S_IMODE(os.stat(f"{room}/deb").st_mode)}, {0o755})
     tests.same("a manual page", gzip.decompress(contents(f"{room}/deb/usr/share/man/man3/hull.3.gz")), contents(f"{TOP}/man/hull.3"))
     tests.same("its changes", gzip.decompress(contents(f"{room}/deb/{about}/changelog.gz")), contents(f"{TOP}/CHANGELOG.md"))
+    page = contents(f"{room}/deb/{about}/README.md").decode()
+    named = {it for it in re.findall(r"`(/usr/share/hullbook/rust/hull|copyright|changelog.gz|dpkg -r hullbook)`", page)}
+    tests.same("its page names where its files are", named, {"/usr/share/hullbook/rust/hull", "copyright", "changelog.gz", "dpkg -r hullbook"})
+    tests.same("and no others", [it for it in ("lib/rust", "lib/hull", "completions`", "LICENSE", "CHANGELOG", "bin/install") if it in page], [])
     tests.see("its entry",
             gzip.decompress(contents(f"{room}/deb/{about}/changelog.Debian.gz")).startswith(b"hullbook (7.8.9) unstable; urgency=low\n"))
     tests.see("its size, in units of 1024 bytes",

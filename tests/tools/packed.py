@@ -95,6 +95,22 @@ def test_deb_texts(tests):
             tests.same("its times", times, {315532800})
 
 
+def test_deb_page(tests):
+    """A page of what is installed that does not have what is said otherwise for dpkg is refused."""
+    if not shutil.which("dpkg-deb"):
+        print("skipped: the page of the package for dpkg: there is no dpkg-deb")
+        return
+    with tempfile.TemporaryDirectory() as room:
+        it = Packed(room)
+        write(f"{it.top}/docs/INSTALLED.md", "# Another page\n")
+        try:
+            said = it.made(packages.make_deb)
+        except SystemExit as end:
+            said = str(end)
+        tests.see("another page", said.startswith("bin/package: docs/INSTALLED.md does not say once"), said)
+        tests.same("no package is made", os.listdir(it.out), [])
+
+
 def test_without_dpkg(tests):
     """What is printed if there is no dpkg-deb, and nothing is made."""
     which, said, output = shutil.which, io.StringIO(), io.StringIO()
@@ -167,4 +183,4 @@ def test_printed(tests):
             tests.same(f"usage: {words}", run_apart(room, package, *words), (status, output, errors))
 
 
-TESTS = (test_deb_texts, test_without_dpkg, test_descriptions, test_printed)
+TESTS = (test_deb_texts, test_deb_page, test_without_dpkg, test_descriptions, test_printed)
