@@ -794,9 +794,11 @@ public:
         return other;
     }
 
-    // The vertices, and their number.
+    // The vertices, in order, and their number.
     const Point *data() const noexcept { return vertices_.data(); }
     std::size_t size() const noexcept { return vertices_.size(); }
+    const Point *begin() const noexcept { return data(); }
+    const Point *end() const noexcept { return data() + size(); }
 
     friend bool operator==(const Polygon &a, const Polygon &b) noexcept { return a.vertices_ == b.vertices_; }
     friend bool operator!=(const Polygon &a, const Polygon &b) noexcept { return !(a == b); }

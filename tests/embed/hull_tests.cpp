@@ -3,6 +3,7 @@
 // each STEP-th set of points of a grid is tried on growing hulls, each 61st if not given.
 #include "hull.hpp"
 
+#include <algorithm>
 #include <atomic>
 #include <cerrno>
 #include <chrono>
@@ -102,6 +103,11 @@ static void polygons() {
         looped.push_back(vertex);
     }
     CHECK(looped == square);
+    for (const Point &vertex : hull::Polygon::of(backward)) {
+        looped.push_back(vertex);
+    }
+    CHECK(looped.size() == 8 && std::equal(square.begin(), square.end(), looped.begin() + 4));
+    CHECK(hull::Polygon().begin() == hull::Polygon().end());
     backward.push_back({5, 5});
     CHECK(hull::Polygon::of(backward).vertices() == square && refuses(Refusal::out_of_range, [] { hull::Polygon::of({{0, far + 1}}); }));
     CHECK(hull::Polygon().place({0, 0}) == Place::outside && hull::Polygon() == hull::Polygon(std::vector<Point>()) && polygon != hull::Polygon());
