@@ -41,7 +41,8 @@ MAINTAINER = "Rubzhegi maintainers <maintainers@users.noreply.rubzhegi.example>"
 # what docs/INSTALLED.md says otherwise in the package for dpkg, in which files are elsewhere
 DEB_PAGE = (
     ("`import hull`, with `lib/hull` on the module path;", "`import hull`;"),
-    ("the crate in `lib/rust/hull`: `cargo add --path`", "the crate in `/usr/share/hullbook/rust/hull`: `cargo add --path`, and `HULL_PREFIX=/usr` set for `cargo`"),
+    ("the crate in `lib/rust/hull`: `cargo add --path`",
+     "the crate in `/usr/share/hullbook/rust/hull`: `cargo add --path`, and `HULL_PREFIX=/usr` set for `cargo`"),
     ("`man hullbook`; completions are in `share/hullbook/completions`", "`man hullbook`; bash, zsh and fish find their completions"),
     ("`LICENSE` (MIT) and `CHANGELOG.md` are", "`copyright` (MIT) and `changelog.gz` are"),
     ("`bin/install --uninstall PREFIX` of the repository, or your\npackage manager.", "`dpkg -r hullbook`."),
