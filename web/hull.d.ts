@@ -33,8 +33,8 @@ export type Point = [x: number, y: number];
 /** Many points: pairs, or an array with the coordinates of each point as neighbours. */
 export type Points =
     | Iterable<readonly number[]>
-    | Float64Array | Float32Array | Int32Array | Uint32Array | Int16Array | Uint16Array | Int8Array | Uint8Array
-    | BigInt64Array;
+    | Float64Array | Float32Array | Int32Array | Uint32Array | Int16Array | Uint16Array | Int8Array | Uint8Array | Uint8ClampedArray
+    | BigInt64Array | BigUint64Array;
 /** The location of a point. A hull that is a point or a segment has no inside: all of it is "on". */
 export type Place = "inside" | "on" | "outside";
 /** No point is left of the line from the point asked about through `left`, nor right of the one through `right`. */

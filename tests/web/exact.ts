@@ -15,7 +15,8 @@ type Rows = Iterable<readonly number[]>;
 type Asked<T, D> = (x: number, y: number) => T | D;
 same<Point, [x: number, y: number]>();
 same<Place, "inside" | "on" | "outside">();
-same<Points, Rows | Float64Array | Float32Array | Int32Array | Uint32Array | Int16Array | Uint16Array | Int8Array | Uint8Array | BigInt64Array>();
+same<Points, Rows | Float64Array | Float32Array | Int32Array | Uint32Array | Int16Array | Uint16Array | Int8Array | Uint8Array | Uint8ClampedArray
+    | BigInt64Array | BigUint64Array>();
 same<Source, ArrayBuffer | ArrayBufferView | URL | string | Response | Promise<Response>>();
 same<Relation, "disjoint" | "touching" | "overlapping" | "within" | "covers" | "equal">();
 same<Tangents, { left: Point; right: Point }>();

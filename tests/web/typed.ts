@@ -20,6 +20,8 @@ export function asked(hull: Hull, polygon: Polygon): (Fraction | Held | Tangents
     hull.load(points);
     hull.load(Float64Array.of(1, 2));
     hull.load(BigInt64Array.of(1n, 2n));
+    hull.load(BigUint64Array.of(1n, 2n));
+    hull.load(Uint8ClampedArray.of(1, 2));
     const seen = hull.tangents(5, 5);
     const [ours] = polygon.distance(polygon) ?? [];
     const times: Uint32Array = hull.addAll([[1, 2]]), left: number | null = hull.remove(1, 2);
