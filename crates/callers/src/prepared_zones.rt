@@ -10,8 +10,8 @@ use prepared_set::Prepared;
 
 /// Returns where `q` is, relative to a zone that is asked far more often than it changes.
 pub fn place_often(zone: &mut Prepared<BucketTree>, q: Point) -> Place
-    ensures same { zone.new ≡ zone.old }
-    ensures place { Answers Rules.Counted (held_by zone.new.root) zone.new.limit (Call.Place q) (Reply.Lies result) }
+    ensures same { zone.new.set ≡ zone.old.set }
+    ensures place { Answers Rules.Counted (held_by zone.new.set.root) zone.new.set.limit (Call.Place q) (Reply.Lies result) }
 {
     zone.prepare(); // counts the question; after some, all answers come from the vertices in an array
     zone.place(q)

@@ -21,7 +21,7 @@ impl Model for Hull {
 
     ghost coded = { tree.the_row.coded };
 
-    ghost view = { λ h. h.set };
+    ghost view = { λ h. h.set.set };
 }
 
 impl Hull {

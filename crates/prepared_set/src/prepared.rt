@@ -1,7 +1,10 @@
 //! The set.
-ghost use Rattle.std.specs.Prelude.{◌≡◌, ◌≢◌, List, [], length, IfOk, IfSome, OnErr};
+ghost use Rattle.std.specs.Prelude.{◌≡◌, ◌≢◌, ◌+◌, ◌-◌, ◌^◌, ℕ, List, [], length, min, None, Some, IfOk, IfSome, MatchOption, OnErr};
 ghost use Rattle.lattice.specs.Plane.{Pair};
 ghost use Rattle.hull_polygon.specs.Polygons.{IsPolygonOf};
+ghost use Rattle.prepared_set.specs.Known.{known_vertices};
+ghost use Rattle.prepared_set.specs.Patches.{full, refilled};
+ghost use Rattle.prepared_set.specs.declared.vertices.Vertices.TheVariants.{Known, Unknown};
 
 use super::gathering::ListsVertices;
 use super::vertices::Vertices;
@@ -10,8 +13,8 @@ use hull_set::{AddReply, HullSet, NoMemory, Place, RemoveReply};
 use lattice::{Direction, Point};
 use std::marker::Model;
 
-/// A set of points, and its vertices in an array as long as they are known. Contracts see only the set: the cached
-/// vertices never change an answer.
+/// A set of points, and its vertices in an array as long as they are known. Contracts see the set and what is known of its
+/// vertices, which never changes an answer.
 #[derive(Drop)]
 pub struct Prepared<S: HullSet + Drop> {
     set: S,
@@ -19,11 +22,11 @@ pub struct Prepared<S: HullSet + Drop> {
 }
 
 impl<S: HullSet + Drop> Model for Prepared<S> {
-    ghost use Rattle.prepared_set.specs.Known.{AreVerticesOf};
+    ghost use Rattle.prepared_set.specs.Known.{AreVerticesOf, PreparedValue};
 
-    ghost Value = { S };
+    ghost Value = { PreparedValue S };
 
-    ghost view = { λ w. w.set };
+    ghost view = { λ w. record { set = w.set; vertices = w.vertices } };
 
     ghost invariant = { λ w. AreVerticesOf (S.held w.set).points w.vertices };
 }
@@ -31,7 +34,8 @@ impl<S: HullSet + Drop> Model for Prepared<S> {
 impl<S: HullSet + Drop> Prepared<S> {
     /// Returns the set with no vertices known. Does not allocate.
     pub fn new(set: S) -> Prepared<S>
-        ensures { result ≡ set }
+        ensures set { result.set ≡ set }
+        ensures unknown { result.vertices ≡ Unknown 0 }
     {
         Prepared {
             set,
@@ -41,14 +45,16 @@ impl<S: HullSet + Drop> Prepared<S> {
 
     /// Returns the underlying set, for calls that [`HullSet`] does not have.
     pub fn set(&self) -> &S
-        ensures { result.now ≡ self.now }
+        ensures { result.now ≡ self.now.set }
     {
         &self.set
     }
 
     /// Returns the vertices, counterclockwise from the first by x and then y, or `None` if they are not known.
     pub fn known_vertices(&self) -> Option<&[Point]>
-        ensures { IfSome result (λ vertices. IsPolygonOf (S.held self.now).points vertices.now) }
+        ensures vertices { IfSome result (λ vertices. IsPolygonOf (S.held self.now.set).points vertices.now) }
+        ensures known { MatchOption result (known_vertices self.now.vertices ≡ None)
+            (λ vertices. known_vertices self.now.vertices ≡ Some vertices.now) }
     {
         match &self.vertices {
             Vertices::Known(kept, _) => Some(kept.polygon().vertices()),
@@ -60,13 +66,14 @@ impl<S: HullSet + Drop> Prepared<S> {
 impl<S: HullSet + Drop> Prepared<S> {
     /// Gathers the vertices if they are not known, so that [`known_vertices`](Prepared::known_vertices) has them, and returns
     /// how many there are. Call it before each listing, and before many questions: then the vertices stay known after most
-    /// changes that alter them at one place. Constant time if they are known. Fails only if the set is not empty; then they
-    /// are not known. Never changes an answer.
+    /// changes that alter them at one place. Constant time if they are known. Fails only if they are not known and the set is
+    /// not empty; then nothing changes. Never changes an answer.
     pub fn gather(&mut self) -> Result<usize, NoMemory>
-        ensures same { self.new ≡ self.old }
-        ensures count { IfOk result (λ count. (vertices : List Pair) × IsPolygonOf (S.held self.old).points vertices
-            × (count ≡ length vertices)) }
-        ensures refused { OnErr result ((S.held self.old).points ≢ []) }
+        ensures same { self.new.set ≡ self.old.set }
+        ensures gathered { IfOk result (λ count. (vertices : List Pair) × IsPolygonOf (S.held self.old.set).points vertices
+            × (self.new.vertices ≡ Known vertices (full vertices)) × (count ≡ length vertices)) }
+        ensures refused { OnErr result ((self.new.vertices ≡ self.old.vertices) × (known_vertices self.old.vertices ≡ None)
+            × ((S.held self.old.set).points ≢ [])) }
     {
         self.vertices.gather(&self.set);
         match &self.vertices {
@@ -81,18 +88,23 @@ impl<S: ListsVertices + Drop> Prepared<S> {
     /// the questions. Call it before each question if you ask often. If memory is refused, the vertices stay unknown.
     /// Never changes an answer.
     pub fn prepare(&mut self)
-        ensures { self.new ≡ self.old }
+        ensures same { self.new.set ≡ self.old.set }
+        ensures known { (V : List Pair) (m : ℕ) → self.old.vertices ≡ Known V m → self.new.vertices ≡ Known V (refilled V m) }
+        ensures counted { (m n : ℕ) → self.old.vertices ≡ Unknown m → self.new.vertices ≡ Unknown n
+            → n ≡ min (m + 1) (2 ^ 32 - 1) }
+        ensures gathered { (V : List Pair) (m n : ℕ) → self.old.vertices ≡ Unknown n → self.new.vertices ≡ Known V m
+            → m ≡ full V }
     {
         self.vertices.count_question(&self.set);
     }
 }
 
 impl<S: HullSet + Drop> HullSet for Prepared<S> {
-    ghost held = { S.held };
+    ghost held = { λ w. S.held w.set };
 
-    ghost bound = { S.bound };
+    ghost bound = { λ w. S.bound w.set };
 
-    ghost sound = { S.sound };
+    ghost sound = { λ w. S.sound w.set };
 
     fn limit(&self) -> u32 {
         self.set.limit()

@@ -5,7 +5,7 @@ use Rattle.prepared_set.proofs.Knowing.{few_vertices}
 use Rattle.prepared_set.proofs.prepared.PreparedHullSet.vertices.Goals as goal
 
 pub returns-in-Ok-clause-few : goal.returns-in-Ok-clause-few
-returns-in-Ok-clause-few g c = subst (λ s. vec_len c.in-Ok.copy ≤ g.S.HullSet.bound s) c.self.view_is
+returns-in-Ok-clause-few g c = subst (λ w. vec_len c.in-Ok.copy ≤ g.S.HullSet.bound w.set) c.self.view_is
     (omega (
       arith,
       few_vertices (g.S.HullSet.held c.self.inside.set).points c.self.inside.vertices c.in-Known.kept _
