@@ -14,7 +14,7 @@ use base.Fml.{fat, froom}
 use types.Run.{load, look}
 use denote.Laws.{Is, shows}
 use denote.Steps.{heard, peeks}
-use Rattle.hull_c.specs.contracts.hull_growing_end as f
+use Rattle.hull_c.specs.contracts.exports.growing.hull_growing_end as f
 use Rattle.hull_c.proofs.exports.growing.hull_growing_end.Statement.{statement}
 use Rattle.hull_c.proofs.exports.growing.hull_growing_end.Code as code
 use Rattle.hull_c.specs.contracts.growing.finish as g

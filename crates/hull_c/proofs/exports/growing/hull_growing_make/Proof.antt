@@ -11,7 +11,7 @@ use Rattle.hull_plain.specs.contracts.growing_hull.GrowingHull.{the_row as R}
 use Rattle.hull_plain.proofs.growing_hull.GrowingHull.TheLaws.{the_row_laws as hull_laws}
 use denote.Laws.{Is, shows}
 use denote.Steps.{peeks}
-use Rattle.hull_c.specs.contracts.hull_growing_make as f
+use Rattle.hull_c.specs.contracts.exports.growing.hull_growing_make as f
 use Rattle.hull_c.proofs.exports.growing.hull_growing_make.Statement.{statement}
 use Rattle.hull_c.proofs.exports.growing.hull_growing_make.Code as code
 use Rattle.hull_c.specs.contracts.growing.fresh as g

@@ -14,7 +14,7 @@ use base.Fml.{fat, froom}
 use types.Run.{load, look}
 use denote.Laws.{Is, shows}
 use denote.Steps.{heard, peeks}
-use Rattle.hull_c.specs.contracts.hull_end as f
+use Rattle.hull_c.specs.contracts.exports.sets.hull_end as f
 use Rattle.hull_c.proofs.exports.sets.hull_end.Statement.{statement}
 use Rattle.hull_c.proofs.exports.sets.hull_end.Code as code
 use Rattle.hull_c.specs.contracts.calls.finish as g

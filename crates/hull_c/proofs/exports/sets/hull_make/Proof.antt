@@ -10,7 +10,7 @@ use Rattle.hull_c.specs.contracts.hull.Hull.{the_row as R}
 use Rattle.hull_c.proofs.hull.Hull.TheLaws.{the_row_laws as tree_laws}
 use denote.Laws.{Is, shows}
 use denote.Steps.{peeks}
-use Rattle.hull_c.specs.contracts.hull_make as f
+use Rattle.hull_c.specs.contracts.exports.sets.hull_make as f
 use Rattle.hull_c.proofs.exports.sets.hull_make.Statement.{statement}
 use Rattle.hull_c.proofs.exports.sets.hull_make.Code as code
 use Rattle.hull_c.specs.contracts.calls.fresh as g
