@@ -1,7 +1,7 @@
 //! A small half for the tests, over a borrowed list of points.
-ghost use Rattle.std.specs.Prelude.{◌≡◌, ◌≤◌, ◌<◌, ◌⊎◌, ◌∷◌, [], Option, None, IfSome, MatchOption, OnErr, OnOk, length};
+ghost use Rattle.std.specs.Prelude.{◌≡◌, ◌≤◌, ◌<◌, ◌⊎◌, ◌∷◌, [], Option, None, IfOk, IfSome, MatchOption, length};
 ghost use Rattle.lattice.specs.Plane as plane;
-ghost use Rattle.lattice.specs.Plane.{IsWithin, Pair, widest_side};
+ghost use Rattle.lattice.specs.Plane.{IsWithin, widest_side};
 ghost use Rattle.bridge_search.specs.Trees.{Leaf, Fork, IsBridged, first_of, highest};
 ghost use Rattle.bridge_search.specs.Listed.{listed_tree};
 ghost use Rattle.bridge_search.specs.OneWay.{IsBridged-prop};
@@ -136,10 +136,9 @@ pub fn bridges<H: Half>(u: H, w: H) -> Option<((Point, Point), (Point, Point))>
 /// Returns the entry of a point after the others, with the edges between them and it, or `None` unless the point is
 /// after all of them.
 #[tactic(auto, using(crate::proofs::ListedTrees::bridged_more))]
-fn entry_after(entries: &[Entry], point: Point) -> Option<Entry>
+fn entry_behind(entries: &[Entry], point: Point) -> Option<Entry>
     requires { IsBridged (listed_tree entries.now) }
-    ensures point { IfSome result (λ e. e.0 ≡ point) }
-    ensures bridged { IfSome result (λ e. IsBridged (listed_tree (e ∷ entries.now))) }
+    ensures { IfSome result (λ e. IsBridged (listed_tree (e ∷ entries.now))) }
 {
     let alone = [(point, (point, point), (point, point))];
     if entries.is_empty() {
@@ -151,17 +150,12 @@ fn entry_after(entries: &[Entry], point: Point) -> Option<Entry>
     Some((point, upper, lower))
 }
 
-/// Appends a point to the others, all of which must be before it, with the edges between them and it. As the entries come
-/// from right to left, it is the first. Fails if it is not after all others or if memory is refused; then they stay as they
-/// are.
-pub fn append(entries: &mut Vec<Entry>, point: Point) -> Result<(), Fail>
+/// Adds a point after the others, all of which must be before it.
+pub fn put_behind(entries: &mut Vec<Entry>, point: Point) -> Result<(), Fail>
     requires { IsBridged (listed_tree entries.old.items) }
-    ensures appended { OnOk result ((upper : Pair × Pair) × (lower : Pair × Pair)
-        × (entries.new.items ≡ (point, upper, lower) ∷ entries.old.items)) }
-    ensures bridged { OnOk result (IsBridged (listed_tree entries.new.items)) }
-    ensures refused { OnErr result (entries.new.items ≡ entries.old.items) }
+    ensures { IfOk result (λ _. IsBridged (listed_tree entries.new.items)) }
 {
-    let entry = entry_after(entries, point).ok_or("order")?;
+    let entry = entry_behind(entries, point).ok_or("order")?;
     entries.insert(0, entry)?;
     Ok(())
 }

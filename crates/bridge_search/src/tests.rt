@@ -3,7 +3,7 @@ ghost use Rattle.bridge_search.specs.Trees.{IsBridged};
 ghost use Rattle.bridge_search.specs.Listed.{listed_tree};
 
 use super::half::Half;
-use super::listed::{Entry, Listed, append, bridges};
+use super::listed::{Entry, Listed, bridges, put_behind};
 use super::turned::Turned;
 use lattice::{Point, before, crossing_at_or_before, orient};
 use std::alloc::{AllocError, Global};
@@ -26,7 +26,7 @@ fn entries_of(alloc: Global, pairs: &[(i64, i64)]) -> Result<Vec<Entry>, Fail>
 {
     let mut entries = Vec::new(alloc);
     for pair in pairs {
-        append(&mut entries, point(pair.0, pair.1)?)?;
+        put_behind(&mut entries, point(pair.0, pair.1)?)?;
     }
     Ok(entries)
 }
