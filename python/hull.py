@@ -548,9 +548,10 @@ def _flat_of_numpy(numpy: Any, points: Any) -> "array[int]":
 def _flat_of_memory(view: memoryview) -> "Optional[array[int]]":
     """Returns the coordinates of an array with the buffer protocol, none of them tested yet; None if it has no numbers."""
     shape, order, kind = view.shape or (), view.format[:-1], view.format[-1:]
-    if len(shape) < 2 and 0 not in shape:
+    kinds = tuple("bBhHiIlLqQnN")
+    if len(shape) < 2 and 0 not in shape and kind not in kinds:
         return None
-    if kind not in tuple("bBhHiIlLqQnN") or order not in ("", *"@=<>!"):
+    if kind not in kinds or order not in ("", *"@=<>!"):
         raise TypeError("an array of points is one of integers, "
                         f"and this one of shape {shape} is of format {view.format!r}")
     _check_shape(shape, "integers")

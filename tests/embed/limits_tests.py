@@ -28,6 +28,11 @@ CALLS = {"place": 2, "tangents": 2, "extreme": 2, "add": 2, "remove": 2, "multip
 class Numbers(unittest.TestCase):
     """Each operand of each call, one by one or in arrays."""
 
+    def test_arrays_of_one_dimension(self):
+        for wrong in (array("q", (1, 2)), b"ab", bytearray(b"ab"), memoryview(b"ab")):
+            self.assertRaisesRegex(ValueError, r"has shape \(n, 2\), a point in each row, and this one of integers has \(2,\)$", Hull, wrong)
+        self.assertEqual((len(Hull(b"")), len(Hull(array("q")))), (0, 0))
+
     def test_each_operand(self):
         for it in (Hull(SQUARE), Polygon(SQUARE)):
             for name, count in ((name, count) for name, count in CALLS.items() if hasattr(it, name)):
