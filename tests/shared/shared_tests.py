@@ -380,7 +380,7 @@ class Calls(unittest.TestCase):
 
         before = signal.signal(signal.SIGALRM, handle)
         try:
-            signal.setitimer(signal.ITIMER_REAL, 0.3)
+            signal.setitimer(signal.ITIMER_REAL, 0.5)
             self.assertRaises(KeyboardInterrupt, wait)
         finally:
             signal.setitimer(signal.ITIMER_REAL, 0)
@@ -401,7 +401,7 @@ class Calls(unittest.TestCase):
             thread = threading.Thread(target=lambda: calls.append(seat.add(4, 0)))
             thread.start()
             time.sleep(0.3)  # some pieces of its wait
-            self.assertEqual(([], 1), (calls, hull.stats().for_space))
+            self.assertEqual(calls, [])
             self.assertEqual(len(list(other.drain())), 6)
             thread.join()
             self.assertEqual((calls, other.count()), ([1], 4))
