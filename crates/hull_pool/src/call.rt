@@ -1,7 +1,6 @@
 //! One call of a seat: it enters the lock, serves the call, and hands the book on.
-ghost use Rattle.std.specs.Prelude.{◌≡◌, ◌+◌, ◌%◌, Some, box_value};
-ghost use Rattle.ticket_lock.specs.Tokens.{guard_book, guard_lock, guard_number, guard_seen, opening_book, seat_seen, seat_woken};
-ghost use Rattle.ticket_lock.specs.World.{wrap};
+ghost use Rattle.std.specs.Prelude.{box_value};
+ghost use Rattle.ticket_lock.specs.Tokens.{guard_book, guard_lock, guard_number, guard_seen, opening_book, seat_seen};
 ghost use Rattle.hull_book.specs.Kinds.{kind_of};
 ghost use Rattle.hull_book.specs.Served.{AddsLine};
 ghost use Rattle.hull_pool.specs.Handing.{Found, HasCome, HoldsBook, MayCall};
@@ -38,7 +37,7 @@ pub type LongGuard<'a, S> = Guard<'a, Box<LongBook<S>>>;
 /// journal is full. For a [`LongBook`] it is the reply and the segment that was taken out, which contains the lines of the journal that were not
 /// taken out before, the call's own as the last of them; or that there was no space: if the lines do not stay, there is a spare line for the call's
 /// own, however many the book has. In this case journal and capacity are those of the whole journal, including the lines that were taken out. The
-/// journal handed on is legal. The seat has notified the sleeping place of the next number.
+/// journal handed on is legal.
 pub fn serve_and_hand_on<B: JournaledBook>(
     guard: Guard<'_, Box<B>>,
     number: u8,
@@ -54,7 +53,6 @@ pub fn serve_and_hand_on<B: JournaledBook>(
         B.served (B.head found) then (guard_number guard.entry) number call (B.lines found) (seat_seen result.0) result.1 }
     ensures line { AddsLine number call (B.plain (B.lines (box_value (guard_book guard.entry)))) (B.plain (seat_seen result.0))
         (B.line_reply result.1) }
-    ensures woken { seat_woken result.0 ≡ Some (wrap (guard_number guard.entry + 1) % 64) }
 {
     let mut guard = guard;
     let book: &mut B = guard.book();

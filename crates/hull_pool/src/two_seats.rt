@@ -56,8 +56,15 @@ pub fn two_seats_share<R: Wait, S: HullSet + Drop>(
     let (zero, _answer) = make_call(rt, &lock, zero, 0, call, &mut zeros, AfterCall::Keep);
     let take = AfterCall::Drain(space);
     let (one, drained) = make_call(rt, &lock, one, 1, Call::Count, &mut ones, take);
-    let discard = AfterCall::Discard;
-    let (zero, _count) = make_call(rt, &lock, zero, 0, Call::Count, &mut zeros, discard);
+    let (zero, _count) = make_call(
+        rt,
+        &lock,
+        zero,
+        0,
+        Call::Count,
+        &mut zeros,
+        AfterCall::Discard,
+    );
     seats.push_reserved(zero);
     seats.push_reserved(one);
     ledgers.push_reserved(zeros);

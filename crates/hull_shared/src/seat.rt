@@ -13,7 +13,7 @@ use hull_set::Call;
 pub(crate) struct IdleSeat {
     pub(crate) lock: SharedLock,
     pub(crate) ledger: Ledger,
-    // (`seat` takes three bytes: in this order little padding is copied when the seat moves)
+    // (`seat` takes one byte: in this order little padding is copied when the seat moves)
     pub(crate) number: u32,
     pub(crate) capacity: u32,
     pub(crate) seat: SharedHullSeat,

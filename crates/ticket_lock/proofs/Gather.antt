@@ -1,6 +1,6 @@
 -- The seats of a lock that is closed.
 use Rattle.std.proofs.lemmas.Grind.{common_steps}
-use Rattle.std.proofs.Common.{◌≡◌, ℕ, zero, suc, ◌+◌, ◌<◌, List, [], ◌∷◌, ◌++◌, map, length, sym, refl, ap, ◌∙◌, subst}
+use Rattle.std.proofs.Common.{◌≡◌, ℕ, zero, suc, ◌+◌, List, [], ◌∷◌, ◌++◌, map, length, sym, refl, ap, ◌∙◌, subst}
 use Rattle.std.proofs.Common.{arith, All, Some, slice_get}
 use Rattle.std.specs.Prelude as std
 use mathlib.Core.List.{append-nil}
@@ -60,12 +60,6 @@ pub at_place : {A : Type 0} (P : A → Type 0) (xs : List A) (i : ℕ) (a : A) �
 at_place P [] i a h at = cc
 at_place P (x ∷ xs) zero a h at = subst P (ap (value_or x) at) (h 0 x (omega arith))
 at_place P (x ∷ xs) (suc i) a h at = at_place P xs i a (λ k d l. h (suc k) d (omega arith)) at
-
--- a list has an element only at the indices below its length
-pub has_place : {A : Type 0} (xs : List A) (i : ℕ) (a : A) → slice_get xs i ≡ Some a → i < length xs
-has_place [] i a at = cc
-has_place (x ∷ xs) zero a at = omega arith
-has_place (x ∷ xs) (suc i) a at = let l = has_place xs i a at in omega arith
 
 module _ {H L : Type 0} where
   -- a list of no length is empty

@@ -2,7 +2,6 @@ pub mod World
 pub mod Forms
 pub mod GoodWorld
 pub mod Schedule
-pub mod Sleeping
 pub mod Linearizable
 pub mod Standing
 pub mod Tokens

@@ -1,5 +1,5 @@
 -- A lock, and its seats, tickets and guards, as a caller sees them.
-use Rattle.std.specs.Prelude.{◌≡◌, ℕ, List, [], ◌∷◌, slice_get, Option, Some}
+use Rattle.std.specs.Prelude.{◌≡◌, ℕ, List, [], ◌∷◌, slice_get, Some}
 use mathlib.Core.List.{IsPrefix}
 use Rattle.ticket_lock.specs.declared.chronicle.Chronicle.{Ghosts}
 use Rattle.ticket_lock.specs.declared.lock.TicketLock.{TicketLock}
@@ -9,7 +9,6 @@ use Rattle.ticket_lock.specs.declared.ticket.Ticket.{Ticket}
 use Rattle.ticket_lock.specs.declared.ticket.Look.{Look}
 use Rattle.ticket_lock.specs.declared.ticket.Look.TheVariants.{Entered, NotYet}
 use Rattle.ticket_lock.specs.declared.guard.Guard.{Guard}
-use Rattle.ticket_lock.specs.Sleeping.{woken_place}
 use Rattle.ticket_lock.specs.World.{own}
 use Rattle.ticket_lock.specs.Standing.{seat_of, number_of, looks_of, seen_of, heads_of, IsIdle}
 
@@ -39,10 +38,6 @@ module _ {B H L : Type 0} where
   -- the lines that the seat has seen: the journal of the book as the seat last handed it on, or as it was at opening
   abbrev pub seat_seen : Seat B H L → List L
   seat_seen s = seen_of s.place.me.0
-
-  -- the index of the sleeping place that the seat notified when it last handed on, if it notified one: the seat with the number t sleeps at t % 64
-  abbrev pub seat_woken : Seat B H L → Option ℕ
-  seat_woken s = woken_place s.woken
 
   -- the seats are numbered from 0 in their order
   abbrev pub AreNumbered : List (Seat B H L) → Type 0

@@ -23,12 +23,7 @@ fn gather<B: Chronicle>(board: &Board<B>, keeper: &mut Place<B>, mut seats: Vec<
     ensures memos { map (λ s. s.place.me.0) seats.items ≡ idles (memos_of keeper.new.me.0) }
 {
     while let Some(seat) = seats.pop() {
-        let Seat {
-            place,
-            number: _,
-            woken,
-        } = seat;
-        drop(woken);
+        let Seat { place, number: _ } = seat;
         board.shared.join_seat::<Glue>(keeper, place);
     }
     seats.destroy_empty();

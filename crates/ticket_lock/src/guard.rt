@@ -1,5 +1,5 @@
 //! A guard: a seat that holds the book.
-ghost use Rattle.std.specs.Prelude.{◌≡◌, ◌+◌, ◌%◌, ◌<◌, [], ◌∷◌, None, Some};
+ghost use Rattle.std.specs.Prelude.{◌≡◌, ◌<◌, [], ◌∷◌, None};
 ghost use Rattle.ticket_lock.specs.Standing.{stage_of, seat_of, number_of};
 
 use crate::chronicle::Chronicle;
@@ -7,7 +7,6 @@ use crate::lock::TicketLock;
 use crate::plays;
 use crate::rule::Place;
 use crate::seat::Seat;
-use crate::sleepers::Woken;
 
 /// A seat that holds the book. It can't be dropped: `hand_on` consumes it.
 pub struct Guard<'a, B: Chronicle> {
@@ -23,12 +22,12 @@ pub struct Guard<'a, B: Chronicle> {
 }
 
 impl<'a, B: Chronicle> Guard<'a, B> {
-    ghost use Rattle.ticket_lock.specs.World.{memo, wrap, HandsOn};
+    ghost use Rattle.ticket_lock.specs.World.{memo, HandsOn};
     ghost use Rattle.ticket_lock.specs.Tokens.{guard_lock, guard_seat, guard_number, guard_seen, guard_book};
-    ghost use Rattle.ticket_lock.specs.Tokens.{opening_book, KeepsHead, IsSeatOf, seat_number, seat_seen, seat_woken};
+    ghost use Rattle.ticket_lock.specs.Tokens.{opening_book, KeepsHead, IsSeatOf, seat_number, seat_seen};
 
-    /// Hands the book on: the next number is served, and then the seat that waits for it is woken if it sleeps. The seat that is returned has seen
-    /// the lines handed on, and has recorded the sleeping place that it notified, that of the next number. That a thread then wakes is no promise.
+    /// Hands the book on: the next number is served, and the seat that waits for it is woken if it sleeps. The seat that is returned has seen the
+    /// lines handed on.
     ///
     /// It requires that the book is lawful, that its head is the one at opening, that its turn is one more than the number served, and that its lines
     /// are those at entry and one line of this seat with this number, or only those at entry if they filled the capacity.
@@ -40,12 +39,11 @@ impl<'a, B: Chronicle> Guard<'a, B> {
         ensures own { IsSeatOf B.head (guard_lock self.entry) result }
         ensures seat { seat_number result ≡ guard_seat self.entry }
         ensures seen { seat_seen result ≡ B.lines (guard_book self.entry) }
-        ensures woken { seat_woken result ≡ Some (wrap (guard_number self.entry + 1) % 64) }
     {
         let lock = self.lock;
         let next = self.number.wrapping_add(1);
-        let mut seat = self.hand_on_awake();
-        lock.sleepers.wake(next, &mut seat.woken);
+        let seat = self.hand_on_awake();
+        lock.sleepers.wake(next);
         seat
     }
 
@@ -60,7 +58,6 @@ impl<'a, B: Chronicle> Guard<'a, B> {
         ensures own { IsSeatOf B.head (guard_lock self.entry) result }
         ensures seat { seat_number result ≡ guard_seat self.entry }
         ensures seen { seat_seen result ≡ B.lines (guard_book self.entry) }
-        ensures woken { seat_woken result ≡ None }
     {
         let Guard {
             lock,
@@ -77,7 +74,6 @@ impl<'a, B: Chronicle> Guard<'a, B> {
         Seat {
             place,
             number: seat as u8,
-            woken: Woken::nobody(),
         }
     }
 }

@@ -36,12 +36,7 @@ impl<B: Chronicle> TicketLock<B> {
         ensures seat { (ticket_seat result ≡ seat_number seat) × (ticket_seen result ≡ seat_seen seat) }
         ensures looks { ticket_looks result ≡ 0 }
     {
-        let Seat {
-            mut place,
-            number,
-            woken,
-        } = seat;
-        drop(woken);
+        let Seat { mut place, number } = seat;
         let taken = self.board.shared.fetch_add::<plays::Take>(&mut place, 0, 1);
         Ticket {
             place,

@@ -13,7 +13,7 @@ use crate::lock::TicketLock;
 use crate::plays::Cut;
 use crate::rule::{Board, Origin, Place};
 use crate::seat::Seat;
-use crate::sleepers::{Sleepers, Woken};
+use crate::sleepers::Sleepers;
 use atomic_table::{Refused, Table};
 use std::alloc::Global;
 use std::snapshot::Snapshot;
@@ -99,11 +99,7 @@ fn cut<B: Chronicle>(
     for number in 0..seats {
         let mut place = keeper;
         keeper = board.shared.split_seat::<Cut>(&mut place);
-        all.push_reserved(Seat {
-            place,
-            number,
-            woken: Woken::nobody(),
-        });
+        all.push_reserved(Seat { place, number });
     }
     keeper
 }

@@ -4,13 +4,11 @@ ghost use Rattle.ticket_lock.specs.Tokens.{seat_number};
 
 use crate::chronicle::Chronicle;
 use crate::rule::Place;
-use crate::sleepers::Woken;
 
 /// A seat of one lock, with no number. Only `TicketLock::open` makes seats. A seat can't be dropped: `TicketLock::close` takes it back.
 pub struct Seat<B: Chronicle> {
     pub(crate) place: Place<B>,
     pub(crate) number: u8,
-    pub(crate) woken: Woken,
 }
 
 impl<B: Chronicle> Seat<B> {

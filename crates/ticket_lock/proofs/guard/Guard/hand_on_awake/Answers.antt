@@ -30,5 +30,4 @@ returns g c =
       );
       seat = sym c.args.self.holding.1;
       seen = returned.seen;
-      woken = search rules;
     }
