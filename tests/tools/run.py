@@ -288,7 +288,7 @@ def test_two_runs(tests):
         tests.refuses("a run beside another", "another run writes to out/test", top, "bin/test", "files", status=2)
         write(f"{top}/go", "")
         said = first.communicate(timeout=60)[0]
-        tests.see("which ends as it would alone", first.returncode == 0 and said.endswith("\n3 passed, 0 failed\n"), said)
+        tests.see("which ends as it does with no second one", first.returncode == 0 and said.endswith("\n3 passed, 0 failed\n"), said)
         tests.accepts("a run after it", top, "bin/test", "files")
         shutil.rmtree(f"{top}/out"), write(f"{top}/out", "no folder\n")
         tests.refuses("where nothing can be written", f"bin/test: {top}/out/test can't be written", top, "bin/test", "files", status=2)
