@@ -1,5 +1,5 @@
 -- A point that was added to one of two halves: a bridge of which it is not clear ends at it, and the other end is searched alone.
-use Rattle.std.proofs.Common.{◌≡◌, ◌∙◌, Bool, true, false, cond, refl, sym, ap, subst, inl, inr}
+use Rattle.std.proofs.Common.{◌≡◌, ◌∙◌, ◌⊎◌, Bool, true, false, cond, refl, sym, ap, subst, inl, inr, arith}
 use Rattle.std.specs.Prelude.{not, pos, ◌≤ℤ◌, ◌<ℤ◌}
 use Rattle.std.specs.List.{Contains}
 use Rattle.lattice.specs.Bridges.{IsAllBefore, IsBridge, IsInner, IsNotBeyond}
@@ -10,12 +10,14 @@ use Rattle.lattice.specs.Signs.{le_or_lt}
 use Rattle.lattice.specs.Standing.{WithPoint, IsInnerToEdge}
 use Rattle.lattice.specs.declared.side.Side.{Side}
 use Rattle.lattice.specs.declared.side.Side.TheVariants.{Lower, Upper}
-use Rattle.lattice.proofs.Numbers.{zero_between}
+use Rattle.lattice.proofs.Numbers.{less_not_le, np_by, zero_between}
 use Rattle.lattice.proofs.Order.{before_total, before_apart, after_apart, before_irrefl, before_not}
 use Rattle.lattice.proofs.UniqueBridge.{one_bridge, one_lower_bridge}
 use Rattle.bridge_search.specs.Trees.{Leaf, On}
+use Rattle.hull_geometry.specs.Monotone.{IsInwards}
 use Rattle.hull_geometry.specs.Positions.{first_of, last_of}
 use Rattle.hull_geometry.proofs.Fringed.{all_inner, ends_there, of_candidate_lists}
+use Rattle.hull_geometry.proofs.Orientations.{orient_on_end, orient_on_start}
 use Rattle.hull_geometry.proofs.PointSets.{set_apart}
 use Rattle.hull_geometry.proofs.SetLaws.{with_point_law, without_point_law}
 use Rattle.hull_geometry.proofs.Touching.{straight}
@@ -57,6 +59,33 @@ beyond_not_clear side e p h n c = elim (before_total e.0 p) [
       | inr k ↦ absurd (h k)
     ]
 
+-- a point that is clear of an edge, but not inwards of its line, is on it, between its ends
+pub clear_on_line : (side : Side) (e : Pair × Pair) (p : Pair) → ¬ (pos 0 <ℤ orient_on side e.0 e.1 p) → IsClearOf side e p
+    → IsInwards side e.0 e.1 p
+clear_on_line side e p h c = elim (before_total e.0 p) [
+  | inl k ↦ elim (before_total p e.1) [
+    | inl m ↦ (k, m, to_orient_on side e.0 e.1 p c.2.0)
+    | inr m ↦ absurd (beyond_not_clear side e p h (λ b. beyond b.1 m) c)
+  ]
+  | inr k ↦ absurd (beyond_not_clear side e p h (λ b. short b.0 k) c)
+]
+  where
+    beyond : IsBefore p e.1 → ¬ ((p ≡ e.1) ⊎ IsBefore e.1 p)
+    beyond b m = elim m [ inl q ↦ before_apart p e.1 b q | inr k ↦ before_not p e.1 b k ]
+
+    short : IsBefore e.0 p → ¬ ((e.0 ≡ p) ⊎ IsBefore p e.0)
+    short b m = elim m [ inl q ↦ before_apart e.0 p b q | inr k ↦ before_not e.0 p b k ]
+
+-- a point inwards of the line of an edge is no end of it
+pub inwards_apart : (side : Side) (e : Pair × Pair) (p : Pair) → pos 0 <ℤ orient_on side e.0 e.1 p → ¬ (e.0 ≡ p) × ¬ (e.1 ≡ p)
+inwards_apart side e p h = (
+  λ q. on_line (subst (λ z. orient_on side e.0 e.1 z ≡ pos 0) q (orient_on_start side e.0 e.1)),
+  λ q. on_line (subst (λ z. orient_on side e.0 e.1 z ≡ pos 0) q (orient_on_end side e.0 e.1)),
+)
+  where
+    on_line : ¬ (orient_on side e.0 e.1 p ≡ pos 0)
+    on_line q = less_not_le (pos 0) (orient_on side e.0 e.1 p) h (np_by _ (pos 0) q (omega arith))
+
 -- ---- the other end
 
 -- two sets have one bridge on a side
@@ -88,7 +117,7 @@ to_end side l r p q b = record {
 }
 
 -- the bridge of the vertices below two nodes is that of all points below them
-of_points : (side : Side) (l r : Node) (e : Pair × Pair) → AreInRow l r
+pub of_points : (side : Side) (l r : Node) (e : Pair × Pair) → AreInRow l r
     → IsBridge side (On (tree_of l)) (On (tree_of r)) e.0 e.1 → IsBridgeBetween side l r e
 of_points side l r e w b = (of_candidate_lists side (On (tree_of l)) (Contains (points_below l)) (On (tree_of r))
     (Contains (points_below r)) e.0 e.1 (node_candidates side l w.left_built.buckets)

@@ -21,6 +21,7 @@ pub mod Kept
 pub mod Parts
 pub mod InPlace
 pub mod ChangedBelow
+pub mod TopDown
 pub mod OtherEnds
 pub mod SomeBridge
 pub mod EdgeEnds

@@ -11,6 +11,7 @@ pub mod Levels
 pub mod Sets
 pub mod Changes
 pub mod InPlace
+pub mod TopDown
 pub mod OtherEnds
 pub mod Rotations
 pub mod Runs

@@ -1,7 +1,6 @@
 //! Changes that move no subtree: a bucket with capacity left takes a point, or one with several points loses one. Most changes are of this kind; they
 //! go down once, and write only what they alter. If a change is not of this kind, the multiplicity of the point is returned instead.
-ghost use Rattle.std.specs.Prelude.{◌≡◌, ◌≤◌, ◌<◌, ◌<ℤ◌, ◌↔◌, Bool, IsTrue, true, false, IfOk, IfErr, length};
-ghost use Rattle.lattice.specs.Plane.{IsBefore};
+ghost use Rattle.std.specs.Prelude.{◌≡◌, ◌≤◌, ◌<◌, ◌↔◌, Bool, IsTrue, true, false, IfOk, IfErr, length};
 ghost use Rattle.hull_buckets.specs.Buckets.{IsBucket};
 ghost use Rattle.hull_set.specs.declared.TheConstants.{POINT_LIMIT};
 ghost use Rattle.bucket_tree.specs.Counts.{counted, multiplicity_at};
@@ -16,8 +15,10 @@ ghost use Rattle.bucket_tree.specs.Nodes.{points_below, ends_in, node_height, Ha
 use crate::find::find_multiplicity;
 use crate::insertion::{affected_at, put_at};
 use crate::node::{Fork, Node};
+use crate::order::is_before;
 use crate::removal::are_few;
 use crate::renewal::{Change, Changed, change_at, renew_edges, renew_ends_around};
+use crate::top_down::renew_top_down;
 use hull_buckets::{Bucket, buckets_are_sound};
 use lattice::Point;
 
@@ -25,10 +26,6 @@ use lattice::Point;
 trait InPlace {
     // whether one is added
     ghost puts: { Bool };
-
-    /// Whether one is added.
-    fn is_adding() -> bool
-        ensures { result ≡ puts };
 
     /// Changes a bucket if it can take the change. Otherwise leaves it unchanged, and returns the multiplicity of the point there.
     fn change(bucket: &mut Bucket, p: Point) -> Result<Changed, u16>
@@ -39,6 +36,12 @@ trait InPlace {
 
     /// Whether buckets have to be merged if a point below this node is removed.
     fn merges(node: &Node) -> bool;
+
+    /// Renews the forks below a node on the way to the bucket that changed at a point. At first the change is that of the bucket, in the end that of the
+    /// node.
+    fn renew(node: &mut Node, p: Point, change: &mut Changed)
+        requires { (n : Node) × IsChangeable puts n × HasChangedBelow puts p n node.old change.old }
+        ensures { (n : Node) → IsChangeable puts n → HasChangedBelow puts p n node.old change.old → HasChanged puts p n node.new change.new };
 }
 
 /// Whether an index has others before it, and is below a number.
@@ -54,10 +57,6 @@ struct Coming;
 
 impl InPlace for Coming {
     ghost puts = { true };
-
-    fn is_adding() -> bool {
-        true
-    }
 
     fn change(bucket: &mut Bucket, p: Point) -> Result<Changed, u16> {
         buckets_are_sound(bucket);
@@ -82,6 +81,13 @@ impl InPlace for Coming {
     fn merges(_node: &Node) -> bool {
         false
     }
+
+    /// Since a bridge that the point alters ends at it, the forks are renewed on the way down.
+    fn renew(node: &mut Node, p: Point, change: &mut Changed) {
+        let mut turns = 0;
+        renew_top_down(node, p, change, &mut turns);
+        change.turns = turns;
+    }
 }
 
 /// Removes a point of multiplicity one, if its bucket has others.
@@ -89,10 +95,6 @@ struct Going;
 
 impl InPlace for Going {
     ghost puts = { false };
-
-    fn is_adding() -> bool {
-        false
-    }
 
     fn change(bucket: &mut Bucket, p: Point) -> Result<Changed, u16> {
         buckets_are_sound(bucket);
@@ -120,6 +122,11 @@ impl InPlace for Going {
             Node::Fork(1, fork) => are_few(&fork.left, &fork.right),
             _ => false,
         }
+    }
+
+    /// Since the search of a bridge goes down both halves, the forks are renewed on the way back.
+    fn renew(node: &mut Node, p: Point, change: &mut Changed) {
+        renew_bottom_up(node, p, change);
     }
 }
 
@@ -159,38 +166,6 @@ fn renew_fork(fork: &mut Fork, is_left: bool, p: Point, change: Change, changed:
     changed.sides = above.sides;
 }
 
-/// Whether the x of `p` is less than that of `q`.
-#[inline(always)]
-fn has_less_x(p: Point, q: Point) -> bool
-    ensures { IsTrue result ↔ (p.x <ℤ q.x) }
-{
-    p.x() < q.x()
-}
-
-/// Whether the x of both is the same.
-#[inline(always)]
-fn has_same_x(p: Point, q: Point) -> bool
-    ensures { IsTrue result ↔ (p.x ≡ q.x) }
-{
-    p.x() == q.x()
-}
-
-/// Whether the y of `p` is less than that of `q`.
-#[inline(always)]
-fn has_less_y(p: Point, q: Point) -> bool
-    ensures { IsTrue result ↔ (p.y <ℤ q.y) }
-{
-    p.y() < q.y()
-}
-
-/// Whether `p` is before `q`, as [`before`], by comparisons of which none waits for another's outcome.
-#[inline(always)]
-fn is_before(p: Point, q: Point) -> bool
-    ensures { IsTrue result ↔ IsBefore p q }
-{
-    has_less_x(p, q) | (has_same_x(p, q) & has_less_y(p, q))
-}
-
 /// Whether a change alters nothing above it: the point is between two others there, and on neither chain.
 #[inline(always)]
 fn is_contained(change: &Changed) -> bool
@@ -221,19 +196,18 @@ fn change_bucket<C: InPlace>(node: &mut Node, p: Point, outcome: &mut Result<Cha
     }
 }
 
-/// Renews the forks below a node on the way to the bucket that changed at a point. At first the change is that of the bucket, in the end that of the
-/// node.
-fn renew_path<C: InPlace>(node: &mut Node, p: Point, change: &mut Changed)
-    requires { (n : Node) × IsChangeable C.puts n × HasChangedBelow C.puts p n node.old change.old }
-    ensures { (n : Node) → IsChangeable C.puts n → HasChangedBelow C.puts p n node.old change.old
-        → HasChanged C.puts p n node.new change.new }
+/// Renews the forks below a node on the way to the bucket from which a point was removed, the lowest first. At first the change is that of the bucket, in
+/// the end that of the node.
+fn renew_bottom_up(node: &mut Node, p: Point, change: &mut Changed)
+    requires { (n : Node) × IsChangeable false n × HasChangedBelow false p n node.old change.old }
+    ensures { (n : Node) → IsChangeable false n → HasChangedBelow false p n node.old change.old → HasChanged false p n node.new change.new }
 {
     match node {
         Node::Leaf(_) => {}
         Node::Fork(_, fork) => {
             let is_left = is_before(p, fork.right_ends.first);
-            renew_path::<C>(fork.half_mut(is_left), p, change);
-            renew_fork(fork, is_left, p, change_at(is_left, C::is_adding()), change);
+            renew_bottom_up(fork.half_mut(is_left), p, change);
+            renew_fork(fork, is_left, p, change_at(is_left, false), change);
         }
         Node::Taken => unreachable!(),
     }
@@ -253,7 +227,7 @@ fn change_in_place<C: InPlace>(node: &mut Node, p: Point) -> Result<Changed, u16
     change_bucket::<C>(node, p, &mut outcome);
     let mut change = outcome?;
     if !is_contained(&change) {
-        renew_path::<C>(node, p, &mut change);
+        C::renew(node, p, &mut change);
     }
     Ok(change)
 }

@@ -6,6 +6,7 @@
 //! bridges of the forks above it. [`BucketTree`] is the set of points built on it.
 #![tactic(auto)]
 
+mod bridge_to_added;
 mod chains;
 mod find;
 mod fork_ref;
@@ -16,6 +17,7 @@ mod listing;
 mod load;
 mod nearest;
 mod node;
+mod order;
 mod other_end;
 mod part;
 mod questions;
@@ -24,6 +26,7 @@ mod removal;
 mod renewal;
 mod rotation;
 mod runs;
+mod top_down;
 mod tree;
 
 pub use find::find_multiplicity;

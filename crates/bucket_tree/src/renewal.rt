@@ -15,6 +15,7 @@ ghost use Rattle.bucket_tree.specs.InPlace.{IsBetween, IsBetweenKept};
 ghost use Rattle.bucket_tree.specs.Nodes.{tree_of, points_below, multiplicities_below, node_height, AreInRow, IsWellBuilt};
 ghost use Rattle.bucket_tree.specs.Nodes.{AreNear, HasBuckets, IsHeightOver, IsLabelled, ends_in};
 
+use crate::bridge_to_added::search_to_added;
 use crate::join::search_one;
 use crate::node::{Ends, Fork, Node, ends_of, height_of};
 use crate::other_end::{BridgeEnd, other_end};
@@ -53,14 +54,14 @@ pub(crate) enum EdgePosition {
 }
 
 /// Whether a point is not outwards of the line of an edge.
-fn is_inner(side: Side, edge: &(Point, Point), p: Point) -> bool
+pub(crate) fn is_inner(side: Side, edge: &(Point, Point), p: Point) -> bool
     ensures { IsTrue result ↔ (pos 0 ≤ℤ orientations.orient_on side edge.now.0 edge.now.1 p) }
 {
     orient_on(side, edge.0, edge.1, p) >= 0
 }
 
 /// Whether a point is inwards of the line of an edge.
-fn is_inwards(side: Side, edge: &(Point, Point), p: Point) -> bool
+pub(crate) fn is_inwards(side: Side, edge: &(Point, Point), p: Point) -> bool
     ensures { IsTrue result ↔ (pos 0 <ℤ orientations.orient_on side edge.now.0 edge.now.1 p) }
 {
     orient_on(side, edge.0, edge.1, p) > 0
@@ -209,28 +210,8 @@ fn search_after(side: Side, fork: &Fork, p: Point, change: Change) -> ((Point, P
     ensures turns { result.1 ≤ 4 * max (node_height fork.now.left) (node_height fork.now.right) + 24 }
 {
     match change {
-        Change::AddedLeft => {
-            let (end, turns) = other_end(
-                BridgeEnd::End,
-                side,
-                p,
-                &fork.right,
-                fork.edge(side).1,
-                fork.right_ends.last,
-            );
-            ((p, end), turns)
-        }
-        Change::AddedRight => {
-            let (start, turns) = other_end(
-                BridgeEnd::Start,
-                side,
-                p,
-                &fork.left,
-                fork.left_ends.first,
-                fork.edge(side).0,
-            );
-            ((start, p), turns)
-        }
+        Change::AddedLeft => search_to_added(side, fork, true, p),
+        Change::AddedRight => search_to_added(side, fork, false, p),
         Change::OtherLeft => search_by_end(side, fork),
         Change::OtherRight => search_by_start(side, fork),
     }

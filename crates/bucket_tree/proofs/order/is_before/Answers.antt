@@ -2,7 +2,7 @@
 use Rattle.std.proofs.Common.{Bool, true, false, ◌||◌, ◌&&◌, inl, inr, refl}
 use Rattle.std.specs.Prelude.{◌↔◌, ◌⊎◌, IsTrue}
 use Rattle.std.proofs.lemmas.Bool.{false≢true}
-use Rattle.bucket_tree.proofs.in_place.is_before.Goals as goal
+use Rattle.bucket_tree.proofs.order.is_before.Goals as goal
 
 either : {A B C : Type 0} (a b c : Bool) → (IsTrue a ↔ A) → (IsTrue b ↔ B) → (IsTrue c ↔ C)
     → IsTrue (a || (b && c)) ↔ (A ⊎ (B × C))

@@ -1,0 +1,480 @@
+-- A point that was added to one half of a fork, before the forks of that half are renewed.
+use Rattle.std.proofs.Common.{◌≡◌, ◌⊎◌, ℕ, ◌+◌, ◌*◌, ◌≤◌, ◌<◌, max, Bool, true, false, cond, not, refl, sym, ap, ◌∙◌, subst, inl, inr, Box, arith}
+use Rattle.std.proofs.Common.{List, length, length-append, ◌++◌}
+use Rattle.std.specs.Box.{with_value}
+use Rattle.std.specs.List.{Contains}
+use Rattle.lattice.specs.Bridges.{IsBridge}
+use Rattle.lattice.specs.Covers.{IsPointSet, with_point}
+use Rattle.lattice.specs.Plane.{Pair, IsBefore}
+use Rattle.lattice.specs.declared.side.Side.{Side}
+use Rattle.lattice.specs.declared.side.Side.TheVariants.{Lower, Upper}
+use Rattle.lattice.proofs.Order.{before_apart, before_irrefl, before_not, before_total, before_trans}
+use Rattle.bridge_search.specs.Trees.{On}
+use Rattle.hull_geometry.specs.Positions.{first_of, last_of}
+use Rattle.hull_geometry.proofs.SetLaws.{with_point_law}
+use Rattle.hull_set.specs.declared.TheConstants.{POINT_LIMIT}
+use Rattle.bucket_tree.specs.Changes.{HasEdgesAfter, HasEnds, IsBridgeBetween, IsClearOf, IsEndOf, IsEndUnlessClear, IsRenewed, IsSameBut, change_of, edge_on}
+use Rattle.bucket_tree.specs.Halves.{ends_of_half, half_of, with_half}
+use Rattle.bucket_tree.specs.InPlace.{HasChanged, HasChangedBelow, IsBetweenKept, IsChangeable, IsRenewedAfter, IsToRenew}
+use Rattle.bucket_tree.specs.Nodes.{tree_of, points_below, ends_in, node_height, AreInRow, IsWellBuilt}
+use Rattle.bucket_tree.specs.TopDown.{HasStandIn, IsToRenewOver, StandsIn, WereEnds}
+use Rattle.bucket_tree.specs.Turns.{most_turns}
+use Rattle.bucket_tree.specs.declared.renewal.Affected.{Affected}
+use Rattle.bucket_tree.specs.declared.renewal.Changed.{Changed}
+use Rattle.bucket_tree.specs.declared.node.Ends.{Ends}
+use Rattle.bucket_tree.specs.declared.node.Fork.{Fork as Below}
+use Rattle.bucket_tree.specs.declared.node.Node.{Node, Leaf, Fork, Fork', Taken}
+use Rattle.bucket_tree.specs.OtherEnds.{IsAfterPoint, IsBeforePoint, IsEndFrom, IsEndFromWithin, IsEndTo, IsEndToWithin}
+use Rattle.bucket_tree.proofs.Added.{after_first, before_second, end_as, end_not_before, of_points, start_not_after, with_end_from, with_end_to}
+use Rattle.bucket_tree.proofs.Added.{within_from, within_to}
+use Rattle.bucket_tree.proofs.ChangedBelow.{IsOpened, changeable_half, opened}
+use Rattle.bucket_tree.proofs.InPlace.{IsForkAt, between_half, changed_leaf, changed_with, fork_at, to_renew}
+use Rattle.bucket_tree.proofs.Kept.{DiffersAt, differs_with, edges_as, ends_kept, of_vertices}
+use Rattle.bucket_tree.proofs.NodeRows.{vertices_in_row}
+use Rattle.bucket_tree.proofs.NodePoints.{some_below}
+use Rattle.bucket_tree.proofs.SetEnds.{by_first, by_last, first_among, last_among}
+use Rattle.bucket_tree.proofs.SomeBridge.{some_bridge}
+
+-- ---- a node that stands in for one whose forks are not renewed
+
+-- a fork with another half of the same points in place of its own has the same points
+same_points : (left : Bool) (old v : Below) (m : Node) → v ≡ with_half left old (half_of left v)
+    → points_below m ≡ points_below (half_of left v)
+    → points_below (with_half left old m).left ++ points_below (with_half left old m).right
+    ≡ points_below v.left ++ points_below v.right
+same_points true old v m e h = ap (λ z. z ++ points_below old.right) h
+    ∙ ap (λ (z : Below). points_below v.left ++ points_below z.right) (sym e)
+same_points false old v m e h = ap (λ z. points_below old.left ++ z) h
+    ∙ ap (λ (z : Below). points_below z.left ++ points_below v.right) (sym e)
+
+-- a fork over two nodes in a row, with their bridges and their ends
+over_row : (l r : Node) → AreInRow l r → (g : Below) × IsRenewed g × (g.left ≡ l) × (g.right ≡ r)
+over_row l r w =
+    let o = vertices_in_row l r w in
+    let u = some_bridge Upper (tree_of l) (tree_of r) w.left_built.bridged w.right_built.bridged o in
+    let b = some_bridge Lower (tree_of l) (tree_of r) w.left_built.bridged w.right_built.bridged o in (
+      record {
+        left_ends = ends_in (points_below l);
+        left = l;
+        right_ends = ends_in (points_below r);
+        right = r;
+        upper = (u.0, u.1);
+        lower = (b.0, b.1);
+      },
+      record { row = w; upper = u.2; lower = b.2; ends = record { left = refl; right = refl } },
+      refl,
+      refl,
+    )
+
+-- a node that has changed, with the points of another one
+pub record IsStandIn (put : Bool) (p : Pair) (n k : Node) (below : Changed) : Type 0 where
+  pub node : Node
+  pub changed : HasChanged put p n node below
+  pub points : points_below node ≡ points_below k
+
+-- some node stands in for a fork, if some node does for its half
+stand_in_above : (left put : Bool) (p : Pair) (n : Node) (h : ℕ) (old : Below) (b : Box Below _) (below : Changed) → IsForkAt left p n h old
+    → b.value ≡ with_half left old (half_of left b.value) → IsChangeable put n
+    → (IsChangeable put (half_of left old) → IsStandIn put p (half_of left old) (half_of left b.value) below)
+    → IsStandIn put p n (Fork h b) below
+stand_in_above left put p n h old b below at v c rec =
+    let s = rec (changeable_half left put p n h old at c) in
+    let g = with_half left old s.node in
+    let t = to_renew left put (change_of left put) p n h old g s.node below at s.changed c.few c.low refl refl in
+    let o = over_row g.left g.right t.after.row in
+    let r : IsRenewedAfter p below g o.0 below = record {
+      renewed = o.1;
+      left = o.2;
+      right = o.3;
+      turns = omega arith;
+      closes = λ side e. inl e;
+      between = λ e. between_half left p g (t.between e).0;
+    } in
+    record {
+      node = Fork h (with_value b o.0);
+      changed = changed_with left put p n h old g s.node below below (with_value b o.0) at s.changed c.few c.low refl r;
+      points = ap (λ z. points_below z ++ points_below o.0.right) o.2 ∙ ap (λ z. points_below g.left ++ points_below z) o.3
+          ∙ same_points left old b.value s.node v s.points;
+    }
+
+-- some node stands in for one below which a bucket changed
+pub stand_in : (put : Bool) (p : Pair) (n k : Node) (below : Changed) → IsChangeable put n → HasChangedBelow put p n k below
+    → IsStandIn put p n k below
+stand_in put p (Leaf b) (Leaf c) below w d = record {
+  node = Leaf c;
+  changed = changed_leaf put p b c c.value below refl d.0 d.1;
+  points = refl;
+}
+stand_in put p (Leaf b) (Fork' k i le l re r u lo) below w d = absurd d
+stand_in put p (Leaf b) Taken below w d = absurd d
+stand_in put p Taken m below w d = absurd d
+stand_in put p (Fork' h j xe x ye y q t) (Leaf c) below w d = absurd d
+stand_in put p (Fork' h j xe x ye y q t) Taken below w d = absurd d
+stand_in put p (Fork' h j xe x ye y q t) (Fork' k i le l re r u lo) below w (e, d) =
+    let same = ap (λ z. Fork' z j xe x ye y q t) (sym e) in
+    elim d [
+      | inl (first, v, d) ↦ stand_in_above true put p (Fork' h j xe x ye y q t) k _ _ below
+          (fork_at true p _ k _ _ _ same refl refl w.built first) v w (λ c. stand_in put p x l below c d)
+      | inr (first, v, d) ↦ stand_in_above false put p (Fork' h j xe x ye y q t) k _ _ below
+          (fork_at false p _ k _ _ _ same refl refl w.built first) v w (λ c. stand_in put p y r below c d)
+    ]
+
+-- it is as high as that one
+pub height_below : (put : Bool) (p : Pair) (n k : Node) (below : Changed) → HasChangedBelow put p n k below → node_height k ≡ node_height n
+height_below put p (Leaf b) (Leaf c) below d = refl
+height_below put p (Leaf b) (Fork' k i le l re r u lo) below d = absurd d
+height_below put p (Leaf b) Taken below d = absurd d
+height_below put p Taken m below d = absurd d
+height_below put p (Fork' h j xe x ye y q t) (Leaf c) below d = absurd d
+height_below put p (Fork' h j xe x ye y q t) Taken below d = absurd d
+height_below put p (Fork' h j xe x ye y q t) (Fork' k i le l re r u lo) below (e, d) = elim d [
+  | inl (first, v, d) ↦ let a = height_below put p x l below d in
+      let s = ap (λ (z : Below). node_height z.right) v in omega (arith, a, s)
+  | inr (first, v, d) ↦ let a = height_below put p y r below d in
+      let s = ap (λ (z : Below). node_height z.left) v in omega (arith, a, s)
+]
+
+-- ---- the ends of the half
+
+-- a point that was added is the first one of all if it is not after the one before
+were_first : (p : Pair) (S T : List Pair) → IsPointSet S → IsPointSet T → DiffersAt p S T → 0 < length T → Contains T p
+    → ¬ IsBefore (first_of S) p → p ≡ first_of T
+were_first p S T s t d l i n = elim (by_first T p t i) [
+  | inl e ↦ e
+  | inr k ↦ absurd (elim (d.had (first_of T) (first_among T l)) [
+    | inl j ↦ elim (by_first S (first_of T) s j) [
+      | inl e ↦ n (subst (λ z. IsBefore z p) e k)
+      | inr m ↦ n (before_trans (first_of S) (first_of T) p m k)
+    ]
+    | inr q ↦ before_irrefl p (subst (λ z. IsBefore z p) q k)
+  ])
+]
+
+-- or the last one
+were_last : (p : Pair) (S T : List Pair) → IsPointSet S → IsPointSet T → DiffersAt p S T → 0 < length T → Contains T p
+    → ¬ IsBefore p (last_of S) → p ≡ last_of T
+were_last p S T s t d l i n = elim (by_last T p t i) [
+  | inl e ↦ e
+  | inr k ↦ absurd (elim (d.had (last_of T) (last_among T l)) [
+    | inl j ↦ elim (by_last S (last_of T) s j) [
+      | inl e ↦ n (subst (IsBefore p) e k)
+      | inr m ↦ n (before_trans p (last_of T) (last_of S) k m)
+    ]
+    | inr q ↦ before_irrefl p (subst (IsBefore p) q k)
+  ])
+]
+
+-- the ends of a node are those before the point was added
+were_ends : (p : Pair) (n m : Node) (e : Ends) → IsWellBuilt n → IsWellBuilt m → DiffersAt p (points_below n) (points_below m)
+    → Contains (points_below m) p → e ≡ ends_in (points_below n) → WereEnds p e (points_below m)
+were_ends p n m e v w d i is =
+    let kept = ends_kept p n m e v w d is in
+    let first = ap (λ (z : Ends). z.first) is in
+    let last = ap (λ (z : Ends). z.last) is in
+    record {
+      first_kept = kept.0;
+      first_new = λ b. were_first p (points_below n) (points_below m) v.ordered w.ordered d (some_below m w.buckets) i
+          (λ k. b (subst (λ z. IsBefore z p) (sym first) k));
+      last_kept = kept.1;
+      last_new = λ b. were_last p (points_below n) (points_below m) v.ordered w.ordered d (some_below m w.buckets) i
+          (λ k. b (subst (IsBefore p) (sym last) k));
+    }
+
+-- ---- a fork below which a bucket changed
+
+-- a bridge of the points below two nodes is one of the same points below others
+between_as : (side : Side) (l m r s : Node) (e : Pair × Pair) → points_below l ≡ points_below m → points_below r ≡ points_below s
+    → IsBridgeBetween side l r e → IsBridgeBetween side m s e
+between_as side l m r s e f g b = subst (λ z. IsBridge side (Contains z) (Contains (points_below s)) e.0 e.1) f
+    (subst (λ z. IsBridge side (Contains (points_below l)) (Contains z) e.0 e.1) g b)
+
+-- an end of each bridge is one of those of the same points
+end_as_points : (left : Bool) (side : Side) (p : Pair) (m k o : Node) (e : Pair × Pair) → points_below m ≡ points_below k
+    → IsEndUnlessClear (change_of left true) side p (cond left m o) (cond left o m) e
+    → IsEndUnlessClear (change_of left true) side p (cond left k o) (cond left o k) e
+end_as_points true side p m k o e s h n =
+    let i = h n in (
+      subst (λ z. Contains z p) s i.0,
+      λ d b. i.1 d (between_as side k m o o d (sym s) refl b),
+    )
+end_as_points false side p m k o e s h n =
+    let i = h n in (
+      subst (λ z. Contains z p) s i.0,
+      λ d b. i.1 d (between_as side o o k m d refl (sym s) b),
+    )
+
+-- the edges of a fork are those with another half
+same_edge : (left : Bool) (f : Below) (m k : Node) (side : Side) → edge_on side (with_half left f m) ≡ edge_on side (with_half left f k)
+same_edge left f m k Lower = refl
+same_edge left f m k Upper = refl
+
+-- a fork over a half that a well-built node stands in for is to be renewed
+with_stand_in : (left : Bool) (p : Pair) (old : Below) (m k : Node) (below : Changed) → points_below m ≡ points_below k
+    → IsToRenew left (change_of left true) p below (with_half left old m) → WereEnds p (ends_of_half left old) (points_below m)
+    → IsToRenewOver left p below (with_half left old k)
+with_stand_in true p old m k below e t w = record {
+  half = (m, record {
+    points = e;
+    row = t.after.row;
+    few = subst (λ z. length (z ++ points_below old.right) ≤ POINT_LIMIT) e t.few;
+    ends = t.after.other;
+  });
+  edges = record {
+    unaffected = λ side u. subst (IsBridgeBetween side k old.right) (same_edge true old m k side)
+        (between_as side m k old.right old.right _ e refl (t.after.edges.unaffected side u));
+    clear = λ side c. subst (IsBridgeBetween side k old.right) (same_edge true old m k side)
+        (between_as side m k old.right old.right _ e refl
+        (t.after.edges.clear side (subst (λ z. IsClearOf side z p) (same_edge true old k m side) c)));
+  };
+  end = λ side. subst (IsEndUnlessClear (change_of true true) side p k old.right) (same_edge true old m k side)
+      (end_as_points true side p m k old.right _ e (t.end side));
+  ends = subst (WereEnds p old.left_ends) e w;
+  between = λ b. (t.between b).1 ∙ ap ends_in e;
+}
+with_stand_in false p old m k below e t w = record {
+  half = (m, record {
+    points = e;
+    row = t.after.row;
+    few = subst (λ z. length (points_below old.left ++ z) ≤ POINT_LIMIT) e t.few;
+    ends = t.after.other;
+  });
+  edges = record {
+    unaffected = λ side u. subst (IsBridgeBetween side old.left k) (same_edge false old m k side)
+        (between_as side old.left old.left m k _ refl e (t.after.edges.unaffected side u));
+    clear = λ side c. subst (IsBridgeBetween side old.left k) (same_edge false old m k side)
+        (between_as side old.left old.left m k _ refl e
+        (t.after.edges.clear side (subst (λ z. IsClearOf side z p) (same_edge false old k m side) c)));
+  };
+  end = λ side. subst (IsEndUnlessClear (change_of false true) side p old.left k) (same_edge false old m k side)
+      (end_as_points false side p m k old.left _ e (t.end side));
+  ends = subst (WereEnds p old.right_ends) e w;
+  between = λ b. (t.between b).1 ∙ ap ends_in e;
+}
+
+-- the ends that a fork stores of its half, which changed, are those before
+ends_before : (left : Bool) (p : Pair) (n : Node) (h : ℕ) (f : Below) (m : Node) (below : Changed) → IsForkAt left p n h f
+    → HasChanged true p (half_of left f) m below → WereEnds p (ends_of_half left f) (points_below m)
+ends_before left p n h f m below i d = go left (built left i) d (stored left i)
+  where
+    built : (left : Bool) → IsForkAt left p n h f → IsWellBuilt (half_of left f)
+    built true i = i.apart.row.left_built
+    built false i = i.apart.row.right_built
+
+    stored : (left : Bool) → IsForkAt left p n h f → ends_of_half left f ≡ ends_in (points_below (half_of left f))
+    stored true i = i.apart.ends.left
+    stored false i = i.apart.ends.right
+
+    go : (left : Bool) → IsWellBuilt (half_of left f) → HasChanged true p (half_of left f) m below
+        → ends_of_half left f ≡ ends_in (points_below (half_of left f)) → WereEnds p (ends_of_half left f) (points_below m)
+    go left w d s =
+        let S = points_below (half_of left f) in
+        were_ends p (half_of left f) m (ends_of_half left f) w d.in_place.built
+        (subst (DiffersAt p S) (sym d.gained.0) (differs_with p S w.ordered))
+        (subst (λ z. Contains z p) (sym d.gained.0) (((with_point_law S p w.ordered).1 p).1 (inl refl))) s
+
+module _ (left : Bool) (p : Pair) (n : Node) (h : ℕ) (f : Below) (below : Changed) (c : IsChangeable true n)
+    (o : IsOpened left true p n h f below) where
+  -- the half could be changed
+  half : IsChangeable true (half_of left o.old)
+  half = changeable_half left true p n h o.old o.at c
+
+  -- some node stands in for it
+  x : IsStandIn true p (half_of left o.old) (half_of left f) below
+  x = stand_in true p (half_of left o.old) (half_of left f) below half o.changed
+
+  -- so the fork is to be renewed
+  pub to_renew_over : IsToRenewOver left p below f
+  to_renew_over = subst (IsToRenewOver left p below) (sym o.value)
+      (with_stand_in left p o.old x.node (half_of left f) below x.points
+      (to_renew left true (change_of left true) p n h o.old (with_half left o.old x.node) x.node below o.at x.changed c.few c.low refl refl)
+      (ends_before left p n h o.old x.node below o.at x.changed))
+
+  -- and with the half as it is in the end it has changed
+  module _ (g : Below) (k : Node) (l : g.left ≡ f.left) (r : g.right ≡ f.right)
+      (bridges : (side : Side) → IsBridgeBetween side g.left g.right (edge_on side g)) (ends : HasEnds g.left g.right g)
+      (d : HasChanged true p (half_of left o.old) k below) where
+    points : points_below k ≡ points_below (half_of left f)
+    points = d.gained.0 ∙ sym x.changed.gained.0 ∙ x.points
+
+    t : IsToRenew left (change_of left true) p below (with_half left o.old k)
+    t = to_renew left true (change_of left true) p n h o.old (with_half left o.old k) k below o.at d c.few c.low refl refl
+
+    final : (left : Bool) → points_below k ≡ points_below (half_of left f) → f ≡ with_half left o.old (half_of left f)
+        → IsToRenew left (change_of left true) p below (with_half left o.old k)
+        → IsRenewedAfter p below (with_half left o.old k) (with_half left g k) below
+    final true s e t =
+        let q = r ∙ ap (λ (z : Below). z.right) e in
+        let row = subst (AreInRow k) (sym q) t.after.row in
+        let m = s ∙ ap points_below (sym l) in
+        let a : (side : Side) → IsBridge side (On (tree_of k)) (On (tree_of g.right)) (edge_on side g).0 (edge_on side g).1 =
+            λ side. of_vertices side k g.right (edge_on side g) row
+        (between_as side g.left k g.right g.right (edge_on side g) (sym m) refl (bridges side)) in
+        record {
+          renewed = record { row = row; upper = a Upper; lower = a Lower; ends = record { left = ends.left ∙ ap ends_in (sym m); right = ends.right } };
+          left = refl;
+          right = q;
+          turns = omega arith;
+          closes = λ side i. inl i;
+          between = λ i. between_half true p (with_half true o.old k) (t.between i).0;
+        }
+    final false s e t =
+        let q = l ∙ ap (λ (z : Below). z.left) e in
+        let row = subst (λ z. AreInRow z k) (sym q) t.after.row in
+        let m = s ∙ ap points_below (sym r) in
+        let a : (side : Side) → IsBridge side (On (tree_of g.left)) (On (tree_of k)) (edge_on side g).0 (edge_on side g).1 =
+            λ side. of_vertices side g.left k (edge_on side g) row
+        (between_as side g.left g.left g.right k (edge_on side g) refl (sym m) (bridges side)) in
+        record {
+          renewed = record { row = row; upper = a Upper; lower = a Lower; ends = record { left = ends.left; right = ends.right ∙ ap ends_in (sym m) } };
+          left = q;
+          right = refl;
+          turns = omega arith;
+          closes = λ side i. inl i;
+          between = λ i. between_half false p (with_half false o.old k) (t.between i).0;
+        }
+
+    pub has_changed : (b : Box Below _) → b.value ≡ with_half left g k → HasChanged true p n (Fork h b) below
+    has_changed b v = changed_with left true p n h o.old (with_half left o.old k) k below below b o.at d c.few c.low refl
+        (subst (λ z. IsRenewedAfter p below (with_half left o.old k) z below) (sym v) (final left points o.value t))
+
+-- ---- the bridge that ends at the point
+
+module _ (side : Side) (p : Pair) (f : Below) (m : Node) where
+  -- the point was added to the left half
+  module _ (i : StandsIn true f m) (k : IsEndOf (change_of true true) side p f.left f.right (edge_on side f)) where
+    from_left : (e : Pair × Pair) → IsBridgeBetween side m f.right e → (e.0 ≡ p) × ¬ IsBefore e.1 (edge_on side f).1
+    from_left e b = k.1 e (between_as side m f.left f.right f.right e i.points refl b)
+
+    -- it is before the right half
+    pub before_right : IsAfterPoint p (tree_of f.right)
+    before_right = after_first m f.right p i.row (subst (λ z. Contains z p) (sym i.points) k.0)
+
+    -- the end is not before the old one
+    pub end_in_right : IsEndFromWithin side p (tree_of f.right) (edge_on side f).1 f.right_ends.last
+    end_in_right = within_from side p f.right (edge_on side f).1 f.right_ends.last i.row.right_built (ap (λ (z : Ends). z.last) i.ends)
+        (λ q h. end_not_before side m f.right p q (edge_on side f).1 i.row from_left h)
+
+    -- and the bridge from the point is that of both halves
+    pub bridge_from : (q : Pair) → IsEndFrom side p (tree_of f.right) q → IsBridgeBetween side f.left f.right (p, q)
+    bridge_from q h = between_as side m f.left f.right f.right (p, q) i.points refl
+        (of_points side m f.right (p, q) i.row (with_end_from side m f.right p q i.row (λ e b. (from_left e b).0) h))
+
+    pub few_right : length (points_below f.right) ≤ POINT_LIMIT
+    few_right = omega (arith, i.few, length-append (points_below f.left) (points_below f.right))
+
+  -- it was added to the right half
+  module _ (i : StandsIn false f m) (k : IsEndOf (change_of false true) side p f.left f.right (edge_on side f)) where
+    to_right : (e : Pair × Pair) → IsBridgeBetween side f.left m e → (e.1 ≡ p) × ¬ IsBefore (edge_on side f).0 e.0
+    to_right e b = k.1 e (between_as side f.left f.left m f.right e refl i.points b)
+
+    -- it is after the left half
+    pub after_left : IsBeforePoint (tree_of f.left) p
+    after_left = before_second f.left m p i.row (subst (λ z. Contains z p) (sym i.points) k.0)
+
+    -- the start is not after the old one
+    pub start_in_left : IsEndToWithin side (tree_of f.left) p f.left_ends.first (edge_on side f).0
+    start_in_left = within_to side f.left p f.left_ends.first (edge_on side f).0 i.row.left_built (ap (λ (z : Ends). z.first) i.ends)
+        (λ q h. start_not_after side f.left m p q (edge_on side f).0 i.row to_right h)
+
+    -- and the bridge to the point is that of both halves
+    pub bridge_to : (q : Pair) → IsEndTo side (tree_of f.left) p q → IsBridgeBetween side f.left f.right (q, p)
+    bridge_to q h = between_as side f.left f.left m f.right (q, p) refl i.points
+        (of_points side f.left m (q, p) i.row (with_end_to side f.left m p q i.row (λ e b. (to_right e b).0) h))
+
+    pub few_left : length (points_below f.left) ≤ POINT_LIMIT
+    few_left = omega (arith, i.few, length-append (points_below f.left) (points_below f.right))
+
+-- a fork of which only an edge differs has a node that stands in for the half
+pub stand_in_moved : (left : Bool) (side : Side) (f g : Below) → IsSameBut side f g → HasStandIn left f → HasStandIn left g
+stand_in_moved left side f g s h = go left h
+  where
+    go : (left : Bool) → HasStandIn left f → HasStandIn left g
+    go true h = (h.0, record {
+      points = h.1.points ∙ ap points_below (sym s.left);
+      row = subst (AreInRow h.0) (sym s.right) h.1.row;
+      few = rw (s.left, s.right) h.1.few;
+      ends = s.right_ends ∙ h.1.ends ∙ ap (λ z. ends_in (points_below z)) (sym s.right);
+    })
+    go false h = (h.0, record {
+      points = h.1.points ∙ ap points_below (sym s.right);
+      row = subst (λ z. AreInRow z h.0) (sym s.left) h.1.row;
+      few = rw (s.left, s.right) h.1.few;
+      ends = s.left_ends ∙ h.1.ends ∙ ap (λ z. ends_in (points_below z)) (sym s.left);
+    })
+
+-- a fork with the same halves and edges, that stores their ends, is to be renewed at its edges
+module _ (left : Bool) (p : Pair) (change : Changed) (f g : Below) (over : IsToRenewOver left p change f) (l : g.left ≡ f.left)
+    (r : g.right ≡ f.right) (ends : HasEnds f.left f.right g) (same : (side : Side) → edge_on side g ≡ edge_on side f) where
+  pub half_over : HasStandIn left g
+  half_over = go left over.half
+    where
+      go : (left : Bool) → HasStandIn left f → HasStandIn left g
+      go true h = (h.0, record {
+        points = h.1.points ∙ ap points_below (sym l);
+        row = subst (AreInRow h.0) (sym r) h.1.row;
+        few = rw (l, r) h.1.few;
+        ends = ends.right ∙ ap (λ z. ends_in (points_below z)) (sym r);
+      })
+      go false h = (h.0, record {
+        points = h.1.points ∙ ap points_below (sym r);
+        row = subst (λ z. AreInRow z h.0) (sym l) h.1.row;
+        few = rw (l, r) h.1.few;
+        ends = ends.left ∙ ap (λ z. ends_in (points_below z)) (sym l);
+      })
+
+  pub edges_over : HasEdgesAfter p change.sides g
+  edges_over =
+      let e = edges_as p change.sides f.left f.right f g over.edges.unaffected over.edges.clear same in
+      let moved : (side : Side) → IsBridgeBetween side f.left f.right (edge_on side g) → IsBridgeBetween side g.left g.right (edge_on side g) =
+      λ side. between_as side f.left g.left f.right g.right (edge_on side g) (ap points_below (sym l)) (ap points_below (sym r)) in
+      record { unaffected = λ side u. moved side (e.0 side u); clear = λ side k. moved side (e.1 side k) }
+
+  pub end_over : (side : Side) → IsEndUnlessClear (change_of left true) side p g.left g.right (edge_on side g)
+  end_over side = subst (λ z. IsEndUnlessClear (change_of left true) side p z g.right (edge_on side g)) (sym l)
+      (subst (λ z. IsEndUnlessClear (change_of left true) side p f.left z (edge_on side g)) (sym r)
+      (end_as (change_of left true) p f.left f.right f g same over.end side))
+
+  pub ends_over : HasEnds g.left g.right g
+  ends_over = record {
+    left = ends.left ∙ ap (λ z. ends_in (points_below z)) (sym l);
+    right = ends.right ∙ ap (λ z. ends_in (points_below z)) (sym r);
+  }
+
+-- two forks with the same halves have the same half on a side
+pub half_same : (left : Bool) (f g : Below) → g.left ≡ f.left → g.right ≡ f.right → half_of left g ≡ half_of left f
+half_same true f g l r = l
+half_same false f g l r = r
+
+-- each edge of a fork is a bridge, if one was first renewed on the upper side and then on the lower one
+pub both_moved : (f g : Below) → IsSameBut Lower f g → IsBridgeBetween Upper f.left f.right f.upper
+    → IsBridgeBetween Lower g.left g.right g.lower → (side : Side) → IsBridgeBetween side g.left g.right (edge_on side g)
+both_moved f g s u l Lower = l
+both_moved f g s u l Upper = rw (s.left, s.right, s.other) u
+
+-- one of two points in order is before the other, or not
+pub before_or_not : (p q : Pair) → IsBefore p q ⊎ ¬ IsBefore p q
+before_or_not p q = elim (before_total p q) [
+  | inl b ↦ inl b
+  | inr k ↦ inr (λ b. elim k [ inl e ↦ before_apart p q b e | inr c ↦ before_not p q b c ])
+]
+
+-- a half stands in for itself
+pub itself : (left : Bool) (f : Below) → AreInRow f.left f.right → length (points_below f.left ++ points_below f.right) ≤ POINT_LIMIT
+    → HasEnds f.left f.right f → HasStandIn left f
+itself true f w l e = (f.left, record { points = refl; row = w; few = l; ends = e.right })
+itself false f w l e = (f.right, record { points = refl; row = w; few = l; ends = e.left })
+
+-- a change with the turns of its searches
+pub with_turns : (p : Pair) (n m : Node) (change : Changed) (turns : ℕ) → HasChanged true p n m change → turns ≤ most_turns (node_height n)
+    → HasChanged true p n m record { turns = turns; sides = change.sides; is_between = change.is_between }
+with_turns p n m change turns d l = record {
+  absent = d.absent;
+  in_place = record {
+    built = d.in_place.built;
+    height = d.in_place.height;
+    turns = l;
+    unaffected = d.in_place.unaffected;
+    between = d.in_place.between;
+  };
+  gained = d.gained;
+}
