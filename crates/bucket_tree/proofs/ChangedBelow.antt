@@ -122,7 +122,7 @@ none_below put p n m below e d = go n (subst (λ z. HasChangedBelow put p n z be
     go Taken d = d
 
 -- of two nodes put into one half after the other the second one stays
-with_again : (left : Bool) (f : Below) (k m : Node) → with_half left (with_half left f k) m ≡ with_half left f m
+pub with_again : (left : Bool) (f : Below) (k m : Node) → with_half left (with_half left f k) m ≡ with_half left f m
 with_again true f k m = refl
 with_again false f k m = refl
 

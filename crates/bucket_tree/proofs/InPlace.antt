@@ -20,7 +20,7 @@ use Rattle.std.proofs.lemmas.List.{get_or-drop, get_or-take}
 use Rattle.lattice.specs.Covers.{IsPointSet}
 use Rattle.hull_buckets.specs.Buckets.{BucketValue, IsBucket}
 use Rattle.hull_set.specs.Held.{once}
-use Rattle.bucket_tree.specs.Changes.{AreKept, HasEdgesAfter, HasEnds, IsBridgeBetween, IsUnaffectedOver, IsAfter}
+use Rattle.bucket_tree.specs.Changes.{AreKept, HasEdgesAfter, HasEnds, IsBridgeBetween, IsUnaffectedOver}
 use Rattle.bucket_tree.specs.Changes.{IsEndUnlessClear, IsRenewed, IsSameBut, change_of, edge_on}
 use Rattle.bucket_tree.specs.Counts.{counted, multiplicity_at, Alters, Kind, Comes, Goes}
 use Rattle.bucket_tree.specs.InPlace.{AreFewFor, HasChanged, HasChangedIn, IsAfterHalf, IsInPlace, IsRenewedAfter}
@@ -36,9 +36,9 @@ use Rattle.bucket_tree.specs.declared.node.Node.{Node, Leaf, Fork}
 use Rattle.bucket_tree.specs.declared.renewal.Affected.{Affected}
 use Rattle.bucket_tree.proofs.Added.{ends_at, lost_at}
 use Rattle.bucket_tree.proofs.BuiltLeaves.{leaf_built}
-use Rattle.bucket_tree.proofs.Kept.{DiffersAt, after_as, differs_with, differs_without, unaffected_within, edges_as, ends_kept, same_edges}
+use Rattle.bucket_tree.proofs.Kept.{DiffersAt, differs_with, differs_without, unaffected_within, edges_as, ends_kept, same_edges}
 use Rattle.bucket_tree.proofs.Kept.{of_vertices, stored}
-use Rattle.bucket_tree.proofs.Parts.{BelongsTo, HasSpaceFor, IsAt, alters_with, at, unaffected_with, differs, few_with}
+use Rattle.bucket_tree.proofs.Parts.{BelongsTo, HasSpaceFor, IsAt, alters_with, at, is_refused, unaffected_with, differs, few_with}
 use Rattle.bucket_tree.proofs.Parts.{row_with}
 use Rattle.bucket_tree.proofs.Parts.{same_at, stands_with}
 use Rattle.bucket_tree.proofs.MostTurns.{few_turns, one_fork}
@@ -193,24 +193,6 @@ heights_with : (left : Bool) (f : Below) (k : Node) → node_height k ≡ node_h
 heights_with true f k e = (e, refl)
 heights_with false f k e = (refl, e)
 
--- a fork that is stale over two subtrees is stale with these in it
-pub over_parts : (p : Pair) (sides : Affected) (l r : Node) (f : Below) → IsAfter p sides l r f
-    → IsAfter p sides l r (with_half false (with_half true f l) r)
-over_parts p sides l r f h =
-    let g = with_half false (with_half true f l) r in
-    after_as p sides l r f g h.unaffected h.clear (same_edges f g refl refl) record {
-      left = h.ends.left;
-      right =
-          h.ends.right;
-    }
-
--- a point that is an end of the bridge over two subtrees, unless it is clear of a fork's edge, is so with these in the fork
-pub end_over_parts : (change : Change) (p : Pair) (l r : Node) (f : Below)
-    → ((side : Side) → IsEndUnlessClear change side p l r (edge_on side f))
-    → (side : Side) → IsEndUnlessClear change side p l r (edge_on side (with_half false (with_half true f l) r))
-end_over_parts change p l r f h Lower = h Lower
-end_over_parts change p l r f h Upper = h Upper
-
 -- a point that was added to a subtree is an end of the new bridge, unless it is clear of the fork's edge
 end_with : (left put : Bool) (change : Change) (side : Side) (p : Pair) (n : Node) (h : ℕ) (f : Below) (k : Node)
     (below : Changed)
@@ -233,33 +215,31 @@ end_with left true change side p n h f k below i d w row c =
     (absent_below (Some part) part p refl w d.absent) d.gained.0))
 
 -- the edges of a fork whose subtree changed at p are stale
-edges_with : (left put : Bool) (p : Pair) (f : Below) (k : Node) (sides : Affected) → AreInRow f.left f.right
-    → ((side : Side) → IsBridgeBetween side f.left f.right (edge_on side f))
-    → Alters (kind_of put) p (cond left f.left f.right) k
-    → DiffersAt p (points_below (cond left f.left f.right)) (points_below k) → IsUnaffectedOver p sides (points_below k)
-    → HasEdgesAfter p sides (with_half left f k)
-edges_with left put p f k sides row b h d c =
+edges_with : (left : Bool) (kind : Kind) (p : Pair) (f : Below) (k : Node) (sides : Affected) → AreInRow f.left f.right
+    → ((side : Side) → IsBridgeBetween side f.left f.right (edge_on side f)) → Alters kind p (cond left f.left f.right) k
+    → DiffersAt p (points_below (cond left f.left f.right)) (points_below k)
+    → (is_refused kind ≡ false → IsUnaffectedOver p sides (points_below k)) → HasEdgesAfter p sides (with_half left f k)
+edges_with left kind p f k sides row b h d c =
     let g = with_half left f k in
     let e = edges_as p sides g.left g.right f g
-    (unaffected_with left (kind_of put) p f.left f.right k sides f row b h d (λ _. c))
+    (unaffected_with left kind p f.left f.right k sides f row b h d c)
     (λ side. stands_with left side p f.left f.right k (edge_on side f) (b side) d) (same_edges f g refl refl) in
     record { unaffected = e.0; clear = e.1 }
 
 -- and so is the fork
-after_with : (left put : Bool) (p : Pair) (n : Node) (h : ℕ) (f : Below) (k : Node) (sides : Affected) → IsApart n h f
-    → IsWellBuilt k → AreInRow (cond left k f.left) (cond left f.right k)
-    → Alters (kind_of put) p (cond left f.left f.right) k
-    → DiffersAt p (points_below (cond left f.left f.right)) (points_below k) → IsUnaffectedOver p sides (points_below k)
-    → IsAfterHalf left p sides (with_half left f k)
-after_with true put p n h f k sides a w row h' d c = record {
+pub after_with : (left : Bool) (kind : Kind) (p : Pair) (n : Node) (h : ℕ) (f : Below) (k : Node) (sides : Affected) → IsApart n h f
+    → IsWellBuilt k → AreInRow (cond left k f.left) (cond left f.right k) → Alters kind p (cond left f.left f.right) k
+    → DiffersAt p (points_below (cond left f.left f.right)) (points_below k)
+    → (is_refused kind ≡ false → IsUnaffectedOver p sides (points_below k)) → IsAfterHalf left p sides (with_half left f k)
+after_with true kind p n h f k sides a w row h' d c = record {
   row = row;
-  edges = edges_with true put p f k sides a.row a.edges h' d c;
+  edges = edges_with true kind p f k sides a.row a.edges h' d c;
   other = a.ends.right;
   kept = ends_kept p f.left k f.left_ends a.row.left_built w d a.ends.left;
 }
-after_with false put p n h f k sides a w row h' d c = record {
+after_with false kind p n h f k sides a w row h' d c = record {
   row = row;
-  edges = edges_with false put p f k sides a.row a.edges h' d c;
+  edges = edges_with false kind p f k sides a.row a.edges h' d c;
   other = a.ends.left;
   kept = ends_kept p f.right k f.right_ends a.row.right_built w d a.ends.right;
 }
@@ -345,8 +325,8 @@ to_renew left put change p n h f g k below i d few low e m =
     let row = row_with left kind p n f.left f.right k i.at s.built b in
     subst (IsToRenew left change p below) (sym e)
     record {
-      after = after_with left put p n h f k below.sides i.apart s.built row b (differs kind p part k o.0.ordered b)
-          s.unaffected;
+      after = after_with left kind p n h f k below.sides i.apart s.built row b (differs kind p part k o.0.ordered b)
+          (λ _. s.unaffected);
       end = λ side. end_with left put change side p n h f k below i d o.0 row m;
       few = few_with left kind p n f.left f.right k i.at b (space_by left put p n h f k below i d few);
       low = omega (arith, low, i.apart.height, high.0, high.1);

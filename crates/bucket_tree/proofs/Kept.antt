@@ -24,7 +24,7 @@ use Rattle.hull_geometry.proofs.Fringed.{of_candidate_lists}
 use Rattle.lattice.specs.declared.side.Side.TheVariants.{Lower, Upper}
 use Rattle.bucket_tree.proofs.NodeCandidateLists.{node_candidates}
 use Rattle.bucket_tree.proofs.NodePoints.{some_below}
-use Rattle.bucket_tree.specs.Changes.{AreKept, HasEnds, IsClearOf, IsBridgeBetween, IsAfter, IsUnaffectedOver, ClosesBy}
+use Rattle.bucket_tree.specs.Changes.{HasEdgesAfter, AreKept, HasEnds, IsClearOf, IsBridgeBetween, IsAfter, IsUnaffectedOver, ClosesBy}
 use Rattle.bucket_tree.specs.Changes.{is_affected, edge_on}
 use Rattle.bucket_tree.specs.Nodes.{tree_of, points_below, ends_in, AreInRow, IsWellBuilt}
 use Rattle.bucket_tree.specs.declared.node.Ends.{Ends}
@@ -210,11 +210,11 @@ covered_by side p l r e k b =
     )
 
 -- the same by a fork that is one change stale
-pub covered_at : (side : Side) (p : Pair) (l r : Node) (sides : Affected) (f : Fork) → IsAfter p sides l r f
+pub covered_at : (side : Side) (p : Pair) (sides : Affected) (f : Fork) → HasEdgesAfter p sides f
     → (n : Bool) → (n ≡ false) ⊎ IsInwards side (edge_on side f).0 (edge_on side f).1 p
-    → (n ≡ false) ⊎ IsCovered side p (points_below l ++ points_below r)
-covered_at side p l r sides f h n (inl k) = inl k
-covered_at side p l r sides f h n (inr k) = inr (covered_by side p l r (edge_on side f) k (h.clear side))
+    → (n ≡ false) ⊎ IsCovered side p (points_below f.left ++ points_below f.right)
+covered_at side p sides f h n (inl k) = inl k
+covered_at side p sides f h n (inr k) = inr (covered_by side p f.left f.right (edge_on side f) k (h.clear side))
 
 -- what covers p in a part covers it in both
 pub unaffected_within : (p : Pair) (before after : Affected) (S T : List Pair) → ((t : Pair) → Contains S t → Contains T t)

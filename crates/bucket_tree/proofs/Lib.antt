@@ -22,6 +22,7 @@ pub mod Parts
 pub mod InPlace
 pub mod ChangedBelow
 pub mod TopDown
+pub mod Balanced
 pub mod OtherEnds
 pub mod SomeBridge
 pub mod EdgeEnds

@@ -1,15 +1,12 @@
 -- A fork taken apart at the half to which a point belongs, and the two halves after that one has changed.
 use Rattle.std.proofs.lemmas.Grind.{common_steps}
 use Rattle.std.proofs.lemmas.Bool.{cases_lt}
-use Rattle.std.proofs.Common.{◌≡◌, ◌⊎◌, ℕ, ◌+◌, ◌≤◌, max, Bool, true, false, cond, not, ap, ◌∙◌, inl, inr, arith}
+use Rattle.std.proofs.Common.{◌≡◌, ◌⊎◌, ℕ, ◌+◌, ◌≤◌, max, Bool, true, false, cond, ap, ◌∙◌, inl, inr, arith}
 use Rattle.std.proofs.Common.{List, length, length-append, subst, sym}
 use Rattle.std.specs.List.{Contains}
 use Rattle.std.proofs.lemmas.List.Elements.{Contains-append_left, Contains-append_right}
 use Rattle.lattice.specs.Plane.{Pair}
-use Rattle.bucket_tree.specs.Changes.{HasEnds}
-use Rattle.bucket_tree.specs.Halves.{ends_of_half}
-use Rattle.bucket_tree.specs.Nodes.{points_below, ends_in, node_height, AreNear, IsHeightOver, IsWellBuilt}
-use Rattle.bucket_tree.specs.declared.node.Fork.{Fork}
+use Rattle.bucket_tree.specs.Nodes.{points_below, node_height, AreNear, IsHeightOver, IsWellBuilt}
 use Rattle.bucket_tree.specs.declared.node.Node.{Node}
 use Rattle.bucket_tree.proofs.Parts.{IsAt}
 
@@ -40,27 +37,6 @@ half_at left p n l r i h = go left
       fewer = omega (arith, all);
       among = λ t k. subst (λ z. Contains z t) (sym i.points) (Contains-append_right (points_below l) (points_below r) t k);
     }
-
--- the ends that the fork stores of it
-pub half_ends : (left : Bool) (l r : Node) (f : Fork) → HasEnds l r f
-    → ends_of_half left f ≡ ends_in (points_below (cond left l r))
-half_ends true l r f h = h.left
-half_ends false l r f h = h.right
-
--- with another node beside the half that is not it, these are the left half and the right one
-pub left_again : (left : Bool) (l r m other k : Node) → other ≡ cond left r l → k ≡ cond left m other → k ≡ cond left m l
-left_again true l r m other k o e = e
-left_again false l r m other k o e = e ∙ o
-
-pub right_again : (left : Bool) (l r m other k : Node) → other ≡ cond left r l → k ≡ cond left other m → k ≡ cond left r m
-right_again true l r m other k o e = e ∙ o
-right_again false l r m other k o e = e
-
--- a fork that stores the ends of both, if those of the other half are still stored
-pub ends_again : (left : Bool) (l r m : Node) (f g : Fork) → HasEnds l r f → ends_of_half left g ≡ ends_in (points_below m)
-    → ends_of_half (not left) g ≡ ends_of_half (not left) f → HasEnds (cond left m l) (cond left r m) g
-ends_again true l r m f g h e o = record { left = e; right = o ∙ h.right }
-ends_again false l r m f g h e o = record { left = o ∙ h.left; right = e }
 
 -- ---- heights
 

@@ -1,10 +1,10 @@
 -- A point that was added to one half of a fork, before the forks of that half are renewed.
-use Rattle.std.proofs.Common.{◌≡◌, ◌⊎◌, ℕ, ◌+◌, ◌*◌, ◌≤◌, ◌<◌, max, Bool, true, false, cond, not, refl, sym, ap, ◌∙◌, subst, inl, inr, Box, arith}
+use Rattle.std.proofs.Common.{◌≡◌, ◌⊎◌, ℕ, ◌≤◌, ◌<◌, Bool, true, false, cond, refl, sym, ap, ◌∙◌, subst, inl, inr, Box, arith}
 use Rattle.std.proofs.Common.{List, length, length-append, ◌++◌}
 use Rattle.std.specs.Box.{with_value}
 use Rattle.std.specs.List.{Contains}
 use Rattle.lattice.specs.Bridges.{IsBridge}
-use Rattle.lattice.specs.Covers.{IsPointSet, with_point}
+use Rattle.lattice.specs.Covers.{IsPointSet}
 use Rattle.lattice.specs.Plane.{Pair, IsBefore}
 use Rattle.lattice.specs.declared.side.Side.{Side}
 use Rattle.lattice.specs.declared.side.Side.TheVariants.{Lower, Upper}
@@ -13,13 +13,13 @@ use Rattle.bridge_search.specs.Trees.{On}
 use Rattle.hull_geometry.specs.Positions.{first_of, last_of}
 use Rattle.hull_geometry.proofs.SetLaws.{with_point_law}
 use Rattle.hull_set.specs.declared.TheConstants.{POINT_LIMIT}
-use Rattle.bucket_tree.specs.Changes.{HasEdgesAfter, HasEnds, IsBridgeBetween, IsClearOf, IsEndOf, IsEndUnlessClear, IsRenewed, IsSameBut, change_of, edge_on}
+use Rattle.bucket_tree.specs.Changes.{HasEdgesAfter, HasEnds, IsBridgeBetween, IsClearOf, IsEndOf, IsEndUnlessClear}
+use Rattle.bucket_tree.specs.Changes.{IsRenewed, IsSameBut, change_of, edge_on}
 use Rattle.bucket_tree.specs.Halves.{ends_of_half, half_of, with_half}
-use Rattle.bucket_tree.specs.InPlace.{HasChanged, HasChangedBelow, IsBetweenKept, IsChangeable, IsRenewedAfter, IsToRenew}
+use Rattle.bucket_tree.specs.InPlace.{HasChanged, HasChangedBelow, IsChangeable, IsRenewedAfter, IsToRenew}
 use Rattle.bucket_tree.specs.Nodes.{tree_of, points_below, ends_in, node_height, AreInRow, IsWellBuilt}
 use Rattle.bucket_tree.specs.TopDown.{HasStandIn, IsToRenewOver, StandsIn, WereEnds}
 use Rattle.bucket_tree.specs.Turns.{most_turns}
-use Rattle.bucket_tree.specs.declared.renewal.Affected.{Affected}
 use Rattle.bucket_tree.specs.declared.renewal.Changed.{Changed}
 use Rattle.bucket_tree.specs.declared.node.Ends.{Ends}
 use Rattle.bucket_tree.specs.declared.node.Fork.{Fork as Below}
@@ -27,7 +27,7 @@ use Rattle.bucket_tree.specs.declared.node.Node.{Node, Leaf, Fork, Fork', Taken}
 use Rattle.bucket_tree.specs.OtherEnds.{IsAfterPoint, IsBeforePoint, IsEndFrom, IsEndFromWithin, IsEndTo, IsEndToWithin}
 use Rattle.bucket_tree.proofs.Added.{after_first, before_second, end_as, end_not_before, of_points, start_not_after, with_end_from, with_end_to}
 use Rattle.bucket_tree.proofs.Added.{within_from, within_to}
-use Rattle.bucket_tree.proofs.ChangedBelow.{IsOpened, changeable_half, opened}
+use Rattle.bucket_tree.proofs.ChangedBelow.{IsOpened, changeable_half}
 use Rattle.bucket_tree.proofs.InPlace.{IsForkAt, between_half, changed_leaf, changed_with, fork_at, to_renew}
 use Rattle.bucket_tree.proofs.Kept.{DiffersAt, differs_with, edges_as, ends_kept, of_vertices}
 use Rattle.bucket_tree.proofs.NodeRows.{vertices_in_row}
@@ -213,12 +213,15 @@ with_stand_in : (left : Bool) (p : Pair) (old : Below) (m k : Node) (below : Cha
     → IsToRenew left (change_of left true) p below (with_half left old m) → WereEnds p (ends_of_half left old) (points_below m)
     → IsToRenewOver left p below (with_half left old k)
 with_stand_in true p old m k below e t w = record {
-  half = (m, record {
-    points = e;
-    row = t.after.row;
-    few = subst (λ z. length (z ++ points_below old.right) ≤ POINT_LIMIT) e t.few;
-    ends = t.after.other;
-  });
+  half = (
+    m,
+    record {
+      points = e;
+      row = t.after.row;
+      few = subst (λ z. length (z ++ points_below old.right) ≤ POINT_LIMIT) e t.few;
+      ends = t.after.other;
+    },
+  );
   edges = record {
     unaffected = λ side u. subst (IsBridgeBetween side k old.right) (same_edge true old m k side)
         (between_as side m k old.right old.right _ e refl (t.after.edges.unaffected side u));
@@ -232,12 +235,15 @@ with_stand_in true p old m k below e t w = record {
   between = λ b. (t.between b).1 ∙ ap ends_in e;
 }
 with_stand_in false p old m k below e t w = record {
-  half = (m, record {
-    points = e;
-    row = t.after.row;
-    few = subst (λ z. length (points_below old.left ++ z) ≤ POINT_LIMIT) e t.few;
-    ends = t.after.other;
-  });
+  half = (
+    m,
+    record {
+      points = e;
+      row = t.after.row;
+      few = subst (λ z. length (points_below old.left ++ z) ≤ POINT_LIMIT) e t.few;
+      ends = t.after.other;
+    },
+  );
   edges = record {
     unaffected = λ side u. subst (IsBridgeBetween side old.left k) (same_edge false old m k side)
         (between_as side old.left old.left m k _ refl e (t.after.edges.unaffected side u));
@@ -307,10 +313,15 @@ module _ (left : Bool) (p : Pair) (n : Node) (h : ℕ) (f : Below) (below : Chan
         let row = subst (AreInRow k) (sym q) t.after.row in
         let m = s ∙ ap points_below (sym l) in
         let a : (side : Side) → IsBridge side (On (tree_of k)) (On (tree_of g.right)) (edge_on side g).0 (edge_on side g).1 =
-            λ side. of_vertices side k g.right (edge_on side g) row
+        λ side. of_vertices side k g.right (edge_on side g) row
         (between_as side g.left k g.right g.right (edge_on side g) (sym m) refl (bridges side)) in
         record {
-          renewed = record { row = row; upper = a Upper; lower = a Lower; ends = record { left = ends.left ∙ ap ends_in (sym m); right = ends.right } };
+          renewed = record {
+            row = row;
+            upper = a Upper;
+            lower = a Lower;
+            ends = record { left = ends.left ∙ ap ends_in (sym m); right = ends.right };
+          };
           left = refl;
           right = q;
           turns = omega arith;
@@ -322,10 +333,15 @@ module _ (left : Bool) (p : Pair) (n : Node) (h : ℕ) (f : Below) (below : Chan
         let row = subst (λ z. AreInRow z k) (sym q) t.after.row in
         let m = s ∙ ap points_below (sym r) in
         let a : (side : Side) → IsBridge side (On (tree_of g.left)) (On (tree_of k)) (edge_on side g).0 (edge_on side g).1 =
-            λ side. of_vertices side g.left k (edge_on side g) row
+        λ side. of_vertices side g.left k (edge_on side g) row
         (between_as side g.left g.left g.right k (edge_on side g) refl (sym m) (bridges side)) in
         record {
-          renewed = record { row = row; upper = a Upper; lower = a Lower; ends = record { left = ends.left; right = ends.right ∙ ap ends_in (sym m) } };
+          renewed = record {
+            row = row;
+            upper = a Upper;
+            lower = a Lower;
+            ends = record { left = ends.left; right = ends.right ∙ ap ends_in (sym m) };
+          };
           left = q;
           right = refl;
           turns = omega arith;
@@ -389,18 +405,24 @@ pub stand_in_moved : (left : Bool) (side : Side) (f g : Below) → IsSameBut sid
 stand_in_moved left side f g s h = go left h
   where
     go : (left : Bool) → HasStandIn left f → HasStandIn left g
-    go true h = (h.0, record {
-      points = h.1.points ∙ ap points_below (sym s.left);
-      row = subst (AreInRow h.0) (sym s.right) h.1.row;
-      few = rw (s.left, s.right) h.1.few;
-      ends = s.right_ends ∙ h.1.ends ∙ ap (λ z. ends_in (points_below z)) (sym s.right);
-    })
-    go false h = (h.0, record {
-      points = h.1.points ∙ ap points_below (sym s.right);
-      row = subst (λ z. AreInRow z h.0) (sym s.left) h.1.row;
-      few = rw (s.left, s.right) h.1.few;
-      ends = s.left_ends ∙ h.1.ends ∙ ap (λ z. ends_in (points_below z)) (sym s.left);
-    })
+    go true h = (
+      h.0,
+      record {
+        points = h.1.points ∙ ap points_below (sym s.left);
+        row = subst (AreInRow h.0) (sym s.right) h.1.row;
+        few = rw (s.left, s.right) h.1.few;
+        ends = s.right_ends ∙ h.1.ends ∙ ap (λ z. ends_in (points_below z)) (sym s.right);
+      },
+    )
+    go false h = (
+      h.0,
+      record {
+        points = h.1.points ∙ ap points_below (sym s.right);
+        row = subst (λ z. AreInRow z h.0) (sym s.left) h.1.row;
+        few = rw (s.left, s.right) h.1.few;
+        ends = s.left_ends ∙ h.1.ends ∙ ap (λ z. ends_in (points_below z)) (sym s.left);
+      },
+    )
 
 -- a fork with the same halves and edges, that stores their ends, is to be renewed at its edges
 module _ (left : Bool) (p : Pair) (change : Changed) (f g : Below) (over : IsToRenewOver left p change f) (l : g.left ≡ f.left)
@@ -409,18 +431,24 @@ module _ (left : Bool) (p : Pair) (change : Changed) (f g : Below) (over : IsToR
   half_over = go left over.half
     where
       go : (left : Bool) → HasStandIn left f → HasStandIn left g
-      go true h = (h.0, record {
-        points = h.1.points ∙ ap points_below (sym l);
-        row = subst (AreInRow h.0) (sym r) h.1.row;
-        few = rw (l, r) h.1.few;
-        ends = ends.right ∙ ap (λ z. ends_in (points_below z)) (sym r);
-      })
-      go false h = (h.0, record {
-        points = h.1.points ∙ ap points_below (sym r);
-        row = subst (λ z. AreInRow z h.0) (sym l) h.1.row;
-        few = rw (l, r) h.1.few;
-        ends = ends.left ∙ ap (λ z. ends_in (points_below z)) (sym l);
-      })
+      go true h = (
+        h.0,
+        record {
+          points = h.1.points ∙ ap points_below (sym l);
+          row = subst (AreInRow h.0) (sym r) h.1.row;
+          few = rw (l, r) h.1.few;
+          ends = ends.right ∙ ap (λ z. ends_in (points_below z)) (sym r);
+        },
+      )
+      go false h = (
+        h.0,
+        record {
+          points = h.1.points ∙ ap points_below (sym r);
+          row = subst (λ z. AreInRow z h.0) (sym l) h.1.row;
+          few = rw (l, r) h.1.few;
+          ends = ends.left ∙ ap (λ z. ends_in (points_below z)) (sym l);
+        },
+      )
 
   pub edges_over : HasEdgesAfter p change.sides g
   edges_over =

@@ -138,6 +138,15 @@ pub record IsToRenew (left : Bool) (change : Change) (p : Pair) (below : Changed
   pub turns : below.turns ≤ 9208
   pub between : below.is_between ≡ true → IsBetweenKept p (ends_of_half left f) (points_below (half_of left f))
 
+-- the fork has to be renewed and balanced
+pub record IsToBalance (left : Bool) (change : Change) (p : Pair) (sides : Affected) (f : Fork) : Type 0 where
+  pub after : IsAfterHalf left p sides f
+  pub end : (side : Side) → IsEndUnlessClear change side p f.left f.right (edge_on side f)
+  pub few : length (points_below f.left ++ points_below f.right) ≤ POINT_LIMIT
+  pub near_left : node_height f.left ≤ node_height f.right + 2
+  pub near_right : node_height f.right ≤ node_height f.left + 2
+  pub low : max (node_height f.left) (node_height f.right) ≤ 28
+
 -- it became g, with its subtrees in their places; its searches are added to those below
 pub record IsRenewedAfter (p : Pair) (below : Changed) (f g : Fork) (above : Changed) : Type 0 where
   pub renewed : IsRenewed g

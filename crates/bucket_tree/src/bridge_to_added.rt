@@ -9,8 +9,8 @@ use crate::node::Fork;
 use crate::other_end::{BridgeEnd, other_end};
 use lattice::{Point, Side};
 
-/// Searches the bridge on a side between the halves of a fork that ends at a point which was added to one of them, the left one or else the right one;
-/// the forks of that half need not be renewed. Returns the bridge and the turns of the search.
+/// Searches the bridge on a side between the halves of a fork that ends at a point which was added to one of them, the left one or else the right
+/// one; the forks of that half need not be renewed. Returns the bridge and the turns of the search.
 #[inline(always)]
 pub(crate) fn search_to_added(
     side: Side,

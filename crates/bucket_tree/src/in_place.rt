@@ -5,19 +5,16 @@ ghost use Rattle.hull_buckets.specs.Buckets.{IsBucket};
 ghost use Rattle.hull_set.specs.declared.TheConstants.{POINT_LIMIT};
 ghost use Rattle.bucket_tree.specs.Counts.{counted, multiplicity_at};
 ghost use Rattle.bucket_tree.specs.InPlace.{AreFewFor, HasChanged, HasChangedBelow, HasChangedIn, HasPutIn, HasTakenOut, IsChangeable, IsContained};
-ghost use Rattle.bucket_tree.specs.InPlace.{IsAfterHalf, IsBetween, IsBetweenKept, IsRenewedAfter, IsToRenew};
-ghost use Rattle.bucket_tree.specs.Changes.{AreKept, IsAfter, edge_on};
-ghost use Rattle.bucket_tree.specs.Halves.{ends_of_half, half_of};
+ghost use Rattle.bucket_tree.specs.InPlace.{IsRenewedAfter, IsToRenew};
 ghost use Rattle.bucket_tree.specs.declared.node.Node.{Node};
-ghost use Rattle.lattice.specs.declared.side.Side.{Side};
-ghost use Rattle.bucket_tree.specs.Nodes.{points_below, ends_in, node_height, HasBuckets, IsLabelled, IsWellBuilt};
+ghost use Rattle.bucket_tree.specs.Nodes.{points_below, node_height, IsWellBuilt};
 
 use crate::find::find_multiplicity;
 use crate::insertion::{affected_at, put_at};
 use crate::node::{Fork, Node};
 use crate::order::is_before;
 use crate::removal::are_few;
-use crate::renewal::{Change, Changed, change_at, renew_edges, renew_ends_around};
+use crate::renewal::{Change, Changed, change_at, renew_edges, renew_half_ends};
 use crate::top_down::renew_top_down;
 use hull_buckets::{Bucket, buckets_are_sound};
 use lattice::Point;
@@ -37,8 +34,8 @@ trait InPlace {
     /// Whether buckets have to be merged if a point below this node is removed.
     fn merges(node: &Node) -> bool;
 
-    /// Renews the forks below a node on the way to the bucket that changed at a point. At first the change is that of the bucket, in the end that of the
-    /// node.
+    /// Renews the forks below a node on the way to the bucket that changed at a point. At first the change is that of the bucket, in the end that of
+    /// the node.
     fn renew(node: &mut Node, p: Point, change: &mut Changed)
         requires { (n : Node) × IsChangeable puts n × HasChangedBelow puts p n node.old change.old }
         ensures { (n : Node) → IsChangeable puts n → HasChangedBelow puts p n node.old change.old → HasChanged puts p n node.new change.new };
@@ -130,26 +127,6 @@ impl InPlace for Going {
     }
 }
 
-/// Renews the ends that a fork stores of a half that changed at a point, the left one or else the right one. Returns whether the point is known to be
-/// between two others there.
-#[inline(always)]
-fn renew_half_ends(fork: &mut Fork, is_left: bool, p: Point, below: &Changed) -> bool
-    requires half { IsAfterHalf is_left p below.now.sides fork.old }
-    requires between { below.now.is_between ≡ true
-        → IsBetweenKept p (ends_of_half is_left fork.old) (points_below (half_of is_left fork.old)) }
-    ensures after { IsAfter p below.now.sides fork.old.left fork.old.right fork.new }
-    ensures left { fork.new.left ≡ fork.old.left }
-    ensures right { fork.new.right ≡ fork.old.right }
-    ensures edges { (side : Side) → edge_on side fork.new ≡ edge_on side fork.old }
-    ensures between { result ≡ true → IsBetween p (points_below (half_of is_left fork.old)) }
-{
-    if is_left {
-        renew_ends_around(&mut fork.left_ends, &fork.left, p, below.is_between)
-    } else {
-        renew_ends_around(&mut fork.right_ends, &fork.right, p, below.is_between)
-    }
-}
-
 /// Renews a fork of which one half changed at a point, the left one or else the right one. At first the change is that of the half, in the end that
 /// of the fork. Nothing is altered if the point is between two others of that half and neither chain is affected.
 #[inline(always)]
@@ -160,7 +137,7 @@ fn renew_fork(fork: &mut Fork, is_left: bool, p: Point, change: Change, changed:
     if is_contained(changed) {
         return;
     }
-    changed.is_between = renew_half_ends(fork, is_left, p, changed);
+    changed.is_between = renew_half_ends(fork, is_left, p, changed.sides, changed.is_between);
     let above = renew_edges(fork, p, change, changed.sides);
     changed.turns += above.turns;
     changed.sides = above.sides;
@@ -196,8 +173,8 @@ fn change_bucket<C: InPlace>(node: &mut Node, p: Point, outcome: &mut Result<Cha
     }
 }
 
-/// Renews the forks below a node on the way to the bucket from which a point was removed, the lowest first. At first the change is that of the bucket, in
-/// the end that of the node.
+/// Renews the forks below a node on the way to the bucket from which a point was removed, the lowest first. At first the change is that of the bucket,
+/// in the end that of the node.
 fn renew_bottom_up(node: &mut Node, p: Point, change: &mut Changed)
     requires { (n : Node) × IsChangeable false n × HasChangedBelow false p n node.old change.old }
     ensures { (n : Node) → IsChangeable false n → HasChangedBelow false p n node.old change.old → HasChanged false p n node.new change.new }

@@ -12,13 +12,14 @@ ghost use Rattle.bucket_tree.specs.Nodes.{points_below, node_height, IsWellBuilt
 ghost use Rattle.bucket_tree.specs.Turns.{most_turns};
 ghost use Rattle.bucket_tree.specs.declared.node.Node.{Leaf};
 
-use crate::join::{join, swap_unless, take_apart};
+use crate::join::join;
 use crate::load::blank;
-use crate::node::{Node, height_of};
-use crate::renewal::{Affected, balance, change_at, renew_ends};
+use crate::node::Node;
+use crate::renewal::{Affected, balance, change_at};
 use heap::Heap;
 use hull_buckets::{Bucket, buckets_are_sound};
 use lattice::{Point, Side, before};
+use std::mem;
 
 /// The result of adding a point: the node, whether memory was refused for it, and how many turns the searches took.
 #[derive(Drop)]
@@ -190,27 +191,27 @@ pub fn insert(alloc: Heap, node: Node, p: Point) -> Inserted
     ensures turns { result.turns ≤ most_turns (node_height node) }
     ensures unaffected { result.refused ≡ false → IsUnaffectedOver p result.sides (points_below result.node) }
 {
-    if height_of(&node) == 0 {
-        return insert_leaf(alloc, bucket_of(node), p);
-    }
-    let (left, right, mut place) = take_apart(node);
-    let is_left = before(p, place.right_ends.first);
-    let (half, other) = swap_unless(is_left, left, right);
-    let change = insert(alloc, half, p);
-    renew_ends(&mut place, is_left, &change.node, p);
-    let (left, right) = swap_unless(is_left, change.node, other);
-    let above = balance(
-        left,
-        right,
-        place,
-        p,
-        change_at(is_left, !change.refused),
-        change.sides,
-    );
-    Inserted {
-        node: above.node,
-        refused: change.refused,
-        turns: above.turns + change.turns,
-        sides: above.sides,
+    match node {
+        Node::Leaf(bucket) => insert_leaf(alloc, bucket, p),
+        Node::Fork(_, mut place) => {
+            let is_left = before(p, place.right_ends.first);
+            let half = mem::replace(place.half_mut(is_left), Node::Taken);
+            let change = insert(alloc, half, p);
+            *place.half_mut(is_left) = change.node;
+            let above = balance(
+                place,
+                is_left,
+                p,
+                change_at(is_left, !change.refused),
+                change.sides,
+            );
+            Inserted {
+                node: above.node,
+                refused: change.refused,
+                turns: above.turns + change.turns,
+                sides: above.sides,
+            }
+        }
+        Node::Taken => unreachable!(),
     }
 }

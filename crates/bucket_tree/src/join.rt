@@ -1,5 +1,5 @@
 //! Making forks over two subtrees, and taking them apart.
-ghost use Rattle.std.specs.Prelude.{◌≡◌, ◌<◌, ◌≤◌, ◌+◌, ◌*◌, ◌++◌, cond, max, length};
+ghost use Rattle.std.specs.Prelude.{◌≡◌, ◌<◌, ◌≤◌, ◌+◌, ◌*◌, ◌++◌, max, length};
 ghost use Rattle.lattice.specs.Bridges.{IsAllBefore, IsBridge, IsUpperBridge, IsLowerBridge};
 ghost use Rattle.bridge_search.specs.Trees.{On, Fork as ForkTree};
 ghost use Rattle.hull_geometry.specs.Positions.{first_of as first_in};
@@ -97,19 +97,6 @@ pub(crate) fn join(left: Node, right: Node, place: Box<Fork, Heap>) -> (Node, u3
 {
     let (upper, lower, turns) = search(&left, &right);
     (fork_over(left, right, place, upper, lower), turns)
-}
-
-/// Returns two subtrees in this order if `is_kept`, and otherwise in the other one.
-#[inline(always)]
-pub(crate) fn swap_unless(is_kept: bool, first: Node, second: Node) -> (Node, Node)
-    ensures first { result.0 ≡ cond is_kept first second }
-    ensures second { result.1 ≡ cond is_kept second first }
-{
-    if is_kept {
-        (first, second)
-    } else {
-        (second, first)
-    }
 }
 
 /// Separates a fork into its halves and its box.

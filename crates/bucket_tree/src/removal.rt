@@ -3,21 +3,20 @@ ghost use Rattle.std.specs.Prelude.{◌≡◌, ◌≤◌, ◌+◌, ◌*◌, ◌+
 ghost use Rattle.hull_geometry.specs.Monotone.{IsInwards};
 ghost use Rattle.hull_set.specs.declared.TheConstants.{POINT_LIMIT};
 ghost use Rattle.lattice.specs.declared.side.Side.{Side};
-ghost use Rattle.bucket_tree.specs.Changes.{IsAfter, IsEndUnlessClear, IsUnaffectedOver, ClosesBy, edge_on, is_affected};
+ghost use Rattle.bucket_tree.specs.Changes.{ClosesBy, HasEdgesAfter, IsUnaffectedOver, change_of, is_affected};
 ghost use Rattle.bucket_tree.specs.Counts.{multiplicity_at, HasLost};
+ghost use Rattle.bucket_tree.specs.InPlace.{IsToBalance};
 ghost use Rattle.bucket_tree.specs.Nodes.{points_below, multiplicities_below, node_height, AreInRow, IsHeightOver, IsWellBuilt};
 ghost use Rattle.bucket_tree.specs.Turns.{most_turns};
 ghost use Rattle.bucket_tree.specs.declared.node.Node.{Leaf};
 
 use crate::insertion::{affected_at, bucket_of};
-use crate::join::{swap_unless, take_apart};
-use crate::node::{Fork, Node, height_of};
-use crate::renewal::{
-    Affected, Change, EdgePosition, Renewed, balance, change_at, edge_position_of, renew_ends,
-};
+use crate::node::{Fork, Node};
+use crate::renewal::{Affected, EdgePosition, Renewed, balance, change_at, edge_position_of};
 use heap::Heap;
 use hull_buckets::{Bucket, buckets_are_sound};
 use lattice::{Point, Side, before};
+use std::mem;
 
 /// Two buckets with no more points than this become one when one of them loses a point.
 const MERGED: usize = 48;
@@ -90,24 +89,26 @@ fn stays_affected(side: Side, edge: &(Point, Point), p: Point, at_issue: bool) -
 }
 
 /// Merges two buckets, from one of which a point was removed, into one. The edges of the fork over them are compared first.
-fn merge(left: Node, right: Node, place: Box<Fork, Heap>, p: Point, sides: Affected) -> Renewed
-    requires row { AreInRow left right }
-    requires left { node_height left ≡ 0 }
-    requires right { node_height right ≡ 0 }
-    requires few { length (points_below left) + length (points_below right) ≤ 48 }
-    requires after { IsAfter p sides left right place.value }
+fn merge(mut place: Box<Fork, Heap>, p: Point, sides: Affected) -> Renewed
+    requires row { AreInRow place.value.left place.value.right }
+    requires left { node_height place.value.left ≡ 0 }
+    requires right { node_height place.value.right ≡ 0 }
+    requires few { length (points_below place.value.left) + length (points_below place.value.right) ≤ 48 }
+    requires edges { HasEdgesAfter p sides place.value }
     ensures built { IsWellBuilt result.node }
-    ensures points { points_below result.node ≡ points_below left ++ points_below right }
-    ensures multiplicities { multiplicities_below result.node ≡ multiplicities_below left ++ multiplicities_below right }
+    ensures points { points_below result.node ≡ points_below place.value.left ++ points_below place.value.right }
+    ensures multiplicities { multiplicities_below result.node
+        ≡ multiplicities_below place.value.left ++ multiplicities_below place.value.right }
     ensures height { node_height result.node ≡ 0 }
     ensures turns { result.turns ≡ 0 }
-    ensures closes { ClosesBy p sides result.sides (points_below left ++ points_below right) }
+    ensures closes { ClosesBy p sides result.sides (points_below place.value.left ++ points_below place.value.right) }
 {
     let sides = Affected {
         lower: stays_affected(Side::Lower, &place.lower, p, sides.lower),
         upper: stays_affected(Side::Upper, &place.upper, p, sides.upper),
     };
-    let (mut first, second) = (bucket_of(left), bucket_of(right));
+    let mut first = bucket_of(mem::replace(&mut place.left, Node::Taken));
+    let second = bucket_of(mem::replace(&mut place.right, Node::Taken));
     first.merge(&second);
     buckets_are_sound(&first);
     Renewed {
@@ -117,36 +118,23 @@ fn merge(left: Node, right: Node, place: Box<Fork, Heap>, p: Point, sides: Affec
     }
 }
 
-/// Repairs a fork of a given height whose one subtree lost a point: if it was the only fork above two buckets with few points, merges them; otherwise
-/// balances the tree over both subtrees.
-fn prepare(
-    left: Node,
-    right: Node,
-    place: Box<Fork, Heap>,
-    p: Point,
-    change: Change,
-    sides: Affected,
-    height: u16,
-) -> Renewed
-    requires row { AreInRow left right }
-    requires few { length (points_below left ++ points_below right) ≤ POINT_LIMIT }
-    requires after { IsAfter p sides left right place.value }
-    requires end { (side : Side) → IsEndUnlessClear change side p left right (edge_on side place.value) }
-    requires near_left { node_height left ≤ node_height right + 2 }
-    requires near_right { node_height right ≤ node_height left + 2 }
-    requires low { max (node_height left) (node_height right) ≤ 28 }
+/// Repairs a fork of a given height whose one half lost a point, the left one or else the right one: if it was the only fork above two buckets with
+/// few points, merges them; otherwise balances the tree.
+fn prepare(place: Box<Fork, Heap>, is_left: bool, p: Point, sides: Affected, height: u16) -> Renewed
+    requires { IsToBalance is_left (change_of is_left false) p sides place.value }
     ensures built { IsWellBuilt result.node }
-    ensures points { points_below result.node ≡ points_below left ++ points_below right }
-    ensures multiplicities { multiplicities_below result.node ≡ multiplicities_below left ++ multiplicities_below right }
-    ensures height { IsHeightOver (node_height left) (node_height right) (node_height result.node)
+    ensures points { points_below result.node ≡ points_below place.value.left ++ points_below place.value.right }
+    ensures multiplicities { multiplicities_below result.node
+        ≡ multiplicities_below place.value.left ++ multiplicities_below place.value.right }
+    ensures height { IsHeightOver (node_height place.value.left) (node_height place.value.right) (node_height result.node)
         ⊎ ((height ≡ 1) × (node_height result.node ≡ 0)) }
-    ensures turns { result.turns ≤ 16 * max (node_height left) (node_height right) + 96 }
-    ensures closes { ClosesBy p sides result.sides (points_below left ++ points_below right) }
+    ensures turns { result.turns ≤ 16 * max (node_height place.value.left) (node_height place.value.right) + 96 }
+    ensures closes { ClosesBy p sides result.sides (points_below place.value.left ++ points_below place.value.right) }
 {
-    if height == 1 && are_few(&left, &right) {
-        return merge(left, right, place, p, sides);
+    if height == 1 && are_few(&place.left, &place.right) {
+        return merge(place, p, sides);
     }
-    balance(left, right, place, p, change, sides)
+    balance(place, is_left, p, change_at(is_left, false), sides)
 }
 
 /// Returns what is left if one subtree of a fork lost its only point: the other subtree.
@@ -175,31 +163,24 @@ pub fn remove(node: Node, p: Point) -> Removed
     ensures unaffected { IfSome result.rest (λ n. IsUnaffectedOver p result.sides (points_below n)) }
     ensures turns { result.turns ≤ most_turns (node_height node) }
 {
-    let height = height_of(&node);
-    if height == 0 {
-        return remove_leaf(bucket_of(node), p);
-    }
-    let (left, right, mut place) = take_apart(node);
-    let is_left = before(p, place.right_ends.first);
-    let (half, other) = swap_unless(is_left, left, right);
-    let Removed { rest, turns, sides } = remove(half, p);
-    let Some(rest) = rest else {
-        return other_part(other, turns);
-    };
-    renew_ends(&mut place, is_left, &rest, p);
-    let (left, right) = swap_unless(is_left, rest, other);
-    let above = prepare(
-        left,
-        right,
-        place,
-        p,
-        change_at(is_left, false),
-        sides,
-        height,
-    );
-    Removed {
-        rest: Some(above.node),
-        turns: above.turns + turns,
-        sides: above.sides,
+    match node {
+        Node::Leaf(bucket) => remove_leaf(bucket, p),
+        Node::Fork(height, mut place) => {
+            let is_left = before(p, place.right_ends.first);
+            let half = mem::replace(place.half_mut(is_left), Node::Taken);
+            let Removed { rest, turns, sides } = remove(half, p);
+            let Some(rest) = rest else {
+                let other = mem::replace(place.half_mut(!is_left), Node::Taken);
+                return other_part(other, turns);
+            };
+            *place.half_mut(is_left) = rest;
+            let above = prepare(place, is_left, p, sides, height);
+            Removed {
+                rest: Some(above.node),
+                turns: above.turns + turns,
+                sides: above.sides,
+            }
+        }
+        Node::Taken => unreachable!(),
     }
 }

@@ -3,17 +3,17 @@ ghost use Rattle.std.specs.Prelude.{◌≡◌, ◌≤◌, ◌+◌, ◌*◌, ◌+
 ghost use Rattle.lattice.specs.declared.side.Side.{Side};
 ghost use Rattle.std.specs.Prelude.{pos, ◌≤ℤ◌, ◌<ℤ◌};
 ghost use Rattle.lattice.specs.Orientations as orientations;
-ghost use Rattle.lattice.specs.Bridges.{IsAllBefore, IsBridge};
-ghost use Rattle.bridge_search.specs.Trees.{On, height_of as height_in};
+ghost use Rattle.lattice.specs.Bridges.{IsBridge};
+ghost use Rattle.bridge_search.specs.Trees.{On};
 ghost use Rattle.hull_buckets.specs.Buckets.{IsCovered};
 ghost use Rattle.hull_set.specs.declared.TheConstants.{POINT_LIMIT};
 ghost use Rattle.bucket_tree.specs.Changes.{IsAfter, IsBridgeBetween, IsClearOf, IsRenewed, IsSameBut, ReturnsOf, ClosesBy, edge_on};
 ghost use Rattle.std.specs.List.{Contains};
 ghost use Rattle.bucket_tree.specs.Changes.{AreInnerTo, AreKept, HasEnds, IsEndOf, IsEndUnlessClear, change_of};
-ghost use Rattle.bucket_tree.specs.Halves.{ends_of_half};
-ghost use Rattle.bucket_tree.specs.InPlace.{IsBetween, IsBetweenKept};
+ghost use Rattle.bucket_tree.specs.Halves.{ends_of_half, half_of};
+ghost use Rattle.bucket_tree.specs.InPlace.{IsAfterHalf, IsBetween, IsBetweenKept, IsToBalance};
 ghost use Rattle.bucket_tree.specs.Nodes.{tree_of, points_below, multiplicities_below, node_height, AreInRow, IsWellBuilt};
-ghost use Rattle.bucket_tree.specs.Nodes.{AreNear, HasBuckets, IsHeightOver, IsLabelled, ends_in};
+ghost use Rattle.bucket_tree.specs.Nodes.{HasBuckets, IsHeightOver, IsLabelled, ends_in};
 
 use crate::bridge_to_added::search_to_added;
 use crate::join::search_one;
@@ -319,32 +319,25 @@ fn rebalanced(mut place: Box<Fork, Heap>) -> (Node, u32)
     }
 }
 
-/// Makes a balanced tree over two subtrees whose heights differ by at most two, of which one changed at a point after the edges of the fork over them
-/// were stored. The edges are renewed first, so that a rotation can keep them.
+/// Makes a balanced tree of a fork of which one half changed at a point, the left one or else the right one, and whose halves' heights differ by at
+/// most two. The edges are renewed first, so that a rotation can keep them.
 pub(crate) fn balance(
-    left: Node,
-    right: Node,
     mut place: Box<Fork, Heap>,
+    is_left: bool,
     p: Point,
     change: Change,
     sides: Affected,
 ) -> Renewed
-    requires row { AreInRow left right }
-    requires few { length (points_below left ++ points_below right) ≤ POINT_LIMIT }
-    requires after { IsAfter p sides left right place.value }
-    requires end { (side : Side) → IsEndUnlessClear change side p left right (edge_on side place.value) }
-    requires near_left { node_height left ≤ node_height right + 2 }
-    requires near_right { node_height right ≤ node_height left + 2 }
-    requires low { max (node_height left) (node_height right) ≤ 28 }
+    requires { IsToBalance is_left change p sides place.value }
     ensures built { IsWellBuilt result.node }
-    ensures points { points_below result.node ≡ points_below left ++ points_below right }
-    ensures multiplicities { multiplicities_below result.node ≡ multiplicities_below left ++ multiplicities_below right }
-    ensures height { IsHeightOver (node_height left) (node_height right) (node_height result.node) }
-    ensures turns { result.turns ≤ 16 * max (node_height left) (node_height right) + 96 }
-    ensures closes { ClosesBy p sides result.sides (points_below left ++ points_below right) }
+    ensures points { points_below result.node ≡ points_below place.value.left ++ points_below place.value.right }
+    ensures multiplicities { multiplicities_below result.node
+        ≡ multiplicities_below place.value.left ++ multiplicities_below place.value.right }
+    ensures height { IsHeightOver (node_height place.value.left) (node_height place.value.right) (node_height result.node) }
+    ensures turns { result.turns ≤ 16 * max (node_height place.value.left) (node_height place.value.right) + 96 }
+    ensures closes { ClosesBy p sides result.sides (points_below place.value.left ++ points_below place.value.right) }
 {
-    place.left = left;
-    place.right = right;
+    renew_half_ends(&mut place, is_left, p, sides, false);
     let above = renew_edges(&mut place, p, change, sides);
     let (node, turns) = rebalanced(place);
     Renewed {
@@ -374,18 +367,27 @@ pub(crate) fn renew_ends_around(ends: &mut Ends, node: &Node, p: Point, is_betwe
     false
 }
 
-/// Renews the ends that a fork stores of one half, the left one or else the right one, which changed at a point and is this node now.
-pub(crate) fn renew_ends(fork: &mut Fork, is_left: bool, node: &Node, p: Point)
-    requires buckets { HasBuckets node.now }
-    requires labelled { IsLabelled node.now }
-    requires kept { AreKept p (ends_of_half is_left fork.old) (points_below node.now) }
-    ensures ends { ends_of_half is_left fork.new ≡ ends_in (points_below node.now) }
-    ensures other { ends_of_half (not is_left) fork.new ≡ ends_of_half (not is_left) fork.old }
+/// Renews the ends that a fork stores of a half that changed at a point, the left one or else the right one. Returns whether the point is known to be
+/// between two others there.
+#[inline(always)]
+pub(crate) fn renew_half_ends(
+    fork: &mut Fork,
+    is_left: bool,
+    p: Point,
+    sides: Affected,
+    is_between: bool,
+) -> bool
+    requires half { IsAfterHalf is_left p sides fork.old }
+    requires between { is_between ≡ true → IsBetweenKept p (ends_of_half is_left fork.old) (points_below (half_of is_left fork.old)) }
+    ensures after { IsAfter p sides fork.old.left fork.old.right fork.new }
+    ensures left { fork.new.left ≡ fork.old.left }
+    ensures right { fork.new.right ≡ fork.old.right }
     ensures edges { (side : Side) → edge_on side fork.new ≡ edge_on side fork.old }
+    ensures between { result ≡ true → IsBetween p (points_below (half_of is_left fork.old)) }
 {
-    let _ = if is_left {
-        renew_ends_around(&mut fork.left_ends, node, p, false)
+    if is_left {
+        renew_ends_around(&mut fork.left_ends, &fork.left, p, is_between)
     } else {
-        renew_ends_around(&mut fork.right_ends, node, p, false)
-    };
+        renew_ends_around(&mut fork.right_ends, &fork.right, p, is_between)
+    }
 }

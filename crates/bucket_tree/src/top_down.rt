@@ -1,12 +1,12 @@
-//! Renewing forks from the top down after a point was added below them. A bridge of which the point is not clear ends at it, and its other end is in the
-//! half to which it was not added; so no fork waits for those below it, and the way down is a loop.
+//! Renewing forks from the top down after a point was added below them. A bridge of which the point is not clear ends at it, and its other end is in
+//! the half to which it was not added; so no fork waits for those below it, and the way down is a loop.
 ghost use Rattle.std.specs.Prelude.{◌≡◌, ◌≤◌, ◌+◌, ◌*◌, ◌↔◌, IsTrue, true, false, not, List};
 ghost use Rattle.lattice.specs.Plane.{Pair, IsBefore};
 ghost use Rattle.lattice.specs.declared.side.Side.{Side};
 ghost use Rattle.bucket_tree.specs.Changes.{HasEdgesAfter, HasEnds, IsBridgeBetween, IsClearOf, IsEndUnlessClear, IsSameBut, change_of, edge_on};
 ghost use Rattle.bucket_tree.specs.Halves.{half_of};
 ghost use Rattle.bucket_tree.specs.InPlace.{HasChanged, HasChangedBelow, IsChangeable};
-ghost use Rattle.bucket_tree.specs.Nodes.{points_below, ends_in, node_height};
+ghost use Rattle.bucket_tree.specs.Nodes.{ends_in, node_height};
 ghost use Rattle.bucket_tree.specs.TopDown.{HasStandIn, IsToRenewOver, WereEnds};
 ghost use Rattle.bucket_tree.specs.Turns.{most_turns};
 ghost use Rattle.bucket_tree.specs.declared.node.Node.{Node};
@@ -57,8 +57,8 @@ fn extend(ends: &mut Ends, p: Point)
     };
 }
 
-/// Renews the edge of a fork on a side, after a point was added to one half: if the point is not clear of it, the new one ends there. An unaffected chain
-/// is skipped. Returns the turns of the search.
+/// Renews the edge of a fork on a side, after a point was added to one half: if the point is not clear of it, the new one ends there. An unaffected
+/// chain is skipped. Returns the turns of the search.
 #[inline(always)]
 fn renew_edge_to_added(side: Side, fork: &mut Fork, is_left: bool, p: Point, at_issue: bool) -> u32
     requires half { HasStandIn is_left fork.old }
@@ -118,8 +118,8 @@ fn renew_edges_to_added(fork: &mut Fork, is_left: bool, p: Point, change: &Chang
     upper + lower
 }
 
-/// Renews a fork to one half of which a point was added, the left one or else the right one; the forks of that half need not be renewed. Returns the turns
-/// of the searches.
+/// Renews a fork to one half of which a point was added, the left one or else the right one; the forks of that half need not be renewed. Returns the
+/// turns of the searches.
 #[inline(always)]
 fn renew_fork_to_added(fork: &mut Fork, is_left: bool, p: Point, change: &Changed) -> u32
     requires over { IsToRenewOver is_left p change.now fork.old }
@@ -134,8 +134,8 @@ fn renew_fork_to_added(fork: &mut Fork, is_left: bool, p: Point, change: &Change
     renew_edges_to_added(fork, is_left, p, change)
 }
 
-/// Renews the forks below a node on the way to the bucket to which a point was added, and adds the turns of the searches to `turns`. The change is that
-/// of the bucket.
+/// Renews the forks below a node on the way to the bucket to which a point was added, and adds the turns of the searches to `turns`. The change is
+/// that of the bucket.
 pub(crate) fn renew_top_down(node: &mut Node, p: Point, change: &Changed, turns: &mut u32)
     requires changed { (n : Node) × IsChangeable true n × HasChangedBelow true p n node.old change.now }
     requires few { turns.old + most_turns (node_height node.old) ≤ 9208 }

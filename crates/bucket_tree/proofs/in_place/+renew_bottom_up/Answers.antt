@@ -1,6 +1,5 @@
 -- the bucket that changed is in the half that the point belongs to
 use Rattle.std.proofs.Common.{◌∙◌, ap, false, subst, sym, arith}
-use Rattle.bucket_tree.specs.Changes.{change_of}
 use Rattle.bucket_tree.specs.Halves.{half_of, with_half}
 use Rattle.bucket_tree.specs.InPlace.{HasChanged, HasChangedBelow, IsChangeable}
 use Rattle.bucket_tree.specs.declared.node.Node.{Node}

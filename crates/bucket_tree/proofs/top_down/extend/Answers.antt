@@ -3,7 +3,6 @@ use Rattle.std.proofs.Common.{◌≡◌, ◌∙◌, ap, inl, inr}
 use Rattle.lattice.specs.Plane.{Pair}
 use Rattle.hull_geometry.specs.Positions.{first_of, last_of}
 use Rattle.bucket_tree.proofs.TopDown.{before_or_not}
-use Rattle.bucket_tree.specs.declared.node.Ends.{Ends}
 use Rattle.bucket_tree.proofs.top_down.extend.Goals as goal
 
 pub returns : goal.returns
