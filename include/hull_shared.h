@@ -577,12 +577,13 @@ hull_reply hull_shared_journal_open(const char *path, hull_shared_journal **jour
 
 /* Compacts the file of a journal that no process has open: one segment, of additions that leave the same points with the same
  * multiplicities, and end with the same number, so that the next line is the one that it would have been. Returns DURABLE with
- * that number; else as hull_shared_journal_open and hull_shared_journal_start refuse the file, which is unchanged then; so is one
- * with several names (hard links): NO_FILE with EMLINK. Another file, PATH.new (PATH.new.1 and so on if there is one), of the
- * same owner and mode, is written and synced, and takes its name: however the process ends, one of the two is there, whole.
- * NO_FILE with `high` 1 if it has the name, but its folder could not be synced: either of the two may be there after a loss of
- * power, and both leave the same points. A process that is killed meanwhile may leave PATH.new, which nothing needs. The
- * compacted file does not have the old calls and replies. */
+ * that number; NO_FILE with ENOENT if there is no file, and none is made; else as hull_shared_journal_open and
+ * hull_shared_journal_start refuse the file, which is unchanged then; so is one with several names (hard links): NO_FILE with
+ * EMLINK. Another file, PATH.new (PATH.new.1 and so on if there is one), of the same owner and mode, is written and synced, and
+ * takes its name: however the process ends, one of the two is there, whole. NO_FILE with `high` 1 if it has the name, but its
+ * folder could not be synced: either of the two may be there after a loss of power, and both leave the same points. A process
+ * that is killed meanwhile may leave PATH.new, which nothing needs. The compacted file does not have the old calls and
+ * replies. */
 hull_reply hull_shared_journal_compact(const char *path);
 
 /* Opens the shared hull with what the file has, and keeps its journal there from then on. If the file has no segment the shared

@@ -1928,8 +1928,8 @@ class SharedHull:
         """Compacts such a file, of a hull that is not open: to the additions that leave the same points, up to the same number, which is
         returned.
 
-        Raises what `open_journal` raises if the file is refused, which is as it was then, or leaves the same points, if its folder could not be
-        synced after the new file took its name.
+        FileNotFoundError if it is not there. Raises what `open_journal` raises if the file is refused, which is as it was then, or leaves the
+        same points, if its folder could not be synced after the new file took its name.
         """
         reply = _shared_library().hull_python_compact(_file(path))
         _check_journal_file(reply, reply.number, path)

@@ -1062,6 +1062,23 @@ static void compacts_the_file_itself(void) {
     unlink(beside(".other"));
 }
 
+/* What is not there is not compacted, and not made, also where a link leads to nothing. */
+static void compacts_what_is_there(void) {
+    uint64_t number;
+    errno = 73;
+    check("no file", compact(&number), HULL_NO_FILE);
+    check("why", number, ENOENT);
+    check("errno", (uint64_t)errno, 73);
+    check("none is made", is_there(path), 0);
+    check("no name", hull_shared_journal_compact("").number, ENOENT);
+    check("a link", (uint64_t)symlink("none", beside(".link")), 0);
+    check("to nothing", hull_shared_journal_compact(beside(".link")).code, HULL_NO_FILE);
+    unlink(beside(".link"));
+    put_text("");
+    check("a file with no segment", compact(&number), HULL_DURABLE);
+    check("its next line", number, 0);
+}
+
 /* The new file has the owner and the mode of the old one; a refusal leaves no file; one that comes after the new file took its
  * name is reported as such. */
 static void compacts_all_or_nothing(void) {
@@ -1584,6 +1601,7 @@ static const struct {
     {"bears_chosen_points", bears_chosen_points},
     {"follows_no_link", follows_no_link},
     {"compacts_the_file_itself", compacts_the_file_itself},
+    {"compacts_what_is_there", compacts_what_is_there},
     {"compacts_all_or_nothing", compacts_all_or_nothing},
     {"bears_zeros", bears_zeros},
     {"notices_others", notices_others},

@@ -218,10 +218,11 @@ static void *work(void *own) {
     return NULL;
 }
 
-/* Compacts the file, opens it, and acquires the seats: the next line has to have this number. */
+/* Compacts the file, if it is there, opens it, and acquires the seats: the next line has to have this number. */
 static void begin(uint64_t next) {
     hull_reply reply = hull_shared_journal_compact(path);
-    REQUIRE(reply.code == HULL_DURABLE && reply.number == next);
+    int is_first = reply.code == HULL_NO_FILE && reply.number == ENOENT && next == 0;
+    REQUIRE(is_first || (reply.code == HULL_DURABLE && reply.number == next));
     reply = hull_shared_journal_open(path, &journal);
     REQUIRE(reply.code == HULL_OPEN && reply.number == next && reply.high == 0);
     hull_shared_gate_init(&gate, 1);

@@ -231,6 +231,8 @@ class Calls(unittest.TestCase):
                     with self.assertRaises(FileNotFoundError) as refused:
                         call(missing)
                     self.assertEqual(refused.exception.filename, missing)
+            self.assertRaises(FileNotFoundError, SharedHull.compact, os.path.join(folder, "none"))
+            self.assertFalse(os.path.exists(os.path.join(folder, "none")))
             self.assertRaises(ValueError, SharedHull.open_journal, os.path.join(folder, "new"), capacity=1, seats=SEAT_LIMIT)
 
     def test_a_file_stays_open_while_a_reader_is_acquired(self):

@@ -382,7 +382,10 @@ fn files_that_are_refused() {
         assert_eq!(SharedHull::open_journal(folder.file(), limits, None).unwrap_err(), fault, "{text}");
         assert_eq!((SharedHull::compact(folder.file()), std::fs::read_to_string(folder.file()).unwrap()), (Err(fault), text));
     }
-    assert_eq!(SharedHull::compact(folder.0.join("none/at/all")), Err(Fault::NoFile { errno: 2 }));
+    for name in ["none/at/all", "none"] {
+        assert_eq!(SharedHull::compact(folder.0.join(name)), Err(Fault::NoFile { errno: 2 }));
+        assert!(!folder.0.join(name).exists());
+    }
 }
 
 /// A folder that is removed at the end of the test.
