@@ -47,7 +47,7 @@ from array import array
 from collections.abc import Mapping
 from fractions import Fraction
 from typing import Any, Callable, Dict, Iterable, Iterator, List, NamedTuple, NoReturn, Optional, Protocol, Sequence
-from typing import SupportsIndex, Tuple, Union, overload
+from typing import SupportsIndex, Tuple, TypeVar, Union, overload
 
 if sys.version_info < (3, 8):
     raise ImportError("the module hull needs Python 3.8 or later")
@@ -879,6 +879,65 @@ def _motion(motion: _Motion) -> Optional[Motion]:
     return None if hit is None else Motion(hit[0], hit[1], _pair(motion.vertex) if hit[1] else None, motion.moves == 1)
 
 
+_Made = TypeVar("_Made")
+
+
+def _slots_of(kind: type) -> List[str]:
+    """Returns the names of the slots that a class itself has, as its instances have them."""
+    own = kind.__dict__.get("__slots__", ())
+    names = [own] if isinstance(own, str) else list(own)
+    private = "_" + kind.__name__.lstrip("_")
+    return [private + name if name.startswith("__") and not name.endswith("__") else name
+            for name in names if name not in ("__dict__", "__weakref__")]
+
+
+def _added_state(thing: Any, base: type) -> Any:
+    """Returns what an instance of a subclass has beside what the base class has, in the form that `pickle` gives to it."""
+    ask = getattr(type(thing), "__getstate__", None)
+    if ask is not None and ask is not getattr(object, "__getstate__", None):
+        return ask(thing)
+    slots = {name: getattr(thing, name) for kind in type(thing).__mro__ if not issubclass(base, kind)
+             for name in _slots_of(kind) if hasattr(thing, name)}
+    return (getattr(thing, "__dict__", None), slots) if slots else getattr(thing, "__dict__", None) or None
+
+
+def _set_added_state(thing: Any, state: Any) -> None:
+    """Gives to an instance of a subclass what another one has beside what the base class has, as `pickle` does."""
+    if hasattr(thing, "__setstate__"):
+        if state is not None:
+            thing.__setstate__(state)
+        return
+    attributes, slots = state if isinstance(state, tuple) else (state, {})
+    if attributes:
+        thing.__dict__.update(attributes)
+    for name, value in slots.items():
+        setattr(thing, name, value)
+
+
+def _subclass_again(kind: Any, base: type, make: Callable[..., Any], *words: Any) -> Any:
+    """Returns an instance of a subclass, without what it adds, that has what `make` makes of the base class."""
+    thing, made = make(*words), kind.__new__(kind)
+    for name in (name for above in base.__mro__ for name in _slots_of(above)):
+        setattr(made, name, getattr(thing, name))
+    return made
+
+
+def _reduced(thing: Any, base: type, make: Callable[..., Any], *words: Any) -> Any:
+    """Returns what `__reduce__` returns of an instance of a class, which `make` makes again, or of a subclass."""
+    if type(thing) is base:
+        return make, words
+    return _subclass_again, (type(thing), base, make, *words), _added_state(thing, base)
+
+
+def _copied(thing: Any, base: type, made: _Made) -> _Made:
+    """Returns a copy of an instance of a class, which is `made`, or of a subclass, which has what `made` has and what the instance adds."""
+    if type(thing) is base:
+        return made
+    again: _Made = _subclass_again(type(thing), base, lambda: made)
+    _set_added_state(again, _added_state(thing, base))
+    return again
+
+
 class _Questions:
     """The questions of a hull and of a polygon. A subclass says how one call is made, how many are, and its vertices."""
 
@@ -1020,7 +1079,7 @@ class Hull(_Questions):
 
     def __reduce__(self) -> Any:
         """Copies and pickles have the same points, multiplicities and limit."""
-        return _hull_of, (list(self.items()), self.limit())
+        return _reduced(self, Hull, _hull_of, list(self.items()), self.limit())
 
     def __eq__(self, other: object) -> bool:
         if not isinstance(other, Hull):
@@ -1031,7 +1090,7 @@ class Hull(_Questions):
         """Returns another hull with the same points, multiplicities and limit."""
         other = Hull(limit=self.limit())
         self._ask(lambda at: _LIBRARY.hull_python_copy(other._at, at))
-        return other
+        return _copied(self, Hull, other)
 
     __copy__ = copy
 
@@ -1181,7 +1240,7 @@ class GrowingHull(_Questions):
             raise MemoryError("memory was refused, or there are too many vertices")
 
     def __reduce__(self) -> Any:
-        return GrowingHull, (self.vertices(),)
+        return _reduced(self, GrowingHull, GrowingHull, self.vertices())
 
     def __eq__(self, other: object) -> bool:
         if not isinstance(other, GrowingHull):
@@ -1190,7 +1249,7 @@ class GrowingHull(_Questions):
 
     def copy(self) -> GrowingHull:
         """Returns another hull with the same vertices."""
-        return GrowingHull(self.vertices())
+        return _copied(self, GrowingHull, GrowingHull(self.vertices()))
 
     __copy__ = copy
 
@@ -1335,7 +1394,7 @@ class Polygon(_Questions):
         return made
 
     def __reduce__(self) -> Any:
-        return _polygon_again, (self._flat_vertices(),)
+        return _reduced(self, Polygon, _polygon_again, self._flat_vertices())
 
     def __repr__(self) -> str:
         return f"<Polygon of {len(self)} vertices>"
@@ -1694,7 +1753,7 @@ class FloatHull:
 
     def __reduce__(self) -> Any:
         """Copies and pickles have the same points, multiplicities, limit, steps and count of what was rounded."""
-        return _float_hull_of, (self.hull, self.power, self.rounded)
+        return _reduced(self, FloatHull, _float_hull_of, self.hull, self.power, self.rounded)
 
     def __eq__(self, other: object) -> bool:
         if not isinstance(other, FloatHull):
@@ -1703,7 +1762,7 @@ class FloatHull:
 
     def copy(self) -> FloatHull:
         """Returns another hull with the same points, multiplicities, limit, steps and count of what was rounded."""
-        return _float_hull_of(self.hull.copy(), self.power, self.rounded)
+        return _copied(self, FloatHull, _float_hull_of(self.hull.copy(), self.power, self.rounded))
 
     __copy__ = copy
 
@@ -2119,7 +2178,7 @@ class Snapshot(Polygon):
         self.line = None
 
     def __reduce__(self) -> Any:
-        return _snapshot_again, (self._flat_vertices(), self.line)
+        return _reduced(self, Snapshot, _snapshot_again, self._flat_vertices(), self.line)
 
 
 def _snapshot_again(vertices: "array[int]", line: Optional[int]) -> Snapshot:

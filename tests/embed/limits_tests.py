@@ -175,6 +175,95 @@ class Lengths(unittest.TestCase):
         self.assertEqual(texts, ["POLYGON EMPTY", "POINT (0 0)", "LINESTRING (0 0, 10 0)", "POLYGON ((0 0, 10 0, 10 10, 0 0))"])
 
 
+class Named(Hull):
+    """A hull with attributes, which refers to itself, and that can't be made without a name."""
+
+    def __init__(self, name, points):
+        super().__init__(points, limit=9)
+        self.name, self.itself = name, self
+
+
+class Slotted(Hull):
+    """A hull with slots, of which one is private and one is not set."""
+
+    __slots__ = ("mark", "__private", "unset")
+
+    def __init__(self, mark):
+        super().__init__([(1, 2)])
+        self.mark, self.__private = mark, [mark]
+
+    def private(self):
+        return self.__private
+
+
+class Stated(Hull):
+    """A hull that says itself what is copied of what it adds."""
+
+    __slots__ = ("word",)
+
+    def __getstate__(self):
+        return self.word + "!"
+
+    def __setstate__(self, state):
+        self.word = state
+
+
+class Growing(hull.GrowingHull):
+    pass
+
+
+class Area(Polygon):
+    pass
+
+
+class Shot(hull.Snapshot):
+    pass
+
+
+class Scaled(FloatHull):
+    pass
+
+
+def copies_of(thing):
+    """Returns copies of a hull or of a polygon, made in each way."""
+    made = [thing.copy()] if hasattr(thing, "copy") else []
+    return [*made, copy.copy(thing), copy.deepcopy(thing), *(pickle.loads(pickle.dumps(thing, protocol)) for protocol in range(6))]
+
+
+class Subclasses(unittest.TestCase):
+    """Copies and pickles are of the class of the original, with what it adds."""
+
+    def test_attributes(self):
+        zone = Named("zone", [(0, 0), (0, 0), (5, 1)])
+        for other in copies_of(zone):
+            self.assertEqual((type(other), other.name, other, other.limit(), other is zone), (Named, "zone", zone, 9, False))
+            other.add(7, 7)
+            self.assertEqual((len(other), len(zone)), (3, 2))
+        deep = copy.deepcopy(zone)
+        self.assertTrue(copy.copy(zone).itself is zone and deep.itself is deep)
+
+    def test_slots(self):
+        for other in copies_of(Slotted("mark")):
+            self.assertEqual((type(other), other.mark, other.private(), list(other), hasattr(other, "unset")), (Slotted, "mark", ["mark"], [(1, 2)], False))
+
+    def test_states(self):
+        zone = Stated(SQUARE)
+        zone.word = "word"
+        for other in copies_of(zone):
+            self.assertEqual((type(other), other.word, other), (Stated, "word!", zone))
+
+    def test_each_class(self):
+        for kind in (Growing, Area, Shot, Scaled):
+            thing = kind(SQUARE)
+            if kind is Shot:
+                thing.line = 7
+            self.assertEqual([(type(other), other, getattr(other, "line", 7)) for other in copies_of(thing)],
+                             [(kind, thing, 7)] * len(copies_of(thing)))
+            thing.word = ["word"]
+            self.assertEqual([other.word for other in copies_of(thing)], [["word"]] * len(copies_of(thing)))
+            self.assertTrue(copy.copy(thing).word is thing.word and copy.deepcopy(thing).word is not thing.word)
+
+
 class Floats(unittest.TestCase):
     """Numbers of each kind on the lattice, and how many were rounded."""
 
