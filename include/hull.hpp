@@ -75,7 +75,7 @@ enum class Refusal : std::uint32_t {
     no_memory = HULL_NO_MEMORY,             // memory was refused
     out_of_order = HULL_OUT_OF_ORDER,       // a point does not follow the one before it, by x and then y
     no_polygon = HULL_NO_POLYGON,           // the points are not a convex polygon
-    out_of_limits = HULL_OUT_OF_LIMITS,     // a limit, a capacity or a number of seats is 0 or too great
+    out_of_limits = HULL_OUT_OF_LIMITS,     // a limit, a capacity or a number of seats is 0 or too great, or a time is below 0
     no_seat = HULL_NO_SEAT,                 // the seat is acquired, or there is none of this number; or no reader is free
     not_open = HULL_NOT_OPEN,               // the shared hull is closed, or has no journal file
     seats_out = HULL_SEATS_OUT,             // a seat of the shared hull is acquired: it stays open
@@ -110,7 +110,7 @@ private:
         case Refusal::no_memory: return "memory was refused";
         case Refusal::out_of_order: return "the points are not in order";
         case Refusal::no_polygon: return "the points are not a convex polygon";
-        case Refusal::out_of_limits: return "a limit of a hull is out of range";
+        case Refusal::out_of_limits: return "a limit of a hull, or a time, is out of range";
         case Refusal::no_seat: return "no such seat, or no reader, of the hull is free";
         case Refusal::not_open: return "the hull is closed, or has no journal file";
         case Refusal::seats_out: return "a seat of the hull is acquired";
@@ -1535,10 +1535,11 @@ public:
     // Opens a hull with a journal file, which is made, or read: then the hull has the points that it left, and its limit. A thread of
     // the library writes the lines to the file when a thread waits for one (sync, Seat::wait_durable), each `every` unless that is 0, and
     // when half of limits.capacity are used; calls wait for space. limits.first is not read, and limits.seats is at most
-    // HULL_SHARED_SEATS_MAX - 1. Fails with Refusal::no_file, damaged, illegal, and those of opening. Do not drain a seat of such a
-    // hull.
+    // HULL_SHARED_SEATS_MAX - 1. Fails with Refusal::no_file, damaged, illegal, and those of opening; out_of_limits also if `every` is
+    // below 0. Do not drain a seat of such a hull.
     static SharedHull open_journal(const std::string &path, Limits limits,
                                    std::chrono::nanoseconds every = std::chrono::nanoseconds(0)) {
+        check_open(every.count() < 0 ? HULL_OUT_OF_LIMITS : HULL_OPEN);
         SharedHull hull(new_resources(limits.readers));
         detail::SharedResources &shared = *hull.shared_;
         hull_shared_journal *journal = nullptr;

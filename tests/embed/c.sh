@@ -65,7 +65,7 @@ header_is() {
     for standard in c99 c11 c17 c2x; do
         for variant in -UHULL_CHECKED -DHULL_CHECKED; do
             echo "#include \"$2\"" | "$1" -x c "-std=$standard" $variant -I"$prefix/include" -pedantic -Wall -Wextra -Werror \
-                -Wpedantic -Wconversion -Wshadow -Wcast-qual -Wfloat-equal -fsyntax-only - || return 1
+                -Wpedantic -Wconversion -Wsign-conversion -Wshadow -Wcast-qual -Wfloat-equal -fsyntax-only - || return 1
         done
     done
 }

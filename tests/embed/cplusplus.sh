@@ -49,7 +49,7 @@ header_is() {
     shift 2
     for standard in "$@"; do
         echo "#include \"$included\"" | "$compiler" -x c++ "-std=$standard" -Wold-style-cast -I"$prefix/include" -pedantic -Wall -Wextra -Werror \
-            -Wpedantic -Wconversion -Wshadow -Wcast-qual -Wfloat-equal -fsyntax-only - || return 1
+            -Wpedantic -Wconversion -Wsign-conversion -Wshadow -Wcast-qual -Wfloat-equal -fsyntax-only - || return 1
     done
 }
 

@@ -505,6 +505,9 @@ static void refused_files(const std::string &path) {
     put(path, right);
     CHECK(opened({9, 0, 0, 1}).first == Refusal::out_of_limits && opened({9, 0, 9, HULL_SHARED_SEATS_MAX}).first == Refusal::out_of_limits);
     CHECK(opened({9, 0, 9, 1, HULL_SHARED_READERS_MAX + 1}).first == Refusal::out_of_limits && open_files() == before);
+    const auto each = [&](std::chrono::nanoseconds every) { return failure_of([&] { SharedHull::open_journal(path, {9, 0, 9, 1}, every); }); };
+    CHECK(each(std::chrono::nanoseconds(-1)).first == Refusal::out_of_limits && each(std::chrono::nanoseconds::min()).first == Refusal::out_of_limits);
+    CHECK(each(std::chrono::nanoseconds::max()) == Failure() && open_files() == before);
     {
         SharedHull h = SharedHull::open_journal(path, {9, 0, 9, 2, 1});
         CHECK(h.durable() == 6 && h.sync() >= 6 && opened({9, 0, 9, 1}) == Failure(Refusal::no_file, EWOULDBLOCK));

@@ -333,7 +333,7 @@ static void texts() {
                {Refusal::no_memory, "memory was refused"},
                {Refusal::out_of_order, "the points are not in order"},
                {Refusal::no_polygon, "the points are not a convex polygon"},
-               {Refusal::out_of_limits, "a limit of a hull is out of range"},
+               {Refusal::out_of_limits, "a limit of a hull, or a time, is out of range"},
                {Refusal::no_seat, "no such seat, or no reader, of the hull is free"},
                {Refusal::not_open, "the hull is closed, or has no journal file"},
                {Refusal::seats_out, "a seat of the hull is acquired"},
