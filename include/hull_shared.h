@@ -571,8 +571,9 @@ typedef struct hull_shared_journal hull_shared_journal;
  * (PATH.torn.1 and so on if there is one), except zeros at its end. The last whole segment is written again, and the file and its
  * folder are synced, before the call returns: the lines before line `number` are durable then. It takes time proportional to the
  * file. NO_FILE, with errno as `number`, if the system refuses a call on it (EWOULDBLOCK: another process has it; EINVAL: it is
- * not a regular file); DAMAGED, with the line `number` of the file, from 1, if a line has not the form of a journal's or a
- * checksum is wrong, and no crash can have left it so: the file is unchanged; NO_MEMORY. The journal is null except with OPEN. */
+ * not a regular file; ENAMETOOLONG: its name with .torn.999999 would be too long, and the file is new, or has a torn end; it is
+ * unchanged); DAMAGED, with the line `number` of the file, from 1, if a line has not the form of a journal's or a checksum is
+ * wrong, and no crash can have left it so: the file is unchanged; NO_MEMORY. The journal is null except with OPEN. */
 hull_reply hull_shared_journal_open(const char *path, hull_shared_journal **journal);
 
 /* Compacts the file of a journal that no process has open: one segment, of additions that leave the same points with the same

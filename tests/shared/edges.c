@@ -1493,6 +1493,53 @@ static void opens_long_paths(void) {
     check("the file", is_there(path), 1);
 }
 
+/* Opens what has a name that is too long: NO_FILE, and nothing is made or changed. */
+static void check_too_long(const char *what, const char *text) {
+    hull_shared_journal *journal;
+    if (text != NULL) {
+        put_text(text);
+    }
+    errno = 73;
+    hull_reply r = hull_shared_journal_open(path, &journal);
+    check(what, r.code, HULL_NO_FILE);
+    check("why", r.number, ENAMETOOLONG);
+    check("errno", (uint64_t)errno, 73);
+    check("as before", text == NULL ? !is_there(path) : has_only(path, text), 1);
+}
+
+/* A new file has a name with which a torn end can be kept; one of a longer name that is there is opened, unless its end is torn. */
+static void opens_long_names(void) {
+    hull_shared_journal *journal;
+    uint64_t number;
+    char *name = strrchr(path, '/') + 1;
+    *name = 0;
+    const size_t most = (size_t)pathconf(path, _PC_NAME_MAX), length = most - strlen(".torn.999999");
+    memset(name, 'n', most);
+    for (size_t k = length + 1; k <= most; k++) {
+        name[k] = 0;
+        check_too_long("a longer one", NULL);
+        check_too_long("one that is empty", "");
+        unlink(path);
+        name[k] = k < most ? 'n' : 0;
+    }
+    check_too_long("a torn end", SEGMENT NEXT "6 0 ad");
+    check("compact", compact(&number), HULL_NO_FILE);
+    check("why", number, ENAMETOOLONG);
+    put_text(SEGMENT);
+    hull_shared_journal_close(open_journal(6));
+    check("compact", compact(&number), HULL_NO_FILE);
+    check("why", number, ENAMETOOLONG);
+    check("as before", has_only(path, SEGMENT), 1);
+    unlink(path);
+    name[length] = 0;
+    hull_shared_journal_close(open_journal(0));
+    put_text(SEGMENT NEXT "6 0 ad");
+    check("a torn end", hull_shared_journal_open(path, &journal).code, HULL_OPEN);
+    hull_shared_journal_close(journal);
+    check("kept", has_only(beside(".torn"), NEXT "6 0 ad"), 1);
+    unlink(beside(".torn"));
+}
+
 /* More changes than are sorted together: those of a point that is there, that was removed, and that comes again. */
 static void compacts_many_changes(void) {
     enum { POINTS = 100, ROUNDS = 1500 };
@@ -1617,6 +1664,7 @@ static const struct {
     {"waits_for_a_drain_without_memory", waits_for_a_drain_without_memory},
     {"reads_long_lines", reads_long_lines},
     {"opens_long_paths", opens_long_paths},
+    {"opens_long_names", opens_long_names},
     {"compacts_many_changes", compacts_many_changes},
     {"starts_only_right", starts_only_right},
     {"compacts_to_the_same_number", compacts_to_the_same_number},
