@@ -116,24 +116,38 @@ static inline double hull_to_double(int64_t coordinate, int power) {
     return v;
 }
 
-/* Writes a number as text: an integer as it is, else with the fewest digits that give that double again. Returns its length. */
+/* Replaces the decimal point of the locale in the text of a double, which may have several bytes, by a point. Returns the new length. */
+static inline size_t hull_with_point(char *text) {
+    size_t from, length = 0;
+    for (from = 0; text[from] != 0; from++) {
+        if (strchr("0123456789+-einfa", text[from]) != NULL) {
+            text[length++] = text[from];
+        } else if (length == 0 || text[length - 1] != '.') {
+            text[length++] = '.';
+        }
+    }
+    text[length] = 0;
+    return length;
+}
+
+/* Writes a number as text: an integer as it is, else with the fewest digits that give that double again, and with a point in any locale.
+ * Returns its length. */
 static inline size_t hull_number_text(int64_t coordinate, int power, char text[32]) {
     double v = hull_to_double(coordinate, power);
-    int digits, length;
+    int digits = 15;
     if (power == 0) {
         return HULL_CAST(size_t, snprintf(text, 32, "%lld", HULL_CAST(long long, coordinate)));
     }
-    digits = 15;
     do {
-        length = snprintf(text, 32, "%.*g", digits, v);
+        snprintf(text, 32, "%.*g", digits, v);
     } while (!hull_is_equal_double(strtod(text, NULL), v) && digits++ < 17);
-    return HULL_CAST(size_t, length);
+    return hull_with_point(text);
 }
 
 /* Writes vertices as well-known text (OGC 06-103r4), which GEOS, PostGIS and QGIS read: POLYGON EMPTY, a POINT, a LINESTRING,
  * or a POLYGON whose ring is closed and runs counterclockwise. Coordinates are divided by 2^power. Like snprintf, it writes at
  * most `capacity` bytes with a 0 at their end, and returns the length of the whole text without that; `out` may be null if
- * `capacity` is 0. It uses the decimal point of the locale, as printf does: leave the locale for numbers at "C". */
+ * `capacity` is 0. */
 static inline size_t hull_wkt(const hull_point *vertices, size_t count, int power, char *out, size_t capacity) {
     const char *begin = count == 0 ? "POLYGON EMPTY" : count == 1 ? "POINT (" : count == 2 ? "LINESTRING (" : "POLYGON ((";
     const char *end = count == 0 ? "" : count < 3 ? ")" : "))";
