@@ -15,5 +15,5 @@ export function toFloat(coordinate: number, power: number): number;
 /** Returns a direction of doubles in integers: exactly if they fit, else to the nearest. Of (0, 0) it is [0, 0]. OutOfRange. */
 export function directionOf(dx: number, dy: number): Point;
 
-/** Returns vertices as well-known text, their coordinates divided by 2^power (default 0). */
+/** Returns vertices as well-known text, their coordinates divided by 2^power (default 0). OutOfRange if a vertex is no pair of numbers. */
 export function wkt(vertices: Iterable<readonly number[]>, power?: number): string;

@@ -68,11 +68,21 @@ export function directionOf(dx, dy) {
     return [dx, dy].map((it) => fromFloat(it, power).coordinate);
 }
 
+/** Returns coordinate / 2^power as text. */
+function textOf(coordinate, power) {
+    const value = typeof coordinate === "number" ? toFloat(coordinate, power) : NaN;
+    if (!Number.isFinite(value)) throw new OutOfRange(`${typeof coordinate} ${String(coordinate)} / 2^${String(power)} is no number of a text`);
+    return String(value);
+}
+
 /** Returns vertices as well-known text (OGC 06-103r4), their coordinates divided by 2^power: a polygon's ring is closed and runs
- * counterclockwise. */
+ * counterclockwise. Throws OutOfRange for what is no pair of numbers, and what is too great for a double. */
 export function wkt(vertices, power = 0) {
     _checkIterable(vertices, "an iterable of vertices");
-    const texts = Array.from(vertices, (vertex) => Array.from(vertex, (it) => toFloat(it, power)).join(" "));
+    const texts = Array.from(vertices, (vertex) => {
+        if (vertex?.length !== 2) throw new OutOfRange("a vertex is a pair of coordinates");
+        return Array.from(vertex, (it) => textOf(it, power)).join(" ");
+    });
     if (texts.length === 0) return "POLYGON EMPTY";
     if (texts.length === 1) return `POINT (${texts[0]})`;
     return texts.length === 2 ? `LINESTRING (${texts.join(", ")})` : `POLYGON ((${[...texts, texts[0]].join(", ")}))`;

@@ -33,6 +33,12 @@ function flat(elements, size) {
     return all;
 }
 
+/** Returns the instance, and the address and the length of a polygon; throws TypeError if it is none. */
+function wordsOf(polygon) {
+    if (typeof polygon?._polygonWords !== "function") throw new TypeError("a polygon was wanted");
+    return polygon._polygonWords(polygon);
+}
+
 /** Returns what `ask` returns, which is passed the address of an array of the integers in the module's memory, freed afterwards. */
 function withArray(instance, integers, ask) {
     const at = instance.stored(integers);
@@ -60,14 +66,14 @@ function bytesFor(name, { instance, words }, integers, count) {
 /** Returns the relations of the polygon to each of the others, in their order. */
 export function relations(polygon, others) {
     const list = listOf(others, "an iterable of polygons");
-    const numbers = bytesFor("hull_polygon_relations", polygon._polygonWords(polygon), spansOf(polygon, list), list.length);
+    const numbers = bytesFor("hull_polygon_relations", wordsOf(polygon), spansOf(polygon, list), list.length);
     return numbers.map((number) => RELATIONS[number]);
 }
 
 /** Returns whether the polygon intersects each of the segments [ax, ay, bx, by], in their order. */
 export function intersectsSegments(polygon, segments) {
     const ends = flat(segments, 4);
-    const numbers = bytesFor("hull_polygon_intersects_segments", polygon._polygonWords(polygon), ends, ends.length / 4);
+    const numbers = bytesFor("hull_polygon_intersects_segments", wordsOf(polygon), ends, ends.length / 4);
     return numbers.map((number) => number === 1);
 }
 
@@ -80,7 +86,7 @@ export function pairsWithinDistance(polygons, numerator = 0, denominator = 1) {
     }
     const list = listOf(polygons, "an iterable of polygons");
     if (list.length === 0) return []; // (of no module that could be asked)
-    const { instance } = list[0]._polygonWords(list[0]);
+    const { instance } = wordsOf(list[0]);
     return withArray(instance, spansOf(list[0], list), (at) => {
         const words = [at, BigInt(list.length), BigInt(numerator), denominator];
         const count = instance.filled(PAIR_SIZE, "hull_pairs_within_distance", ...words), pairs = instance.points(instance.out.at, count);
@@ -91,7 +97,7 @@ export function pairsWithinDistance(polygons, numerator = 0, denominator = 1) {
 /** Returns for each vertex the index of the first of the points that is equal to it; -1 if none is. */
 export function indices(polygon, points) {
     const coordinates = flat(points, 2), among = coordinates.length / 2;
-    const { instance, words } = polygon._polygonWords(polygon), length = polygon.count();
+    const { instance, words } = wordsOf(polygon), length = polygon.count();
     return withArray(instance, coordinates, (at) => {
         const out = instance.outOf(length * INDEX_SIZE);
         instance.call("hull_polygon_indices", ...words, at, BigInt(among), BigInt(out), BigInt(length));
@@ -103,7 +109,7 @@ export function indices(polygon, points) {
 /** Returns when a polygon that moves straight by (dx, dy) first intersects one that does not move; null if they never do. */
 export function firstMeeting(standing, moving, dx, dy) {
     checked([dx, dy]);
-    const { instance, words } = standing._polygonWords(standing), others = standing._polygonWords(moving).words;
+    const { instance, words } = wordsOf(standing), others = standing._polygonWords(moving).words;
     const code = instance.ask("hull_polygon_first_meeting", ...words, ...others, BigInt(dx), BigInt(dy)), hit = Answers.asHit(instance, code);
     if (!hit) return null;
     const isBefore = hit.points.length === 0, at = instance.reply;
@@ -113,7 +119,7 @@ export function firstMeeting(standing, moving, dx, dy) {
 
 /** Returns the vertices that a call of a polygon and two integers writes, one for each of its own. */
 function moved(name, polygon, a, b) {
-    const { instance, words } = polygon._polygonWords(polygon), count = polygon.count(), out = instance.outOf(count * POINT.size);
+    const { instance, words } = wordsOf(polygon), count = polygon.count(), out = instance.outOf(count * POINT.size);
     instance.ask(name, ...words, BigInt(a), BigInt(b), BigInt(out), BigInt(count));
     return Array.from({ length: count }, (_, i) => instance.point(out + i * POINT.size));
 }
@@ -135,6 +141,7 @@ export function rotate(polygon, a, b) {
  * if the set is empty. */
 export function nearestHeld(hull, x, y) {
     checked([x, y]);
+    if (typeof hull?._hullWords !== "function") throw new TypeError("a Hull was wanted");
     const { instance, words } = hull._hullWords();
     const point = Answers.asPoint(instance, instance.ask("hull_nearest_held", ...words, BigInt(x), BigInt(y)));
     return point && { point, squared: instance.wide() };

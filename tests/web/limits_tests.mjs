@@ -116,6 +116,13 @@ await tried("polygons of two modules, and memory that is a number", async () => 
     }
     for (const call of [() => relations(polygon, [polygon, stranger]), () => pairsWithinDistance([polygon, stranger]),
         () => firstMeeting(polygon, stranger, 1, 0)]) assert.throws(call, faults.NoPolygon);
+    for (const wrong of [new Hull(), undefined, null, 5, [[0, 0]]]) {
+        for (const call of [() => relations(wrong, [polygon]), () => intersectsSegments(wrong, []), () => pairsWithinDistance([wrong]),
+            () => indices(wrong, []), () => firstMeeting(wrong, polygon, 1, 0), () => translate(wrong, 1, 1), () => rotate(wrong, 1, 1)]) {
+            assert.throws(call, /^TypeError: a polygon was wanted$/);
+        }
+    }
+    for (const wrong of [polygon, undefined, null, 5]) assert.throws(() => nearestHeld(wrong, 1, 1), /^TypeError: a Hull was wanted$/);
     for (const memory of [0, -1, true, "5000000", null, 5000000n]) await assert.rejects(load(bytes, { memory }), faults.OutOfRange, String(memory));
     const before = globalThis.fetch;
     for (const [status, right] of [[200, true], [404, false], [500, false]]) {
@@ -439,6 +446,9 @@ await tried("doubles at the ends of what there is", () => {
     for (const wrong of [5, {}, null, undefined, "", "12", true]) {
         for (const call of [() => fromFloats(wrong, 0), () => wkt(wrong)]) assert.throws(call, faults.NoPoints);
     }
+    for (const wrong of [[1, 2], Float64Array.of(1, 2), [[1]], [[1, 2, 3]], [[1, 2], null], [{ x: 1, y: 2 }], ["12"], [["1", 2]], [[1, NaN]],
+        [[1n, 2n]], [[1, -Infinity]], [[undefined, 1]]]) assert.throws(() => wkt(wrong), faults.OutOfRange);
+    assert.throws(() => wkt([[1, 2]], -2000), faults.OutOfRange);
 });
 await tried("journals at the ends of their numbers, and one beyond", () => {
     const text = ({ version = 3, first = 0, limit = 5, capacity = 9, lines = [] }) => {
