@@ -181,6 +181,7 @@ def test_again(tests, top, prefix, work):
                 f"{came}: {said}")
         came, said = run(top, "bin/install", f"{prefix}.none", env={"PRODUCT_STATUS": str(status), "TMPDIR": work})
         tests.see("it leaves nothing", came == status and not os.path.exists(f"{prefix}.none") and not os.listdir(work), f"{came}: {said}")
+    test_full_disk(tests, top, prefix, work)
     tests.same("--uninstall", run(top, "bin/install", "--uninstall", prefix), (0, ""))
     tests.same("it leaves the files of others", found(prefix), {"lib/others.txt": 0o644})
     tests.same("and their folders", os.listdir(prefix), ["lib"])
@@ -204,6 +205,18 @@ def test_again(tests, top, prefix, work):
     tests.same("the libraries only, over all", run(top, "bin/install", "--library", prefix), (0, ""))
     tests.same("what only the installation before had is gone", found(prefix), {**wanted(mine, False), "lib/others.txt": 0o644, "bin/others": 0o644})
     tests.same("with its folders", os.path.exists(f"{prefix}/share/an older"), False)
+
+
+def test_full_disk(tests, top, prefix, work):
+    """An installation that finds no space for a file leaves what was there, and where there was nothing, nothing."""
+    write(f"{work}.full/cp", f'#!/bin/sh\ncase $3 in */libhull_shared.so.new) printf x >"$3"; echo "no space" >&2; exit 1 ;; esac\n{shutil.which("cp")} "$@"\n', 0o755)
+    env = {"TMPDIR": work, "PATH": f"{work}.full:{os.environ['PATH']}"}
+    write(f"{prefix}/include/hull.h", "an older one\n")
+    kept = {it: contents(f"{prefix}/{it}") for it in found(prefix)}
+    tests.same("a full disk", run(top, "bin/install", prefix, env=env), (1, "no space\n"))
+    tests.see("what was there stays", {it: contents(f"{prefix}/{it}") for it in found(prefix)} == kept, found(prefix))
+    tests.same("a full disk, for the first time", run(top, "bin/install", f"{prefix}.full", env=env), (1, "no space\n"))
+    tests.same("nothing is left there, and nothing temporary", (os.listdir(f"{prefix}.full"), os.listdir(work)), ([], []))
 
 
 def test_version_file(tests, prefix):
