@@ -537,12 +537,17 @@ def _numpy_rows(numpy: Any, points: Any, kinds: str = "iu", wanted: str = "integ
     return points.reshape(-1, 2)
 
 
-def _flat_of_numpy(numpy: Any, points: Any) -> "array[int]":
-    """Returns the coordinates of an array of numpy, as `_flat`, before any is cut off by a cast."""
+def _numpy_coordinates(numpy: Any, points: Any) -> Any:
+    """Returns an array of numpy, all of whose numbers are coordinates in range, before any is cut off by a cast."""
     rows = _numpy_rows(numpy, points)
     if rows.size and not -COORDINATE_LIMIT <= int(rows.min()) <= int(rows.max()) <= COORDINATE_LIMIT:
         raise _out_of_range()
-    return array("q", rows.astype(numpy.int64).tobytes())
+    return rows
+
+
+def _flat_of_numpy(numpy: Any, points: Any) -> "array[int]":
+    """Returns the coordinates of an array of numpy, as `_flat`."""
+    return array("q", _numpy_coordinates(numpy, points).astype(numpy.int64).tobytes())
 
 
 def _flat_of_memory(view: memoryview) -> "Optional[array[int]]":
@@ -731,11 +736,17 @@ def direction_of(dx: float, dy: float) -> Tuple[Pair, bool]:
 
 
 def to_floats(points: Any, power: SupportsIndex) -> Any:
-    """Returns the pairs (x / 2**power, y / 2**power), as floats or as an array of them: exact for powers from -960 to 1000."""
+    """Returns the pairs (x / 2**power, y / 2**power), as floats or as an array of them: exact for powers from -960 to 1000; OverflowError if one is
+    greater than all floats."""
     power = operator.index(power)
     numpy = _of_numpy(points)
     if numpy is not None:
-        return numpy.ldexp(_numpy_rows(numpy, points).astype(numpy.float64), -power)
+        rows = _numpy_coordinates(numpy, points).astype(numpy.float64)
+        with numpy.errstate(over="ignore", under="ignore"):
+            floats = numpy.ldexp(rows, max(-4000, min(-power, 4000)))
+        if not numpy.isfinite(floats).all():
+            raise OverflowError("math range error")
+        return floats
     return [_floats(point, power) for point in points]
 
 

@@ -863,6 +863,11 @@ class Arrays(unittest.TestCase):
         self.assertEqual((points.tolist(), rounded), ([[1 << 19, -3 << 20], [104858, 2 << 20]], 1))
         self.assertEqual(points.dtype, numpy.int64)
         self.assertEqual(to_floats(points[:1], 20).tolist(), [[0.5, -3]])
+        for rows, power in (([[3, -4]], 10 ** 30), ([[3, -4]], 1100), ([[0, 0]], -10 ** 30), ([[1, 0]], -1000)):
+            self.assertEqual(to_floats(numpy.array(rows), power).tolist(), [list(pair) for pair in to_floats(rows, power)])
+        for rows, power, fault in (([[1, 0]], -10 ** 30, OverflowError), ([[1, 0]], -1100, OverflowError), ([[COORDINATE_LIMIT + 1, 0]], 1, OutOfRange)):
+            for points in (rows, numpy.array(rows)):
+                self.assertRaises(fault, to_floats, points, power)
         numbers = numpy.array([(-1) ** n * n * 2.0 ** (n % 70 - 60) + n % 3 / 2 for n in range(3000)]).reshape(-1, 2)
         listed = from_floats(numbers.tolist(), 7)
         points, rounded = from_floats(numbers, 7)
