@@ -20,16 +20,18 @@ export function readRows(text) {
     return { csv: rowsOfTable, geojson: rowsOfGeometry, svg: rowsOfDrawing }[kindOf(text)](text);
 }
 
-/** Returns the rows of a table: x, y and multiplicity, separated by a comma, semicolon, tab or space; the first may be names. */
+/** Returns the rows of a table: x, y and multiplicity, separated by a comma, semicolon, tab or space; the first may be names. A decimal comma is
+ * refused, where it is seen to be one. */
 function rowsOfTable(text) {
     const rows = [];
     text.replace(/^\ufeff/, "").split(/\r?\n/).forEach((line, i) => {
         const fields = line.trim().split(/[,;\t ]+/).filter(Boolean), numbers = fields.map(Number);
         if (fields.length === 0 || line.startsWith("#")) return;
-        const [x, y, times = 1] = numbers, isRow = numbers.every(Number.isFinite) && fields.length >= 2;
+        const [x, y, times = 1] = numbers, areNumbers = numbers.every(Number.isFinite) && fields.length >= 2;
+        const isRow = areNumbers && fields.length <= 3 && !/(?=.*\d,\d).*[;\t]\S/.test(line);
         const expected = `X,Y or X,Y,TIMES, with 1 to ${MULTIPLICITY_LIMIT} times`;
         if (isRow && isTimes(times)) rows.push([x, y, times]);
-        else if (rows.length > 0 || i > 0) throw new TextError(i + 1, "it is no point", line, expected);
+        else if (areNumbers || i > 0) throw new TextError(i + 1, "it is no point", line, expected);
     });
     if (rows.length === 0) throw new TextError(1, "there are no points", text.split("\n")[0], "X,Y");
     return rows;

@@ -336,6 +336,11 @@ await tried("points as texts", () => {
         ["x\ny\n", 2], ["{", 1], ['{"type":"Point"}', 1], ['{"coordinates":["a",1]}', 1]]) {
         assert.throws(() => readRows(text), (error) => error instanceof TextError && error.line === line, text);
     }
+    // a decimal comma, more columns, and a first row that is no point, and no names
+    for (const text of ["0,5;1,25", "0,5;1", "1;0,5", "0,5\t1,25", "-0,5;-1", "0,5 1,25", "1,2,3,4", "1 2 3 4", "1,2,0", "1;2\n0,5;1"]) {
+        for (const all of [text, `x;y\n${text}`, `1;2\n${text}`]) assert.throws(() => readRows(all), /^Error: line \d: it is no point$/, all);
+    }
+    assert.deepEqual(readRows("4\n1,2;\n1;2;\n1,\t2\n1;\t2;3\n1, 2 , 3"), [[1, 2, 1], [1, 2, 1], [1, 2, 1], [1, 2, 3], [1, 2, 3]]);
     const faults = [["{ 1", "line 1: it is no JSON: ", "{ 1", "a GeoJSON object"], ["", "line 1: there are no points", "", "X,Y"],
         ["{}", "line 1: it has no positions", "{}", "a GeoJSON object with coordinates"],
         ["1,2\n3", "line 2: it is no point", "3", "X,Y or X,Y,TIMES, with 1 to 65535 times"]];
