@@ -267,6 +267,35 @@ fn hooks_that_panic() {
 }
 
 /// A call waits no longer than its seat is set to: for space, and for admission.
+/// A seat of a thread, which removes the thread's point when the thread ends.
+struct Presence(Seat);
+
+impl Drop for Presence {
+    fn drop(&mut self) {
+        assert_eq!(self.0.remove(point(1, 2)), Ok(Some(0)));
+    }
+}
+
+thread_local! {
+    static PRESENCE: std::cell::RefCell<Option<Presence>> = const { std::cell::RefCell::new(None) };
+}
+
+/// Calls are made at the end of a thread, too, after what the crate has for each thread is gone.
+#[test]
+fn calls_at_the_end_of_a_thread() {
+    let hull = SharedHull::open_without_journal(Limits { points: 4, first: 0, capacity: 1, seats: 2 }).unwrap();
+    let seat = hull.acquire_seat(0).unwrap();
+    let ended = thread::spawn(move || {
+        PRESENCE.with(|presence| {
+            let mut presence = presence.borrow_mut();
+            assert_eq!(presence.insert(Presence(seat)).0.add(point(1, 2)), Ok(1));
+        })
+    });
+    ended.join().unwrap();
+    assert_eq!(hull.acquire_seat(1).unwrap().count(), Ok(0));
+    hull.close().unwrap();
+}
+
 #[test]
 fn deadlines() {
     let mut hull = SharedHull::open(Limits { points: 9, first: 7, capacity: 2, seats: 2 }).unwrap();

@@ -173,7 +173,7 @@ extern "C" fn pass_segment(context: *mut u8, segment: *mut u8) {
     let mut hook = shared.hook.lock().unwrap_or_else(PoisonError::into_inner);
     if let Some(hook) = hook.as_mut() {
         if let Err(fault) = catch_unwind(AssertUnwindSafe(|| hook(&segment))) {
-            PANIC.with(|panic| panic.set(Some(fault)));
+            let _ = PANIC.try_with(|panic| panic.set(Some(fault)));
         }
     }
 }
@@ -769,7 +769,8 @@ impl Seat {
         // SAFETY: a seat is in the storage, which was acquired with this gate, and `&mut self` keeps other calls away.
         let reply = unsafe { raw::hull_shared_call_into(self.shared.gate.at(), self.storage.at(), kind, at.x, at.y, to, until) };
         self.turn = if reply.has_line == 1 { Some(reply.line) } else { self.turn };
-        if let Some(fault) = PANIC.with(Cell::take) {
+        // (at the end of a thread it may be gone before a value of the thread that makes a call when it is dropped)
+        if let Ok(Some(fault)) = PANIC.try_with(Cell::take) {
             resume_unwind(fault);
         }
         match reply.answer.code {
