@@ -42,6 +42,10 @@ while read -r words; do
 done <<END
 $choices
 END
+# a program for Node, which has no types of DOM
+echo 'import { load, type Source } from "hullbook"; export const hulls = await load("hull.wasm"), sources: Source[] = [new ArrayBuffer(8)];' >bare.ts
+sed 's/, "DOM"//; s/"typed.ts", "exact.ts"/"bare.ts"/; s/"strict"/"types": [], &/' ES2022-node16-node16-false.json >bare.json
+attempt 'types, without those of DOM' tsc --project bare.json
 project mistyped '"mistyped.ts"' ES2022 ES2022 node false
 faults=$(tsc --project mistyped.json 2>&1 | grep -o '^mistyped.ts([0-9]*' | sort -u | wc -l)
 lines=$(grep -c '; // wrong' mistyped.ts)
