@@ -498,6 +498,7 @@ static void refused_files(const std::string &path) {
     const auto opened = [&](hull::Limits limits) { return failure_of([&] { SharedHull::open_journal(path, limits); }); };
     const auto compacted = [&] { return failure_of([&] { SharedHull::compact(path); }); };
     const unsigned before = open_files();
+    CHECK(compacted() == Failure(Refusal::no_file, ENOENT) && !std::ifstream(path));
     put(path, "another's\n");
     CHECK(opened({9, 0, 9, 1}) == Failure(Refusal::damaged, 1) && compacted() == Failure(Refusal::damaged, 1));
     put(path, head + "5 0 add 1 1 = again 2\nend 1\n");
