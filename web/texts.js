@@ -24,7 +24,7 @@ export function readRows(text) {
  * refused, where it is seen to be one. */
 function rowsOfTable(text) {
     const rows = [];
-    text.replace(/^\ufeff/, "").split(/\r?\n/).forEach((line, i) => {
+    text.split(/\r?\n/).forEach((line, i) => {
         const fields = line.trim().split(/[,;\t ]+/).filter(Boolean), numbers = fields.map(Number);
         if (fields.length === 0 || line.startsWith("#")) return;
         const [x, y, times = 1] = numbers, areNumbers = numbers.every(Number.isFinite) && fields.length >= 2;
@@ -234,9 +234,11 @@ export function addressOf(held, power) {
 export function readAddress(fragment) {
     const found = /^#points=([^&]*)(?:&power=(-?\d{1,4}))?$/.exec(decodeURIComponent(fragment));
     if (!found) return null;
+    let made = 0;
     const calls = found[1].split(";").flatMap((text) => {
         const [, x, y, times = "1"] = /^(-?\d{1,13}),(-?\d{1,13})(?:\*(\d{1,5}))?$/.exec(text) ?? [];
-        const isPoint = x !== undefined && [x, y].every((it) => Math.abs(Number(it)) <= COORDINATE_LIMIT) && isTimes(Number(times));
+        const isPoint = x !== undefined && [x, y].every((it) => Math.abs(Number(it)) <= COORDINATE_LIMIT) && isTimes(Number(times)) &&
+            (made += Number(times)) <= CALLS_LIMIT;
         if (!isPoint) throw new TextError(1, "the address has a wrong point", text, "X,Y or X,Y*TIMES");
         return Array(Number(times)).fill(`add ${Number(x) + 0} ${Number(y) + 0}`);
     });

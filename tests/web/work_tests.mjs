@@ -331,6 +331,7 @@ await tried("directions in doubles and well-known text", () => {
 });
 await tried("points as texts", () => {
     assert.deepEqual(["hullbook journal 3", " {}", "[]", "<svg>", "1,2"].map(kindOf), ["journal", "geojson", "geojson", "svg", "csv"]);
+    assert.deepEqual(readRows("\ufeff1,2\n3,4"), [[1, 2, 1], [3, 4, 1]]);
     assert.deepEqual(readRows("\ufeffx,y\r\n1,2\r\n# a word\n3 4 5\n-6;7e1\n\n"), [[1, 2, 1], [3, 4, 5], [-6, 70, 1]]);
     for (const [text, line] of [["", 1], ["x,y\n", 1], ["1,2\n3\n", 2], ["1,2\n3,4,0\n", 2], ["1,2\n3,4,1.5", 2], ["\n1,2\n\n# \n3\n", 5],
         ["x\ny\n", 2], ["{", 1], ['{"type":"Point"}', 1], ['{"coordinates":["a",1]}', 1]]) {
@@ -410,7 +411,8 @@ await tried("an address contains the points, and a wrong or a long one none", ()
     assert.deepEqual(["#points=-7%2C8*12%3B0%2C0&power=3", "#points=4,4&power=-12", "#points=-0,-0"].map(readAddress),
         [readAddress(address), { calls: ["add 4 4"], power: -12 },
         { calls: ["add 0 0"], power: 0 }]);
-    for (const bad of ["#points=1", "#points=1,2*0", "#points=1,1099511627777", "#points=1,2;;3,4", "#points=1,2*70000"]) assert.throws(() => readAddress(bad), TextError, bad);
+    // (no link makes more calls than a file)
+    for (const bad of [`#points=${Array(65).fill("1,2*65535").join(";")}`, "#points=1", "#points=1,2*0", "#points=1,1099511627777", "#points=1,2;;3,4", "#points=1,2*70000"]) assert.throws(() => readAddress(bad), TextError, bad);
 });
 await tried("what is left out has its default", () => {
     const empty = { version: 3, first: 0n, limit: 2 ** 20, capacity: 2 ** 24,
