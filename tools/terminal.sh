@@ -22,12 +22,13 @@ meaning_of() {
     esac
 }
 
-# explains a fault on standard error: its number, its line, and the text of the line in the last file that was named
+# explains a fault on standard error: its number, its line, and the text of the line in the last file that was named, with its bytes that are
+# not printed shown as ^M and the like, so that they are seen, and do nothing to the terminal
 explain_fault() {
     file=
     for word in "$@"; do [ -f "$word" ] && file=$word; done
     echo "hullbook: fault $1: $(meaning_of "$1")" >&2
-    [ -z "$file" ] || [ "$#" -gt 4 ] || sed -n "$2{s/^/hullbook: line $2 is: /;p;q;}" "$file" | cut -c 1-200 >&2
+    [ -z "$file" ] || [ "$#" -gt 4 ] || sed -n "$2{s/^/hullbook: line $2 is: /;p;q;}" "$file" | cut -c 1-200 | cat -vt >&2
 }
 
 # asks the program again for what it said, which is the same on the same files, and says more about it

@@ -175,6 +175,9 @@ def test_meanings(tests):
         write(f"{top}/long", f"first\n{'long ' * 60}\n")
         shown = on_terminal(top, "bin/hullbook", "check", "long", env={**env, "STATUS": "2", "ERR": "hullbook: line 2: fault 2\\n"})[1]
         tests.see("a long line is cut", shown.endswith(f"\n{('hullbook: line 2 is: ' + 'long ' * 60)[:200]}\n"), shown)
+        write(f"{top}/bytes", "first\n\ufeff0 add 0\t0 \x1b[31m\r\n")
+        shown = on_terminal(top, "bin/hullbook", "check", "bytes", env={**env, "STATUS": "2", "ERR": "hullbook: line 2: fault 1\\n"})[1]
+        tests.see("bytes that are not printed are shown", shown.endswith("\nhullbook: line 2 is: M-oM-;M-?0 add 0^I0 ^[[31m^M\n"), repr(shown))
         for status, text in ((3, "hullbook: b: line 3: fault 5\\n"), (2, "hullbook: usage.txt: line 1: fault 2\\n"),
                 (4, "hullbook: line 1: fault 10\\n")):
             came, shown = on_terminal(top, "bin/hullbook", "run", "text", env={**env, "STATUS": str(status), "ERR": text})
