@@ -663,8 +663,22 @@ class Lattice(NamedTuple):
     rounded: int
 
 
+def _bits_of_decimal(number: Any) -> float:
+    """Returns about how many bits a decimal has before its point, below 0 if its first are behind it, without its ratio, which may be too long to be
+    computed; 0 of other numbers."""
+    if not hasattr(number, "adjusted") or not number.is_finite() or number == 0:
+        return 0
+    return float(number.adjusted() * math.log2(10))
+
+
 def _from_ratio(number: Any, power: int) -> Tuple[int, bool]:
     """Returns the coordinate nearest to number * 2**power, ties to even, and whether it was rounded, with no float between."""
+    about = _bits_of_decimal(number)
+    scaled = about + max(-1e20, min(power, 1e20))
+    if abs(about) > 4000 and abs(scaled) > 4000:
+        if scaled > 0:
+            raise _out_of_range()
+        return 0, True
     try:
         above, below = number.as_integer_ratio() if hasattr(number, "as_integer_ratio") else (operator.index(number), 1)
     except (OverflowError, ValueError):  # not finite
@@ -726,10 +740,10 @@ def direction_of(dx: float, dy: float) -> Tuple[Pair, bool]:
     it is the same direction; else each is rounded to the nearest, ties to even. (0, 0) stays (0, 0). OutOfRange if one is not finite, or is
     greater than all floats.
     """
-    greatest = max(abs(dx), abs(dy))
     try:
+        greatest = max(abs(dx), abs(dy))
         power = 0 if greatest == 0 or not math.isfinite(greatest) else 40 - math.frexp(greatest)[1]
-    except OverflowError:
+    except ArithmeticError:
         raise _out_of_range() from None
     (x, at_x), (y, at_y) = _from_float(dx, power), _from_float(dy, power)
     return (x, y), at_x or at_y
@@ -1658,6 +1672,9 @@ def _length(distance: Union[int, float, Fraction]) -> Tuple[Fraction, bool]:
     number: Any = distance
     if not hasattr(number, "as_integer_ratio") and not hasattr(number, "denominator"):
         raise TypeError(f"a distance is a number, and not {type(number).__name__}")
+    about = _bits_of_decimal(number)
+    if abs(about) > 4000:  # one of the same sign that is longer than all distances, too, or shorter than all but 0
+        number = (1 if number > 0 else -1) * (Fraction(1 << 4000) if about > 0 else Fraction(1, 1 << 4000))
     try:
         above, below = number.as_integer_ratio() if hasattr(number, "as_integer_ratio") else (number.numerator, number.denominator)
         length = Fraction(int(above), int(below))

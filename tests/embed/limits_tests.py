@@ -297,6 +297,22 @@ class Floats(unittest.TestCase):
             self.assertRaises(hull.OutOfRange, Hull(SQUARE).extreme_d, 1, wrong)
         self.assertEqual(hull.to_floats([(1, -3)], 2), [(0.25, -0.75)])
 
+    def test_decimals_with_far_exponents(self):
+        for exponent in (1500, 99999999, 999999999999999999):
+            for sign in ("", "-"):
+                great, small = Decimal(f"{sign}1e{exponent}"), Decimal(f"{sign}1e-{exponent}")
+                self.assertRaises(hull.OutOfRange, hull.from_floats, [(great, 0)], 20)
+                self.assertRaises(hull.OutOfRange, hull.direction_of, great, 1)
+                self.assertEqual(hull.from_floats([(small, 0)], 20), ([(0, 0)], 1))
+        self.assertEqual(hull.from_floats([(Decimal("3e1500"), 0)], -4981), ([(round(Fraction(3 * 10 ** 1500, 2 ** 4981)), 0)], 1))
+        one, other = Polygon([(0, 0)]), Polygon([(FAR, 1)])
+        for length, wanted in (("1e1500", True), ("1e99999999", True), ("1e-1500", False), ("1e-99999999", False), ("0e99999999", False)):
+            self.assertEqual((one.within_distance(other, Decimal(length)), one.within_distance_of_point(FAR, 1, Decimal(length))), (wanted, wanted))
+            self.assertTrue(one.within_distance(one, Decimal(length)))
+            self.assertEqual(hull.pairs_within_distance([one, other], Decimal(length)), [(0, 1)] if wanted else [])
+        for length in ("-1e99999999", "-1e-99999999", "NaN", "sNaN", "Infinity"):
+            self.assertRaises(hull.OutOfRange, one.within_distance, other, Decimal(length))
+
     def test_hulls_in_floats(self):
         zone = FloatHull([(0, 0), (1, 0), (1, 1), (0, 1), (0.1, 0.5)], power=4)
         self.assertEqual((zone.rounded, len(zone), zone.area(), (1, 1) in zone, (1.01, 1) in zone, (1e300, 0) in zone), (1, 5, 1.0, True, False,
