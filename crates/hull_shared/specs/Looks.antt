@@ -1,5 +1,5 @@
 -- The results of taking a number, and of looking whether it is served.
-use Rattle.std.specs.Prelude.{◌≡◌, ◌≢◌, ◌+◌, ℕ, ℤ, List, Option, Some, None, Result, Ok, Err}
+use Rattle.std.specs.Prelude.{◌≡◌, ◌≢◌, ◌+◌, ℕ, ℤ, List, Option, Some, None, IsNone, Result, Ok, Err}
 use mathlib.Core.List.{IsPrefix}
 use Rattle.lattice.specs.Plane.{Pair}
 use Rattle.hull_book.specs.Marks.{plain}
@@ -12,27 +12,30 @@ use Rattle.hull_reply.specs.Encoded.{IsBare, Encodes}
 use Rattle.hull_reply.specs.declared.code.Code.{Code}
 use Rattle.hull_reply.specs.declared.code.Code.TheVariants as code
 use Rattle.hull_reply.specs.declared.reply.HullReply.{HullReply}
-use Rattle.ticket_lock.specs.Tokens.{seat_seen, ticket_looks, ticket_number, ticket_seen}
+use Rattle.hull_book.specs.Ledgers.{LedgerValue}
+use Rattle.ticket_lock.specs.Tokens.{IsTicketOf, seat_seen, ticket_looks, ticket_number, ticket_seat, ticket_seen}
 use Rattle.hull_shared.specs.Asked.{IsAsked}
 use Rattle.hull_shared.specs.SharedHullBooks.{HasServedAt, Serves}
 use Rattle.hull_shared.specs.declared.answer.StateAfter.{StateAfter}
 use Rattle.hull_shared.specs.declared.answer.SharedHullAnswer.{SharedHullAnswer}
 use Rattle.hull_shared.specs.declared.answer.SharedHullAnswer.TheVariants.{Written, Unwritten, Full}
-use Rattle.hull_shared.specs.Locks.{head_of, lock_of}
+use Rattle.hull_shared.specs.Locks.{HullLock, head_of, lock_of}
+use Rattle.hull_shared.specs.Standings.{SeatValue}
 use Rattle.hull_shared.specs.declared.looking.Looked.{Looked}
 use Rattle.hull_shared.specs.declared.looking.Looked.TheVariants as looked
 use Rattle.hull_shared.specs.declared.looking.SeatReply.{SeatReply}
 use Rattle.hull_shared.specs.declared.looking.Seen.{Seen}
 use Rattle.hull_shared.specs.declared.looking.Seen.TheVariants.{Unserved, Served}
-use Rattle.hull_shared.specs.declared.seat.IdleSeat.{IdleSeat}
+use Rattle.hull_shared.specs.declared.seat.AcquiredSeat.{AcquiredSeat}
 use Rattle.hull_shared.specs.declared.seat.SharedSeat.{SharedSeat}
-use Rattle.hull_shared.specs.declared.seat.SharedSeat.TheVariants.{Vacant, Idle, Waiting}
-use Rattle.hull_shared.specs.declared.seat.WaitingSeat.{WaitingSeat}
+use Rattle.hull_shared.specs.declared.seat.SharedSeat.TheVariants.{Vacant, Acquired}
+use Rattle.hull_shared.specs.declared.standing.Standing.{Standing}
+use Rattle.hull_shared.specs.declared.standing.TakenNumber.{TakenNumber}
 
--- the seat has taken a number for the call: it is the same seat of the same lock, and has seen the same lines
-abbrev pub WaitsFor : IdleSeat → WaitingSeat → Call → Type 0
-WaitsFor i w call = (lock_of w.lock ≡ lock_of i.lock) × (w.number ≡ i.number) × (w.call ≡ call)
-    × (ticket_seen w.ticket ≡ seat_seen i.seat) × (w.ledger ≡ i.ledger)
+-- the seat with this number has taken a ticket of the lock for the call, and has seen the same lines
+abbrev pub WaitsFor : HullLock → ℕ → SeatValue → TakenNumber → Call → Type 0
+WaitsFor lock number seat t call = IsTicketOf lock t.ticket × (ticket_seat t.ticket ≡ number) × (t.call ≡ call)
+    × (ticket_seen t.ticket ≡ seat_seen seat)
 
 -- the reply has the number of a line, or none
 abbrev pub EncodesLine : Option ℕ → SeatReply → Type 0
@@ -48,81 +51,123 @@ abbrev pub IsBareReply : Code → SeatReply → Type 0
 IsBareReply c r = IsBare c r.encoded × (r.turn ≡ 0) × EncodesNothing r
 
 -- the reply of a waiting seat: this code, and its number
-abbrev pub IsReplyOf : Code → WaitingSeat → SeatReply → Type 0
-IsReplyOf c w r = IsBare c r.encoded × (r.turn ≡ ticket_number w.ticket) × EncodesNothing r
+abbrev pub IsReplyOf : Code → TakenNumber → SeatReply → Type 0
+IsReplyOf c t r = IsBare c r.encoded × (r.turn ≡ ticket_number t.ticket) × EncodesNothing r
 
--- the seat has no number
+-- there is a seat, and it has no number
 abbrev pub IsIdle : SharedSeat → Type 0
-IsIdle (Idle i) = Unit {0}
-IsIdle seat = ⊥
+IsIdle Vacant = ⊥
+IsIdle (Acquired a) = IsNone a.standing.taken
+
+-- the number that was taken, or 0 if none was
+abbrev pub turn_taken : Option TakenNumber → ℕ
+turn_taken None = 0
+turn_taken (Some t) = ticket_number t.ticket
 
 -- the number that the seat has, or 0 if it has none
 abbrev pub turn_of : SharedSeat → ℕ
 turn_of Vacant = 0
-turn_of (Idle i) = 0
-turn_of (Waiting w) = ticket_number w.ticket
+turn_of (Acquired a) = turn_taken a.standing.taken
 
 -- the reply of a seat that takes no number: this code, the number that it has already, and nothing else
 abbrev pub IsRefusal : Code → SharedSeat → SeatReply → Type 0
 IsRefusal c seat r = IsBare c r.encoded × (r.turn ≡ turn_of seat) × EncodesNothing r
 
+-- why an acquired seat takes no number: it has one already, or it is asked for no call
+abbrev pub IsWhyNotTaken : Result Call Code → Option TakenNumber → Code → Type 0
+IsWhyNotTaken asked (Some t) c = c ≡ code.Waiting
+IsWhyNotTaken (Err fault) None c = c ≡ fault
+IsWhyNotTaken (Ok call) None c = ⊥
+
 -- why a seat takes no number: there is none, it has a number already, or it is asked for no call
 abbrev pub IsWhyRefused : Result Call Code → SharedSeat → Code → Type 0
 IsWhyRefused asked Vacant c = c ≡ code.Vacant
-IsWhyRefused asked (Waiting w) c = c ≡ code.Waiting
-IsWhyRefused (Err fault) (Idle i) c = c ≡ fault
-IsWhyRefused (Ok call) (Idle i) c = ⊥
+IsWhyRefused asked (Acquired a) c = IsWhyNotTaken asked a.standing.taken c
 
 -- the call that these numbers request of a seat with no number, or why the seat takes none
 abbrev pub CanTake : ℕ → ℤ → ℤ → SharedSeat → Result Call Code → Type 0
 CanTake kind x y seat (Ok call) = IsIdle seat × IsAsked kind x y (Ok call)
 CanTake kind x y seat (Err c) = (asked : Result Call Code) × IsAsked kind x y asked × IsWhyRefused asked seat c
 
+-- the seat is unchanged, and the reply says why
+abbrev pub IsRefused : Result Call Code → SharedSeat → SharedSeat → SeatReply → Type 0
+IsRefused asked old new r = (new ≡ old) × ((c : Code) × IsWhyRefused asked old c × IsRefusal c old r)
+
+-- the acquired seat does this if it has no number and is asked for a call; else it is unchanged, and the reply says why
+abbrev pub AcceptsBy : (AcquiredSeat → Call → SharedSeat → SeatReply → Type 0) → Result Call Code → Option TakenNumber → AcquiredSeat
+    → SharedSeat → SeatReply → Type 0
+AcceptsBy does (Ok call) None a new r = does a call new r
+AcceptsBy does asked taken a new r = IsRefused asked (Acquired a) new r
+
 -- a seat with no number that is asked for a call does this; any other is unchanged, and the reply says why
-abbrev pub Accepts : (IdleSeat → Call → SharedSeat → SeatReply → Type 0) → Result Call Code → SharedSeat → SharedSeat → SeatReply → Type 0
-Accepts does (Ok call) (Idle i) new r = does i call new r
-Accepts does asked old new r = (new ≡ old) × ((c : Code) × IsWhyRefused asked old c × IsRefusal c old r)
+abbrev pub Accepts : (AcquiredSeat → Call → SharedSeat → SeatReply → Type 0) → Result Call Code → SharedSeat → SharedSeat → SeatReply → Type 0
+Accepts does asked Vacant new r = IsRefused asked Vacant new r
+Accepts does asked (Acquired a) new r = AcceptsBy does asked a.standing.taken a new r
 
 -- so does a seat with no number, if these numbers request a call; any other is unchanged, and the reply says why
-abbrev pub AcceptsRequest : (IdleSeat → Call → SharedSeat → SeatReply → Type 0) → ℕ → ℤ → ℤ → SharedSeat → SharedSeat → SeatReply → Type 0
+abbrev pub AcceptsRequest : (AcquiredSeat → Call → SharedSeat → SeatReply → Type 0) → ℕ → ℤ → ℤ → SharedSeat → SharedSeat → SeatReply → Type 0
 AcceptsRequest does kind x y old new r = (asked : Result Call Code) × IsAsked kind x y asked × Accepts does asked old new r
 
+-- it is the same seat of the same lock
+abbrev pub IsSameSeat : AcquiredSeat → AcquiredSeat → Type 0
+IsSameSeat a b = (b.lock ≡ a.lock) × (b.number ≡ a.number) × (b.capacity ≡ a.capacity)
+
+-- the seat that has no number is this one
+abbrev pub HasSeat : Standing → SeatValue → Type 0
+HasSeat standing seat = (standing.seat ≡ Some seat) × (standing.taken ≡ None)
+
+-- the seat has this number
+abbrev pub HasNumber : Standing → TakenNumber → Type 0
+HasNumber standing t = (standing.taken ≡ Some t) × (standing.seat ≡ None)
+
 -- the seat takes a number for the call
-abbrev pub TakesNumber : IdleSeat → Call → SharedSeat → SeatReply → Type 0
-TakesNumber i call new r = (w : WaitingSeat) × (new ≡ Waiting w) × WaitsFor i w call × IsReplyOf code.Taken w r
+pub record Takes (a : AcquiredSeat) (call : Call) (b : AcquiredSeat) (r : SeatReply) : Type 0 where
+  pub same : IsSameSeat a b
+  pub seat : SeatValue
+  pub was_idle : HasSeat a.standing seat
+  pub taken : TakenNumber
+  pub waits : HasNumber b.standing taken
+  pub waits_for : WaitsFor (lock_of a.lock) a.number seat taken call
+  pub same_ledger : b.standing.ledger ≡ a.standing.ledger
+  pub encoded : IsReplyOf code.Taken taken r
+
+-- so does an acquired seat
+abbrev pub TakesNumber : AcquiredSeat → Call → SharedSeat → SeatReply → Type 0
+TakesNumber a call new r = (b : AcquiredSeat) × (new ≡ Acquired b) × Takes a call b r
 
 -- a take, for the requested call
 abbrev pub HasTaken : ℕ → ℤ → ℤ → SharedSeat → SharedSeat → SeatReply → Type 0
 HasTaken = AcceptsRequest TakesNumber
 
--- the seat looked once more and still waits: the same seat of the same lock, with the same number and call, that has
--- seen the same lines
-abbrev pub WaitsOn : WaitingSeat → WaitingSeat → Type 0
-WaitsOn w v = (lock_of v.lock ≡ lock_of w.lock) × (v.number ≡ w.number) × (v.call ≡ w.call)
-    × (ticket_number v.ticket ≡ ticket_number w.ticket) × (ticket_seen v.ticket ≡ ticket_seen w.ticket)
-    × (ticket_looks v.ticket ≡ ticket_looks w.ticket + 1) × (v.ledger ≡ w.ledger)
+-- it is the same number for the same call, whose seat has seen the same lines, and looked once more
+abbrev pub IsLookedWith : TakenNumber → TakenNumber → Type 0
+IsLookedWith t u = (u.call ≡ t.call) × (ticket_number u.ticket ≡ ticket_number t.ticket)
+    × (ticket_seen u.ticket ≡ ticket_seen t.ticket) × (ticket_looks u.ticket ≡ ticket_looks t.ticket + 1)
 
--- The seat's call was served: it found a whole journal that begins with what the seat had seen and has no other line
--- in the seat's name, and this holds of that journal. It is the same seat of the same lock.
-pub record HasFound (w : WaitingSeat) (i : IdleSeat) (so : List MarkedLine → Type 0) : Type 0 where
-  pub same_lock : lock_of i.lock ≡ lock_of w.lock
-  pub same_number : i.number ≡ w.number
+-- the seat looked once with this ledger and number, and still waits
+abbrev pub WaitsOn : LedgerValue → TakenNumber → Standing → Type 0
+WaitsOn ledger t after = (u : TakenNumber) × HasNumber after u × IsLookedWith t u × (after.ledger ≡ ledger)
+
+-- The call was served of the seat with this number: it found a whole journal that begins with what the seat had seen
+-- and has no other line in the seat's name, and this holds of that journal.
+pub record HasFound (number : ℕ) (t : TakenNumber) (so : List MarkedLine → Type 0) : Type 0 where
   pub found : List MarkedLine
-  pub begins : IsPrefix (ticket_seen w.ticket) found
-  pub own_lines : lines_of w.number (plain found) ≡ lines_of w.number (plain (ticket_seen w.ticket))
+  pub begins : IsPrefix (ticket_seen t.ticket) found
+  pub own_lines : lines_of number (plain found) ≡ lines_of number (plain (ticket_seen t.ticket))
   pub is_so : so found
 
 -- The call was served with this answer and this state after it, by the number that the seat had taken, and handed on
--- the journal that the seat has seen now.
-abbrev pub WasServed : {A : Type 0} → Serves A → WaitingSeat → IdleSeat → A → StateAfter → Type 0
-WasServed served w i answer state_after = HasFound w i (λ found. served (head_of (lock_of w.lock)) (ticket_number w.ticket) w.number
-    w.call found (seat_seen i.seat) answer state_after)
+-- the journal that the seat has seen now. The seat has no number.
+abbrev pub WasServed : {A : Type 0} → Serves A → HullLock → ℕ → TakenNumber → Standing → A → StateAfter → Type 0
+WasServed served lock number t after answer state_after = (seat : SeatValue) × HasSeat after seat
+    × HasFound number t (λ found. served (head_of lock) (ticket_number t.ticket) number t.call found (seat_seen seat) answer
+    state_after)
 
 -- the seat still waits, and the service was not used; or the service served its call
-abbrev pub HasLooked : {S A : Type 0} → (S → Serves A) → WaitingSeat → SharedSeat → S → Looked S A → Type 0
-HasLooked served w (Waiting v) service (looked.NotYet left) = WaitsOn w v × (left ≡ service)
-HasLooked served w (Idle i) service (looked.Served answer state_after) = WasServed (served service) w i answer state_after
-HasLooked served w new service seen = ⊥
+abbrev pub HasLooked : {S A : Type 0} → (S → Serves A) → HullLock → ℕ → LedgerValue → TakenNumber → Standing → S → Looked S A → Type 0
+HasLooked served lock number ledger t after service (looked.NotYet left) = WaitsOn ledger t after × (left ≡ service)
+HasLooked served lock number ledger t after service (looked.Served answer state_after) =
+    WasServed (served service) lock number t after answer state_after
 
 -- the reply has an answer: the numbers of the set's reply, or that the book is full
 abbrev pub EncodesAnswer : HullReply → SharedHullAnswer → Type 0
@@ -147,14 +192,22 @@ abbrev pub IsSeenCounted : Seen → Type 0
 IsSeenCounted (Unserved reply) = Unit {0}
 IsSeenCounted (Served answer turn state_after) = IsCounted answer
 
+-- what a waiting seat saw: it still waits; or its call was served, under its number
+abbrev pub HasSeenAt : HullLock → ℕ → LedgerValue → TakenNumber → Standing → Seen → Type 0
+HasSeenAt lock number ledger t after (Unserved r) = WaitsOn ledger t after × IsReplyOf code.NotYet t r
+HasSeenAt lock number ledger t after (Served answer turn state_after) =
+    WasServed HasServedAt lock number t after answer state_after × (turn ≡ ticket_number t.ticket)
+
+-- a look of an acquired seat: with no number it is unchanged
+abbrev pub HasSeenBy : Option TakenNumber → AcquiredSeat → SharedSeat → Seen → Type 0
+HasSeenBy None a new s = (new ≡ Acquired a) × ((r : SeatReply) × (s ≡ Unserved r) × IsBareReply code.NoNumber r)
+HasSeenBy (Some t) a new s = (b : AcquiredSeat) × (new ≡ Acquired b) × IsSameSeat a b
+    × HasSeenAt (lock_of a.lock) a.number a.standing.ledger t b.standing s
+
 -- a look: a seat with no number is unchanged; one with a number still waits, or its call was served, under its number
 abbrev pub HasSeen : SharedSeat → SharedSeat → Seen → Type 0
 HasSeen Vacant new s = (new ≡ Vacant) × ((r : SeatReply) × (s ≡ Unserved r) × IsBareReply code.Vacant r)
-HasSeen (Idle i) new s = (new ≡ Idle i) × ((r : SeatReply) × (s ≡ Unserved r) × IsBareReply code.NoNumber r)
-HasSeen (Waiting w) (Waiting v) s = WaitsOn w v × ((r : SeatReply) × (s ≡ Unserved r) × IsReplyOf code.NotYet w r)
-HasSeen (Waiting w) (Idle i) s = (answer : SharedHullAnswer) × (state_after : StateAfter) × WasServed HasServedAt w i answer state_after
-    × (s ≡ Served answer (ticket_number w.ticket) state_after)
-HasSeen (Waiting w) Vacant s = ⊥
+HasSeen (Acquired a) new s = HasSeenBy a.standing.taken a new s
 
 -- the reply has what follows a call
 abbrev pub EncodesStateAfter : StateAfter → SeatReply → Type 0
@@ -175,9 +228,20 @@ PutsSeen before after (Served answer turn state_after) r =
 abbrev pub HasReplied : SharedSeat → SharedSeat → SeatReply → Type 0
 HasReplied old new r = (seen : Seen) × HasSeen old new seen × EncodesSeen seen r
 
--- the seat takes a number for the call, and looks
-abbrev pub TakesAndLooks : IdleSeat → Call → SharedSeat → SeatReply → Type 0
-TakesAndLooks i call new r = (w : WaitingSeat) × WaitsFor i w call × HasReplied (Waiting w) new r
+-- the seat takes a number for the call, and looks, which the reply says
+pub record TakesAndSees (a : AcquiredSeat) (call : Call) (b : AcquiredSeat) (r : SeatReply) : Type 0 where
+  pub same : IsSameSeat a b
+  pub seat : SeatValue
+  pub was_idle : HasSeat a.standing seat
+  pub taken : TakenNumber
+  pub waits_for : WaitsFor (lock_of a.lock) a.number seat taken call
+  pub seen : Seen
+  pub has_seen : HasSeenAt (lock_of a.lock) a.number a.standing.ledger taken b.standing seen
+  pub encoded : EncodesSeen seen r
+
+-- so does an acquired seat
+abbrev pub TakesAndLooks : AcquiredSeat → Call → SharedSeat → SeatReply → Type 0
+TakesAndLooks a call new r = (b : AcquiredSeat) × (new ≡ Acquired b) × TakesAndSees a call b r
 
 -- a take and a look, for the requested call
 abbrev pub HasTakenAndLooked : ℕ → ℤ → ℤ → SharedSeat → SharedSeat → SeatReply → Type 0
@@ -190,8 +254,7 @@ HasRepliedInto old new before after r = (seen : Seen) × HasSeen old new seen ×
 -- the greatest number of lines that the seat's book may contain, or 0 if there is no seat
 abbrev pub capacity_at : SharedSeat → ℕ
 capacity_at Vacant = 0
-capacity_at (Idle i) = i.capacity
-capacity_at (Waiting w) = w.capacity
+capacity_at (Acquired a) = a.capacity
 
 -- that number is returned, and the seat is unchanged
 abbrev pub HasReportedCapacity : SharedSeat → SharedSeat → ℕ → Type 0

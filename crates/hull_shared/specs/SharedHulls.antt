@@ -21,6 +21,8 @@ use Rattle.ticket_lock.specs.Tokens.{seat_seen}
 use Rattle.hull_shared.specs.SharedHullBooks.{SharedHullValue, HoldsNone}
 use Rattle.hull_shared.specs.Gates.{AreReadersOut, LetsSoMany, snapshot_slots_after}
 use Rattle.hull_shared.specs.Limits.{AreLimits}
+use Rattle.hull_shared.specs.Looks.{HasSeat}
+use Rattle.hull_shared.specs.Standings.{SeatValue}
 use Rattle.hull_shared.specs.Locks.{book_of, head_of, lock_of}
 use Rattle.hull_shared.specs.Places.{HasAt, HasOwnLines}
 use Rattle.hull_shared.specs.declared.shared_hull.ClosedSharedHull.{ClosedSharedHull}
@@ -30,9 +32,10 @@ use Rattle.hull_shared.specs.declared.shared_hull.FreshSharedHull.{FreshSharedHu
 use Rattle.hull_shared.specs.declared.shared_hull.OpenSharedHull.{OpenSharedHull}
 use Rattle.hull_shared.specs.declared.limits.Limits.{Limits}
 use Rattle.hull_shared.specs.declared.place.SeatPlace.{SeatPlace}
-use Rattle.hull_shared.specs.declared.seat.IdleSeat.{IdleSeat}
+use Rattle.hull_shared.specs.declared.seat.AcquiredSeat.{AcquiredSeat}
 use Rattle.hull_shared.specs.declared.seat.SharedSeat.{SharedSeat}
 use Rattle.hull_shared.specs.declared.seat.SharedSeat.TheVariants as seat
+use Rattle.hull_shared.specs.declared.standing.TakenNumber.{TakenNumber}
 
 -- the shared hull was not opened, and will be opened for no reader
 abbrev pub IsFreshForNone : SharedHull → Type 0
@@ -95,7 +98,7 @@ abbrev pub IsSameSharedHull : OpenSharedHull → OpenSharedHull → Type 0
 IsSameSharedHull d e = (lock_of e.lock ≡ lock_of d.lock) × (e.seats ≡ d.seats) × (e.gate ≡ d.gate)
 
 -- the seat of this number was acquired from its slot
-pub record HasGone (number : ℕ) (d e : OpenSharedHull) (i : IdleSeat) : Type 0 where
+pub record HasGone (number : ℕ) (d e : OpenSharedHull) (i : AcquiredSeat) : Type 0 where
   pub same : IsSameSharedHull d e
   pub place : SeatPlace
   pub j : ℕ
@@ -103,8 +106,9 @@ pub record HasGone (number : ℕ) (d e : OpenSharedHull) (i : IdleSeat) : Type 0
   pub was_in : HasAt d.places.list.items j place
   pub out : e.places.list.items ≡ slice_set d.places.list.items j None
   pub own_lock : lock_of i.lock ≡ lock_of d.lock
-  pub seat_is : i.seat ≡ place.seat
-  pub ledger_is : i.ledger ≡ place.ledger
+  pub number_is : i.number ≡ number
+  pub seat_is : HasSeat i.standing place.seat
+  pub ledger_is : i.standing.ledger ≡ place.ledger
 
 -- no seat of this number is there
 abbrev pub IsAway : ℕ → OpenSharedHull → Type 0
@@ -112,57 +116,68 @@ IsAway number d = (j : ℕ) → number + j + 1 ≡ d.seats → slice_get d.place
 
 -- The seat of a number was requested: it was acquired; or there was none, or memory was refused, and the shared hull
 -- is unchanged.
-abbrev pub Lends : ℕ → OpenSharedHull → OpenSharedHull → Result IdleSeat Code → Type 0
+abbrev pub Lends : ℕ → OpenSharedHull → OpenSharedHull → Result AcquiredSeat Code → Type 0
 Lends number d e (Ok i) = HasGone number d e i
 Lends number d e (Err fault) = (e ≡ d) × ((IsAway number d × (fault ≡ code.NoSeat)) ⊎ (fault ≡ code.NoMemory))
 
 -- the storage has the seat, or is still vacant
-abbrev pub ComesTo : SharedSeat → ℕ → Result IdleSeat Code → Type 0
-ComesTo storage encoded (Ok i) = (storage ≡ seat.Idle i) × (encoded ≡ code_number code.Acquired)
+abbrev pub ComesTo : SharedSeat → ℕ → Result AcquiredSeat Code → Type 0
+ComesTo storage encoded (Ok i) = (storage ≡ seat.Acquired i) × (encoded ≡ code_number code.Acquired)
 ComesTo storage encoded (Err fault) = (storage ≡ seat.Vacant) × (encoded ≡ code_number fault)
 
 -- a seat is requested: of an open shared hull, into vacant storage; else nothing changed
 abbrev pub HasAcquired : ℕ → SharedHull → SharedHull → SharedSeat → SharedSeat → ℕ → Type 0
 HasAcquired number (Open d) new seat.Vacant storage encoded =
-    (e : OpenSharedHull) × (r : Result IdleSeat Code) × Lends number d e r × (new ≡ Open e) × ComesTo storage encoded r
+    (e : OpenSharedHull) × (r : Result AcquiredSeat Code) × Lends number d e r × (new ≡ Open e) × ComesTo storage encoded r
 HasAcquired number (Open d) new old storage encoded = (new ≡ Open d) × (storage ≡ old) × (encoded ≡ code_number code.StorageInUse)
 HasAcquired number old new was storage encoded = (new ≡ old) × (storage ≡ was) × (encoded ≡ code_number code.NotOpen)
 
--- the seat is one of the shared hull's
+-- the seat, if it has no number, is one of the shared hull's
+abbrev pub IsIdleSeatOf : OpenSharedHull → Option TakenNumber → AcquiredSeat → Type 0
+IsIdleSeatOf d None i = lock_of i.lock ≡ lock_of d.lock
+IsIdleSeatOf d (Some t) i = Unit {0}
+
+-- so is the seat in the storage, if there is one
 abbrev pub IsSeatOfSharedHull : SharedHull → SharedSeat → Type 0
-IsSeatOfSharedHull (Open d) (seat.Idle i) = lock_of i.lock ≡ lock_of d.lock
+IsSeatOfSharedHull (Open d) (seat.Acquired i) = IsIdleSeatOf d i.standing.taken i
 IsSeatOfSharedHull _ _ = Unit {0}
 
 -- the seat came back to its slot, which was empty
-pub record HasCome (d e : OpenSharedHull) (i : IdleSeat) : Type 0 where
+pub record HasCome (d e : OpenSharedHull) (i : AcquiredSeat) : Type 0 where
   pub same : IsSameSharedHull d e
   pub j : ℕ
   pub home : i.number + j + 1 ≡ d.seats
   pub was_out : slice_get d.places.list.items j ≡ Some None
-  pub back : e.places.list.items ≡ slice_set d.places.list.items j (Some (record { seat = i.seat; ledger = i.ledger }))
+  pub seat : SeatValue
+  pub was_idle : HasSeat i.standing seat
+  pub back : e.places.list.items ≡ slice_set d.places.list.items j (Some (record { seat = seat; ledger = i.standing.ledger }))
 
 -- a seat of this number is there
 abbrev pub IsAtSharedHull : ℕ → OpenSharedHull → Type 0
 IsAtSharedHull number d = (j : ℕ) × (p : SeatPlace) × (number + j + 1 ≡ d.seats) × HasAt d.places.list.items j p
 
 -- a seat with no number was released: it is there again; or its slot has a seat, and nothing changed
-abbrev pub TakesBack : OpenSharedHull → IdleSeat → OpenSharedHull → Option IdleSeat → Type 0
+abbrev pub TakesBack : OpenSharedHull → AcquiredSeat → OpenSharedHull → Option AcquiredSeat → Type 0
 TakesBack d i e None = HasCome d e i
 TakesBack d i e (Some left) = (e ≡ d) × (left ≡ i) × IsAtSharedHull i.number d
 
 -- the storage is vacant, or still has the seat
-abbrev pub IsLeftWith : SharedSeat → ℕ → Option IdleSeat → Type 0
+abbrev pub IsLeftWith : SharedSeat → ℕ → Option AcquiredSeat → Type 0
 IsLeftWith storage encoded None = (storage ≡ seat.Vacant) × (encoded ≡ code_number code.Released)
-IsLeftWith storage encoded (Some left) = (storage ≡ seat.Idle left) × (encoded ≡ code_number code.SlotInUse)
+IsLeftWith storage encoded (Some left) = (storage ≡ seat.Acquired left) × (encoded ≡ code_number code.SlotInUse)
+
+-- an acquired seat is released to an open shared hull: only if it has no number; else nothing changed
+abbrev pub HasReturnedBy : Option TakenNumber → OpenSharedHull → SharedHull → AcquiredSeat → SharedSeat → ℕ → Type 0
+HasReturnedBy None d new i storage encoded =
+    (e : OpenSharedHull) × (left : Option AcquiredSeat) × TakesBack d i e left × (new ≡ Open e) × IsLeftWith storage encoded left
+HasReturnedBy (Some t) d new i storage encoded =
+    (new ≡ Open d) × (storage ≡ seat.Acquired i) × (encoded ≡ code_number code.Waiting)
 
 -- a seat is released: to an open shared hull, and only if it has no number; else nothing changed
 abbrev pub HasReturned : SharedHull → SharedHull → SharedSeat → SharedSeat → ℕ → Type 0
-HasReturned (Open d) new (seat.Idle i) storage encoded =
-    (e : OpenSharedHull) × (left : Option IdleSeat) × TakesBack d i e left × (new ≡ Open e) × IsLeftWith storage encoded left
+HasReturned (Open d) new (seat.Acquired i) storage encoded = HasReturnedBy i.standing.taken d new i storage encoded
 HasReturned (Open d) new seat.Vacant storage encoded =
     (new ≡ Open d) × (storage ≡ seat.Vacant) × (encoded ≡ code_number code.Vacant)
-HasReturned (Open d) new (seat.Waiting w) storage encoded =
-    (new ≡ Open d) × (storage ≡ seat.Waiting w) × (encoded ≡ code_number code.Waiting)
 HasReturned old new was storage encoded = (new ≡ old) × (storage ≡ was) × (encoded ≡ code_number code.NotOpen)
 
 -- ---- closing

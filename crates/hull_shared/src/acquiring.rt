@@ -1,11 +1,12 @@
 //! Acquiring seats of a shared hull, and releasing them.
-ghost use Rattle.std.specs.Prelude.{◌≡◌, ◌+◌, ◌≤◌, MatchOption};
+ghost use Rattle.std.specs.Prelude.{◌≡◌, ◌+◌, ◌≤◌, IsNone, MatchOption};
 ghost use Rattle.hull_shared.specs.SharedHulls.{HasAcquired, HasReturned, IsSeatOfSharedHull, Lends, TakesBack};
 ghost use Rattle.hull_shared.specs.Locks.{lock_of};
 
 use crate::place::{SeatPlace, SeatPlaces};
-use crate::seat::{IdleSeat, SharedSeat};
+use crate::seat::{AcquiredSeat, SharedSeat};
 use crate::shared_hull::{OpenSharedHull, SharedHull};
+use crate::standing::Standing;
 use core::mem::{replace, replace_with};
 use hull_reply::Code;
 use std::sync::Arc;
@@ -24,7 +25,7 @@ fn place_of(number: u32, seats: u8) -> Option<usize>
 fn acquire_from(
     shared_hull: OpenSharedHull,
     number: u32,
-) -> (OpenSharedHull, Result<IdleSeat, Code>)
+) -> (OpenSharedHull, Result<AcquiredSeat, Code>)
     ensures { Lends number shared_hull result.0 result.1 }
 {
     let Some(j) = place_of(number, shared_hull.seats) else {
@@ -38,37 +39,53 @@ fn acquire_from(
     };
     let mut shared_hull = shared_hull;
     let SeatPlace { seat, ledger } = shared_hull.places.list[j].take().unwrap();
-    let idle = IdleSeat {
+    let acquired = AcquiredSeat {
         lock,
-        seat,
-        ledger,
         number,
         capacity: shared_hull.capacity,
+        standing: Standing {
+            ledger,
+            seat: Some(seat),
+            taken: None,
+        },
     };
-    (shared_hull, Ok(idle))
+    (shared_hull, Ok(acquired))
 }
 
 /// Puts the seat back into its slot. Returns the seat if the slot is not free.
-fn return_to(shared_hull: OpenSharedHull, idle: IdleSeat) -> (OpenSharedHull, Option<IdleSeat>)
-    requires { lock_of idle.lock ≡ lock_of shared_hull.lock }
-    ensures { TakesBack shared_hull idle result.0 result.1 }
+fn return_to(
+    shared_hull: OpenSharedHull,
+    acquired: AcquiredSeat,
+) -> (OpenSharedHull, Option<AcquiredSeat>)
+    requires own { lock_of acquired.lock ≡ lock_of shared_hull.lock }
+    requires idle { IsNone acquired.standing.taken }
+    ensures { TakesBack shared_hull acquired result.0 result.1 }
 {
-    let Some(j) = place_of(idle.number, shared_hull.seats) else {
+    let Some(j) = place_of(acquired.number, shared_hull.seats) else {
         unreachable!()
     };
     if shared_hull.places.list[j].is_some() {
-        return (shared_hull, Some(idle));
+        return (shared_hull, Some(acquired));
     }
-    let IdleSeat {
+    let AcquiredSeat {
         lock,
-        seat,
-        ledger,
         number: _,
         capacity: _,
-    } = idle;
+        standing,
+    } = acquired;
     drop(lock);
+    let Standing {
+        ledger,
+        seat,
+        taken,
+    } = standing;
+    let None = taken else { unreachable!() };
+    let place = SeatPlace {
+        seat: seat.unwrap(),
+        ledger,
+    };
     let mut shared_hull = shared_hull;
-    let none = shared_hull.places.list[j].replace(SeatPlace { seat, ledger });
+    let none = shared_hull.places.list[j].replace(place);
     let None = none else { unreachable!() };
     (shared_hull, None)
 }
@@ -88,20 +105,16 @@ fn after_lending(
             (storage, Code::NotOpen.number()),
         ),
         SharedHull::Open(open) => match storage {
-            SharedSeat::Idle(idle) => (
+            SharedSeat::Acquired(acquired) => (
                 SharedHull::Open(open),
-                (SharedSeat::Idle(idle), Code::StorageInUse.number()),
-            ),
-            SharedSeat::Waiting(waiting) => (
-                SharedHull::Open(open),
-                (SharedSeat::Waiting(waiting), Code::StorageInUse.number()),
+                (SharedSeat::Acquired(acquired), Code::StorageInUse.number()),
             ),
             SharedSeat::Vacant => {
                 let (open, lent) = acquire_from(open, number);
                 match lent {
-                    Ok(idle) => (
+                    Ok(acquired) => (
                         SharedHull::Open(open),
-                        (SharedSeat::Idle(idle), Code::Acquired.number()),
+                        (SharedSeat::Acquired(acquired), Code::Acquired.number()),
                     ),
                     Err(fault) => (SharedHull::Open(open), (SharedSeat::Vacant, fault.number())),
                 }
@@ -126,20 +139,22 @@ fn after_return(shared_hull: SharedHull, storage: SharedSeat) -> (SharedHull, (S
                 SharedHull::Open(open),
                 (SharedSeat::Vacant, Code::Vacant.number()),
             ),
-            SharedSeat::Waiting(waiting) => (
-                SharedHull::Open(open),
-                (SharedSeat::Waiting(waiting), Code::Waiting.number()),
-            ),
-            SharedSeat::Idle(idle) => {
-                let (open, left) = return_to(open, idle);
+            SharedSeat::Acquired(acquired) => {
+                if acquired.standing.taken.is_some() {
+                    return (
+                        SharedHull::Open(open),
+                        (SharedSeat::Acquired(acquired), Code::Waiting.number()),
+                    );
+                }
+                let (open, left) = return_to(open, acquired);
                 match left {
                     None => (
                         SharedHull::Open(open),
                         (SharedSeat::Vacant, Code::Released.number()),
                     ),
-                    Some(idle) => (
+                    Some(acquired) => (
                         SharedHull::Open(open),
-                        (SharedSeat::Idle(idle), Code::SlotInUse.number()),
+                        (SharedSeat::Acquired(acquired), Code::SlotInUse.number()),
                     ),
                 }
             }

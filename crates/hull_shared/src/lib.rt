@@ -49,6 +49,7 @@ mod serving;
 mod setting_readers;
 mod setting_up;
 mod shared_hull;
+mod standing;
 mod stored_file;
 mod threads;
 

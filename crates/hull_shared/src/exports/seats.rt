@@ -98,8 +98,7 @@ pub unsafe extern "C" fn hull_shared_look(at: *mut u8) -> SeatReply
     looking::look(unsafe { &mut *seat })
 }
 
-/// Takes a number for a call as [`hull_shared_take`] does, and if it did, looks once as [`hull_shared_look`] does, in one
-/// move of the seat.
+/// Takes a number for a call as [`hull_shared_take`] does, and if it did, looks once as [`hull_shared_look`] does.
 ///
 /// # Safety
 ///

@@ -9,11 +9,13 @@ use Rattle.hull_book.specs.Marks.{plain}
 use Rattle.ticket_lock.specs.Tokens.{IsSeatOf, seat_number, seat_seen}
 use Rattle.hull_shared.specs.Locks.{HullLock, boxed_head, capacity_of, lock_of, seats_of}
 use Rattle.hull_shared.specs.Places.{HasAt, IsAtHome}
+use Rattle.std.specs.Prelude.{None}
 use Rattle.hull_shared.proofs.Homes.{home_without}
+use Rattle.hull_shared.proofs.Standings.{stands_idle}
 use Rattle.hull_shared.proofs.acquiring.acquire_from.Goals as goal
 
-pub invariant_of-idle : goal.invariant_of-idle
-invariant_of-idle c =
+pub invariant_of-acquired : goal.invariant_of-acquired
+invariant_of-acquired c =
     let d = c.args.shared_hull in let j = c.in-Some.j in let p = c.unwrap-seat.result in
     let stands : slice_get d.places.list.items j ≡ Some c.index_mut.result.now =
     slice_get_read d.places.list.items (length d.places.list.items) j c.index_mut.result.now refl
@@ -24,12 +26,15 @@ invariant_of-idle c =
     ap (λ (m : ManuallyDrop HullLock). manually_drop_value m) c.in-Ok.ensures in
     let number : seat_number p.seat ≡ c.args.number = omega (arith, is.home, c.in-Some.ensures) in
     record {
-      own = subst (λ (l : HullLock). IsSeatOf boxed_head l p.seat) (sym same) is.own;
-      numbered = number;
+      stands = stands_idle (lock_of c.in-Ok.lock) c.args.number (record { ledger = p.ledger; seat = Some p.seat; taken = None }) p.seat
+          (refl, refl) (record {
+            own = subst (λ (l : HullLock). IsSeatOf boxed_head l p.seat) (sym same) is.own;
+            numbered = number;
+            counts = subst (λ (k : ℕ). IsLedgerOf k (plain (seat_seen p.seat)) p.ledger) number is.counts;
+          });
       holds = d.holds ∙ sym (ap (λ (l : HullLock). capacity_of l) same);
       below = subst (λ (l : HullLock). c.args.number < seats_of l) (sym same)
           (omega (arith, d.laid_out.workers, c.in-Some.ensures));
-      counts = subst (λ (k : ℕ). IsLedgerOf k (plain (seat_seen p.seat)) p.ledger) number is.counts;
     }
 
 pub invariant_of-shared_hull : goal.invariant_of-shared_hull

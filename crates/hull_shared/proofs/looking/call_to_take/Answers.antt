@@ -5,5 +5,5 @@ use Rattle.hull_shared.proofs.looking.call_to_take.Goals as goal
 pub returns-in-Vacant : goal.returns-in-Vacant
 returns-in-Vacant c = (c.call_of-asked.result, search rules, rw c.in-Vacant.is refl)
 
-pub returns-in-Waiting : goal.returns-in-Waiting
-returns-in-Waiting c = (c.call_of-asked.result, search rules, rw c.in-Waiting.is refl)
+pub returns-in-Some : goal.returns-in-Some
+returns-in-Some c = (c.call_of-asked.result, search rules, search rules)
