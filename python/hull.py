@@ -26,14 +26,16 @@ Floats are mapped to the lattice by a power of two that you choose:
     Hull(points).wkt(power=20)                                           # "LINESTRING (..)", "POLYGON ((..))"
     FloatHull([(0.5, 1.25), (0.1, 3)], power=20).area()                  # or all in floats
 
-A hull lives as long as something refers to it: it is freed after the last `__del__` of a cycle that it is in, and after all `atexit` handlers. A forked
-child has the hulls of its parent; one in which another thread was at that moment, and each SharedHull, is ended there: calls raise Ended.
+A hull lives as long as something refers to it: it is freed after the last `__del__` of a cycle that it is in, and after all `atexit` handlers. One with a
+journal file is synced when the program ends. A forked child has the hulls of its parent; one in which another thread was at that moment, and each
+SharedHull, is ended there: calls raise Ended.
 
 The calls go to the shared objects `libhull.so` and `libhull_shared.so` (loaded for the first SharedHull), which `bin/install` puts beside this file;
 the environment variables HULL_LIBRARY and HULL_SHARED_LIBRARY may name others. It runs under Python 3.8 and later.
 """
 from __future__ import annotations
 
+import atexit
 import ctypes
 import enum
 import functools
@@ -43,6 +45,7 @@ import math
 import operator
 import os
 import sys
+import weakref
 from array import array
 from collections.abc import Mapping
 from fractions import Fraction
@@ -2008,6 +2011,7 @@ class SharedHull:
         if reply.code != _Code.OPEN:
             _check_journal_file(reply, reply.number, path)
             _raise_code(reply.code)
+        _with_files.add(hull)
         return hull
 
     @staticmethod
@@ -2111,6 +2115,25 @@ class SharedHull:
         """
         self._close()
         return _pieces(_shared_library().hull_python_text_from, self._shared, size)
+
+
+# hulls with a journal file, of which a thread that runs on when the program ends may keep one from being freed
+_with_files: "weakref.WeakSet[SharedHull]" = weakref.WeakSet()
+
+
+@atexit.register
+def _sync_files() -> None:
+    """Waits until the lines of each hull with a journal file are durable, if it was not closed; raises the last fault."""
+    last = None
+    for hull in list(_with_files):
+        try:
+            hull.sync()
+        except (Ended, ValueError):  # of another process, or closed
+            pass
+        except (OSError, JournalFault) as fault:
+            last = fault
+    if last is not None:
+        raise last
 
 
 def _file(path: "Union[str, bytes, os.PathLike[str]]") -> bytes:

@@ -233,6 +233,23 @@ for number in range(4):
 time.sleep(0.0{n + 3:02d})
 """), ("", 0))
 
+    def test_lines_beside_a_daemon_thread(self):
+        """A function of a thread that runs on keeps the module's names, and so the hull, from being freed."""
+        with tempfile.TemporaryDirectory() as folder:
+            path = f"{folder}/journal"
+            self.assertEqual(run(f"""
+hull = SharedHull.open_journal({path!r}, capacity=20, seats=1)
+seat = hull.acquire_seat(0)
+for x in range(5):
+    seat.add(x, 0)
+def wait():
+    while True:
+        time.sleep(60)
+threading.Thread(target=wait, daemon=True).start()
+"""), ("", 0))
+            with SharedHull.open_journal(path, capacity=20, seats=1) as hull, hull.acquire_seat(0) as seat:
+                self.assertEqual(seat.count(), 5)
+
 
 class Signals(unittest.TestCase):
     def test_one_call_one_reply(self):
