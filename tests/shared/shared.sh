@@ -26,6 +26,17 @@ codes() {
     done
 }
 
+# the flags of a compiler that docs/SHARED.md names
+flags_of_guide() {
+    libraries=$(sed -n 's/.*`cc x\.c \$(pkg-config --cflags --libs \([a-z_ ]*\))` links.*/\1/p' "$top/docs/SHARED.md")
+    # shellcheck disable=SC2086 # they are separated by spaces
+    if is_there pkg-config; then
+        PKG_CONFIG_PATH=$prefix/lib/pkgconfig pkg-config --cflags --libs $libraries
+    else
+        printf '%s ' "-I$prefix/include" "-L$prefix/lib" $(printf -- '-l%s ' $libraries) -lpthread
+    fi
+}
+
 documents() {
     build "$examples/first.c" && "$room/first" "$room/first.journal" >"$room/said" && "$room/first" "$room/first.journal" >>"$room/said" &&
         cmp "$room/said" "$examples/first.txt" && in_segments "$room/first.journal"
@@ -34,6 +45,11 @@ documents() {
     # shellcheck disable=SC2046 # the flags are separated by spaces
     build "$here/pieces.c" -I"$room" $(wrap malloc realloc) && "$room/pieces" >"$room/output"
     count "the loop for pieces of docs/SHARED.md: $(cat "$room/output")" $?
+    awk -v room="$room" '/^```c$/ { inside = 1; n++; next } /^```$/ { inside = 0 }
+        inside { print >(room (/^static void/ ? "/functions.inc" : "/listing." n ".inc")) }' "$top/docs/SHARED.md"
+    # shellcheck disable=SC2046
+    "${CC:-cc}" -std=gnu11 -Wall -Wextra -Werror "$here/listings.c" -I"$room" $(flags_of_guide) -o "$room/listings" && (cd "$room" && ./listings)
+    count "the listings of docs/SHARED.md, linked as it says" $?
     build "$examples/threads.c" && "$room/threads" >"$room/journal" && legal "$room/journal"
     count "examples/shared/threads.c writes a legal journal" $?
 }
