@@ -1938,7 +1938,7 @@ class SharedHull:
     have up to so many `readers`, at most READER_LIMIT.
     """
 
-    __slots__ = ("_shared", "_words", "__weakref__")
+    __slots__ = ("_shared", "_seats", "_kind", "__weakref__")
 
     def __init__(self, capacity: Optional[SupportsIndex], seats: SupportsIndex, limit: SupportsIndex = POINT_LIMIT,
                  first: SupportsIndex = 0, *, answers: bool = False, waits: bool = False, readers: SupportsIndex = 0) -> None:
@@ -1948,7 +1948,8 @@ class SharedHull:
         if not all(0 <= word < 1 << bits for word, bits in zip(words, (32, 64, 32, 32))):
             _check_code(_Code.OUT_OF_LIMITS)
         self._shared = _new_shared(readers)
-        self._words: Tuple[Any, ...] = words
+        kept = "without a journal," if capacity is None else f"for {lines} calls"
+        self._seats, self._kind = words[3], f"{kept} from {words[1]}, limit {words[0]}"
         if capacity is None:
             code = library.hull_python_open_without_journal(self._shared, words[0], words[1], words[3])
         elif answers:
@@ -1985,7 +1986,7 @@ class SharedHull:
             raise JournalFault(words)
         if reply.code != _Code.OPEN:
             _raise_code(reply.code)
-        hull._words = None, None, capacity, seats
+        hull._seats, hull._kind = seats, f"for {capacity} calls after a journal"
         return hull
 
     @classmethod
@@ -2005,7 +2006,7 @@ class SharedHull:
             raise ValueError(f"a time is no less than 0, and not {every!r}")
         hull = cls.__new__(cls)
         hull._shared = _new_shared(readers)
-        hull._words = words
+        hull._seats, hull._kind = words[3], f"for {words[2]} calls with a journal file"
         time = 0 if every is None else max(1, int(min(every, 1e9) * 1e9))
         reply = _shared_library().hull_python_open_journal(hull._shared, _file(path), words[0], words[2], words[3], time)
         if reply.code != _Code.OPEN:
@@ -2053,9 +2054,7 @@ class SharedHull:
         return [number for number in range(SEAT_LIMIT) if acquired >> number & 1]
 
     def __repr__(self) -> str:
-        limit, first, capacity, seats = self._words
-        numbers = "after a journal" if first is None else f"from {first}, limit {limit}"
-        return f"<SharedHull for {capacity} calls {numbers}, {len(self._acquired())} of {seats} seats acquired>"
+        return f"<SharedHull {self._kind}, {len(self._acquired())} of {self._seats} seats acquired>"
 
     def __enter__(self) -> SharedHull:
         return self

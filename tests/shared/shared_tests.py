@@ -192,6 +192,7 @@ class Calls(unittest.TestCase):
             for again in range(1, 4):
                 hull = SharedHull.open_journal(path, capacity=50, seats=4, limit=200, every=0.001 if again == 2 else None)
                 self.assertEqual(hull.durable(), lines)
+                self.assertEqual(repr(hull), "<SharedHull for 50 calls with a journal file, 0 of 4 seats acquired>")
                 with self.assertRaises(BlockingIOError):
                     SharedHull.open_journal(path, capacity=50, seats=4)
 
@@ -514,6 +515,7 @@ class Calls(unittest.TestCase):
         seat = hull.acquire_seat(1)
         seat.count()
         self.assertEqual(repr(hull), "<SharedHull for 9 calls from 7, limit 5, 1 of 2 seats acquired>")
+        self.assertEqual(repr(SharedHull(None, 2)), "<SharedHull without a journal, from 0, limit 1048576, 0 of 2 seats acquired>")
         self.assertEqual(repr(seat), "<Seat 1, acquired, last turn 7>")
         seat.release()
         self.assertEqual(repr(seat), "<Seat 1, released, last turn 7>")
