@@ -252,7 +252,8 @@ export {}; // (so that what is not exported by its own words is not)
 /** An instance of a class that the platform has under this name; none where its types are not known, as those of DOM in a program for Node. */
 type Known<Name extends string> = typeof globalThis extends { [name in Name]: { prototype: infer Instance } } ? Instance : never;
 
-/** What hull.wasm is loaded from: its bytes, its URL (in Node also of a file), or a response. */
+/** What hull.wasm is loaded from: its bytes, its URL (a relative one is taken from hull.js on; in Node also of a file), or
+ * a response. */
 export type Source = ArrayBuffer | ArrayBufferView | Known<"URL"> | string | Known<"Response"> | Promise<Known<"Response">>;
 
 /** Loads the module, by default from out/hull.wasm beside hull.js; it uses at most `memory` bytes. Unsupported. */
