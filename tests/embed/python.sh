@@ -85,7 +85,22 @@ planners() {
     [ "$(grep -cx 'listed = True' "$room/planners.py")" -eq 3 ]
 }
 
+# whether the program of a page prints what the comments beside its lines say: PAGE
+program_of_page() {
+    sed -n '/^```python$/,/^```$/{/^```/!p;}' "$top/$1" >"$room/page.py"
+    python "$room/page.py" >"$room/page.txt" && [ "$(cat "$room/page.txt")" = "INSIDE
+((80, 0), (80, 60))" ]
+}
+
+# whether the lines of docs/SHARED.md keep a journal in a file
+journal_of_page() {
+    { echo 'from hull import SharedHull'; sed -n '/^```python$/,/^```$/{/^```/!p;}' "$top/docs/SHARED.md"; } >"$room/shared.py"
+    (cd "$room" && python shared.py) && grep -q ' add 3 4 = added$' "$room/zone.journal"
+}
+
 documents() {
+    for page in README.md python/README.md; do attempt "the program of $page" program_of_page "$page"; done
+    attempt "the lines of docs/SHARED.md keep a journal" journal_of_page
     attempt "examples/embed/places.py writes examples/embed/places.txt" writes "$top/examples/embed/places.txt" python "$top/examples/embed/places.py"
     attempt "docs/PLANNERS.md has three listings in Python" planners
     attempt "they are true" python "$room/planners.py"
