@@ -12,6 +12,7 @@ import base64
 import hashlib
 import os
 import pty
+import re
 import resource
 import shutil
 import subprocess
@@ -298,6 +299,13 @@ def try_wheel(tries, wheel):
     tries.see("the wheel's record", not wrong and {"hull/libhull.so", "hull/libhull_shared.so", "hull/py.typed", "hull/__init__.py"} <= names, f"{wrong} {names}")
 
 
+def listing_of_package():
+    """Returns the listing of web/README.md, in which what a comment after a call says has to be its result."""
+    code = re.search(r"```js\n(.*?)```", kit.text_of(f"{TOP}/web/README.md"), re.DOTALL)[1]
+    tried = re.sub(r"^(hull\.\w+\(.*\)); // (.*)$", r"deepEqual(\1, \2);", code, flags=re.MULTILINE)
+    return f'import {{ deepEqual }} from "node:assert/strict";\n{tried}console.log("as it says");\n'
+
+
 def try_packages(tries):
     """Each package is made, installed in a folder of its own, and used."""
     status, told = tries.run("bin/package", "--test", f"{tries.room}/packages", at="clone")
@@ -329,6 +337,8 @@ def try_packages(tries):
     if tries.has("node", "npm") and tries.has("npm", "npm"):
         tries.lay("npm", package__json='{"type": "module"}\n', user__mjs=NODE)
         tries.prints("the package for npm", "200", "sh", "-c", f"npm install --offline --no-audit --no-fund --silent {at}/hullbook-{version}.tgz && node user.mjs", at="npm")
+        tries.lay("npm", page__mjs=listing_of_package())
+        tries.prints("the listing of the package's page", "as it says", "node", "page.mjs", at="npm")
         tries.lay("npm", typed__ts=TYPED)
         if tries.has("esbuild", "a bundle for browsers"):
             for platform in ("browser", "node"):
