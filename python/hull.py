@@ -667,7 +667,7 @@ class Lattice(NamedTuple):
 
 
 def _bits_of_decimal(number: Any) -> float:
-    """Returns about how many bits a decimal has before its point, below 0 if its first are behind it, without its ratio, which may be too long to be
+    """Returns about how many bits a decimal has before its point, below 0 if its first are after it, without its ratio, which may be too long to be
     computed; 0 of other numbers."""
     if not hasattr(number, "adjusted") or not number.is_finite() or number == 0:
         return 0
@@ -2129,7 +2129,7 @@ def _sync_files() -> None:
             hull.sync()
         except (Ended, ValueError):  # of another process, or closed
             pass
-        except (OSError, JournalFault) as fault:
+        except (OSError, JournalFault, MemoryError) as fault:
             last = fault
     if last is not None:
         raise last

@@ -10,7 +10,7 @@ SCRIPT and JOURNAL are files; /dev/stdin is standard input. See man/hullbook.1 a
 # prints what a fault of a text means, by its number
 meaning_of() {
     case $1 in
-    1) echo 'its form: a field or a space is missing or one too many, a tab or a carriage return stands in it, the count of an end line is wrong, or the text is too long' ;;
+    1) echo 'its form: a field or a space is missing or one too many, it has a tab or a carriage return, the count of an end line is wrong, or the text is too long' ;;
     2) echo 'a number is spelled otherwise than digits with no leading zero, or is out of its range' ;;
     3) echo 'a coordinate is out of range, or a direction is zero' ;;
     4) echo 'a worker or a seat is above 63' ;;

@@ -247,7 +247,7 @@ export interface Library {
     };
 }
 
-export {}; // (so that what is not exported by its own words is not)
+export {}; // (a file with an export exports only what it marks so)
 
 /** An instance of a class that the platform has under this name; none where its types are not known, as those of DOM in a program for Node. */
 type Known<Name extends string> = typeof globalThis extends { [name in Name]: { prototype: infer Instance } } ? Instance : never;

@@ -234,7 +234,8 @@ time.sleep(0.0{n + 3:02d})
 """), ("", 0))
 
     def test_lines_beside_a_daemon_thread(self):
-        """A function of a thread that runs on keeps the module's names, and so the hull, from being freed."""
+        """A function of a thread that runs on keeps the module's names, and so the hull, from being freed. A hull that was closed, and those in the
+        child of a fork, are passed over."""
         with tempfile.TemporaryDirectory() as folder:
             path = f"{folder}/journal"
             self.assertEqual(run(f"""
@@ -242,6 +243,11 @@ hull = SharedHull.open_journal({path!r}, capacity=20, seats=1)
 seat = hull.acquire_seat(0)
 for x in range(5):
     seat.add(x, 0)
+closed = SharedHull.open_journal({path!r} + "2", capacity=20, seats=1)
+closed.close()
+if os.fork() == 0:
+    sys.exit()
+os.wait()
 def wait():
     while True:
         time.sleep(60)

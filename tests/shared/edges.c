@@ -1062,7 +1062,7 @@ static void compacts_the_file_itself(void) {
     unlink(beside(".other"));
 }
 
-/* What is not there is not compacted, and not made, also where a link leads to nothing. */
+/* A file that is not there is not compacted, and none is made, also through a link that leads to nothing. */
 static void compacts_what_is_there(void) {
     uint64_t number;
     errno = 73;

@@ -14,7 +14,7 @@ ELSEWHERE = """{0}: the programs are for Linux on x86-64, and this machine is {1
 """
 PROVING = "{0}: proving these sources first, which takes up to an hour; for an answer now, run dist/x86_64/{0} itself\nput x86_64/{0}\n"
 MEANINGS = {
-    1: "its form: a field or a space is missing or one too many, a tab or a carriage return stands in it, the count of an end line is wrong, or the text is too long",
+    1: "its form: a field or a space is missing or one too many, it has a tab or a carriage return, the count of an end line is wrong, or the text is too long",
     2: "a number is spelled otherwise than digits with no leading zero, or is out of its range",
     3: "a coordinate is out of range, or a direction is zero",
     4: "a worker or a seat is above 63",
